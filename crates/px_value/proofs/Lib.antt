@@ -1,0 +1,4 @@
+pub mod Divisions
+pub mod Integers
+pub mod Names
+pub mod Paths

@@ -1,0 +1,251 @@
+// Names of nodes, variables, commands and looked-up states.
+ghost use Rattle.std.specs.Prelude.{◌≡◌, false, IsTrue, IfOk, IsErrOf, nat_eq};
+ghost use Rattle.std.specs.Cmp.{partial_equiv_from_equiv};
+ghost use Rattle.std.specs.Cmp.Lexicographic.{pointwise, nat_list_eq_equiv};
+ghost use Rattle.std.specs.Cmp.Rules.{hashing};
+ghost use Rattle.std.specs.Hash as fed;
+ghost use Rattle.std.proofs.Common.{rules};
+ghost use Rattle.std.specs.List.{list_all};
+ghost use Rattle.px_value.specs.Names.{is_digit, is_letter, is_letter_or_digit, begins_identifier, goes_on, is_identifier, is_generated, generated_name, is_name};
+ghost use Rattle.px_value.specs.declared.name.NameFault.TheVariants.{NoMemory as OutOfMemory};
+
+use itoa::Buffer;
+use std::alloc::{AllocError, Global};
+use std::hash::{Hash, Hasher};
+use std::marker::Model;
+use thiserror::Error;
+
+/// The most bytes that a name has.
+pub const NAME_LIMIT: usize = 64;
+
+/// Why a text was not made a name.
+#[derive(Debug, Drop, Error)]
+pub enum NameFault {
+    /// The text is neither an identifier nor a generated name, or it is too long.
+    #[error("not a name")]
+    NotAName,
+    #[error("out of memory")]
+    NoMemory,
+}
+
+impl From<AllocError> for NameFault {
+    ghost from_gives = { λ _ fault. fault ≡ OutOfMemory };
+
+    fn from(_: AllocError) -> Self {
+        NameFault::NoMemory
+    }
+}
+
+/// An identifier, or the name `#..` that a node without a label is given: 1 to 64 bytes of ASCII.
+#[derive(Debug, Drop)]
+pub struct Name {
+    text: String,
+}
+
+impl Model for Name {
+    ghost use Rattle.std.specs.Prelude.{ℕ, List, IsTrue, string_bytes};
+    ghost use Rattle.px_value.specs.Names.{is_name};
+
+    ghost Value = { List ℕ };
+
+    ghost view = { λ n. string_bytes n.text };
+
+    ghost invariant = { λ n. IsTrue (is_name (string_bytes n.text)) };
+}
+
+impl Name {
+    /// The name that the text spells.
+    ///
+    /// `NotAName` comes exactly where the text is no name.
+    pub fn new(alloc: Global, text: &str) -> Result<Name, NameFault>
+        ensures ok { IfOk result (λ name. (name ≡ text.now) × IsTrue (is_name text.now)) }
+        ensures not_a_name { IsErrOf result NameFault.NotAName → is_name text.now ≡ false }
+    {
+        if is_name(text.as_bytes()) {
+            Ok(Name {
+                text: String::from_str(alloc, text)?,
+            })
+        } else {
+            Err(NameFault::NotAName)
+        }
+    }
+
+    /// The name of the `k`-th action of a block, where the plan gives it none: `#` and `k`.
+    pub fn generated(alloc: Global, k: u32) -> Result<Name, AllocError>
+        ensures { IfOk result (λ name. name ≡ generated_name k) }
+    {
+        let mut digits = Buffer::new();
+        let mut text = String::from_str(alloc, "#")?;
+        text.push_str(digits.format(k))?;
+        Ok(Name { text })
+    }
+
+    /// The name's text.
+    pub fn as_str(&self) -> &str
+        ensures value { result.now ≡ self.now }
+        ensures name { IsTrue (is_name self.now) }
+    {
+        self.text.as_str()
+    }
+
+    /// An equal name.
+    pub fn copy(&self, alloc: Global) -> Result<Name, AllocError>
+        ensures copy { IfOk result (λ name. name ≡ self.now) }
+        ensures name { IsTrue (is_name self.now) }
+    {
+        Ok(Name {
+            text: String::from_str(alloc, self.text.as_str())?,
+        })
+    }
+}
+
+impl PartialEq for Name {
+    ghost eq = { pointwise nat_eq };
+
+    ghost laws = { partial_equiv_from_equiv nat_list_eq_equiv };
+
+    fn eq(&self, other: &Self) -> bool {
+        self.as_str() == other.as_str()
+    }
+}
+
+impl Eq for Name {
+    ghost laws = { nat_list_eq_equiv };
+}
+
+impl Hash for Name {
+    ghost hash_input = { fed.str };
+
+    ghost respects_eq = { Prim.search (hashing, rules) };
+
+    fn hash<H: Hasher>(&self, state: &mut H) {
+        self.as_str().hash(state);
+    }
+}
+
+/// Whether the byte is an ASCII digit.
+pub fn is_digit(c: u8) -> bool
+    ensures { result ≡ is_digit c }
+{
+    b'0' <= c && c <= b'9'
+}
+
+fn is_letter(c: u8) -> bool
+    ensures { result ≡ is_letter c }
+{
+    (b'A' <= c && c <= b'Z') || (b'a' <= c && c <= b'z')
+}
+
+/// Whether an identifier may begin with the byte: a letter or `_`.
+pub fn begins_identifier(c: u8) -> bool
+    ensures { result ≡ begins_identifier c }
+{
+    is_letter(c) || c == b'_'
+}
+
+/// Whether an identifier may go on with the byte: a letter, a digit or `_`.
+pub fn goes_on(c: u8) -> bool
+    ensures { result ≡ goes_on c }
+{
+    begins_identifier(c) || is_digit(c)
+}
+
+fn is_letter_or_digit(c: u8) -> bool
+    ensures { result ≡ is_letter_or_digit c }
+{
+    is_letter(c) || is_digit(c)
+}
+
+fn all_go_on(bytes: &[u8]) -> bool
+    ensures { result ≡ list_all goes_on bytes.now }
+{
+    bytes.iter().all(|c| goes_on(*c))
+}
+
+fn all_letters_or_digits(bytes: &[u8]) -> bool
+    ensures { result ≡ list_all is_letter_or_digit bytes.now }
+{
+    bytes.iter().all(|c| is_letter_or_digit(*c))
+}
+
+/// Whether the bytes are an identifier: a letter or `_`, and then letters, digits and `_`.
+pub fn is_identifier(bytes: &[u8]) -> bool
+    ensures { result ≡ is_identifier bytes.now }
+{
+    match bytes {
+        [first, rest @ ..] => begins_identifier(*first) && all_go_on(rest),
+        [] => false,
+    }
+}
+
+fn is_generated(bytes: &[u8]) -> bool
+    ensures { result ≡ is_generated bytes.now }
+{
+    match bytes {
+        [hash, first, rest @ ..] => {
+            *hash == b'#' && is_letter_or_digit(*first) && all_letters_or_digits(rest)
+        }
+        _ => false,
+    }
+}
+
+/// Whether the bytes are a name.
+pub fn is_name(bytes: &[u8]) -> bool
+    ensures { result ≡ is_name bytes.now }
+{
+    (is_identifier(bytes) || is_generated(bytes)) && bytes.len() <= NAME_LIMIT
+}
+
+#[cfg(test)]
+mod tests {
+    use super::*;
+    use std::test::Fail;
+
+    #[test]
+    fn an_identifier_and_a_generated_name_are_names(rt: HostRuntime) -> Result<(), Fail> {
+        for text in ["x", "_", "Drive2", "NodeList", "#1", "#body", "a_b"] {
+            let name = Name::new(rt.alloc(), text)?;
+            assert_eq!(rt; name.as_str(), text);
+            assert!(rt; name.copy(rt.alloc())? == name);
+        }
+        Ok(())
+    }
+
+    #[test]
+    fn another_text_is_no_name(rt: HostRuntime) {
+        for text in ["", "#", "2a", "a-b", "a.b", "#a_b", " a", "##1", "é"] {
+            assert!(rt;
+                matches!(Name::new(rt.alloc(), text), Err(NameFault::NotAName)),
+                "{text}"
+            );
+        }
+    }
+
+    #[test]
+    fn a_name_has_at_most_64_bytes(rt: HostRuntime) -> Result<(), Fail> {
+        let mut text = String::new(rt.alloc());
+        for _ in 0..64 {
+            text.push_str("n")?;
+        }
+        assert!(rt; Name::new(rt.alloc(), text.as_str()).is_ok());
+        text.push_str("n")?;
+        assert!(rt; Name::new(rt.alloc(), text.as_str()).is_err());
+        Ok(())
+    }
+
+    #[test]
+    fn a_generated_name_is_the_place_in_decimal(rt: HostRuntime) -> Result<(), Fail> {
+        for (k, text) in [(1, "#1"), (40, "#40"), (u32::MAX, "#4294967295")] {
+            assert_eq!(rt; Name::generated(rt.alloc(), k)?.as_str(), text);
+        }
+        Ok(())
+    }
+
+    #[test]
+    fn names_are_equal_where_their_texts_are(rt: HostRuntime) -> Result<(), Fail> {
+        let one = Name::generated(rt.alloc(), 1)?;
+        assert!(rt; Name::new(rt.alloc(), "#1")? == one);
+        assert!(rt; Name::new(rt.alloc(), "#2")? != one);
+        Ok(())
+    }
+}

@@ -1,0 +1,190 @@
+// Paths of nodes: the names from the root to the node, joined by dots.
+ghost use Rattle.std.specs.Prelude.{◌≡◌, ◌+◌, ◌<◌, length, IsTrue, IfOk, IsErrOf, false, nat_eq};
+ghost use Rattle.std.specs.Cmp.{partial_equiv_from_equiv};
+ghost use Rattle.std.specs.Cmp.Lexicographic.{pointwise, nat_list_eq_equiv};
+ghost use Rattle.std.specs.Cmp.Rules.{hashing};
+ghost use Rattle.std.specs.List.{list_all};
+ghost use Rattle.std.specs.Hash as fed;
+ghost use Rattle.std.proofs.Common.{rules};
+ghost use Rattle.px_value.specs.Names.{is_name, pieces, is_path, below};
+ghost use Rattle.px_value.specs.declared.path.PathFault.TheVariants.{NoMemory as OutOfMemory};
+
+use crate::name::{Name, is_name};
+use std::alloc::{AllocError, Global};
+use std::hash::{Hash, Hasher};
+use std::marker::Model;
+use thiserror::Error;
+
+/// The most bytes that a path has.
+pub const PATH_LIMIT: usize = 5000;
+
+/// Why a text was not made a path.
+#[derive(Debug, Drop, Error)]
+pub enum PathFault {
+    /// The text isn't names joined by dots, or it is too long.
+    #[error("not a path")]
+    NotAPath,
+    #[error("out of memory")]
+    NoMemory,
+}
+
+impl From<AllocError> for PathFault {
+    ghost from_gives = { λ _ fault. fault ≡ OutOfMemory };
+
+    fn from(_: AllocError) -> Self {
+        PathFault::NoMemory
+    }
+}
+
+/// The path of a node: the names from the root to it, joined by dots, of at most 5,000 bytes.
+#[derive(Debug, Drop)]
+pub struct Path {
+    text: String,
+}
+
+impl Model for Path {
+    ghost use Rattle.std.specs.Prelude.{ℕ, List, IsTrue, string_bytes};
+    ghost use Rattle.px_value.specs.Names.{is_path};
+
+    ghost Value = { List ℕ };
+
+    ghost view = { λ p. string_bytes p.text };
+
+    ghost invariant = { λ p. IsTrue (is_path (string_bytes p.text)) };
+}
+
+impl Path {
+    /// The path that the text spells.
+    ///
+    /// `NotAPath` comes exactly where the text is no path.
+    pub fn new(alloc: Global, text: &str) -> Result<Path, PathFault>
+        ensures ok { IfOk result (λ path. (path ≡ text.now) × IsTrue (is_path text.now)) }
+        ensures not_a_path { IsErrOf result PathFault.NotAPath → is_path text.now ≡ false }
+    {
+        if is_path(text.as_bytes()) {
+            Ok(Path {
+                text: String::from_str(alloc, text)?,
+            })
+        } else {
+            Err(PathFault::NotAPath)
+        }
+    }
+
+    /// The path of a root.
+    pub fn root(alloc: Global, name: &Name) -> Result<Path, AllocError>
+        ensures { IfOk result (λ path. path ≡ name.now) }
+    {
+        Ok(Path {
+            text: String::from_str(alloc, name.as_str())?,
+        })
+    }
+
+    /// The path of the child with this name.
+    pub fn child(&self, alloc: Global, name: &Name) -> Result<Path, AllocError>
+        requires { length self.now + length name.now < 5000 }
+        ensures { IfOk result (λ path. path ≡ below self.now name.now) }
+    {
+        let mut text = String::from_str(alloc, self.text.as_str())?;
+        text.push_str(".")?;
+        text.push_str(name.as_str())?;
+        Ok(Path { text })
+    }
+
+    /// The path's text.
+    pub fn as_str(&self) -> &str
+        ensures value { result.now ≡ self.now }
+        ensures path { IsTrue (is_path self.now) }
+    {
+        self.text.as_str()
+    }
+
+    /// An equal path.
+    pub fn copy(&self, alloc: Global) -> Result<Path, AllocError>
+        ensures { IfOk result (λ path. path ≡ self.now) }
+    {
+        Ok(Path {
+            text: String::from_str(alloc, self.text.as_str())?,
+        })
+    }
+}
+
+impl PartialEq for Path {
+    ghost eq = { pointwise nat_eq };
+
+    ghost laws = { partial_equiv_from_equiv nat_list_eq_equiv };
+
+    fn eq(&self, other: &Self) -> bool {
+        self.as_str() == other.as_str()
+    }
+}
+
+impl Eq for Path {
+    ghost laws = { nat_list_eq_equiv };
+}
+
+impl Hash for Path {
+    ghost hash_input = { fed.str };
+
+    ghost respects_eq = { Prim.search (hashing, rules) };
+
+    fn hash<H: Hasher>(&self, state: &mut H) {
+        self.as_str().hash(state);
+    }
+}
+
+/// Whether the bytes are a path: names joined by dots, of at most 5,000 bytes.
+pub fn is_path(bytes: &[u8]) -> bool
+    ensures { result ≡ is_path bytes.now }
+{
+    pieces_are_names(bytes) && bytes.len() <= PATH_LIMIT
+}
+
+fn pieces_are_names(bytes: &[u8]) -> bool
+    ensures { result ≡ list_all is_name (pieces bytes.now) }
+{
+    bytes.split(|c| *c == b'.').all(|piece| is_name(piece))
+}
+
+#[cfg(test)]
+mod tests {
+    use super::*;
+    use std::test::Fail;
+
+    #[test]
+    fn a_path_is_its_names_joined_by_dots(rt: HostRuntime) -> Result<(), Fail> {
+        let root = Path::root(rt.alloc(), &Name::new(rt.alloc(), "SafeDrive")?)?;
+        let child = Name::generated(rt.alloc(), 1)?;
+        assert!(rt; root.as_str().len() + child.as_str().len() < PATH_LIMIT);
+        let path = root.child(rt.alloc(), &child)?;
+        assert_eq!(rt; path.as_str(), "SafeDrive.#1");
+        assert!(rt; path.copy(rt.alloc())? == path);
+        assert!(rt; path != root);
+        Ok(())
+    }
+
+    #[test]
+    fn a_text_is_a_path_where_its_pieces_are_names(rt: HostRuntime) -> Result<(), Fail> {
+        for text in ["A", "A.#1.#body", "_x.y2"] {
+            assert_eq!(rt; Path::new(rt.alloc(), text)?.as_str(), text);
+        }
+        for text in ["", ".", "A.", ".A", "A..B", "A.#", "A.2", "A B"] {
+            assert!(rt;
+                matches!(Path::new(rt.alloc(), text), Err(PathFault::NotAPath)),
+                "{text}"
+            );
+        }
+        Ok(())
+    }
+
+    #[test]
+    fn a_path_has_at_most_5000_bytes(rt: HostRuntime) -> Result<(), Fail> {
+        let mut text = String::from_str(rt.alloc(), "ab")?;
+        for _ in 0..2499 {
+            text.push_str(".c")?;
+        }
+        assert!(rt; Path::new(rt.alloc(), text.as_str()).is_ok());
+        text.push_str("c")?;
+        assert!(rt; Path::new(rt.alloc(), text.as_str()).is_err());
+        Ok(())
+    }
+}

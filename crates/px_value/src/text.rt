@@ -1,0 +1,146 @@
+// The texts that a plan computes with.
+ghost use Rattle.std.specs.Prelude.{◌≡◌, ◌++◌, false, IsTrue, IfOk, IsErrOf, nat_eq};
+ghost use Rattle.std.specs.Cmp.{partial_equiv_from_equiv};
+ghost use Rattle.std.specs.Cmp.Lexicographic.{pointwise, nat_list_eq_equiv};
+ghost use Rattle.std.specs.Cmp.Rules.{hashing};
+ghost use Rattle.std.specs.Hash as fed;
+ghost use Rattle.std.proofs.Common.{rules};
+ghost use Rattle.px_value.specs.Texts.{is_short_text};
+ghost use Rattle.px_value.specs.declared.text.TextFault.TheVariants.{NoMemory as OutOfMemory};
+
+use std::alloc::{AllocError, Global};
+use std::hash::{Hash, Hasher};
+use std::marker::Model;
+use thiserror::Error;
+
+/// The most bytes that a text has.
+pub const TEXT_LIMIT: usize = 1024;
+
+/// Why a text was not made a value.
+#[derive(Debug, Drop, Error)]
+pub enum TextFault {
+    /// The text has over 1,024 bytes.
+    #[error("the text is too long")]
+    TooLong,
+    #[error("out of memory")]
+    NoMemory,
+}
+
+impl From<AllocError> for TextFault {
+    ghost from_gives = { λ _ fault. fault ≡ OutOfMemory };
+
+    fn from(_: AllocError) -> Self {
+        TextFault::NoMemory
+    }
+}
+
+/// A UTF-8 text of at most 1,024 bytes (PLEXIL reference manual, "Expressions").
+#[derive(Debug, Drop)]
+pub struct Text {
+    text: String,
+}
+
+impl Model for Text {
+    ghost use Rattle.std.specs.Prelude.{ℕ, List, IsTrue, string_bytes};
+    ghost use Rattle.px_value.specs.Texts.{is_short_text};
+
+    ghost Value = { List ℕ };
+
+    ghost view = { λ t. string_bytes t.text };
+
+    ghost invariant = { λ t. IsTrue (is_short_text (string_bytes t.text)) };
+}
+
+impl Text {
+    /// The text as a value.
+    ///
+    /// `TooLong` comes exactly where it has over 1,024 bytes.
+    pub fn new(alloc: Global, text: &str) -> Result<Text, TextFault>
+        ensures ok { IfOk result (λ made. (made ≡ text.now) × IsTrue (is_short_text text.now)) }
+        ensures too_long { IsErrOf result TextFault.TooLong → is_short_text text.now ≡ false }
+    {
+        if text.len() <= TEXT_LIMIT {
+            Ok(Text {
+                text: String::from_str(alloc, text)?,
+            })
+        } else {
+            Err(TextFault::TooLong)
+        }
+    }
+
+    /// The text itself.
+    pub fn as_str(&self) -> &str
+        ensures value { result.now ≡ self.now }
+        ensures short { IsTrue (is_short_text self.now) }
+    {
+        self.text.as_str()
+    }
+
+    /// An equal text.
+    pub fn copy(&self, alloc: Global) -> Result<Text, AllocError>
+        ensures { IfOk result (λ text. text ≡ self.now) }
+    {
+        Ok(Text {
+            text: String::from_str(alloc, self.text.as_str())?,
+        })
+    }
+
+    /// This text followed by the other one.
+    pub(crate) fn followed_by(&self, alloc: Global, other: &Text) -> Result<Text, AllocError>
+        requires { IsTrue (is_short_text (self.now ++ other.now)) }
+        ensures { IfOk result (λ text. text ≡ self.now ++ other.now) }
+    {
+        let mut text = String::from_str(alloc, self.text.as_str())?;
+        text.push_str(other.as_str())?;
+        Ok(Text { text })
+    }
+}
+
+impl PartialEq for Text {
+    ghost eq = { pointwise nat_eq };
+
+    ghost laws = { partial_equiv_from_equiv nat_list_eq_equiv };
+
+    fn eq(&self, other: &Self) -> bool {
+        self.as_str() == other.as_str()
+    }
+}
+
+impl Eq for Text {
+    ghost laws = { nat_list_eq_equiv };
+}
+
+impl Hash for Text {
+    ghost hash_input = { fed.str };
+
+    ghost respects_eq = { Prim.search (hashing, rules) };
+
+    fn hash<H: Hasher>(&self, state: &mut H) {
+        self.as_str().hash(state);
+    }
+}
+
+#[cfg(test)]
+mod tests {
+    use super::*;
+    use std::test::Fail;
+
+    #[test]
+    fn a_text_has_at_most_1024_bytes(rt: HostRuntime) -> Result<(), Fail> {
+        let mut text = String::new(rt.alloc());
+        for _ in 0..TEXT_LIMIT / 2 {
+            text.push_str("é")?;
+        }
+        let made = Text::new(rt.alloc(), text.as_str())?;
+        assert_eq!(rt; made.as_str(), text.as_str());
+        assert!(rt; made.copy(rt.alloc())? == made);
+        text.push_str("x")?;
+        assert!(rt;
+            matches!(
+                Text::new(rt.alloc(), text.as_str()),
+                Err(TextFault::TooLong)
+            )
+        );
+        Ok(())
+    }
+}

@@ -1,0 +1,69 @@
+// What a variable, a condition or a lookup holds.
+ghost use Rattle.std.specs.Prelude.{◌≡◌, IfOk};
+
+use crate::enums::{Failure, Handle, NodeState, Outcome};
+use crate::text::Text;
+use std::alloc::{AllocError, Global};
+
+/// A value of a plan, with UNKNOWN among them (PLEXIL reference manual, "Expressions").
+#[derive(Debug, Drop, PartialEq, Eq, Hash)]
+pub enum Value {
+    Unknown,
+    Boolean(bool),
+    Integer(i32),
+    Text(Text),
+    State(NodeState),
+    Outcome(Outcome),
+    Failure(Failure),
+    Handle(Handle),
+}
+
+impl Value {
+    ghost use Rattle.px_value.specs.Values.{is_known};
+
+    /// Whether the value isn't UNKNOWN.
+    pub fn is_known(&self) -> bool
+        ensures { result ≡ is_known self.now }
+    {
+        !matches!(self, Value::Unknown)
+    }
+
+    /// An equal value.
+    pub fn copy(&self, alloc: Global) -> Result<Value, AllocError>
+        ensures { IfOk result (λ value. value ≡ self.now) }
+    {
+        Ok(match self {
+            Value::Unknown => Value::Unknown,
+            Value::Boolean(truth) => Value::Boolean(*truth),
+            Value::Integer(number) => Value::Integer(*number),
+            Value::Text(text) => Value::Text(text.copy(alloc)?),
+            Value::State(state) => Value::State(*state),
+            Value::Outcome(outcome) => Value::Outcome(*outcome),
+            Value::Failure(failure) => Value::Failure(*failure),
+            Value::Handle(handle) => Value::Handle(*handle),
+        })
+    }
+}
+
+#[cfg(test)]
+mod tests {
+    use super::*;
+    use std::test::Fail;
+
+    #[test]
+    fn a_copy_is_equal(rt: HostRuntime) -> Result<(), Fail> {
+        for value in [
+            Value::Unknown,
+            Value::Boolean(true),
+            Value::Integer(-7),
+            Value::Text(Text::new(rt.alloc(), "rock")?),
+            Value::State(NodeState::Failing),
+            Value::Outcome(Outcome::Failure),
+            Value::Failure(Failure::ParentExited),
+            Value::Handle(Handle::CommandDenied),
+        ] {
+            assert!(rt; value.copy(rt.alloc())? == value);
+        }
+        Ok(())
+    }
+}
