@@ -1,0 +1,285 @@
+-- What stands at the front of a text, as a function of the text: each way to stand and each fault is one of its answers.
+use Rattle.std.proofs.Common.{◌≡◌, ℕ, ◌<◌, ◌≤◌, ◌^◌, Bool, true, false, not, ◌||◌, ◌==◌, List, [], ◌∷◌, ◌++◌, length, take, drop, Option, Some, None, refl, sym, ap, ◌∙◌, arith, inl, inr}
+use Rattle.std.specs.Prelude.{codes, nat_le, nat_lt, pos, is_none, if◌then◌else◌}
+use Rattle.std.specs.List.{list_all, prefix_len}
+use Rattle.std.specs.Str.{bytes_eq}
+use Rattle.std.specs.Cmp.Lexicographic.{bytes_decides}
+use Rattle.std.proofs.Math.Seq.{take-append_seam, drop-append_seam}
+use Rattle.std.proofs.lemmas.Bool.{and_parts, and_from, or_parts, or_cases, or_left, cases_Bool, false≢true, lt-ltb, le-ltb, le-leb, lt-leb, eqb-true, not-true, ne_eqb}
+use Rattle.std.proofs.lemmas.Bool.Decides.{nat_tests}
+use Rattle.px_value.specs.Names.{is_digit, begins_identifier, goes_on}
+use Rattle.px_lex.specs.declared.keyword.Keyword.{Keyword}
+use Rattle.px_lex.specs.declared.sign.Sign.{Sign}
+use Rattle.px_lex.specs.declared.token.TokenKind.{TokenKind}
+use Rattle.px_lex.specs.declared.token.TokenKind.TheVariants as kinds
+use Rattle.px_lex.specs.Gaps.{begins, is_blank, is_in_line, after_close, IsGap}
+use Rattle.px_lex.specs.Words.{IsWord, keyword_rows, keyword_of, is_real_word}
+use Rattle.px_lex.specs.Numbers.{IsNumber, number_of, is_fraction}
+use Rattle.px_lex.specs.Strings.{is_quote, read_string}
+use Rattle.px_lex.specs.Signs.{sign_rows, sign_of, opens_comment, ends_sign}
+use Rattle.px_lex.specs.Tokens.{IsToken}
+use Rattle.px_lex.specs.Faults.{is_other, IsBad, IsReal, IsTooLong, open_comment, bad_number, bad_string, no_sign, real_word, real_number, long_word, large_number, long_string}
+use Rattle.px_lex.specs.Splits.{Stands}
+use Rattle.px_lex.proofs.SignSteps.{row_of-all, sign_is_short}
+
+-- what stands at the front
+pub data Front : Type 0 where
+  nothing : Front
+  piece : Option TokenKind → List ℕ → Front
+  bad : Front
+  real : Front
+  too_long : Front
+
+-- what the first bytes tell
+pub data Class : Type 0 where
+  a_blank : Class
+  a_line : Class
+  a_comment : Class
+  a_quote : Class
+  a_run : Class
+  an_other : Class
+
+abbrev class_of : List ℕ → Class
+class_of text =
+    if begins is_blank text then a_blank
+    else if bytes_eq (take 2 text) (codes "//") then a_line
+    else if bytes_eq (take 2 text) (codes "/*") then a_comment
+    else if begins is_quote text then a_quote
+    else if begins goes_on text then a_run
+    else an_other
+
+abbrev comment_front : Option (List ℕ) → Front
+comment_front None = bad
+comment_front (Some rest) = piece None rest
+
+abbrev string_front : Option (List ℕ × List ℕ) → Front
+string_front None = bad
+string_front (Some read) = if nat_le (length read.0) 1024 then piece (Some (kinds.Text read.0)) read.1 else too_long
+
+abbrev value_front : List ℕ → Option ℕ → Front
+value_front rest None = bad
+value_front rest (Some value) = if nat_lt value (2 ^ 31) then piece (Some (kinds.Integer (pos value))) rest else too_long
+
+abbrev word_front : List ℕ → List ℕ → Option Keyword → Front
+word_front word rest (Some keyword) = piece (Some (kinds.Keyword keyword)) rest
+word_front word rest None = if is_real_word word then real else if nat_le (length word) 64 then piece (Some (kinds.Identifier word)) rest else too_long
+
+abbrev run_front : List ℕ → List ℕ → Front
+run_front spelling rest =
+    if begins is_digit spelling then (if is_fraction spelling rest then real else value_front rest (number_of spelling))
+    else word_front spelling rest (keyword_of spelling)
+
+abbrev one_front : List ℕ → Option Sign → Front
+one_front text None = bad
+one_front text (Some sign) = piece (Some (kinds.Sign sign)) (drop 1 text)
+
+abbrev two_front : List ℕ → Option Sign → Front
+two_front text None = one_front text (sign_of (take 1 text))
+two_front text (Some sign) = piece (Some (kinds.Sign sign)) (drop 2 text)
+
+abbrev sign_front : List ℕ → Front
+sign_front [] = nothing
+sign_front (a ∷ []) = one_front (a ∷ []) (sign_of (a ∷ []))
+sign_front (a ∷ b ∷ cs) = two_front (a ∷ b ∷ cs) (sign_of (a ∷ b ∷ []))
+
+abbrev by_class : Class → List ℕ → Front
+by_class a_blank text = piece None (drop 1 text)
+by_class a_line text = piece None (drop (prefix_len is_in_line text) text)
+by_class a_comment text = comment_front (after_close (drop 2 text))
+by_class a_quote text = string_front (read_string text)
+by_class a_run text = run_front (take (prefix_len goes_on text) text) (drop (prefix_len goes_on text) text)
+by_class an_other text = sign_front text
+
+abbrev pub front : List ℕ → Front
+front text = by_class (class_of text) text
+
+-- ---- which class stands where
+
+run_no_blank : (c : ℕ) → goes_on c ≡ true → is_blank c ≡ false
+run_no_blank c h = grind (arith, nat_tests)
+
+run_no_slash : (c : ℕ) → goes_on c ≡ true → (c == 47) ≡ false
+run_no_slash c h = grind (arith, nat_tests)
+
+run_no_quote : (c : ℕ) → goes_on c ≡ true → (c == 34) ≡ false
+run_no_quote c h = grind (arith, nat_tests)
+
+class_run : (text : List ℕ) → begins goes_on text ≡ true → class_of text ≡ a_run
+class_run [] h = cc
+class_run (c ∷ cs) h = rw (run_no_blank c h, run_no_slash c h, run_no_quote c h, h)
+
+class_quote : (text : List ℕ) → begins is_quote text ≡ true → class_of text ≡ a_quote
+class_quote [] h = cc
+class_quote (c ∷ cs) h = let quote : c ≡ 34 = eqb-true c 34 h in rw quote
+
+other_no_blank : (c : ℕ) → is_other c ≡ true → is_blank c ≡ false
+other_no_blank c h = grind (arith, nat_tests)
+
+other_no_quote : (c : ℕ) → is_other c ≡ true → (c == 34) ≡ false
+other_no_quote c h = grind (arith, nat_tests)
+
+other_no_run : (c : ℕ) → is_other c ≡ true → goes_on c ≡ false
+other_no_run c h = grind (arith, nat_tests)
+
+class_other : (text : List ℕ) → begins is_other text ≡ true → opens_comment (take 2 text) ≡ false → class_of text ≡ an_other
+class_other [] h closed = cc
+class_other (c ∷ cs) h closed =
+    let opens : (bytes_eq (take 2 (c ∷ cs)) (codes "//") ≡ false) × (bytes_eq (take 2 (c ∷ cs)) (codes "/*") ≡ false) = or_parts (bytes_eq (take 2 (c ∷ cs)) (codes "//")) (bytes_eq (take 2 (c ∷ cs)) (codes "/*")) closed in
+    rw (other_no_blank c h, opens.0, opens.1, other_no_quote c h, other_no_run c h)
+
+-- ---- gaps
+
+prefix_of : (p : ℕ → Bool) (run rest : List ℕ) → list_all p run ≡ true → begins p rest ≡ false → prefix_len p (run ++ rest) ≡ length run
+prefix_of p [] [] pass stop = refl
+prefix_of p [] (c ∷ cs) pass stop = rw stop
+prefix_of p (x ∷ xs) rest pass stop =
+    let parts : (p x ≡ true) × (list_all p xs ≡ true) = and_parts (p x) (list_all p xs) pass in
+    let more : prefix_len p (xs ++ rest) ≡ length xs = prefix_of p xs rest parts.1 stop in
+    rw parts.0 (omega arith)
+
+left_of : (p : ℕ → Bool) (run rest : List ℕ) → list_all p run ≡ true → begins p rest ≡ false → drop (prefix_len p (run ++ rest)) (run ++ rest) ≡ rest
+left_of p run rest pass stop = ap (λ n. drop n (run ++ rest)) (prefix_of p run rest pass stop) ∙ drop-append_seam run rest
+
+taken_of : (p : ℕ → Bool) (run rest : List ℕ) → list_all p run ≡ true → begins p rest ≡ false → take (prefix_len p (run ++ rest)) (run ++ rest) ≡ run
+taken_of p run rest pass stop = ap (λ n. take n (run ++ rest)) (prefix_of p run rest pass stop) ∙ take-append_seam run rest
+
+line_front : (tail rest : List ℕ) → list_all is_in_line tail ≡ true → begins is_in_line rest ≡ false → front (codes "//" ++ tail ++ rest) ≡ piece None rest
+line_front tail rest pass stop = ap (λ t. piece None t) (left_of is_in_line (codes "//" ++ tail) rest pass stop)
+
+gap_front : (spelling rest : List ℕ) → IsGap spelling rest → front (spelling ++ rest) ≡ piece None rest
+gap_front spelling rest (IsGap.blank c e h) = rw (e, h)
+gap_front spelling rest (IsGap.line_comment g) = rw g.spelled (line_front g.comment rest g.one_line g.longest)
+gap_front spelling rest (IsGap.comment g) = rw (g.spelled, g.closed)
+
+-- ---- words and numbers
+
+run_is : (spelling rest : List ℕ) → begins goes_on spelling ≡ true → list_all goes_on spelling ≡ true → begins goes_on rest ≡ false → front (spelling ++ rest) ≡ run_front spelling rest
+run_is [] rest first pass stop = cc
+run_is (c ∷ cs) rest first pass stop =
+    rw (class_run (c ∷ cs ++ rest) first, taken_of goes_on (c ∷ cs) rest pass stop, left_of goes_on (c ∷ cs) rest pass stop)
+
+digit_goes_on : (c : ℕ) → is_digit c ≡ true → goes_on c ≡ true
+digit_goes_on c h = grind (arith, nat_tests)
+
+number_is : (spelling rest : List ℕ) → IsNumber spelling rest → front (spelling ++ rest) ≡ (if is_fraction spelling rest then real else value_front rest (number_of spelling))
+number_is [] rest n = absurd (false≢true n.first)
+number_is (c ∷ cs) rest n = run_is (c ∷ cs) rest (digit_goes_on c n.first) n.going_on n.longest ∙ rw n.first
+
+letter_no_digit : (c : ℕ) → begins_identifier c ≡ true → is_digit c ≡ false
+letter_no_digit c h = grind (arith, nat_tests)
+
+word_is : (spelling rest : List ℕ) → IsWord spelling rest → front (spelling ++ rest) ≡ word_front spelling rest (keyword_of spelling)
+word_is [] rest w = absurd (false≢true w.word)
+word_is (c ∷ cs) rest w =
+    let parts : (begins_identifier c ≡ true) × (list_all goes_on cs ≡ true) = and_parts (begins_identifier c) (list_all goes_on cs) w.word in
+    let on : goes_on c ≡ true = or_left (begins_identifier c) (is_digit c) parts.0 in
+    run_is (c ∷ cs) rest on (and_from (goes_on c) (list_all goes_on cs) on parts.1) w.longest ∙ rw (letter_no_digit c parts.0)
+
+none_unless : {K : Type 0} (o : Option K) → ((k : K) → o ≡ Some k → ⊥) → o ≡ None
+none_unless None h = refl
+none_unless (Some k) h = absurd (h k refl)
+
+keyword_is : (p : List ℕ → Bool) → list_all (λ (row : List ℕ × Keyword). p row.0) keyword_rows ≡ true → (word : List ℕ) → p word ≡ false → keyword_of word ≡ None
+keyword_is p each word h = none_unless (keyword_of word) (λ k found. false≢true (sym h ∙ row_of-all p keyword_rows word k each found))
+
+real_is_no_keyword : (word : List ℕ) → is_real_word word ≡ true → keyword_of word ≡ None
+real_is_no_keyword word h = keyword_is (λ w. not (is_real_word w)) refl word (rw h)
+
+long_is_no_keyword : (word : List ℕ) → 64 < length word → keyword_of word ≡ None
+long_is_no_keyword word h = keyword_is (λ w. nat_le (length w) 64) refl word (lt-leb (length word) 64 h)
+
+long_is_not_real : (word : List ℕ) → 64 < length word → is_real_word word ≡ false
+long_is_not_real word h = false_unless (is_real_word word) (λ r. elim (or_cases (bytes_eq word (codes "Real") || bytes_eq word (codes "Date")) (bytes_eq word (codes "Duration")) r) [
+  | inl one ↦ elim (or_cases (bytes_eq word (codes "Real")) (bytes_eq word (codes "Date")) one) [
+    | inl e ↦ omega (arith, h, ap length ((bytes_decides word (codes "Real")).0 e))
+    | inr e ↦ omega (arith, h, ap length ((bytes_decides word (codes "Date")).0 e))
+  ]
+  | inr e ↦ omega (arith, h, ap length ((bytes_decides word (codes "Duration")).0 e))
+])
+  where
+    false_unless : (b : Bool) → (b ≡ true → ⊥) → b ≡ false
+    false_unless true h = absurd (h refl)
+    false_unless false h = refl
+
+-- ---- signs
+
+sign_of-all : (p : List ℕ → Bool) → list_all (λ (row : List ℕ × Sign). p row.0) sign_rows ≡ true → (spelling : List ℕ) (sign : Sign) → sign_of spelling ≡ Some sign → p spelling ≡ true
+sign_of-all p each spelling sign found = row_of-all p sign_rows spelling sign each found
+
+opens_two : (a : ℕ) → opens_comment (a ∷ []) ≡ false
+opens_two a = grind (arith, nat_tests)
+
+is_none_none : {K : Type 0} (o : Option K) → is_none o ≡ true → o ≡ None
+is_none_none None h = refl
+is_none_none (Some k) h = cc
+
+front_sign : (spelling rest : List ℕ) (sign : Sign) → sign_of spelling ≡ Some sign → ends_sign spelling rest ≡ true → front (spelling ++ rest) ≡ piece (Some (kinds.Sign sign)) rest
+front_sign [] rest sign h ends = absurd (false≢true (sign_of-all (λ s. begins is_other s) refl [] sign h))
+front_sign (a ∷ []) [] sign h ends =
+    let first : is_other a ≡ true = sign_of-all (λ s. begins is_other s) refl (a ∷ []) sign h in
+    rw (class_other (a ∷ []) first (opens_two a), h)
+front_sign (a ∷ []) (b ∷ cs) sign h ends =
+    let first : is_other a ≡ true = sign_of-all (λ s. begins is_other s) refl (a ∷ []) sign h in
+    let parts : (is_none (sign_of (a ∷ b ∷ [])) ≡ true) × (not (opens_comment (a ∷ b ∷ [])) ≡ true) = and_parts (is_none (sign_of (a ∷ b ∷ []))) (not (opens_comment (a ∷ b ∷ []))) ends in
+    rw (class_other (a ∷ b ∷ cs) first (not-true (opens_comment (a ∷ b ∷ [])) parts.1), is_none_none (sign_of (a ∷ b ∷ [])) parts.0, h)
+front_sign (a ∷ b ∷ []) rest sign h ends =
+    let first : is_other a ≡ true = sign_of-all (λ s. begins is_other s) refl (a ∷ b ∷ []) sign h in
+    let closed : opens_comment (a ∷ b ∷ []) ≡ false = not-true (opens_comment (a ∷ b ∷ [])) (sign_of-all (λ s. not (opens_comment s)) refl (a ∷ b ∷ []) sign h) in
+    rw (class_other (a ∷ b ∷ rest) first closed, h)
+front_sign (a ∷ b ∷ c ∷ cs) rest sign h ends = let short : length (a ∷ b ∷ c ∷ cs) ≤ 2 = sign_is_short (a ∷ b ∷ c ∷ cs) sign h in absurd (omega arith)
+
+-- ---- strings
+
+read_quote : (text : List ℕ) (read : List ℕ × List ℕ) → read_string text ≡ Some read → begins is_quote text ≡ true
+read_quote [] read h = cc
+read_quote (c ∷ cs) read h = elim (cases_Bool (c == 34)) [
+  | inl quote ↦ quote
+  | inr other ↦ absurd (nothing_read read (rw other at h))
+]
+  where
+    nothing_read : (read : List ℕ × List ℕ) → ◌≡◌ {A = Option (List ℕ × List ℕ)} None (Some read) → ⊥
+    nothing_read read h = cc
+
+string_is : (text content rest : List ℕ) → read_string text ≡ Some (content, rest) → front text ≡ string_front (Some (content, rest))
+string_is text content rest h = rw (class_quote text (read_quote text (content, rest) h), h)
+
+-- ---- what stands is at the front
+
+token_front : (kind : TokenKind) (spelling rest : List ℕ) → IsToken kind spelling rest → front (spelling ++ rest) ≡ piece (Some kind) rest
+token_front (kinds.Identifier name) spelling rest t =
+    word_is spelling rest t.word ∙ rw (t.no_keyword, t.allowed, le-leb (length spelling) 64 t.short, t.same)
+token_front (kinds.Keyword keyword) spelling rest t = word_is spelling rest t.0 ∙ rw t.1
+token_front (kinds.Integer z) spelling rest t =
+    number_is spelling rest t.2.number ∙ rw (t.2.whole, t.2.writes, lt-ltb t.0 (2 ^ 31) t.2.small, t.1)
+token_front (kinds.Text content) spelling rest t = string_is (spelling ++ rest) content rest t.read ∙ rw (le-leb (length content) 1024 t.short)
+token_front (kinds.Sign sign) spelling rest t = front_sign spelling rest sign t.0 t.1
+
+pub stands_front : (kind : Option TokenKind) (spelling rest : List ℕ) → Stands kind spelling rest → front (spelling ++ rest) ≡ piece kind rest
+stands_front None spelling rest s = gap_front spelling rest s
+stands_front (Some kind) spelling rest s = token_front kind spelling rest s
+
+-- ---- and so is what is at fault
+
+slash_is_sign : (a : ℕ) → sign_of (a ∷ []) ≡ None → (a == 47) ≡ false
+slash_is_sign a h = ne_eqb a 47 (λ e. let found : sign_of (47 ∷ []) ≡ None = rw e at h in cc)
+
+pub bad_front : (text : List ℕ) → IsBad text → front text ≡ bad
+bad_front text (open_comment tail e h) = rw (e, h)
+bad_front text (bad_number number rest n h) = ap front n.split ∙ number_is number rest n.stands ∙ rw (n.followed, h)
+bad_front text (bad_string quote h) = rw (class_quote text quote, h)
+bad_front [] (no_sign first one two) = cc
+bad_front (a ∷ []) (no_sign first one two) = rw (class_other (a ∷ []) first (opens_two a), one)
+bad_front (a ∷ b ∷ cs) (no_sign first one two) =
+    let closed : opens_comment (a ∷ b ∷ []) ≡ false = rw (slash_is_sign a one) in
+    rw (class_other (a ∷ b ∷ cs) first closed, two, one)
+
+pub real_front : (text : List ℕ) → IsReal text → front text ≡ real
+real_front text (real_word word rest w h) = ap front w.split ∙ word_is word rest w.stands ∙ rw (real_is_no_keyword word h, h)
+real_front text (real_number number rest n) = ap front n.split ∙ number_is number rest n.stands ∙ rw n.followed
+
+pub too_long_front : (text : List ℕ) → IsTooLong text → front text ≡ too_long
+too_long_front text (long_word word rest w h) =
+    ap front w.split ∙ word_is word rest w.stands ∙ rw (long_is_no_keyword word h, long_is_not_real word h, lt-leb (length word) 64 h)
+too_long_front text (large_number number rest n value writes h) =
+    ap front n.split ∙ number_is number rest n.stands ∙ rw (n.followed, writes, le-ltb value (2 ^ 31) h)
+too_long_front text (long_string content rest h long) = string_is text content rest h ∙ rw (lt-leb (length content) 1024 long)

@@ -1,0 +1,11 @@
+pub mod Cuts
+pub mod Fronts
+pub mod GapSteps
+pub mod NumberSteps
+pub mod PieceSteps
+pub mod SignSteps
+pub mod Spans
+pub mod StringFronts
+pub mod StringSteps
+pub mod Unique
+pub mod WordSteps

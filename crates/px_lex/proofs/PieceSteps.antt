@@ -1,0 +1,61 @@
+-- How the pieces of a text grow by one.
+use Rattle.std.proofs.Common.{◌≡◌, ℕ, ◌+◌, ◌-◌, List, [], ◌∷◌, ◌++◌, length, Option, Some, None, refl, sym, ap, ◌∙◌, subst, arith, append_assoc, append-nil, length-append}
+use Rattle.px_lex.specs.declared.fault.LexFault.{LexFault}
+use Rattle.px_lex.specs.declared.token.Token.{Token}
+use Rattle.px_lex.specs.declared.token.TokenKind.{TokenKind}
+use Rattle.px_lex.specs.Splits.{Piece, Stands, Begins, spelled, AllStand, token_at, tokens_from, Splits, IsFault, FirstFault}
+
+-- the text is pieces and a rest, and the tokens are theirs
+pub record SoFar (text rest : List ℕ) (tokens : List Token) : Type 0 where
+  pub pieces : List Piece
+  pub whole : text ≡ spelled pieces ++ rest
+  pub stand : AllStand pieces rest
+  pub listed : tokens ≡ tokens_from 0 pieces
+
+spelled-push : (pieces : List Piece) (p : Piece) → spelled (pieces ++ (p ∷ [])) ≡ spelled pieces ++ p.spelling
+spelled-push [] p = append-nil p.spelling
+spelled-push (q ∷ qs) p = ap (λ t. q.spelling ++ t) (spelled-push qs p) ∙ sym (append_assoc q.spelling (spelled qs) p.spelling)
+
+stand_push : (pieces : List Piece) (p : Piece) (rest : List ℕ) → AllStand pieces (p.spelling ++ rest) → Stands p.kind p.spelling rest → AllStand (pieces ++ (p ∷ [])) rest
+stand_push [] p rest stand last = (last, tt)
+stand_push (q ∷ qs) p rest stand last =
+    (subst (λ t. Stands q.kind q.spelling t) (sym (append_assoc (spelled qs) p.spelling rest) ∙ ap (λ t. t ++ rest) (sym (spelled-push qs p))) stand.0, stand_push qs p rest stand.1 last)
+
+tokens_from-push : (at : ℕ) (pieces : List Piece) (p : Piece) → tokens_from at (pieces ++ (p ∷ [])) ≡ tokens_from at pieces ++ token_at (at + length (spelled pieces)) p.kind
+tokens_from-push at [] p = append-nil (token_at at p.kind) ∙ (let same : at ≡ at + 0 = omega arith in ap (λ n. token_at n p.kind) same)
+tokens_from-push at (q ∷ qs) p =
+    let later : at + length q.spelling + length (spelled qs) ≡ at + length (q.spelling ++ spelled qs) = omega (arith, length-append q.spelling (spelled qs)) in
+    ap (λ ts. token_at at q.kind ++ ts) (tokens_from-push (at + length q.spelling) qs p ∙ ap (λ n. tokens_from (at + length q.spelling) qs ++ token_at n p.kind) later)
+    ∙ sym (append_assoc (token_at at q.kind) (tokens_from (at + length q.spelling) qs) (token_at (at + length (q.spelling ++ spelled qs)) p.kind))
+
+pub begin : (text : List ℕ) → SoFar text text []
+begin text = record { pieces = []; whole = refl; stand = tt; listed = refl }
+
+pub place : (text rest : List ℕ) (tokens : List Token) (s : SoFar text rest tokens) → length text - length rest ≡ length (spelled s.pieces)
+place text rest tokens s = omega (arith, ap length s.whole, length-append (spelled s.pieces) rest)
+
+pub step : (text rest behind : List ℕ) (tokens : List Token) (kind : Option TokenKind) → SoFar text rest tokens → Begins kind rest behind → SoFar text behind (tokens ++ token_at (length text - length rest) kind)
+step text rest behind tokens kind s b =
+    let p : Piece = record { kind = kind; spelling = b.spelling } in
+    let there : length text - length rest ≡ 0 + length (spelled s.pieces) = omega (arith, place text rest tokens s) in
+    record {
+      pieces = s.pieces ++ (p ∷ []);
+      whole = s.whole ∙ ap (λ t. spelled s.pieces ++ t) b.split ∙ sym (append_assoc (spelled s.pieces) b.spelling behind) ∙ ap (λ t. t ++ behind) (sym (spelled-push s.pieces p));
+      stand = stand_push s.pieces p behind (subst (AllStand s.pieces) b.split s.stand) b.stands;
+      listed = ap (λ ts. ts ++ token_at (length text - length rest) kind) s.listed ∙ ap (λ n. tokens_from 0 s.pieces ++ token_at n kind) there ∙ sym (tokens_from-push 0 s.pieces p);
+    }
+
+pub finish : (text : List ℕ) (tokens : List Token) → SoFar text [] tokens → Splits text tokens
+finish text tokens s = record { pieces = s.pieces; whole = s.whole ∙ append-nil (spelled s.pieces); stand = s.stand; listed = s.listed }
+
+pub fail : (text rest : List ℕ) (tokens : List Token) (fault : LexFault) → SoFar text rest tokens → IsFault fault (length text - length rest) rest → FirstFault text fault
+fail text rest tokens fault s f = record { pieces = s.pieces; rest = rest; whole = s.whole; stand = s.stand; there = subst (λ n. IsFault fault n rest) (place text rest tokens s) f }
+
+-- the steps of the lexer's loop
+pub step_gap : (text rest behind : List ℕ) (tokens : List Token) (kind : Option TokenKind) → SoFar text rest tokens → Begins kind rest behind → kind ≡ None → SoFar text behind tokens
+step_gap text rest behind tokens kind s b none =
+    subst (SoFar text behind) (ap (λ k. tokens ++ token_at (length text - length rest) k) none ∙ append-nil tokens) (step text rest behind tokens kind s b)
+
+pub step_token : (text rest behind : List ℕ) (tokens tokens' : List Token) (at : ℕ) (kind : Option TokenKind) (k : TokenKind) → SoFar text rest tokens → Begins kind rest behind → kind ≡ Some k → at ≡ length text - length rest → tokens' ≡ tokens ++ (record { kind = k; at = at } ∷ []) → SoFar text behind tokens'
+step_token text rest behind tokens tokens' at kind k s b some place more =
+    subst (SoFar text behind) (ap (λ o. tokens ++ token_at (length text - length rest) o) some ∙ ap (λ n. tokens ++ token_at n (Some k)) (sym place) ∙ sym more) (step text rest behind tokens kind s b)

@@ -1,0 +1,99 @@
+-- No text splits in two ways, and the first fault of a text is one.
+use Rattle.std.proofs.Common.{◌≡◌, ◌≢◌, ℕ, ◌+◌, List, [], ◌∷◌, ◌++◌, length, Option, None, refl, sym, ap, ◌∙◌, subst, arith, append-nil, append_assoc, length-append}
+use Rattle.px_lex.specs.declared.fault.LexFault.{LexFault}
+use Rattle.px_lex.specs.declared.fault.LexFault.TheVariants as faults
+use Rattle.px_lex.specs.declared.token.Token.{Token}
+use Rattle.px_lex.specs.declared.token.TokenKind.{TokenKind}
+use Rattle.px_lex.specs.Splits.{Piece, spelled, AllStand, token_at, tokens_from, Splits, IsFault, FirstFault}
+use Rattle.px_lex.proofs.Fronts.{Front, nothing, piece, bad, real, too_long, front, stands_front, bad_front, real_front, too_long_front}
+
+-- neither a gap nor a token stands at the front
+abbrev Stops : List ℕ → Type 0
+Stops text = (kind : Option TokenKind) (rest : List ℕ) → front text ≡ piece kind rest → ⊥
+
+-- two ways to go through one text have the same tokens, and end at one place
+record Agree (at : ℕ) (ps qs : List Piece) (r s : List ℕ) : Type 0 where
+  pub tokens : tokens_from at ps ≡ tokens_from at qs
+  pub rest : r ≡ s
+
+abbrev rest_of : Front → List ℕ
+rest_of (piece kind rest) = rest
+rest_of other = []
+
+abbrev kind_of : Front → Option TokenKind
+kind_of (piece kind rest) = kind
+kind_of other = None
+
+agree : (at : ℕ) (ps qs : List Piece) (r s : List ℕ) → spelled ps ++ r ≡ spelled qs ++ s → AllStand ps r → AllStand qs s → Stops r → Stops s → Agree at ps qs r s
+agree at [] [] r s e sp sq stop_r stop_s = record { tokens = refl; rest = e }
+agree at [] (q ∷ qs) r s e sp sq stop_r stop_s =
+    absurd (stop_r q.kind (spelled qs ++ s) (ap front (e ∙ append_assoc q.spelling (spelled qs) s) ∙ stands_front q.kind q.spelling (spelled qs ++ s) sq.0))
+agree at (p ∷ ps) [] r s e sp sq stop_r stop_s =
+    absurd (stop_s p.kind (spelled ps ++ r) (ap front (sym e ∙ append_assoc p.spelling (spelled ps) r) ∙ stands_front p.kind p.spelling (spelled ps ++ r) sp.0))
+agree at (p ∷ ps) (q ∷ qs) r s e sp sq stop_r stop_s =
+    let whole : p.spelling ++ (spelled ps ++ r) ≡ q.spelling ++ (spelled qs ++ s) = sym (append_assoc p.spelling (spelled ps) r) ∙ e ∙ append_assoc q.spelling (spelled qs) s in
+    let same : piece p.kind (spelled ps ++ r) ≡ piece q.kind (spelled qs ++ s) = sym (stands_front p.kind p.spelling (spelled ps ++ r) sp.0) ∙ ap front whole ∙ stands_front q.kind q.spelling (spelled qs ++ s) sq.0 in
+    let rests : spelled ps ++ r ≡ spelled qs ++ s = ap rest_of same in
+    let kinds : p.kind ≡ q.kind = ap kind_of same in
+    let long : length p.spelling ≡ length q.spelling = omega (arith, ap length whole, ap length rests, length-append p.spelling (spelled ps ++ r), length-append q.spelling (spelled qs ++ s)) in
+    let more : Agree (at + length p.spelling) ps qs r s = agree (at + length p.spelling) ps qs r s rests sp.1 sq.1 stop_r stop_s in
+    record {
+      tokens = ap (λ k. token_at at k ++ tokens_from (at + length p.spelling) ps) kinds ∙ ap (λ ts. token_at at q.kind ++ ts) (more.tokens ∙ ap (λ n. tokens_from (at + n) qs) long);
+      rest = more.rest;
+    }
+
+end_stops : Stops []
+end_stops = λ kind rest h. cc
+
+fault_stops : (fault : LexFault) (place : ℕ) (rest : List ℕ) → fault ≢ faults.NoMemory → IsFault fault place rest → Stops rest
+fault_stops (faults.Bad at) place rest some f = λ kind behind h. ends_bad (sym (bad_front rest f.1) ∙ h)
+  where
+    ends_bad : {kind : Option TokenKind} {behind : List ℕ} → bad ≡ piece kind behind → ⊥
+    ends_bad h = cc
+fault_stops (faults.Real at) place rest some f = λ kind behind h. ends_real (sym (real_front rest f.1) ∙ h)
+  where
+    ends_real : {kind : Option TokenKind} {behind : List ℕ} → real ≡ piece kind behind → ⊥
+    ends_real h = cc
+fault_stops (faults.TooLong at) place rest some f = λ kind behind h. ends_long (sym (too_long_front rest f.1) ∙ h)
+  where
+    ends_long : {kind : Option TokenKind} {behind : List ℕ} → too_long ≡ piece kind behind → ⊥
+    ends_long h = cc
+fault_stops faults.NoMemory place rest some f = absurd (some refl)
+
+pub one_way : (text : List ℕ) (a b : List Token) → Splits text a → Splits text b → a ≡ b
+one_way text a b s t =
+    let both : spelled s.pieces ++ [] ≡ spelled t.pieces ++ [] = append-nil (spelled s.pieces) ∙ sym s.whole ∙ t.whole ∙ sym (append-nil (spelled t.pieces)) in
+    s.listed ∙ (agree 0 s.pieces t.pieces [] [] both s.stand t.stand end_stops end_stops).tokens ∙ sym t.listed
+
+-- no fault stands at the end
+no_fault_at_end : (fault : LexFault) (place : ℕ) → fault ≢ faults.NoMemory → IsFault fault place [] → ⊥
+no_fault_at_end (faults.Bad at) place some f = let h : nothing ≡ bad = bad_front [] f.1 in cc
+no_fault_at_end (faults.Real at) place some f = let h : nothing ≡ real = real_front [] f.1 in cc
+no_fault_at_end (faults.TooLong at) place some f = let h : nothing ≡ too_long = too_long_front [] f.1 in cc
+no_fault_at_end faults.NoMemory place some f = some refl
+
+pub no_fault : (text : List ℕ) (tokens : List Token) (fault : LexFault) → Splits text tokens → fault ≢ faults.NoMemory → FirstFault text fault → ⊥
+no_fault text tokens fault s some f =
+    let both : spelled s.pieces ++ [] ≡ spelled f.pieces ++ f.rest = append-nil (spelled s.pieces) ∙ sym s.whole ∙ f.whole in
+    let found : Agree 0 s.pieces f.pieces [] f.rest = agree 0 s.pieces f.pieces [] f.rest both s.stand f.stand end_stops (fault_stops fault (length (spelled f.pieces)) f.rest some f.there) in
+    no_fault_at_end fault (length (spelled f.pieces)) some (subst (λ r. IsFault fault (length (spelled f.pieces)) r) (sym found.rest) f.there)
+
+same_fault : (f g : LexFault) (place : ℕ) (rest : List ℕ) → f ≢ faults.NoMemory → g ≢ faults.NoMemory → IsFault f place rest → IsFault g place rest → f ≡ g
+same_fault (faults.Bad m) (faults.Bad n) place rest hf hg a b = ap (λ at. faults.Bad at) (a.0 ∙ sym b.0)
+same_fault (faults.Bad m) (faults.Real n) place rest hf hg a b = let h : bad ≡ real = sym (bad_front rest a.1) ∙ real_front rest b.1 in cc
+same_fault (faults.Bad m) (faults.TooLong n) place rest hf hg a b = let h : bad ≡ too_long = sym (bad_front rest a.1) ∙ too_long_front rest b.1 in cc
+same_fault (faults.Real m) (faults.Bad n) place rest hf hg a b = let h : bad ≡ real = sym (bad_front rest b.1) ∙ real_front rest a.1 in cc
+same_fault (faults.Real m) (faults.Real n) place rest hf hg a b = ap (λ at. faults.Real at) (a.0 ∙ sym b.0)
+same_fault (faults.Real m) (faults.TooLong n) place rest hf hg a b = let h : real ≡ too_long = sym (real_front rest a.1) ∙ too_long_front rest b.1 in cc
+same_fault (faults.TooLong m) (faults.Bad n) place rest hf hg a b = let h : bad ≡ too_long = sym (bad_front rest b.1) ∙ too_long_front rest a.1 in cc
+same_fault (faults.TooLong m) (faults.Real n) place rest hf hg a b = let h : real ≡ too_long = sym (real_front rest b.1) ∙ too_long_front rest a.1 in cc
+same_fault (faults.TooLong m) (faults.TooLong n) place rest hf hg a b = ap (λ at. faults.TooLong at) (a.0 ∙ sym b.0)
+same_fault faults.NoMemory g place rest hf hg a b = absurd (hf refl)
+same_fault f faults.NoMemory place rest hf hg a b = absurd (hg refl)
+
+pub one_fault : (text : List ℕ) (f g : LexFault) → f ≢ faults.NoMemory → g ≢ faults.NoMemory → FirstFault text f → FirstFault text g → f ≡ g
+one_fault text f g hf hg a b =
+    let both : spelled a.pieces ++ a.rest ≡ spelled b.pieces ++ b.rest = sym a.whole ∙ b.whole in
+    let found : Agree 0 a.pieces b.pieces a.rest b.rest = agree 0 a.pieces b.pieces a.rest b.rest both a.stand b.stand (fault_stops f (length (spelled a.pieces)) a.rest hf a.there) (fault_stops g (length (spelled b.pieces)) b.rest hg b.there) in
+    let long : length (spelled a.pieces) ≡ length (spelled b.pieces) = omega (arith, ap length both, ap length found.rest, length-append (spelled a.pieces) a.rest, length-append (spelled b.pieces) b.rest) in
+    same_fault f g (length (spelled b.pieces)) b.rest hf hg (subst (λ r. IsFault f (length (spelled b.pieces)) r) found.rest (subst (λ n. IsFault f n a.rest) long a.there)) b.there

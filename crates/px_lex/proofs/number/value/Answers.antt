@@ -1,0 +1,5 @@
+use Rattle.px_lex.proofs.NumberSteps.{parsed}
+use Rattle.px_lex.proofs.number.value.Goals as goal
+
+pub returns : goal.returns
+returns c = rw c.ok.ensures.value (parsed c.args.base c.args.digits.now _ c.requires.high c.requires.digits c.from_str_radix.ensures.value)

@@ -1,0 +1,9 @@
+pub mod Gaps
+pub mod Tables
+pub mod Words
+pub mod Numbers
+pub mod Strings
+pub mod Signs
+pub mod Tokens
+pub mod Faults
+pub mod Splits
