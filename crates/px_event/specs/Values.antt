@@ -1,0 +1,20 @@
+-- Which values may be told to a plan, and what `==` answers of two values.
+use Rattle.std.specs.Prelude.{Bool, true, false}
+use Rattle.px_value.specs.contracts.value.ValuePartialEq.TheImpl as equality
+use Rattle.px_value.specs.declared.value.Value.{Value}
+use Rattle.px_value.specs.declared.value.Value.TheVariants as values
+
+-- a plain value is a Boolean, an Integer or a Text
+abbrev pub is_plain : Value → Bool
+is_plain (values.Boolean truth) = true
+is_plain (values.Integer number) = true
+is_plain (values.Text text) = true
+is_plain value = false
+
+abbrev pub is_plain_or_unknown : Value → Bool
+is_plain_or_unknown values.Unknown = true
+is_plain_or_unknown value = is_plain value
+
+-- what `==` answers of two values
+abbrev pub value_eq : Value → Value → Bool
+value_eq = (equality.ghosts).eq

@@ -1,0 +1,108 @@
+// The arguments of a report.
+ghost use Rattle.std.specs.Prelude.{◌≡◌, IfOk};
+ghost use Rattle.std.specs.Cmp.Lexicographic.{pointwise, lists_per, lists_equiv};
+ghost use Rattle.px_value.specs.contracts.value.ValuePartialEq.TheImpl.Laws as same_values;
+ghost use Rattle.px_value.specs.contracts.value.ValueEq.TheImpl.Laws as equal_values;
+ghost use Rattle.px_event.specs.Values.{value_eq};
+
+use px_value::{NoMemory, Value};
+use std::alloc::Global;
+use std::marker::Model;
+
+/// Values in order. To contracts they are a list.
+#[derive(Debug, Drop)]
+pub struct Values {
+    items: Vec<Value>,
+}
+
+impl Model for Values {
+    ghost use Rattle.std.specs.Prelude.{List};
+    ghost use Rattle.px_value.specs.declared.value.Value.{Value as PlanValue};
+
+    ghost Value = { List PlanValue };
+
+    ghost view = { λ v. v.items.items };
+}
+
+impl From<Vec<Value>> for Values {
+    ghost from_gives = { λ items values. values ≡ items.items };
+
+    fn from(items: Vec<Value>) -> Self {
+        Values { items }
+    }
+}
+
+impl Values {
+    /// The values, in order.
+    pub fn as_slice(&self) -> &[Value]
+        ensures { result.now ≡ self.now }
+    {
+        self.items.as_slice()
+    }
+
+    /// The vector that holds the values.
+    pub fn into_vec(self) -> Vec<Value>
+        ensures { result.items ≡ self }
+    {
+        let Values { items } = self;
+        items
+    }
+
+    /// Equal values.
+    pub fn copy(&self, alloc: Global) -> Result<Values, NoMemory>
+        ensures { IfOk result (λ values. values ≡ self.now) }
+    {
+        let mut items = Vec::with_capacity(alloc, self.items.len())?;
+        for value in self.items.iter() {
+            items.push(value.copy(alloc)?)?;
+        }
+        Ok(Values { items })
+    }
+}
+
+impl PartialEq for Values {
+    ghost eq = { pointwise value_eq };
+
+    ghost laws = { lists_per same_values.laws-law };
+
+    fn eq(&self, other: &Self) -> bool {
+        self.as_slice() == other.as_slice()
+    }
+}
+
+impl Eq for Values {
+    ghost laws = { lists_equiv equal_values.laws-law };
+}
+
+#[cfg(test)]
+mod tests {
+    use super::*;
+    use std::test::Fail;
+
+    #[test]
+    fn values_are_the_vector_that_they_were_made_of(rt: HostRuntime) -> Result<(), Fail> {
+        let given = vec![in rt.alloc(); Value::Integer(4), Value::Unknown, Value::Boolean(true)]?;
+        let values = Values::from(given);
+        assert_eq!(rt; values.as_slice().len(), 3);
+        assert!(rt; values.as_slice()[1] == Value::Unknown);
+        assert!(rt; values.copy(rt.alloc())? == values);
+        assert_eq!(rt; values.into_vec().len(), 3);
+        Ok(())
+    }
+
+    #[test]
+    fn values_differ_in_a_value_or_in_their_number(rt: HostRuntime) -> Result<(), Fail> {
+        let alloc = rt.alloc();
+        let values = Values::from(vec![in alloc; Value::Integer(4), Value::Unknown]?);
+        for other in [
+            Vec::new(alloc),
+            vec![in alloc; Value::Integer(4)]?,
+            vec![in alloc; Value::Integer(4), Value::Unknown, Value::Unknown]?,
+            vec![in alloc; Value::Unknown, Value::Integer(4)]?,
+            vec![in alloc; Value::Integer(4), Value::Boolean(false)]?,
+        ] {
+            assert!(rt; Values::from(other) != values);
+        }
+        Ok(())
+    }
+}
