@@ -1,0 +1,9 @@
+pub mod Fit
+pub mod Guards
+pub mod Plan
+pub mod Run
+pub mod Step
+pub mod Stepper
+pub mod Table
+pub mod Text
+pub mod World
