@@ -1,0 +1,9 @@
+pub mod Above
+pub mod Ahead
+pub mod Arriving
+pub mod Below
+pub mod Distinct
+pub mod Laid
+pub mod Rows
+pub mod Stepping
+pub mod Trees
