@@ -1,0 +1,13 @@
+use Rattle.std.proofs.Common.{◌-◌}
+use Rattle.px_sem.proofs.Settles.{steps_until_quiet}
+use Rattle.px_run.specs.Outcome.{view}
+use Rattle.px_run.proofs.Tracing.{IsTracing}
+use Rattle.px_run.proofs.trace_start.print_steps.Given as goal
+
+abbrev pub invariant-loop-count : goal.invariant-loop-count
+invariant-loop-count g l =
+    IsTracing (g.S.Stepper.nodes l.fn.stepper) (g.S.Stepper.world l.fn.stepper) (view g.H.Host l.fn.host) l.fn.text.items
+    (g.S.Stepper.nodes l.stepper) (g.S.Stepper.world l.stepper) l.count (view g.H.Host l.host) l.text.items
+
+abbrev pub decreases-loop-count : goal.decreases-loop-count
+decreases-loop-count g l = steps_until_quiet (g.S.Stepper.nodes l.fn.stepper) (g.S.Stepper.world l.fn.stepper) - l.count
