@@ -1,0 +1,35 @@
+//! The program: it hands the words of the command line, the files of the system and standard output to
+//! the top call, and ends with its status.
+#![tactic(auto)]
+
+mod host;
+#[cfg(test)]
+mod rows;
+
+use host::StdHost;
+use px_run::plexil;
+use std::env::Env;
+use std::io::ErrorKind;
+use std::process::ExitCode;
+use std::{env, io};
+
+// The status where memory has run out before the command is known.
+const WANT_OF_MEMORY: u8 = 10;
+
+fn main(rt: HostRuntime) -> ExitCode {
+    let alloc = rt.alloc();
+    let Ok(words) = command_words(&rt) else {
+        return ExitCode::from(WANT_OF_MEMORY);
+    };
+    let mut host = StdHost::new(alloc, rt);
+    ExitCode::from(plexil(alloc, &words, &mut host))
+}
+
+// The words behind the program's own name. A command line that isn't UTF-8 is faulty, and stands as one
+// without words, which is faulty too.
+fn command_words<R: Env + AllocGlobal>(rt: &R) -> io::Result<Vec<String>> {
+    match env::args(rt) {
+        Err(fault) if fault.kind() == ErrorKind::InvalidData => Ok(Vec::new(rt.alloc())),
+        words => Ok(words?.skip(1).collect(rt.alloc())?),
+    }
+}

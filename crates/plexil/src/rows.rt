@@ -1,0 +1,237 @@
+// What the program prints, and the status that it ends with, over a host in memory: worked out by hand.
+use px_ports::{MemFile, MemHost};
+use px_run::plexil;
+use std::alloc::Global;
+use std::test::Fail;
+
+const USAGE: &str =
+    "usage: plexil trace-start PLAN | dry-run PLAN SCRIPT | run PLAN SCRIPT JOURNAL [--events N] | resume SCRIPT JOURNAL [--events N] | trace JOURNAL | check PLAN | format PLAN | soak COUNT SEED JOURNAL
+";
+
+const ONE_BLOCK: &str = "event 0: start
+step 1
+  A: INACTIVE -> WAITING
+step 2
+  A: WAITING -> EXECUTING
+step 3
+  A: EXECUTING -> ITERATION_ENDED SUCCESS
+step 4
+  A: ITERATION_ENDED -> FINISHED SUCCESS
+quiet 4
+plan finished SUCCESS
+";
+
+const ONE_BLOCK_WITHOUT_A_LABEL: &str = "event 0: start
+step 1
+  #1: INACTIVE -> WAITING
+step 2
+  #1: WAITING -> EXECUTING
+step 3
+  #1: EXECUTING -> ITERATION_ENDED SUCCESS
+step 4
+  #1: ITERATION_ENDED -> FINISHED SUCCESS
+quiet 4
+plan finished SUCCESS
+";
+
+const AN_EMPTY_LIST: &str = "event 0: start
+step 1
+  R: INACTIVE -> WAITING
+step 2
+  R: WAITING -> EXECUTING
+step 3
+  R: EXECUTING -> FINISHING SUCCESS
+step 4
+  R: FINISHING -> ITERATION_ENDED SUCCESS
+step 5
+  R: ITERATION_ENDED -> FINISHED SUCCESS
+quiet 5
+plan finished SUCCESS
+";
+
+const A_LIST_OF_TWO: &str = "event 0: start
+step 1
+  R: INACTIVE -> WAITING
+step 2
+  R: WAITING -> EXECUTING
+step 3
+  R.A: INACTIVE -> WAITING
+  R.#2: INACTIVE -> WAITING
+step 4
+  R.A: WAITING -> EXECUTING
+  R.#2: WAITING -> EXECUTING
+step 5
+  R.A: EXECUTING -> ITERATION_ENDED SUCCESS
+  R.#2: EXECUTING -> ITERATION_ENDED SUCCESS
+step 6
+  R.A: ITERATION_ENDED -> FINISHED SUCCESS
+  R.#2: ITERATION_ENDED -> FINISHED SUCCESS
+step 7
+  R: EXECUTING -> FINISHING SUCCESS
+step 8
+  R: FINISHING -> ITERATION_ENDED SUCCESS
+step 9
+  R: ITERATION_ENDED -> FINISHED SUCCESS
+quiet 9
+plan finished SUCCESS
+";
+
+const NOT_IN_FORM: &str = "plan refused: first form\n";
+
+const TOO_LONG: &str = "plan refused: longer than 1048576 bytes\n";
+
+fn file(alloc: Global, name: &str, bytes: &[u8]) -> Result<MemFile, Fail> {
+    Ok(MemFile {
+        name: String::from_str(alloc, name)?,
+        bytes: bytes.to_vec(alloc)?,
+    })
+}
+
+// A host that has this file alone, and whose sink takes what it is given.
+fn host_of(alloc: Global, name: &str, bytes: &[u8]) -> Result<MemHost, Fail> {
+    host_with(alloc, &[], &[], usize::MAX, file(alloc, name, bytes)?)
+}
+
+fn host_with(
+    alloc: Global,
+    failing_fetches: &[u32],
+    failing_emits: &[u32],
+    piece: usize,
+    file: MemFile,
+) -> Result<MemHost, Fail> {
+    Ok(MemHost::new(
+        alloc,
+        vec![in alloc; file]?,
+        failing_fetches.to_vec(alloc)?,
+        failing_emits.to_vec(alloc)?,
+        piece,
+    )?)
+}
+
+fn words_of(alloc: Global, words: &[&str]) -> Result<Vec<String>, Fail> {
+    let mut owned = Vec::new(alloc);
+    for word in words {
+        owned.push(String::from_str(alloc, word)?)?;
+    }
+    Ok(owned)
+}
+
+// The status of the call, and what was emitted.
+fn outcome(alloc: Global, words: &[&str], mut host: MemHost) -> Result<(u8, String), Fail> {
+    let words = words_of(alloc, words)?;
+    let status = plexil(alloc, &words, &mut host);
+    Ok((status, String::from_utf8(host.emitted().to_vec(alloc)?)?))
+}
+
+// So many blanks, and then the text.
+fn padded(alloc: Global, blanks: usize, text: &str) -> Result<Vec<u8>, Fail> {
+    let mut bytes = vec![in alloc; b' '; blanks]?;
+    bytes.extend_from_slice(text.as_bytes())?;
+    Ok(bytes)
+}
+
+#[test]
+fn a_plan_runs_until_it_is_quiet_or_is_refused(rt: HostRuntime) -> Result<(), Fail> {
+    let alloc = rt.alloc();
+    let cases: [(usize, &str, u8, &str); 10] = [
+        (0, "A: { }", 0, ONE_BLOCK),
+        (0, "{ }", 0, ONE_BLOCK_WITHOUT_A_LABEL),
+        (0, "R: { NodeList: A: { } { } }", 0, A_LIST_OF_TWO),
+        (0, "R: { NodeList: }", 0, AN_EMPTY_LIST),
+        (0, "A: { x = 1; }", 3, NOT_IN_FORM),
+        (0, "", 3, NOT_IN_FORM),
+        (1_048_576, "", 3, NOT_IN_FORM),
+        (1_048_577, "", 3, TOO_LONG),
+        (1_048_570, "A: { }", 0, ONE_BLOCK),
+        (1_048_571, "A: { }", 3, TOO_LONG),
+    ];
+    for (blanks, plan, status, text) in cases {
+        let host = host_of(alloc, "P", &padded(alloc, blanks, plan)?)?;
+        let (answered, emitted) = outcome(alloc, &["trace-start", "P"], host)?;
+        assert_eq!(rt; emitted.as_str(), text, "{plan} behind {blanks} blanks");
+        assert_eq!(rt; answered, status, "{plan} behind {blanks} blanks");
+    }
+    Ok(())
+}
+
+#[test]
+fn words_that_are_no_command_are_told_the_usage(rt: HostRuntime) -> Result<(), Fail> {
+    let alloc = rt.alloc();
+    // The name of the one file, the words, the status and the text.
+    let cases: [(&str, &[&str], u8, &str); 14] = [
+        ("P", &[], 2, USAGE),
+        ("P", &["frobnicate", "P"], 2, USAGE),
+        ("P", &["Trace-start", "P"], 2, USAGE),
+        ("P", &["trace-start"], 2, USAGE),
+        ("P", &["trace-start", "P", "P"], 2, USAGE),
+        ("P", &["trace-start", "P", "--events=3"], 2, USAGE),
+        ("P", &["check", "P"], 2, USAGE),
+        ("P", &["--help"], 2, USAGE),
+        ("-x", &["trace-start", "-x"], 2, USAGE),
+        ("-x", &["trace-start", "--", "-x"], 0, ONE_BLOCK),
+        ("-", &["trace-start", "-"], 0, ONE_BLOCK),
+        ("--", &["trace-start", "--", "--"], 0, ONE_BLOCK),
+        ("P", &["trace-start", "P", "--"], 0, ONE_BLOCK),
+        ("P", &["trace-start", "P", "--", "P"], 2, USAGE),
+    ];
+    for (name, words, status, text) in cases {
+        let host = host_of(alloc, name, b"A: { }")?;
+        let (answered, emitted) = outcome(alloc, words, host)?;
+        assert_eq!(rt; emitted.as_str(), text, "{words:?}");
+        assert_eq!(rt; answered, status, "{words:?}");
+    }
+    Ok(())
+}
+
+#[test]
+fn a_fault_of_the_host_has_its_status(rt: HostRuntime) -> Result<(), Fail> {
+    let alloc = rt.alloc();
+    // The name of the one file, the fetches and emits that fail, the piece, the status and the text.
+    let cases: [(&str, &[u32], &[u32], usize, u8, &str); 8] = [
+        ("Q", &[], &[], 64, 7, "read fault\n"),
+        ("P", &[1], &[], 64, 7, "read fault\n"),
+        ("P", &[], &[], 0, 8, ""),
+        ("P", &[], &[], 1, 0, ONE_BLOCK),
+        ("P", &[], &[2], 8, 8, "event 0:"),
+        ("P", &[], &[1], 64, 8, ""),
+        ("Q", &[], &[], 0, 8, ""),
+        ("Q", &[], &[2], 4, 8, "read"),
+    ];
+    for (name, fetches, emits, piece, status, text) in cases {
+        let file = file(alloc, name, b"A: { }")?;
+        let host = host_with(alloc, fetches, emits, piece, file)?;
+        let (answered, emitted) = outcome(alloc, &["trace-start", "P"], host)?;
+        let case = (name, fetches, emits, piece);
+        assert_eq!(rt; emitted.as_str(), text, "{case:?}");
+        assert_eq!(rt; answered, status, "{case:?}");
+    }
+    Ok(())
+}
+
+// 63 Lists in one another, the innermost with so many blocks.
+fn deep_plan(alloc: Global, blocks: usize) -> Result<String, Fail> {
+    let mut text = String::new(alloc);
+    for (part, times) in [("{ NodeList: ", 63), ("{}", blocks), ("}", 63)] {
+        for _ in 0..times {
+            text.push_str(part)?;
+        }
+    }
+    Ok(text)
+}
+
+// A block begins two steps after its parent, and a List ends three after its children: the innermost
+// blocks finish in step 2 * 64 + 2, and the root 3 * 63 later.
+#[test]
+fn a_plan_of_4096_blocks_and_64_levels_runs(rt: HostRuntime) -> Result<(), Fail> {
+    let alloc = rt.alloc();
+    for (blocks, status, end) in [
+        (4033, 0, "quiet 319\nplan finished SUCCESS\n"),
+        (4034, 3, NOT_IN_FORM),
+    ] {
+        let host = host_of(alloc, "P", deep_plan(alloc, blocks)?.as_bytes())?;
+        let (answered, emitted) = outcome(alloc, &["trace-start", "P"], host)?;
+        assert_eq!(rt; answered, status, "{blocks}");
+        assert!(rt; emitted.as_str().ends_with(end), "{blocks}");
+    }
+    Ok(())
+}
