@@ -29,16 +29,30 @@ pub(crate) fn split_run(text: &str) -> (&str, &str)
     text.split_at(run_length(text.as_bytes()))
 }
 
-fn keyword_of(word: &str) -> Option<Keyword>
+/// The keyword that a word is, if it is one.
+pub fn keyword_of(word: &[u8]) -> Option<Keyword>
     ensures { result ≡ keyword_of word.now }
 {
-    row_of(&KEYWORDS, word.as_bytes())
+    row_of(&KEYWORDS, word)
 }
 
-fn is_real_word(word: &str) -> bool
+/// Whether a word is the name of a type that is left out: Real, Date or Duration.
+pub fn is_real_word(word: &[u8]) -> bool
     ensures { result ≡ is_real_word word.now }
 {
-    word == "Real" || word == "Date" || word == "Duration"
+    word == b"Real".as_slice() || word == b"Date".as_slice() || word == b"Duration".as_slice()
+}
+
+fn keyword(word: &str) -> Option<Keyword>
+    ensures { result ≡ keyword_of word.now }
+{
+    keyword_of(word.as_bytes())
+}
+
+fn is_left_out(word: &str) -> bool
+    ensures { result ≡ is_real_word word.now }
+{
+    is_real_word(word.as_bytes())
 }
 
 /// The word at the front of a text, and what is behind it.
@@ -55,15 +69,31 @@ pub(crate) fn word<'a>(
     if word.len() > NAME_LIMIT {
         return Err(LexFault::TooLong { at });
     }
-    if is_real_word(word) {
+    if is_left_out(word) {
         return Err(LexFault::Real { at });
     }
-    if let Some(keyword) = keyword_of(word) {
+    if let Some(keyword) = keyword(word) {
         return Ok((TokenKind::Keyword(keyword), rest));
     }
     match Name::new(alloc, word) {
         Ok(name) => Ok((TokenKind::Identifier(name), rest)),
         Err(NameFault::NotAName) => unreachable!(),
         Err(NameFault::NoMemory) => Err(LexFault::NoMemory),
+    }
+}
+
+#[cfg(test)]
+mod tests {
+    use super::*;
+
+    #[test]
+    fn a_word_of_the_table_is_a_keyword(rt: HostRuntime) {
+        assert_eq!(rt;
+            keyword_of(b"ITERATION_ENDED"),
+            Some(Keyword::IterationEnded)
+        );
+        assert_eq!(rt; keyword_of(b"ITERATION"), None);
+        assert!(rt; is_real_word(b"Duration"));
+        assert!(rt; !is_real_word(b"Durations"));
     }
 }

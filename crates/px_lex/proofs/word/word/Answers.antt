@@ -7,6 +7,6 @@ pub returns-then-word-gt-NAME_LIMIT-clause-fault : goal.returns-then-word-gt-NAM
 returns-then-word-gt-NAME_LIMIT-clause-fault c =
     (refl, long_word c.split_run.result.0.now c.split_run.result.1.now (record { split = c.split_run.ensures.whole; stands = word_of c.args.text.now c.split_run.result.0.now c.split_run.result.1.now c.requires c.split_run.ensures.whole c.split_run.ensures.run c.split_run.ensures.longest }) c.if-word-gt-NAME_LIMIT.true)
 
-pub returns-then-is_real_word-clause-fault : goal.returns-then-is_real_word-clause-fault
-returns-then-is_real_word-clause-fault c =
-    (refl, real_word c.split_run.result.0.now c.split_run.result.1.now (record { split = c.split_run.ensures.whole; stands = word_of c.args.text.now c.split_run.result.0.now c.split_run.result.1.now c.requires c.split_run.ensures.whole c.split_run.ensures.run c.split_run.ensures.longest }) (sym c.if-is_real_word.ensures))
+pub returns-then-is_left_out-clause-fault : goal.returns-then-is_left_out-clause-fault
+returns-then-is_left_out-clause-fault c =
+    (refl, real_word c.split_run.result.0.now c.split_run.result.1.now (record { split = c.split_run.ensures.whole; stands = word_of c.args.text.now c.split_run.result.0.now c.split_run.result.1.now c.requires c.split_run.ensures.whole c.split_run.ensures.run c.split_run.ensures.longest }) (sym c.if-is_left_out.ensures))

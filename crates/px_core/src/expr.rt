@@ -1,0 +1,145 @@
+// Expressions: what conditions, targets and bodies compute.
+ghost use Rattle.std.specs.Prelude.{◌≡◌, map, IfOk};
+ghost use Rattle.px_core.specs.Terms.{term_of};
+
+use px_value::{ArithOp, CompareOp, Name, NoMemory, Path, Value};
+use std::alloc::Global;
+
+/// The operators with one operand (PLEXIL reference manual, "Expressions").
+#[derive(Clone, Copy, Debug, PartialEq, Eq, Hash)]
+pub enum UnaryOp {
+    /// `!`
+    Not,
+    /// `-`
+    Minus,
+    /// `isKnown`
+    IsKnown,
+    /// `abs`
+    Abs,
+    /// `strlen`, the number of bytes
+    Length,
+}
+
+/// The operators with two operands (PLEXIL reference manual, "Expressions").
+#[derive(Clone, Copy, Debug, PartialEq, Eq)]
+pub enum BinaryOp {
+    /// `&&`
+    And,
+    /// `||`
+    Or,
+    /// `XOR`
+    Xor,
+    /// `==`, `!=`, `<`, `<=`, `>` and `>=`
+    Compare(CompareOp),
+    /// `+`, of Integers or texts
+    Add,
+    /// `-`, `*`, `/`, `%`, `min` and `max`
+    Arith(ArithOp),
+}
+
+/// How a lookup asks for a state of the outside (PLEXIL reference manual, "Lookups").
+#[derive(Clone, Copy, Debug, PartialEq, Eq, Hash)]
+pub enum LookWord {
+    Lookup,
+    LookupNow,
+    LookupOnChange,
+}
+
+/// An expression (PLEXIL reference manual, "Expressions"). Each path is that of a node, from the root.
+#[derive(Debug, Drop)]
+pub enum Expr {
+    Literal(Value),
+    /// The variable that the node `owner` declares.
+    Var {
+        owner: Path,
+        name: Name,
+    },
+    /// An element of the array that the node `owner` declares, counted from 0.
+    Cell {
+        owner: Path,
+        name: Name,
+        index: Box<Expr>,
+    },
+    StateOf(Path),
+    OutcomeOf(Path),
+    FailureOf(Path),
+    /// What the outside has said of the command of a Command node.
+    HandleOf(Path),
+    /// Whether the outside has acknowledged the update of an Update node.
+    Acknowledged(Path),
+    /// The last report of the state that the name and the arguments' values make.
+    Look {
+        word: LookWord,
+        name: Name,
+        args: Vec<Expr>,
+        /// How far a report must lie from the one before it to count; None where each one counts.
+        tolerance: Option<u32>,
+    },
+    Unary {
+        op: UnaryOp,
+        arg: Box<Expr>,
+    },
+    Binary {
+        op: BinaryOp,
+        left: Box<Expr>,
+        right: Box<Expr>,
+    },
+}
+
+impl Expr {
+    /// An equal expression.
+    #[cycle(copy)]
+    pub fn copy(&self, alloc: Global) -> Result<Expr, NoMemory>
+        ensures { IfOk result (λ expr. term_of expr ≡ term_of self.now) }
+    {
+        Ok(match self {
+            Expr::Literal(value) => Expr::Literal(value.copy(alloc)?),
+            Expr::Var { owner, name } => Expr::Var {
+                owner: owner.copy(alloc)?,
+                name: name.copy(alloc)?,
+            },
+            Expr::Cell { owner, name, index } => Expr::Cell {
+                owner: owner.copy(alloc)?,
+                name: name.copy(alloc)?,
+                index: Box::new(alloc, index.copy(alloc)?)?,
+            },
+            Expr::StateOf(path) => Expr::StateOf(path.copy(alloc)?),
+            Expr::OutcomeOf(path) => Expr::OutcomeOf(path.copy(alloc)?),
+            Expr::FailureOf(path) => Expr::FailureOf(path.copy(alloc)?),
+            Expr::HandleOf(path) => Expr::HandleOf(path.copy(alloc)?),
+            Expr::Acknowledged(path) => Expr::Acknowledged(path.copy(alloc)?),
+            Expr::Look {
+                word,
+                name,
+                args,
+                tolerance,
+            } => Expr::Look {
+                word: *word,
+                name: name.copy(alloc)?,
+                args: copy_each(alloc, args)?,
+                tolerance: *tolerance,
+            },
+            Expr::Unary { op, arg } => Expr::Unary {
+                op: *op,
+                arg: Box::new(alloc, arg.copy(alloc)?)?,
+            },
+            Expr::Binary { op, left, right } => Expr::Binary {
+                op: *op,
+                left: Box::new(alloc, left.copy(alloc)?)?,
+                right: Box::new(alloc, right.copy(alloc)?)?,
+            },
+        })
+    }
+}
+
+/// Equal expressions, in their order.
+#[cycle(copy)]
+pub(crate) fn copy_each(alloc: Global, exprs: &[Expr]) -> Result<Vec<Expr>, NoMemory>
+    ensures { IfOk result (λ copies. map term_of copies.items ≡ map term_of exprs.now) }
+{
+    let mut copies = Vec::with_capacity(alloc, exprs.len())?;
+    for expr in exprs {
+        copies.push(expr.copy(alloc)?)?;
+    }
+    Ok(copies)
+}
