@@ -1,0 +1,14 @@
+pub mod Beside
+pub mod Complete
+pub mod Cores
+pub mod Fits
+pub mod Forests
+pub mod Fronts
+pub mod ItemSteps
+pub mod Lexing
+pub mod Names
+pub mod Plans
+pub mod Readings
+pub mod Sound
+pub mod Whole
+pub mod Words

@@ -1,0 +1,115 @@
+-- Labels, and the names of blocks without one.
+use Rattle.std.proofs.Common.{◌≡◌, ℕ, suc, ◌+◌, ◌<◌, ◌≤◌, ◌^◌, true, false, ◌&&◌, ◌||◌, List, [], ◌∷◌, length, refl, sym, ap, ◌∙◌, arith, ◌==◌, inl, inr}
+use Rattle.std.specs.Prelude.{not, is_none, nat_eq, nat_le, decimal}
+use Rattle.std.specs.List.{list_all}
+use Rattle.std.specs.Cmp.Lexicographic.{nat_list_eq_equiv}
+use Rattle.std.proofs.lemmas.Bool.{and_parts, and_from, or_cases, or_from, both_ways, false_from_ne_true, false≢true, eqb-true}
+use Rattle.std.proofs.lemmas.Bool.Decides.{nat_tests}
+use Rattle.std.proofs.lemmas.Str.{IsUtf8-from_ascii}
+use Rattle.std.proofs.lemmas.Str.Ascii.{IsAscii-nil, IsAscii-cons}
+use Rattle.std.specs.Str.{IsAscii, IsUtf8}
+use Rattle.std.proofs.lemmas.Fmt.{decimal_is_IsNumeral}
+use Rattle.std.specs.Str.Parse.{digits_value}
+use Rattle.px_core.specs.Plan.{is_same}
+use Rattle.px_lex.specs.Words.{keyword_of, is_real_word}
+use Rattle.px_form.specs.Core.{Form, NoBlock, Block}
+use Rattle.px_form.specs.Reading.{size_of, is_taken}
+use Rattle.px_value.specs.Names.{begins_identifier, goes_on, is_identifier, is_generated, is_name, generated_name}
+use Rattle.px_value.proofs.Names.{generated_is_name}
+use Rattle.px_form.specs.FirstForm.{Word, colon, label_tokens, is_label, is_named_from}
+use Rattle.px_form.specs.Lexing.{is_run}
+
+label_parts : (name : List ℕ) → is_label name ≡ true → (is_identifier name && is_name name) ≡ true
+unfolding is_label
+label_parts name h =
+    let parts = and_parts (is_identifier name && is_name name && is_none (keyword_of name)) (not (is_real_word name)) h in
+    (and_parts (is_identifier name && is_name name) (is_none (keyword_of name)) parts.0).0
+
+pub label_identifier : (name : List ℕ) → is_label name ≡ true → is_identifier name ≡ true
+label_identifier name h = (and_parts (is_identifier name) (is_name name) (label_parts name h)).0
+
+pub label_name : (name : List ℕ) → is_label name ≡ true → is_name name ≡ true
+label_name name h = (and_parts (is_identifier name) (is_name name) (label_parts name h)).1
+
+begins_off : (c : ℕ) → begins_identifier c ≡ true → (c == 35) ≡ false
+begins_off c h = grind (arith, nat_tests)
+
+begins_on : (c : ℕ) → begins_identifier c ≡ true → goes_on c ≡ true
+begins_on c h = rw h
+
+identifier_off : (name : List ℕ) → is_identifier name ≡ true → is_generated name ≡ false
+identifier_off [] h = refl
+identifier_off (c ∷ []) h = refl
+identifier_off (c ∷ d ∷ cs) h =
+    let parts : (begins_identifier c ≡ true) × (list_all goes_on (d ∷ cs) ≡ true) = and_parts (begins_identifier c) (list_all goes_on (d ∷ cs)) h in
+    rw (begins_off c parts.0)
+
+identifier_run : (name : List ℕ) → is_identifier name ≡ true → is_run name ≡ true
+identifier_run [] h = h
+identifier_run (c ∷ cs) h =
+    let parts : (begins_identifier c ≡ true) × (list_all goes_on cs ≡ true) = and_parts (begins_identifier c) (list_all goes_on cs) h in
+    and_from (goes_on c) (list_all goes_on cs) (begins_on c parts.0) parts.1
+
+pub label_run : (name : List ℕ) → is_label name ≡ true → is_run name ≡ true
+label_run name h = identifier_run name (label_identifier name h)
+
+-- a label is spelled
+pub tokens-label : (name : List ℕ) → is_label name ≡ true → label_tokens name ≡ Word name ∷ colon ∷ []
+tokens-label name h = rw (identifier_off name (label_identifier name h))
+
+generated_on : (place : ℕ) → place < 2 ^ 32 → is_generated (generated_name place) ≡ true
+generated_on place small = (and_parts (is_generated (generated_name place)) (nat_le (length (generated_name place)) 64) (generated_is_name place small)).0
+
+-- a generated name is not
+pub tokens-generated : (place : ℕ) → place < 2 ^ 32 → label_tokens (generated_name place) ≡ []
+tokens-generated place small = rw (generated_on place small)
+
+pub is_same_refl : (a : List ℕ) → is_same a a ≡ true
+is_same_refl a = nat_list_eq_equiv.refl a
+
+pub same_if : (a b : List ℕ) → is_same a b ≡ true → a ≡ b
+same_if [] [] h = refl
+same_if [] (y ∷ ys) h = absurd (false≢true h)
+same_if (x ∷ xs) [] h = absurd (false≢true h)
+same_if (x ∷ xs) (y ∷ ys) h =
+    let parts : (nat_eq x y ≡ true) × (is_same xs ys ≡ true) = and_parts (nat_eq x y) (is_same xs ys) h in
+    cc (eqb-true x y parts.0, same_if xs ys parts.1)
+
+on_ascii : (c : ℕ) → goes_on c ≡ true → c < 128
+on_ascii c h = grind (arith, nat_tests)
+
+run_ascii : (bytes : List ℕ) → list_all goes_on bytes ≡ true → IsAscii bytes
+run_ascii [] h = IsAscii-nil
+run_ascii (c ∷ cs) h =
+    let parts : (goes_on c ≡ true) × (list_all goes_on cs ≡ true) = and_parts (goes_on c) (list_all goes_on cs) h in
+    IsAscii-cons c cs (on_ascii c parts.0) (run_ascii cs parts.1)
+
+label_ascii : (name : List ℕ) → is_run name ≡ true → IsAscii name
+label_ascii [] h = IsAscii-nil
+label_ascii (c ∷ cs) h = run_ascii (c ∷ cs) h
+
+-- a label is text
+pub label_utf8 : (name : List ℕ) → is_label name ≡ true → IsUtf8 name
+label_utf8 name h = IsUtf8-from_ascii name (label_ascii name (label_run name h))
+
+generated_differs : (place other : ℕ) (name : List ℕ) → other < place → place < 2 ^ 32 → (is_label name || is_same name (generated_name other)) ≡ true → is_same (generated_name place) name ≡ true → ⊥
+generated_differs place other name before small stands same =
+    let is : generated_name place ≡ name = same_if (generated_name place) name same in
+    elim (or_cases (is_label name) (is_same name (generated_name other)) stands) [
+      | inl label ↦ both_ways (is_generated name) (identifier_off name (label_identifier name label)) (ap is_generated (sym is) ∙ generated_on place small)
+      | inr equal ↦
+          let names : generated_name place ≡ generated_name other = is ∙ same_if name (generated_name other) equal in
+          let texts : decimal place ≡ decimal other = cc in
+          let numbers : place ≡ other = sym (decimal_is_IsNumeral place (omega arith)).1 ∙ ap (digits_value 10) texts ∙ (decimal_is_IsNumeral other (omega arith)).1 in
+          omega arith
+    ]
+
+-- a generated name is free behind blocks that are named by the rules
+pub generated_free : (first place : ℕ) (blocks : Form) → first + size_of blocks ≤ place → place < 2 ^ 32 → is_named_from first blocks ≡ true → is_taken (generated_name place) blocks ≡ false
+generated_free first place NoBlock within small h = refl
+generated_free first place (Block head actions rest) within small h =
+    let parts = and_parts ((is_label head.name || is_same head.name (generated_name first)) && is_named_from 1 actions) (is_named_from (suc first) rest) h in
+    let here = and_parts (is_label head.name || is_same head.name (generated_name first)) (is_named_from 1 actions) parts.0 in
+    or_from (is_same (generated_name place) head.name) (is_taken (generated_name place) rest)
+    (false_from_ne_true (is_same (generated_name place) head.name) (generated_differs place first head.name (omega arith) small here.0))
+    (generated_free (suc first) place rest (omega arith) small parts.1)
