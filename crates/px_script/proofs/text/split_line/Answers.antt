@@ -1,0 +1,9 @@
+use Rattle.std.proofs.Common.{arith}
+use Rattle.px_script.proofs.Cuts.{first_line, last_line}
+use Rattle.px_script.proofs.text.split_line.Goals as goal
+
+pub returns-then-end-text : goal.returns-then-end-text
+returns-then-end-text c = first_line c.args.text.now c.place_of-end.result c.place_of-end.ensures.place (omega arith)
+
+pub returns-else-end-text : goal.returns-else-end-text
+returns-else-end-text c = last_line c.args.text.now c.place_of-end.result c.place_of-end.ensures.place (omega arith)

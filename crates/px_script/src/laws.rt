@@ -1,0 +1,17 @@
+// What the definition of a script means: laws that hold of it, each a clause of a function that does nothing.
+ghost use Rattle.std.specs.Prelude.{◌≡◌, ◌↔◌, IsTrue};
+ghost use Rattle.px_script.specs.Equality.{script_eq};
+ghost use Rattle.px_script.specs.Fit.{IsFitScript};
+ghost use Rattle.px_script.specs.Script.{Threads, script};
+
+use crate::script::Script;
+
+/// A script that bytes spell is fit.
+pub fn fitness(bytes: &[u8], spelled: &Script)
+    ensures { script bytes.now ≡ Threads spelled.now.threads → IsFitScript spelled.now }
+{}
+
+/// `==` of two scripts answers whether they are equal.
+pub fn script_equality(a: &Script, b: &Script)
+    ensures { IsTrue (script_eq a.now b.now) ↔ (a.now ≡ b.now) }
+{}

@@ -1,0 +1,27 @@
+//! Scripts: what each thread posts to a running plan, and what it waits for, line by line.
+//!
+//! `script`, `todo` and `line` are the parts of a script, with `Todos` and `Lines` the lists of them. `read` reads a
+//! script from bytes, `said` one line, and `text` cuts lines and words. `specs/Script.antt` says which script the bytes
+//! spell, and `specs/Said.antt` what a line says; `laws` has what they mean.
+#![tactic(auto)]
+
+mod fault;
+pub mod laws;
+mod line;
+mod lines;
+mod read;
+mod said;
+mod script;
+#[cfg(test)]
+mod tests;
+mod text;
+mod todo;
+mod todos;
+
+pub use fault::ScriptFault;
+pub use line::{Line, What};
+pub use lines::Lines;
+pub use read::{LINE_LIMIT, SCRIPT_LIMIT, read_script};
+pub use script::Script;
+pub use todo::Todo;
+pub use todos::Todos;

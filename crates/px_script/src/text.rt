@@ -1,0 +1,129 @@
+// Lines, and parts of lines.
+ghost use Rattle.std.specs.Prelude.{◌≡◌, ◌+◌, ◌≤◌, ◌∷◌, ◌==◌, length, take, drop};
+ghost use Rattle.std.specs.List.{prefix_len, suffix_len, position_or_len, before_first, after_first};
+ghost use Rattle.std.specs.Option.{option_copied};
+ghost use Rattle.std.specs.Str.Lines.{strip_carriage_return};
+ghost use Rattle.px_core.specs.Plan.{is_same};
+ghost use Rattle.px_script.specs.Text.{is_blank, lines_of, lines_left, trim_start, trim_end, trim, content, first_word, behind_word};
+
+/// The first line of a text, without its line feed, and what is behind the line feed where there is one.
+pub(crate) fn split_line(text: &[u8]) -> (&[u8], Option<&[u8]>)
+    ensures { lines_of text.now ≡ result.0.now ∷ lines_left (option_copied result.1) }
+{
+    let end = place_of(text, b'\n');
+    if end < text.len() {
+        (&text[..end], Some(&text[end + 1..]))
+    } else {
+        (text, None)
+    }
+}
+
+/// Whether a text is the word.
+pub(crate) fn is_word(text: &[u8], word: &str) -> bool
+    ensures { result ≡ is_same text.now word.now }
+{
+    text == word.as_bytes()
+}
+
+/// The first word of a text, and what is behind the blank after it.
+pub(crate) fn split_word(text: &[u8]) -> (&[u8], &[u8])
+    ensures word { result.0.now ≡ first_word text.now }
+    ensures behind { result.1.now ≡ behind_word text.now }
+{
+    around(text, word_length(text))
+}
+
+/// What stands before the first such byte, and what behind it; all and nothing where there is none.
+pub(crate) fn split_at(text: &[u8], byte: u8) -> (&[u8], &[u8])
+    ensures before { result.0.now ≡ before_first (λ c. c == byte) text.now }
+    ensures behind { result.1.now ≡ after_first (λ c. c == byte) text.now }
+{
+    around(text, place_of(text, byte))
+}
+
+/// Where the first such byte is, or how many bytes there are.
+fn place_of(text: &[u8], byte: u8) -> usize
+    ensures place { result ≡ position_or_len (λ c. c == byte) text.now }
+    ensures within { result ≤ length text.now }
+{
+    text.iter().take_while(|c| **c != byte).count()
+}
+
+/// How many bytes stand before the first blank, or how many there are.
+fn word_length(text: &[u8]) -> usize
+    ensures place { result ≡ position_or_len is_blank text.now }
+    ensures within { result ≤ length text.now }
+{
+    text.iter().take_while(|c| !is_blank(**c)).count()
+}
+
+/// What stands before a place, and what behind the byte there.
+fn around(text: &[u8], place: usize) -> (&[u8], &[u8])
+    requires { place ≤ length text.now }
+    ensures before { result.0.now ≡ take place text.now }
+    ensures behind { result.1.now ≡ drop (place + 1) text.now }
+{
+    let (before, from) = text.split_at(place);
+    match from {
+        [_, behind @ ..] => (before, behind),
+        [] => (before, from),
+    }
+}
+
+/// What a line says: without the one carriage return at its end, and then without the blanks at both ends.
+pub(crate) fn content(line: &[u8]) -> &[u8]
+    ensures { result.now ≡ content line.now }
+{
+    trim(strip_carriage_return(line))
+}
+
+/// The text without the blanks at both ends.
+pub(crate) fn trim(text: &[u8]) -> &[u8]
+    ensures { result.now ≡ trim text.now }
+{
+    trim_end(trim_start(text))
+}
+
+fn trim_start(text: &[u8]) -> &[u8]
+    ensures { result.now ≡ trim_start text.now }
+{
+    &text[blanks_at_start(text)..]
+}
+
+fn trim_end(text: &[u8]) -> &[u8]
+    ensures { result.now ≡ trim_end text.now }
+{
+    &text[..text.len() - blanks_at_end(text)]
+}
+
+/// How many blanks the text begins with.
+fn blanks_at_start(text: &[u8]) -> usize
+    ensures blanks { result ≡ prefix_len is_blank text.now }
+    ensures within { result ≤ length text.now }
+{
+    text.iter().take_while(|c| is_blank(**c)).count()
+}
+
+/// How many blanks the text ends with.
+fn blanks_at_end(text: &[u8]) -> usize
+    ensures blanks { result ≡ suffix_len is_blank text.now }
+    ensures within { result ≤ length text.now }
+{
+    text.iter().rev().take_while(|c| is_blank(**c)).count()
+}
+
+fn strip_carriage_return(line: &[u8]) -> &[u8]
+    ensures { result.now ≡ strip_carriage_return line.now }
+{
+    match line {
+        [front @ .., b'\r'] => front,
+        _ => line,
+    }
+}
+
+/// Whether the byte is a blank or a tab.
+fn is_blank(c: u8) -> bool
+    ensures { result ≡ is_blank c }
+{
+    c == b' ' || c == b'\t'
+}
