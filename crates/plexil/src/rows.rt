@@ -76,6 +76,51 @@ quiet 9
 plan finished SUCCESS
 ";
 
+// A node whose Start looks up what was never reported.
+const WAITING: &str = "event 0: start
+step 1
+  A: INACTIVE -> WAITING
+quiet 1
+plan running
+";
+
+const SKIPPED_BY_AN_EXIT: &str = "event 0: start
+step 1
+  A: INACTIVE -> WAITING
+step 2
+  A: WAITING -> FINISHED SKIPPED
+quiet 2
+plan finished SKIPPED
+";
+
+const FAILED_BY_A_PRE_CONDITION: &str = "event 0: start
+step 1
+  A: INACTIVE -> WAITING
+step 2
+  A: WAITING -> ITERATION_ENDED FAILURE PRE_CONDITION_FAILED
+step 3
+  A: ITERATION_ENDED -> FINISHED FAILURE PRE_CONDITION_FAILED
+quiet 3
+plan finished FAILURE PRE_CONDITION_FAILED
+";
+
+const FAILED_BY_AN_INVARIANT: &str = "event 0: start
+step 1
+  R: INACTIVE -> WAITING
+step 2
+  R: WAITING -> EXECUTING
+step 3
+  R: EXECUTING -> FAILING FAILURE INVARIANT_CONDITION_FAILED
+  R.A: INACTIVE -> WAITING
+step 4
+  R: FAILING -> ITERATION_ENDED FAILURE INVARIANT_CONDITION_FAILED
+  R.A: WAITING -> FINISHED SKIPPED
+step 5
+  R: ITERATION_ENDED -> FINISHED FAILURE INVARIANT_CONDITION_FAILED
+quiet 5
+plan finished FAILURE INVARIANT_CONDITION_FAILED
+";
+
 const NOT_IN_FORM: &str = "plan refused: first form\n";
 
 const TOO_LONG: &str = "plan refused: longer than 1048576 bytes\n";
@@ -150,6 +195,33 @@ fn a_plan_runs_until_it_is_quiet_or_is_refused(rt: HostRuntime) -> Result<(), Fa
         let (answered, emitted) = outcome(alloc, &["trace-start", "P"], host)?;
         assert_eq!(rt; emitted.as_str(), text, "{plan} behind {blanks} blanks");
         assert_eq!(rt; answered, status, "{plan} behind {blanks} blanks");
+    }
+    Ok(())
+}
+
+#[test]
+fn conditions_decide_where_a_node_goes(rt: HostRuntime) -> Result<(), Fail> {
+    let alloc = rt.alloc();
+    let cases: [(&str, u8, &str); 9] = [
+        ("A: { Start Lookup(go); End Lookup(done); }", 0, WAITING),
+        ("A: { StartCondition: !Lookup(go); }", 0, WAITING),
+        ("A: { Start: !true; }", 0, WAITING),
+        ("A: { Exit true; }", 0, SKIPPED_BY_AN_EXIT),
+        ("A: { Skip !false; }", 0, SKIPPED_BY_AN_EXIT),
+        ("A: { Pre Lookup(go); }", 0, FAILED_BY_A_PRE_CONDITION),
+        (
+            "R: { Invariant false; NodeList: A: { } }",
+            0,
+            FAILED_BY_AN_INVARIANT,
+        ),
+        ("A: { Invariant Lookup(ok); Repeat false; }", 0, ONE_BLOCK),
+        ("A: { Repeat true; }", 6, "runaway at start\n"),
+    ];
+    for (plan, status, text) in cases {
+        let host = host_of(alloc, "P", plan.as_bytes())?;
+        let (answered, emitted) = outcome(alloc, &["trace-start", "P"], host)?;
+        assert_eq!(rt; emitted.as_str(), text, "{plan}");
+        assert_eq!(rt; answered, status, "{plan}");
     }
     Ok(())
 }

@@ -1,18 +1,20 @@
 -- The moves of a step and the records after it, one node after another.
-use Rattle.std.proofs.Common.{◌≡◌, ℕ, suc, ◌+◌, ◌<◌, ◌≤◌, List, [], ◌∷◌, ◌++◌, length, get_or, set, map, length-set, refl, ap, sym, ◌∙◌, arith, Option, Some, None, below_more, take, append-nil}
+use Rattle.std.proofs.Common.{◌≡◌, ℕ, suc, ◌+◌, ◌<◌, ◌≤◌, Bool, true, false, List, [], ◌∷◌, ◌++◌, length, get_or, set, map, length-set, refl, ap, sym, ◌∙◌, arith, Option, Some, None, below_more, take, append-nil, if◌then◌else◌}
 use Rattle.std.specs.List.{zip, filter_map, cons_option}
 use Rattle.std.specs.Option.{option_map}
 use Rattle.std.proofs.lemmas.List.{length-map, get_or-map, get_or-set_same, get_or-set_other, take_more, take_all, get_or_default}
 use Rattle.std.proofs.lemmas.List.Elements.{filter_map-append}
 use Rattle.px_value.specs.declared.enums.NodeState.{NodeState}
+use Rattle.px_value.specs.declared.value.Value.{Value}
 use Rattle.px_sem.specs.declared.guards.Arrival.{Arrival}
 use Rattle.px_sem.specs.declared.moves.Move.{Move}
-use Rattle.px_sem.specs.Plan.{Site, nowhere}
+use Rattle.px_core.specs.Plan.{Site, nowhere}
 use Rattle.px_sem.specs.World as world
-use Rattle.px_sem.specs.Step.{dest, arrived, micro, move_of, moves}
+use Rattle.px_sem.specs.Conflicts.{way}
+use Rattle.px_sem.specs.Step.{prepares, record_after, micro, move_of, moves}
 use Rattle.px_naive.specs.declared.place.Place.{Place}
 use Rattle.px_naive.specs.declared.place.Record.{Record}
-use Rattle.px_naive.specs.Places.{sites_of, IsLaid, recorded, world_of}
+use Rattle.px_naive.specs.Places.{site_of, sites_of, IsLaid, recorded, world_of}
 use Rattle.px_naive.specs.Moving.{move_to, moved}
 use Rattle.px_naive.proofs.Laid.{length-sites_of, site_at_number}
 use Rattle.px_naive.proofs.Below.{record_of_number, no_record}
@@ -29,94 +31,84 @@ zip_as_map (site ∷ sites) (r ∷ records) f long each =
 
 -- the moves of some of the nodes
 abbrev pub moves_among : List Site → List Site → world.World → List Move
-moves_among some plan now = filter_map (λ site. option_map (move_of now site) (dest plan now site)) some
+moves_among some plan now = filter_map (λ site. option_map (move_of plan now site) (way plan now site)) some
 
-arrival_kept : (places : List Place) (records : List Record) (arrivals : List (Option Arrival))
-    → arrivals ≡ map (dest (sites_of places) (world_of places records)) (sites_of places)
+arrival_kept : (places : List Place) (now : world.World) (arrivals : List (Option Arrival))
+    → arrivals ≡ map (way (sites_of places) now) (sites_of places)
     → (i : ℕ) (a : Option Arrival) → i < length places
-    → get_or arrivals i a ≡ dest (sites_of places) (world_of places records) (get_or (sites_of places) i nowhere)
-arrival_kept places records arrivals same i a h =
-    ap (λ all. get_or all i a) same ∙ get_or-map (dest (sites_of places) (world_of places records)) (sites_of places) i nowhere a (omega (arith, length-sites_of places))
+    → get_or arrivals i a ≡ way (sites_of places) now (get_or (sites_of places) i nowhere)
+arrival_kept places now arrivals same i a h =
+    ap (λ all. get_or all i a) same ∙ get_or-map (way (sites_of places) now) (sites_of places) i nowhere a (omega (arith, length-sites_of places))
 
-pub length-arrivals : (places : List Place) (records : List Record) (arrivals : List (Option Arrival))
-    → arrivals ≡ map (dest (sites_of places) (world_of places records)) (sites_of places) → length arrivals ≡ length places
-length-arrivals places records arrivals same =
-    ap length same ∙ length-map (sites_of places) (dest (sites_of places) (world_of places records)) ∙ length-sites_of places
+pub length-arrivals : (places : List Place) (now : world.World) (arrivals : List (Option Arrival))
+    → arrivals ≡ map (way (sites_of places) now) (sites_of places) → length arrivals ≡ length places
+length-arrivals places now arrivals same =
+    ap length same ∙ length-map (sites_of places) (way (sites_of places) now) ∙ length-sites_of places
 
 -- one node more: its move, where it goes
-moves_more : (places : List Place) (records : List Record) (i : ℕ) → i < length places
-    → moves_among (take (i + 1) (sites_of places)) (sites_of places) (world_of places records)
-    ≡ moves_among (take i (sites_of places)) (sites_of places) (world_of places records)
-    ++ cons_option (option_map (move_of (world_of places records) (get_or (sites_of places) i nowhere)) (dest (sites_of places) (world_of places records) (get_or (sites_of places) i nowhere))) []
-moves_more places records i h =
-    ap (λ some. moves_among some (sites_of places) (world_of places records)) (take_more (sites_of places) i nowhere (omega (arith, length-sites_of places)))
-    ∙ filter_map-append (λ site. option_map (move_of (world_of places records) site) (dest (sites_of places) (world_of places records) site)) (take i (sites_of places)) (get_or (sites_of places) i nowhere ∷ [])
+moves_more : (places : List Place) (now : world.World) (i : ℕ) → i < length places
+    → moves_among (take (i + 1) (sites_of places)) (sites_of places) now
+    ≡ moves_among (take i (sites_of places)) (sites_of places) now
+    ++ cons_option (option_map (move_of (sites_of places) now (get_or (sites_of places) i nowhere)) (way (sites_of places) now (get_or (sites_of places) i nowhere))) []
+moves_more places now i h =
+    ap (λ some. moves_among some (sites_of places) now) (take_more (sites_of places) i nowhere (omega (arith, length-sites_of places)))
+    ∙ filter_map-append (λ site. option_map (move_of (sites_of places) now site) (way (sites_of places) now site)) (take i (sites_of places)) (get_or (sites_of places) i nowhere ∷ [])
 
-pub moves_none : (places : List Place) (records : List Record) (arrivals : List (Option Arrival))
-    → arrivals ≡ map (dest (sites_of places) (world_of places records)) (sites_of places)
+pub moves_none : (places : List Place) (now : world.World) (arrivals : List (Option Arrival))
+    → arrivals ≡ map (way (sites_of places) now) (sites_of places)
     → (i : ℕ) (a : Option Arrival) → i < length places → get_or arrivals i a ≡ None
-    → moves_among (take (i + 1) (sites_of places)) (sites_of places) (world_of places records)
-    ≡ moves_among (take i (sites_of places)) (sites_of places) (world_of places records)
-moves_none places records arrivals same i a h none =
-    moves_more places records i h
-    ∙ ap (λ way. moves_among (take i (sites_of places)) (sites_of places) (world_of places records) ++ cons_option (option_map (move_of (world_of places records) (get_or (sites_of places) i nowhere)) way) [])
-    (sym (arrival_kept places records arrivals same i a h) ∙ none)
-    ∙ append-nil (moves_among (take i (sites_of places)) (sites_of places) (world_of places records))
+    → moves_among (take (i + 1) (sites_of places)) (sites_of places) now
+    ≡ moves_among (take i (sites_of places)) (sites_of places) now
+moves_none places now arrivals same i a h none =
+    moves_more places now i h
+    ∙ ap (λ arrival. moves_among (take i (sites_of places)) (sites_of places) now ++ cons_option (option_map (move_of (sites_of places) now (get_or (sites_of places) i nowhere)) arrival) [])
+    (sym (arrival_kept places now arrivals same i a h) ∙ none)
+    ∙ append-nil (moves_among (take i (sites_of places)) (sites_of places) now)
 
-pub moves_some : (places : List Place) (records : List Record) (arrivals : List (Option Arrival)) → IsLaid places → length records ≡ length places
-    → arrivals ≡ map (dest (sites_of places) (world_of places records)) (sites_of places)
-    → (i : ℕ) (a : Option Arrival) (p : Place) (r : Record) (arrival : Arrival) → i < length places → get_or arrivals i a ≡ Some arrival
-    → moves_among (take (i + 1) (sites_of places)) (sites_of places) (world_of places records)
-    ≡ moves_among (take i (sites_of places)) (sites_of places) (world_of places records)
-    ++ move_to (get_or places i p).path (get_or records i r) arrival ∷ []
+-- a node without a body has no effect
+pub made_at_number : (places : List Place) (records : List Record) (reports : List (world.LookState × Value)) → IsLaid places → length records ≡ length places
+    → (i : ℕ) (p : Place) (r : Record) (arrival : Arrival) → i < length places
+    → move_of (sites_of places) (world_of places records reports) (get_or (sites_of places) i nowhere) arrival ≡ move_to (get_or places i p).path (get_or records i r) arrival
 unfolding move_to
-moves_some places records arrivals laid long same i a p r arrival h some =
-    moves_more places records i h
-    ∙ ap (λ way. so_far ++ cons_option (option_map (move_of now site) way) []) (sym (arrival_kept places records arrivals same i a h) ∙ some)
-    ∙ ap (λ made. so_far ++ made ∷ []) (made_so (record_of_number places records laid long i r h) (site_at_number places laid i nowhere p h))
+made_at_number places records reports laid long i p r arrival h =
+    ap (λ s. move_of (sites_of places) now s arrival) (site_at_number places laid i nowhere p h)
+    ∙ ap (λ path. made (get_or places i p).path (world.record_at now path).state) (sym (ap (λ s. s.path) (site_at_number places laid i nowhere p h)))
+    ∙ ap (λ own. made (get_or places i p).path own.state) (record_of_number places records reports laid long i r h)
   where
     now : world.World
-    now = world_of places records
+    now = world_of places records reports
 
-    site : Site
-    site = get_or (sites_of places) i nowhere
+    made : List ℕ → NodeState → Move
+    made path state = record { node = path; from = state; to = arrival.to; outcome = arrival.outcome; failure = arrival.failure; effect = None }
 
-    so_far : List Move
-    so_far = moves_among (take i (sites_of places)) (sites_of places) now
-
-    made_so : {own : world.Record} {at : Site} → world.record_at now site.path ≡ own → site ≡ at
-        → move_of now site arrival ≡ record { node = at.path; from = own.state; to = arrival.to; outcome = arrival.outcome; failure = arrival.failure; effect = None }
-    made_so {own} {at} own_is at_is = ap (λ path. made path (world.record_at now site.path).state) (ap (λ s. s.path) at_is) ∙ ap (λ o. made at.path o.state) own_is
-      where
-        made : List ℕ → NodeState → Move
-        made path state = record { node = path; from = state; to = arrival.to; outcome = arrival.outcome; failure = arrival.failure; effect = None }
-
-pub moves_some_kept : (places : List Place) (records : List Record) (arrivals : List (Option Arrival)) → IsLaid places → length records ≡ length places
-    → arrivals ≡ map (dest (sites_of places) (world_of places records)) (sites_of places)
+pub moves_some_kept : (places : List Place) (records : List Record) (reports : List (world.LookState × Value)) (arrivals : List (Option Arrival)) → IsLaid places → length records ≡ length places
+    → arrivals ≡ map (way (sites_of places) (world_of places records reports)) (sites_of places)
     → (i : ℕ) (a : Option Arrival) (p : Place) (r : Record) (arrival : Arrival) → i < length places → get_or arrivals i a ≡ Some arrival
-    → (made : List Move) (m : Move) → made ≡ moves_among (take i (sites_of places)) (sites_of places) (world_of places records)
+    → (made : List Move) (m : Move) → made ≡ moves_among (take i (sites_of places)) (sites_of places) (world_of places records reports)
     → m ≡ move_to (get_or places i p).path (get_or records i r) arrival
-    → made ++ m ∷ [] ≡ moves_among (take (i + 1) (sites_of places)) (sites_of places) (world_of places records)
-moves_some_kept places records arrivals laid long same i a p r arrival h some made m so_far is =
+    → made ++ m ∷ [] ≡ moves_among (take (i + 1) (sites_of places)) (sites_of places) (world_of places records reports)
+moves_some_kept places records reports arrivals laid long same i a p r arrival h some made m so_far is =
     ap (λ items. items ++ m ∷ []) so_far
-    ∙ ap (λ one. moves_among (take i (sites_of places)) (sites_of places) (world_of places records) ++ one ∷ []) is
-    ∙ sym (moves_some places records arrivals laid long same i a p r arrival h some)
+    ∙ ap (λ one. before ++ one ∷ []) (is ∙ sym (made_at_number places records reports laid long i p r arrival h))
+    ∙ ap (λ way. before ++ cons_option (option_map (move_of (sites_of places) now (get_or (sites_of places) i nowhere)) way) []) (sym some ∙ arrival_kept places now arrivals same i a h)
+    ∙ sym (moves_more places now i h)
+  where
+    now : world.World
+    now = world_of places records reports
 
-pub moves_all : (places : List Place) (records : List Record)
-    → moves_among (take (length places) (sites_of places)) (sites_of places) (world_of places records) ≡ moves (sites_of places) (world_of places records)
-moves_all places records =
-    ap (λ some. moves_among some (sites_of places) (world_of places records)) (take_all (length places) (sites_of places) (omega (arith, length-sites_of places)))
+    before : List Move
+    before = moves_among (take i (sites_of places)) (sites_of places) now
+
+pub moves_all : (places : List Place) (now : world.World)
+    → moves_among (take (length places) (sites_of places)) (sites_of places) now ≡ moves (sites_of places) now
+moves_all places now =
+    ap (λ some. moves_among some (sites_of places) now) (take_all (length places) (sites_of places) (omega (arith, length-sites_of places)))
 
 -- so far, the first i nodes have arrived
 pub record ArrivedSoFar (old now : List Record) (arrivals : List (Option Arrival)) (i : ℕ) : Type 0 where
   pub long : length now ≡ length old
   pub done : (k : ℕ) (d e : Record) (a : Option Arrival) → k < i → k < length old → get_or now k d ≡ moved (get_or old k e) (get_or arrivals k a)
   pub left : (k : ℕ) (d : Record) → i ≤ k → get_or now k d ≡ get_or old k d
-
-moved_so : (r : Record) (way : Option Arrival) → recorded (moved r way) ≡ arrived (recorded r) way
-unfolding moved
-moved_so r None = refl
-moved_so r (Some arrival) = refl
 
 pub arrived_more : (old now : List Record) (arrivals : List (Option Arrival)) (i : ℕ) (d : Record) (a : Option Arrival) → i < length old → length arrivals ≡ length old
     → ArrivedSoFar old now arrivals i → ArrivedSoFar old (set now i (moved (get_or now i d) (get_or arrivals i a))) arrivals (i + 1)
@@ -134,24 +126,54 @@ arrived_more old now arrivals i d a h long so_far = record {
     new : Record
     new = moved (get_or now i d) (get_or arrivals i a)
 
+abbrev none : List (List Value)
+none = []
+
+either_empty : (b : Bool) → (if b then none else none) ≡ none
+either_empty true = refl
+either_empty false = refl
+
+-- the record of a node without variables and body after a step
+after_so : (plan : List Site) (now : world.World) (p : Place) (r : Record) (site : Site) → site ≡ site_of plan p
+    → world.record_at now site.path ≡ recorded r → (arrival : Option Arrival) → recorded (moved r arrival) ≡ record_after plan now site arrival
+unfolding moved
+after_so plan now p r site is own None =
+    sym (ap (λ s. record_after plan now s None) is
+    ∙ ap kept (ap (λ s. world.record_at now s.path) (sym is) ∙ own))
+  where
+    kept : world.Record → world.Record
+    kept r = record { state = r.state; outcome = r.outcome; failure = r.failure; variables = []; action = r.action }
+after_so plan now p r site is own (Some arrival) =
+    sym (ap (λ s. record_after plan now s (Some arrival)) is
+    ∙ ap with_variables (either_empty (prepares (world.record_at now p.path) (Some arrival))))
+  where
+    with_variables : List (List Value) → world.Record
+    with_variables variables = record { state = arrival.to; outcome = arrival.outcome; failure = arrival.failure; variables = variables; action = world.NoAction }
+
+-- some place, where there is one
+spare : (places : List Place) (k : ℕ) → k < length places → Place
+spare [] k h = absurd (omega arith)
+spare (place ∷ places) k h = place
+
 -- all have arrived
-pub arrived_all : (places : List Place) (old now : List Record) (arrivals : List (Option Arrival)) → IsLaid places → length old ≡ length places
-    → arrivals ≡ map (dest (sites_of places) (world_of places old)) (sites_of places)
+pub arrived_all : (places : List Place) (old now : List Record) (reports : List (world.LookState × Value)) (arrivals : List (Option Arrival)) → IsLaid places → length old ≡ length places
+    → arrivals ≡ map (way (sites_of places) (world_of places old reports)) (sites_of places)
     → ArrivedSoFar old now arrivals (length old)
-    → world_of places now ≡ micro (sites_of places) (world_of places old)
-arrived_all places old now arrivals laid long same so_far =
-    ap (λ nodes. let made : world.World = record { nodes = nodes } in made)
-    (zip_as_map plan (map recorded now) (λ site. arrived (world.record_at then site.path) (dest plan then site))
+    → world_of places now reports ≡ micro (sites_of places) (world_of places old reports)
+arrived_all places old now reports arrivals laid long same so_far =
+    ap (λ nodes. let made : world.World = record { nodes = nodes; reports = reports } in made)
+    (zip_as_map plan (map recorded now) (λ site. record_after plan before site (way plan before site))
     (omega (arith, length-map now recorded, so_far.long, length-sites_of places))
     (λ k d h.
-    get_or-map recorded now k no_record d (omega (arith, so_far.long, length-sites_of places))
-    ∙ ap recorded (so_far.done k no_record no_record None (omega (arith, length-sites_of places)) (omega (arith, length-sites_of places)))
-    ∙ moved_so (get_or old k no_record) (get_or arrivals k None)
-    ∙ ap (λ way. arrived (recorded (get_or old k no_record)) way) (arrival_kept places old arrivals same k None (omega (arith, length-sites_of places)))
-    ∙ ap (λ own. arrived own (dest plan then (get_or plan k nowhere))) (sym (record_of_number places old laid long k no_record (omega (arith, length-sites_of places))))))
+    let within : k < length places = omega (arith, length-sites_of places) in
+    get_or-map recorded now k no_record d (omega (arith, so_far.long))
+    ∙ ap recorded (so_far.done k no_record no_record None (omega arith) (omega arith))
+    ∙ after_so plan before (get_or places k (spare places k within)) (get_or old k no_record) (get_or plan k nowhere) (site_at_number places laid k nowhere (spare places k within) within)
+    (record_of_number places old reports laid long k no_record within) (get_or arrivals k None)
+    ∙ ap (record_after plan before (get_or plan k nowhere)) (arrival_kept places before arrivals same k None within)))
   where
     plan : List Site
     plan = sites_of places
 
-    then : world.World
-    then = world_of places old
+    before : world.World
+    before = world_of places old reports

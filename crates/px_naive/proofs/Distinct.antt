@@ -5,8 +5,8 @@ use Rattle.std.specs.List.{list_any}
 use Rattle.std.proofs.lemmas.List.{append_cancel_left}
 use Rattle.px_value.specs.Names.{is_name}
 use Rattle.px_value.proofs.Paths.{is_dotless, name_dotless}
-use Rattle.px_sem.specs.Plan.{Tree, NoNode, Branch, Site, nowhere, is_same, path_under, sites_under}
-use Rattle.px_sem.specs.Fit.{names_of, siblings_differ}
+use Rattle.px_core.specs.Plan.{Tree, NoNode, Branch, Site, nowhere, is_same, path_under, sites_under}
+use Rattle.px_core.specs.Fit.{names_of, siblings_differ}
 use Rattle.px_naive.proofs.Laid.{same-self, AreDistinct}
 
 -- ---- each site of a list

@@ -7,10 +7,10 @@ use Rattle.std.specs.Cmp.Lexicographic.{same_text}
 use Rattle.std.proofs.lemmas.Cmp.{nat_list_eq_equiv}
 use Rattle.std.proofs.lemmas.List.{get_or_append_left}
 use Rattle.std.proofs.Math.Seq.{get_or-append_seam}
-use Rattle.px_sem.specs.Plan.{Site, is_same, nowhere, site_at}
+use Rattle.px_core.specs.Plan.{Site, is_same, nowhere, site_at}
 use Rattle.px_sem.specs.World as world
 use Rattle.px_naive.specs.declared.place.Place.{Place}
-use Rattle.px_naive.specs.Places.{above_in, site_of, grown, sites_of, IsBefore, IsLaid}
+use Rattle.px_naive.specs.Places.{above_in, head_in, site_of, grown, sites_of, IsBefore, IsLaid}
 
 -- ---- texts
 
@@ -42,7 +42,7 @@ grown_before sites (place ∷ places) i d h =
 site_of_more : (sites more : List Site) (place : Place) → IsBefore (length sites) place
     → ((j : ℕ) (d : Site) → j < length sites → get_or more j d ≡ get_or sites j d) → site_of sites place ≡ site_of more place
 site_of_more sites more place before same =
-    ap (λ above. record { path = place.path; above = above; head = record { name = place.name; kind = place.kind } }) (by place.parent before)
+    ap (λ above. record { path = place.path; above = above; head = head_in place }) (by place.parent before)
   where
     by : (parent : Option ℕ) → ForSome parent (λ j. j < length sites) → above_in sites parent ≡ above_in more parent
     by None h = refl

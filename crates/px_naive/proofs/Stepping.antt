@@ -13,10 +13,12 @@ use Rattle.px_sem.specs.declared.guards.Arrival.{Arrival}
 use Rattle.px_sem.specs.declared.moves.Move.{Move}
 use Rattle.px_sem.specs.declared.standing.Standing.{Standing}
 use Rattle.px_sem.specs.declared.standing.Standing.TheVariants.{Running, Finished}
-use Rattle.px_sem.specs.Plan.{Site, nowhere, root_of}
+use Rattle.px_value.specs.declared.value.Value.{Value}
+use Rattle.px_core.specs.Plan.{Site, nowhere, root_of}
 use Rattle.px_sem.specs.World as world
-use Rattle.px_sem.specs.Step.{dest, move_of, moves, micro, is_quiet}
-use Rattle.px_sem.specs.Stepper.{Steps}
+use Rattle.px_sem.specs.Conflicts.{way, is_quiet}
+use Rattle.px_sem.specs.Step.{move_of, moves, micro}
+use Rattle.px_sem.specs.Stepper.{State, Begun, Steps}
 use Rattle.px_naive.specs.Moving.{Goes}
 use Rattle.px_naive.specs.declared.place.Place.{Place}
 use Rattle.px_naive.specs.declared.place.Record.{Record}
@@ -25,46 +27,48 @@ use Rattle.px_naive.specs.Standing.{standing_in}
 use Rattle.px_naive.proofs.Laid.{length-sites_of}
 use Rattle.px_naive.proofs.Below.{record_of_number}
 use Rattle.px_naive.proofs.Arriving.{zip_as_map}
+use Rattle.px_naive.proofs.Bare.{unborn_bare, bare_at_number}
 
 -- no node has begun
-pub world_before : (places : List Place) (records : List Record) (unborn : Record) → recorded unborn ≡ world.unborn → length records ≡ length places
+pub world_before : (places : List Place) (records : List Record) (unborn : Record) → recorded unborn ≡ world.no_record → length records ≡ length places
     → ((k : ℕ) (d : Record) → k < length places → get_or records k d ≡ unborn)
-    → world_of places records ≡ world.first (sites_of places)
+    → world_of places records [] ≡ world.first (sites_of places)
 world_before places records unborn is long each =
-    ap (λ nodes. let made : world.World = record { nodes = nodes } in made)
-    (zip_as_map (sites_of places) (map recorded records) (λ site. world.unborn)
+    ap (λ nodes. let made : world.World = record { nodes = nodes; reports = [] } in made)
+    (zip_as_map (sites_of places) (map recorded records) (λ site. world.unborn site.head)
     (omega (arith, length-map records recorded, length-sites_of places))
     (λ k d h. get_or-map recorded records k unborn d (omega (arith, length-sites_of places))
-    ∙ ap recorded (each k unborn (omega (arith, length-sites_of places))) ∙ is))
+    ∙ ap recorded (each k unborn (omega (arith, length-sites_of places))) ∙ is
+    ∙ sym (unborn_bare (get_or (sites_of places) k nowhere) (bare_at_number places k))))
 
 replicate_at : (records : List Record) (n : ℕ) (unborn : Record) → records ≡ replicate n unborn → (k : ℕ) (d : Record) → k < n → get_or records k d ≡ unborn
 replicate_at records n unborn is k d h = ap (λ rs. get_or rs k d) is ∙ get_or-replicate n k unborn d h
 
-pub world_of_unborn : (places : List Place) (records : List Record) (n : ℕ) (unborn : Record) → recorded unborn ≡ world.unborn → n ≡ length places → records ≡ replicate n unborn
-    → world_of places records ≡ world.first (sites_of places)
+pub world_of_unborn : (places : List Place) (records : List Record) (n : ℕ) (unborn : Record) → recorded unborn ≡ world.no_record → n ≡ length places → records ≡ replicate n unborn
+    → world_of places records [] ≡ world.first (sites_of places)
 world_of_unborn places records n unborn so n_is is = world_before places records unborn so (ap length is ∙ length-replicate n unborn ∙ n_is)
     (λ k d h. replicate_at records n unborn is k d (omega arith))
 
 -- no moves are made in a quiet world alone
 no_moves_among : (plan : List Site) (now : world.World) (some : List Site)
-    → filter_map (λ site. option_map (move_of now site) (dest plan now site)) some ≡ [] → list_all (λ site. is_none (dest plan now site)) some ≡ true
+    → filter_map (λ site. option_map (move_of plan now site) (way plan now site)) some ≡ [] → list_all (λ site. is_none (way plan now site)) some ≡ true
 no_moves_among plan now [] none = refl
-no_moves_among plan now (site ∷ some) none = by (dest plan now site) none (no_moves_among plan now some)
+no_moves_among plan now (site ∷ some) none = by (way plan now site) none (no_moves_among plan now some)
   where
-    by : (way : Option Arrival) → cons_option (option_map (move_of now site) way) (filter_map (λ site. option_map (move_of now site) (dest plan now site)) some) ≡ []
-        → (filter_map (λ site. option_map (move_of now site) (dest plan now site)) some ≡ [] → list_all (λ site. is_none (dest plan now site)) some ≡ true)
-        → (is_none way && list_all (λ site. is_none (dest plan now site)) some) ≡ true
+    by : (arrival : Option Arrival) → cons_option (option_map (move_of plan now site) arrival) (filter_map (λ site. option_map (move_of plan now site) (way plan now site)) some) ≡ []
+        → (filter_map (λ site. option_map (move_of plan now site) (way plan now site)) some ≡ [] → list_all (λ site. is_none (way plan now site)) some ≡ true)
+        → (is_none arrival && list_all (λ site. is_none (way plan now site)) some) ≡ true
     by None none rest = rest none
     by (Some arrival) none rest = absurd (cc)
 
 some_moves_among : (plan : List Site) (now : world.World) (some : List Site)
-    → list_all (λ site. is_none (dest plan now site)) some ≡ true → filter_map (λ site. option_map (move_of now site) (dest plan now site)) some ≡ []
+    → list_all (λ site. is_none (way plan now site)) some ≡ true → filter_map (λ site. option_map (move_of plan now site) (way plan now site)) some ≡ []
 some_moves_among plan now [] quiet = refl
-some_moves_among plan now (site ∷ some) quiet = by (dest plan now site) quiet (some_moves_among plan now some)
+some_moves_among plan now (site ∷ some) quiet = by (way plan now site) quiet (some_moves_among plan now some)
   where
-    by : (way : Option Arrival) → (is_none way && list_all (λ site. is_none (dest plan now site)) some) ≡ true
-        → (list_all (λ site. is_none (dest plan now site)) some ≡ true → filter_map (λ site. option_map (move_of now site) (dest plan now site)) some ≡ [])
-        → cons_option (option_map (move_of now site) way) (filter_map (λ site. option_map (move_of now site) (dest plan now site)) some) ≡ []
+    by : (arrival : Option Arrival) → (is_none arrival && list_all (λ site. is_none (way plan now site)) some) ≡ true
+        → (list_all (λ site. is_none (way plan now site)) some ≡ true → filter_map (λ site. option_map (move_of plan now site) (way plan now site)) some ≡ [])
+        → cons_option (option_map (move_of plan now site) arrival) (filter_map (λ site. option_map (move_of plan now site) (way plan now site)) some) ≡ []
     by None quiet rest = rest quiet
     by (Some arrival) quiet rest = absurd (cc)
 
@@ -74,7 +78,7 @@ empty (m ∷ ms) h = absurd (omega arith)
 
 -- no moves were made: the world is quiet
 pub goes_none : (plan : List Site) (now : world.World) (made : List Move) → made ≡ moves plan now → length made ≡ 0 → Goes plan now now made
-goes_none plan now [] is none = (no_moves_among plan now plan (sym is), refl, refl)
+goes_none plan now [] is none = (no_moves_among plan now plan (sym is), refl)
 goes_none plan now (first ∷ more) is none = absurd (omega arith)
 
 -- some were made: the world took a step
@@ -86,10 +90,19 @@ goes_some plan now next (first ∷ more) is some next_is = (by (is_quiet plan no
     by true h = absurd (some (ap length (is ∙ some_moves_among plan now plan h)))
     by false h = refl
 
-pub steps_so : (plan : List Site) (old new : world.World) (made : List Move) → Goes plan old new made → (answer : Bool) → answer ≡ not (nat_eq (length made) 0) → Steps plan old new made answer
-steps_so plan old new [] goes answer is = subst (Steps plan old new []) (sym is) goes
-steps_so plan old new (first ∷ more) goes answer is = subst (Steps plan old new (first ∷ more)) (sym (is ∙ ap not (nonzero (length more)))) goes
+pub steps_so : (plan : List Site) (old new : world.World) (begun : Begun) (made : List Move) → Goes plan old new made → (answer : Bool) → answer ≡ not (nat_eq (length made) 0)
+    → Steps (record { nodes = plan; world = old; begun = begun }) (record { nodes = plan; world = new; begun = begun }) made answer
+steps_so plan old new begun [] goes answer is =
+    subst (Steps (state old) (state new) []) (sym is) (goes.0, ap state goes.1, refl)
   where
+    state : world.World → State
+    state now = record { nodes = plan; world = now; begun = begun }
+steps_so plan old new begun (first ∷ more) goes answer is =
+    subst (Steps (state old) (state new) (first ∷ more)) (sym (is ∙ ap not (nonzero (length more)))) (goes.0, ap state goes.1, goes.2)
+  where
+    state : world.World → State
+    state now = record { nodes = plan; world = now; begun = begun }
+
     nonzero : (n : ℕ) → nat_eq (suc n) 0 ≡ false
     nonzero n = by (eqb_tells (suc n) 0)
       where
@@ -115,18 +128,18 @@ standing_by_world r = of_state r.state
     of_state states.IterationEnded = Running
     of_state states.Failing = Running
 
-pub standing_so : (places : List Place) (records : List Record) → IsLaid places → length records ≡ length places
-    → standing_in records ≡ world.standing_of (sites_of places) (world_of places records)
+pub standing_so : (places : List Place) (records : List Record) (reports : List (world.LookState × Value)) → IsLaid places → length records ≡ length places
+    → standing_in records ≡ world.standing_of (sites_of places) (world_of places records reports)
 unfolding standing_by_world
-standing_so [] [] laid long = refl
-standing_so [] (r ∷ records) laid long = absurd (omega arith)
-standing_so (place ∷ places) [] laid long = absurd (omega arith)
-standing_so (place ∷ places) (r ∷ records) laid long =
+standing_so [] [] reports laid long = refl
+standing_so [] (r ∷ records) reports laid long = absurd (omega arith)
+standing_so (place ∷ places) [] reports laid long = absurd (omega arith)
+standing_so (place ∷ places) (r ∷ records) reports laid long =
     sym (ap (λ site. standing_by_world (world.record_at now site.path)) (first_is (sites_of (place ∷ places)) (length-sites_of (place ∷ places)))
-    ∙ ap standing_by_world (record_of_number (place ∷ places) (r ∷ records) laid long 0 r (omega arith)))
+    ∙ ap standing_by_world (record_of_number (place ∷ places) (r ∷ records) reports laid long 0 r (omega arith)))
   where
     now : world.World
-    now = world_of (place ∷ places) (r ∷ records)
+    now = world_of (place ∷ places) (r ∷ records) reports
 
     first_is : (sites : List Site) → length sites ≡ length (place ∷ places) → root_of sites ≡ get_or sites 0 nowhere
     first_is [] h = absurd (omega arith)

@@ -8,6 +8,7 @@ use Rattle.px_sem.specs.declared.standing.Standing.{Standing}
 use Rattle.px_sem.specs.declared.standing.Standing.TheVariants.{Running, Finished}
 use Rattle.px_naive.specs.declared.place.Record.{Record}
 
+-- by the record of the root
 abbrev pub standing_by : Record → Standing
 standing_by r = of_state r.state
   where

@@ -1,17 +1,22 @@
 // Where each node goes in a micro step.
-ghost use Rattle.std.specs.Prelude.{◌≡◌, ◌<◌, length};
+ghost use Rattle.std.specs.Prelude.{◌≡◌, ◌<◌, [], length};
 ghost use Rattle.std.specs.Option.{ForSome};
 ghost use Rattle.px_naive.specs.Places.{IsLaid, sites_of, world_of, recorded};
 ghost use Rattle.px_naive.specs.Children.{children_of};
 ghost use Rattle.px_naive.specs.Above.{asked_of};
+ghost use Rattle.px_naive.specs.Reports.{listed};
+ghost use Rattle.px_naive.specs.Truths.{truths_of};
 ghost use Rattle.px_naive.specs.Guarded.{parent_in, arrivals_of, guards_in, dest_in, ready_in};
 
-use crate::asked::{Asked, end_value};
+use crate::asked::Asked;
 use crate::children::Children;
 use crate::place::{Place, Record};
-use crate::states::{is_executing, is_finished, is_waiting};
+use crate::reports::Reports;
+use crate::states::{is_executing, is_false, is_finished, is_true, is_waiting};
 use crate::table;
-use px_sem::{Arrival, Guards, Kind};
+use crate::truths::Truths;
+use px_core::Kind;
+use px_sem::{Arrival, Guards};
 use px_value::NodeState;
 
 fn parent_state(records: &[Record], parent: Option<usize>) -> NodeState
@@ -24,8 +29,9 @@ fn parent_state(records: &[Record], parent: Option<usize>) -> NodeState
     }
 }
 
-fn is_ready(kind: Kind, children: Children) -> bool
-    ensures { result ≡ ready_in kind children }
+// A simple plan has neither commands nor updates.
+fn is_ready(kind: Kind, r: Record, children: Children) -> bool
+    ensures { result ≡ ready_in kind (recorded r).action children }
 {
     match kind {
         Kind::List => children.at_rest,
@@ -34,8 +40,15 @@ fn is_ready(kind: Kind, children: Children) -> bool
     }
 }
 
-fn guards(kind: Kind, r: Record, parent: NodeState, asked: Asked, children: Children) -> Guards
-    ensures { result ≡ guards_in kind (recorded r) parent asked children }
+fn guards(
+    kind: Kind,
+    r: Record,
+    parent: NodeState,
+    asked: Asked,
+    children: Children,
+    truths: Truths,
+) -> Guards
+    ensures { result ≡ guards_in kind (recorded r) parent asked children truths }
 {
     Guards {
         outcome: r.outcome,
@@ -46,18 +59,18 @@ fn guards(kind: Kind, r: Record, parent: NodeState, asked: Asked, children: Chil
         ancestor_exit: asked.exit,
         ancestor_invariant: asked.invariant,
         ancestor_end: asked.end,
-        exit_true: false,
-        skip_true: false,
-        start_true: true,
-        pre_true: true,
-        invariant_false: false,
-        end_true: end_value(kind, children) == Some(true),
-        post_true: true,
-        repeat_false: true,
-        repeat_true: false,
+        exit_true: is_true(truths.exit),
+        skip_true: is_true(truths.skip),
+        start_true: is_true(truths.start),
+        pre_true: is_true(truths.pre),
+        invariant_false: is_false(truths.invariant),
+        end_true: is_true(truths.end),
+        post_true: is_true(truths.post),
+        repeat_false: is_false(truths.repeat),
+        repeat_true: is_true(truths.repeat),
         children_rest: children.at_rest,
         handle_known: false,
-        ready: is_ready(kind, children),
+        ready: is_ready(kind, r, children),
     }
 }
 
@@ -68,31 +81,47 @@ fn dest(
     parent: NodeState,
     asked: Asked,
     children: Children,
+    truths: Truths,
 ) -> Option<Arrival>
-    ensures { result ≡ dest_in kind (recorded r) parent asked children }
+    ensures { result ≡ dest_in kind (recorded r) parent asked children truths }
 {
-    table::dest(kind, r.state, &guards(kind, r, parent, asked, children))
+    table::dest(
+        kind,
+        r.state,
+        &guards(kind, r, parent, asked, children, truths),
+    )
 }
 
-/// Looks where each node goes, by what its children do and its ancestors ask.
+/// Looks where each node goes, by its conditions, by what its children do and by what its ancestors ask.
 pub fn look_ahead(
     places: &[Place],
     records: &[Record],
+    reports: &Reports,
     children: &[Children],
+    truths: &[Truths],
     asked: &[Asked],
     arrivals: &mut [Option<Arrival>],
 )
     requires laid { IsLaid places.now }
     requires records { length records.now ≡ length places.now }
     requires children { children.now
-        ≡ children_of (sites_of places.now) (world_of places.now records.now) }
+        ≡ children_of (sites_of places.now) (world_of places.now records.now []) }
+    requires truths { truths.now
+        ≡ truths_of (sites_of places.now) (world_of places.now records.now (listed reports.now)) }
     requires asked { asked.now
-        ≡ asked_of (sites_of places.now) (world_of places.now records.now) }
+        ≡ asked_of (sites_of places.now) (world_of places.now records.now (listed reports.now)) }
     requires room { length arrivals.old ≡ length places.now }
-    ensures { arrivals.new ≡ arrivals_of (sites_of places.now) (world_of places.now records.now) }
+    ensures { arrivals.new ≡ arrivals_of (sites_of places.now) (world_of places.now records.now (listed reports.now)) }
 {
     for i in 0..places.len() {
         let parent = parent_state(records, places[i].parent);
-        arrivals[i] = dest(places[i].kind, records[i], parent, asked[i], children[i]);
+        arrivals[i] = dest(
+            places[i].kind,
+            records[i],
+            parent,
+            asked[i],
+            children[i],
+            truths[i],
+        );
     }
 }

@@ -1,15 +1,17 @@
 // What a node's ancestors ask of it: to leave by an Exit, by an Invariant, or because they have ended.
 ghost use Rattle.std.specs.Prelude.{◌≡◌, length};
 ghost use Rattle.px_naive.specs.Places.{IsLaid, sites_of, world_of, recorded};
-ghost use Rattle.px_naive.specs.Children.{children_of};
-ghost use Rattle.px_naive.specs.Above.{asked_of, asks_in, asked_too, asked_below, end_in};
+ghost use Rattle.px_naive.specs.Reports.{listed};
+ghost use Rattle.px_naive.specs.Truths.{truths_of};
+ghost use Rattle.px_naive.specs.Above.{asked_of, asks_in, asked_too, asked_below};
 
-use crate::children::Children;
 use crate::place::{Place, Record};
+use crate::reports::Reports;
 use crate::states::{
-    is_at_work, is_executing, is_exit_failure, is_failing, is_invariant_failure, is_past_end,
+    is_at_work, is_executing, is_exit_failure, is_failing, is_false, is_invariant_failure,
+    is_past_end, is_true,
 };
-use px_sem::Kind;
+use crate::truths::Truths;
 
 /// What some proper ancestor asks.
 #[derive(Clone, Copy, Debug, PartialEq, Eq)]
@@ -25,26 +27,16 @@ pub const NOTHING: Asked = Asked {
     end: false,
 };
 
-/// The value of a node's End.
-pub fn end_value(kind: Kind, children: Children) -> Option<bool>
-    ensures { result ≡ end_in kind children }
-{
-    match kind {
-        Kind::List => Some(children.finished),
-        Kind::Empty | Kind::Assignment => Some(true),
-        Kind::Command | Kind::Update => None,
-    }
-}
-
 // What one node asks of all below it.
-fn asks(kind: Kind, r: Record, children: Children) -> Asked
-    ensures { result ≡ asks_in kind (recorded r) children }
+fn asks(r: Record, truths: Truths) -> Asked
+    ensures { result ≡ asks_in (recorded r) truths }
 {
     Asked {
-        exit: is_failing(r.state) && is_exit_failure(r.failure),
-        invariant: is_failing(r.state) && is_invariant_failure(r.failure),
-        end: (is_executing(r.state) && end_value(kind, children) == Some(true))
-            || is_past_end(r.state),
+        exit: (is_at_work(r.state) && is_true(truths.exit))
+            || (is_failing(r.state) && is_exit_failure(r.failure)),
+        invariant: (is_at_work(r.state) && is_false(truths.invariant))
+            || (is_failing(r.state) && is_invariant_failure(r.failure)),
+        end: (is_executing(r.state) && is_true(truths.end)) || is_past_end(r.state),
     }
 }
 
@@ -59,25 +51,31 @@ fn asked_too(own: Asked, above: Asked) -> Asked
 }
 
 #[tactic(auto, unfolding(crate::specs::Above::asked_below))]
-fn asked_below(kind: Kind, r: Record, children: Children, above: Asked) -> Asked
-    ensures { result ≡ asked_below kind (recorded r) children above }
+fn asked_below(r: Record, truths: Truths, above: Asked) -> Asked
+    ensures { result ≡ asked_below (recorded r) truths above }
 {
-    asked_too(asks(kind, r, children), above)
+    asked_too(asks(r, truths), above)
 }
 
 /// Looks at each node's ancestors.
-pub fn look_up(places: &[Place], records: &[Record], children: &[Children], asked: &mut [Asked])
+pub fn look_up(
+    places: &[Place],
+    records: &[Record],
+    reports: &Reports,
+    truths: &[Truths],
+    asked: &mut [Asked],
+)
     requires laid { IsLaid places.now }
     requires records { length records.now ≡ length places.now }
-    requires children { children.now
-        ≡ children_of (sites_of places.now) (world_of places.now records.now) }
+    requires truths { truths.now
+        ≡ truths_of (sites_of places.now) (world_of places.now records.now (listed reports.now)) }
     requires room { length asked.old ≡ length places.now }
-    ensures { asked.new ≡ asked_of (sites_of places.now) (world_of places.now records.now) }
+    ensures { asked.new ≡ asked_of (sites_of places.now) (world_of places.now records.now (listed reports.now)) }
 {
     for i in 0..places.len() {
         asked[i] = match places[i].parent {
             None => NOTHING,
-            Some(j) => asked_below(places[j].kind, records[j], children[j], asked[j]),
+            Some(j) => asked_below(records[j], truths[j], asked[j]),
         };
     }
 }

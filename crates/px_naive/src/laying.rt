@@ -1,59 +1,73 @@
 // Lays a plan's nodes out in preorder.
-ghost use Rattle.std.specs.Prelude.{◌≡◌, ◌+◌, ◌<◌, ◌++◌, [], ◌∷◌, length, slice_index_or, IsTrue, IfOk, OnOk};
+ghost use Rattle.std.specs.Prelude.{◌≡◌, ◌+◌, ◌<◌, ◌++◌, length, Some, IsTrue, IfOk, OnOk};
 ghost use Rattle.std.specs.List.{list_all};
-ghost use Rattle.px_value.specs.Names.{is_name};
-ghost use Rattle.px_sem.specs.Plan.{sites_under, tree_of, sites};
-ghost use Rattle.px_sem.specs.Fit.{IsFit};
-ghost use Rattle.px_naive.specs.Places.{IsLaid, sites_of, above_in};
-ghost use Rattle.px_naive.specs.Laying.{below_it, is_short, IsLinked, IsNamed, root_place, place_under, no_place};
-ghost use Rattle.px_sem.specs.declared.plan.Node.TheViews.{out-Node};
+ghost use Rattle.px_core.specs.declared.node.CoreNode.TheViews.{out-CoreNode};
+ghost use Rattle.px_core.specs.Fit.{IsFit};
+ghost use Rattle.px_core.specs.Plan.{head_of, sites_under, tree_of, sites};
+ghost use Rattle.px_core.specs.Simple.{is_simple_head, IsSimple};
+ghost use Rattle.px_naive.specs.Places.{IsLaid, sites_of, above_in, path_at};
+ghost use Rattle.px_naive.specs.Laying.{below_it, is_layable, IsLinked, IsNamed, IsPlaceOf, IsRootPlace, IsPlaceUnder};
 
 use crate::place::Place;
-use px_sem::{Node, Plan};
+use px_core::{CoreNode, Plan};
 use px_value::{NoMemory, Path};
 use std::alloc::Global;
 
-fn place_of_root(alloc: Global, root: &Node) -> Result<Place, NoMemory>
-    ensures place { IfOk result (λ place. place ≡ root_place (out-Node root.now)) }
-    ensures named { OnOk result (IsTrue (is_name (out-Node root.now).name)) }
+fn place_at(
+    alloc: Global,
+    node: &CoreNode,
+    path: Path,
+    parent: Option<usize>,
+) -> Result<Place, NoMemory>
+    requires { IsTrue (is_simple_head (head_of (out-CoreNode node.now))) }
+    ensures { IfOk result (IsPlaceOf (out-CoreNode node.now) path parent) }
 {
     Ok(Place {
-        path: Path::root(alloc, &root.name)?,
-        parent: None,
-        name: root.name.copy(alloc)?,
-        kind: root.kind,
+        path,
+        parent,
+        name: node.name.copy(alloc)?,
+        kind: node.kind,
+        conditions: node.conditions.copy(alloc)?,
+        priority: node.priority,
     })
+}
+
+fn place_of_root(alloc: Global, root: &CoreNode) -> Result<Place, NoMemory>
+    requires { IsTrue (is_simple_head (head_of (out-CoreNode root.now))) }
+    ensures { IfOk result (IsRootPlace root.now) }
+{
+    place_at(alloc, root, Path::root(alloc, &root.name)?, None)
 }
 
 fn place_under(
     alloc: Global,
-    node: &Node,
+    node: &CoreNode,
     parent: usize,
     places: &[Place],
 ) -> Result<Place, NoMemory>
     requires parent { parent < length places.now }
-    requires short { length (slice_index_or places.now parent no_place).path
-        + length (out-Node node.now).name < 5000 }
-    ensures place { IfOk result (λ place. place ≡ place_under places.now parent (out-Node node.now)) }
-    ensures named { OnOk result (IsTrue (is_name (out-Node node.now).name)) }
+    requires linked { IsLinked places.now }
+    requires short { length (path_at places.now parent) + length (out-CoreNode node.now).name < 5000 }
+    requires simple { IsTrue (is_simple_head (head_of (out-CoreNode node.now))) }
+    ensures { IfOk result (IsPlaceUnder places.now parent node.now) }
 {
-    Ok(Place {
-        path: places[parent].path.child(alloc, &node.name)?,
-        parent: Some(parent),
-        name: node.name.copy(alloc)?,
-        kind: node.kind,
-    })
+    place_at(
+        alloc,
+        node,
+        places[parent].path.child(alloc, &node.name)?,
+        Some(parent),
+    )
 }
 
 // Lays all that is below a node, which stands at this number.
 fn lay_below(
     alloc: Global,
-    node: &Node,
+    node: &CoreNode,
     number: usize,
     places: &mut Vec<Place>,
 ) -> Result<(), NoMemory>
     requires number { number < length places.old.items }
-    requires short { IsTrue (list_all is_short
+    requires layable { IsTrue (list_all is_layable
         (sites_under (above_in (sites_of places.old.items) (Some number)) (below_it node.now))) }
     requires linked { IsLinked places.old.items }
     requires named { IsNamed places.old.items }
@@ -73,7 +87,8 @@ fn lay_below(
 
 /// The plan's nodes in preorder, each in its place.
 pub fn lay(alloc: Global, plan: &Plan) -> Result<Vec<Place>, NoMemory>
-    requires { IsFit (tree_of plan.now) }
+    requires fit { IsFit (tree_of plan.now) }
+    requires simple { IsSimple (sites (tree_of plan.now)) }
     ensures sites { IfOk result (λ places. sites_of places.items ≡ sites (tree_of plan.now)) }
     ensures laid { IfOk result (λ places. IsLaid places.items) }
 {

@@ -1,5 +1,5 @@
 // A node of the plan in its place, and what is so of it.
-use px_sem::Kind;
+use px_core::{Conditions, Kind};
 use px_value::{Failure, Name, NodeState, Outcome, Path};
 
 /// A node in its place: its path, and the number of its parent in preorder.
@@ -9,6 +9,8 @@ pub struct Place {
     pub parent: Option<usize>,
     pub name: Name,
     pub kind: Kind,
+    pub conditions: Conditions,
+    pub priority: u32,
 }
 
 /// What is so of a node.

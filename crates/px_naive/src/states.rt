@@ -1,9 +1,25 @@
 // Tests of states and failures.
 ghost use Rattle.std.specs.Prelude.{◌≡◌};
-ghost use Rattle.px_sem.specs.Guards.{is_waiting, is_executing, is_failing, is_finished, is_at_work, is_past_end, is_at_rest, is_exit_failure, is_invariant_failure};
+ghost use Rattle.px_sem.specs.Guards.{is_true, is_false, is_exit_failure, is_invariant_failure};
+ghost use Rattle.px_sem.specs.Guards.{is_waiting, is_executing, is_failing, is_finished};
+ghost use Rattle.px_sem.specs.Guards.{is_at_work, is_past_end, is_at_rest};
 
 use px_value::Failure;
 use px_value::NodeState::{self, Executing, Failing, Finished, Finishing, IterationEnded, Waiting};
+
+/// A truth that is known and holds.
+pub fn is_true(truth: Option<bool>) -> bool
+    ensures { result ≡ is_true truth }
+{
+    truth == Some(true)
+}
+
+/// A truth that is known and does not hold.
+pub fn is_false(truth: Option<bool>) -> bool
+    ensures { result ≡ is_false truth }
+{
+    truth == Some(false)
+}
 
 /// WAITING.
 pub fn is_waiting(state: NodeState) -> bool

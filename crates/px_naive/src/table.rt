@@ -1,8 +1,12 @@
 // The transition table, row by row: for each state the first guard that holds decides.
 ghost use Rattle.std.specs.Prelude.{◌≡◌, ◌∷◌, []};
-ghost use Rattle.px_sem.specs.Table.{first_row, to, ended, ended_by, both_kept, by_post, is_from_above, inactive_rows, waiting_rows, empty_stop_rows, stop_rows, stop_rows_of, end_row, executing_rows, settle_rows, finishing_rows, failing_rows, iteration_ended_rows, finished_rows, dest};
+ghost use Rattle.px_sem.specs.Table.{to, ended, ended_by, both_kept, by_post, is_from_above, first_row, dest};
+ghost use Rattle.px_sem.specs.Table.{empty_stop_rows, stop_rows, stop_rows_of, end_row, settle_rows};
+ghost use Rattle.px_sem.specs.Table.{inactive_rows, waiting_rows, executing_rows, finishing_rows, failing_rows};
+ghost use Rattle.px_sem.specs.Table.{iteration_ended_rows, finished_rows};
 
-use px_sem::{Arrival, Guards, Kind};
+use px_core::Kind;
+use px_sem::{Arrival, Guards};
 use px_value::NodeState::{
     self, Executing, Failing, Finished, Finishing, Inactive, IterationEnded, Waiting,
 };

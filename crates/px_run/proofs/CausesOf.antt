@@ -1,14 +1,14 @@
 -- From the outcome to its cause.
 use Rattle.std.proofs.Common.{◌≡◌, ℕ, ◌<◌, ◌⊎◌, inl, inr, List, Option, Some, None, IsSome, length, refl, arith, ap, subst, sym, ◌∙◌}
-use Rattle.px_sem.specs.Plan.{Tree, sites}
+use Rattle.px_core.specs.Plan.{Tree, sites}
 use Rattle.px_sem.specs.World.{World}
 use Rattle.px_sem.specs.Run.{started}
 use Rattle.px_run.specs.Causes.{Causes, AsksFor, RefusesPlan, Starts, FailsToRead, IsComplete}
 use Rattle.px_run.specs.Ending.{Ending, Seen, Content, Longer, Unreadable, TraceStartEnds, of_start, start_ending}
-use Rattle.px_run.specs.FirstForm.{InFirstForm}
+use Rattle.px_form.specs.FirstForm.{InFirstForm}
 use Rattle.px_run.specs.Outcome.{View, Shows, CommandCallsFor, CallsFor, Outcome, plan_limit}
 use Rattle.px_run.specs.Printing.{Faulted}
-use Rattle.px_run.proofs.Readings.{one_reading}
+use Rattle.px_form.proofs.Readings.{one_reading}
 use Rattle.px_run.specs.Words.{Command, TraceStart, command}
 
 done : (words : List (List ℕ)) (old new : View) → Starts words old new (λ start. IsSome start) → Causes words old new 0

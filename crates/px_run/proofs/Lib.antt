@@ -1,16 +1,6 @@
-pub mod Appends
-pub mod Beside
 pub mod CausesOf
-pub mod Complete
 pub mod Emitting
-pub mod Forests
-pub mod Fronts
-pub mod Lexing
-pub mod Names
 pub mod Operating
 pub mod Outcomes
-pub mod Readings
-pub mod Sound
 pub mod Starting
 pub mod Tracing
-pub mod Whole

@@ -3,7 +3,7 @@ use Rattle.std.proofs.Common.{◌≡◌, ℕ, suc, ◌+◌, ◌<◌, ◌≤◌, 
 use Rattle.std.specs.Option.{option_map}
 use Rattle.std.proofs.lemmas.List.{map-append, take_all, drop_all}
 use Rattle.std.proofs.Math.Seq.{take-suc, drop-cons}
-use Rattle.px_sem.specs.Plan.{is_same}
+use Rattle.px_core.specs.Plan.{is_same}
 use Rattle.px_run.specs.Words.{operands, one_operand, is_option}
 
 -- the first words are operands, and the others stand for the others

@@ -1,11 +1,11 @@
 -- The text of the start as it is printed, and what a command has carried out then.
-use Rattle.std.proofs.Common.{◌≡◌, ℕ, inl, inr, List, ◌++◌, Option, Some, None, IsSome, Result, Ok, Err, IsErr, IsErrAnd, refl, arith, ap, subst, sym, append_assoc}
-use Rattle.std.specs.Option.{option_map, unwrap_or}
+use Rattle.std.proofs.Common.{◌≡◌, ℕ, inl, inr, List, ◌++◌, Option, Some, None, IsSome, Result, Ok, Err, IsErr, IsErrAnd, refl, arith, ap, subst, sym, ◌∙◌, append_assoc, append-nil, []}
 use Rattle.px_sem.specs.declared.standing.Standing.{Standing}
-use Rattle.px_sem.specs.Plan.{Site, Tree, sites}
+use Rattle.px_core.specs.Plan.{Site, Tree, sites}
 use Rattle.px_sem.specs.World.{World, first, standing_of}
-use Rattle.px_sem.specs.Run.{after_steps, settling_count, settled, started}
-use Rattle.px_sem.specs.Text.{start_text, steps_text, quiet_text, standing_text}
+use Rattle.px_sem.specs.Run.{settled, started}
+use Rattle.px_sem.specs.Stepper.{State, fresh}
+use Rattle.px_sem.specs.Text.{start_text, steps_text, settling_text, quiet_text, standing_text, settling_into, events_trace, text_of}
 use Rattle.px_run.specs.declared.sink.PrintFault.{PrintFault}
 use Rattle.px_run.specs.declared.sink.PrintFault.TheVariants.{SinkFailed, NoMemory}
 use Rattle.px_run.specs.declared.ending.Stop.{Stop}
@@ -16,50 +16,64 @@ use Rattle.px_run.specs.Stops.{stop_of, run_text, OnlyReads, ReadsPlan, CallsFor
 use Rattle.px_run.proofs.Emitting.{emits_more, faulted_later, only_same, prints_off, breaks_off_later}
 use Rattle.px_run.proofs.Tracing.{settled_count, part_of, part_more}
 
+-- the text of the empty log, where event 0 settles
+text_of_empty : (plan : List Site) (to : World) (k : ℕ) → started plan ≡ Some (to, k)
+    → text_of plan [] [] to ≡ (start_text ++ settling_text plan (first plan) k) ++ standing_text (standing_of plan to)
+text_of_empty plan to k is =
+    ap (λ o. (start_text ++ settling_into plan (first plan) o (events_trace plan 1 [])) ++ standing_text (standing_of plan to)) is
+    ∙ ap (λ trace. (start_text ++ trace) ++ standing_text (standing_of plan to)) (append-nil (settling_text plan (first plan) k))
+
+text_settled : (plan : List Site) (to : World) (k : ℕ) → started plan ≡ Some (to, k)
+    → (of_start plan (started plan)).text ≡ ((start_text ++ run_text plan (first plan)) ++ quiet_text k) ++ standing_text (standing_of plan to)
+text_settled plan to k is =
+    ap (λ o. (of_start plan o).text) is
+    ∙ text_of_empty plan to k is
+    ∙ ap (λ n. (start_text ++ (steps_text plan (first plan) n ++ quiet_text k)) ++ standing_text (standing_of plan to)) (sym (settled_count plan (first plan) to k is))
+    ∙ ap (λ trace. trace ++ standing_text (standing_of plan to)) (sym (append_assoc start_text (run_text plan (first plan)) (quiet_text k)))
+
 -- the text of the start is that of its steps, and more
-pub text_from_start : (plan nodes : List Site) (from : World) (before : List ℕ) → nodes ≡ plan → from ≡ first plan
+pub text_from_start : (plan : List Site) (from : State) (before : List ℕ) → from ≡ fresh plan
     → before ≡ start_text → IsSome (started plan)
-    → (more : List ℕ) × ((of_start plan (started plan)).text ≡ (before ++ run_text nodes from) ++ more)
-text_from_start plan nodes from before n f b some =
-    rw (n, f, b) (at (settling_count plan (first plan)) some)
+    → (more : List ℕ) × ((of_start plan (started plan)).text ≡ (before ++ run_text from.nodes from.world) ++ more)
+text_from_start plan from before f b some = rw (f, b) (at (started plan) refl some)
   where
-    at : (o : Option ℕ) → IsSome {T = World × ℕ} (option_map (λ k. (after_steps plan (first plan) k, k)) o)
-        → (more : List ℕ) × ((of_start plan (option_map (λ k. (after_steps plan (first plan) k, k)) o)).text
-        ≡ (start_text ++ steps_text plan (first plan) (unwrap_or o 0)) ++ more)
-    at None some = cc
-    at (Some k) some = (
-      quiet_text k ++ standing_text (standing_of plan (after_steps plan (first plan) k)),
-      append_assoc (start_text ++ steps_text plan (first plan) k) (quiet_text k) _,
+    at : (o : Option (World × ℕ)) → started plan ≡ o → IsSome o
+        → (more : List ℕ) × ((of_start plan (started plan)).text ≡ (start_text ++ run_text plan (first plan)) ++ more)
+    at None is some = cc
+    at (Some found) is some = (
+      quiet_text found.1 ++ standing_text (standing_of plan found.0),
+      text_settled plan found.0 found.1 is
+          ∙ append_assoc (start_text ++ run_text plan (first plan)) (quiet_text found.1) (standing_text (standing_of plan found.0)),
     )
 
-pub text_of_start : (plan nodes nodes' : List Site) (from to : World) (count : ℕ) (before : List ℕ) (standing : Standing)
-    → nodes ≡ plan → from ≡ first plan → before ≡ start_text → nodes' ≡ nodes → settled nodes from ≡ Some (to, count)
-    → standing ≡ standing_of nodes' to
-    → (of_start plan (started plan)).text ≡ ((before ++ run_text nodes from) ++ quiet_text count) ++ standing_text standing
-text_of_start plan nodes nodes' from to count before standing n f b n' s st =
-    let same : settled plan from ≡ Some (to, count) = subst (λ x. settled x from ≡ Some (to, count)) n s in
-    let at : settled plan (first plan) ≡ Some (to, count) = subst (λ x. settled plan x ≡ Some (to, count)) f same in
-    rw (b, st, n', n, f, settled_count plan (first plan) to count at) (ap (λ o. (of_start plan o).text) at)
+pub text_of_start : (plan : List Site) (from to : State) (count : ℕ) (before : List ℕ) (standing : Standing)
+    → from ≡ fresh plan → before ≡ start_text → to.nodes ≡ from.nodes → settled from.nodes from.world ≡ Some (to.world, count)
+    → standing ≡ standing_of to.nodes to.world
+    → (of_start plan (started plan)).text ≡ ((before ++ run_text from.nodes from.world) ++ quiet_text count) ++ standing_text standing
+text_of_start plan from to count before standing f b n s st =
+    let at : started plan ≡ Some (to.world, count) = subst (λ (x : State). settled x.nodes x.world ≡ Some (to.world, count)) f s in
+    rw (b, st, n, f) (text_settled plan to.world count at)
 
 -- the printing of the steps broke off, or what comes after them
-pub steps_break_off : (old new : View) (rest : List ℕ) (plan nodes : List Site) (from : World) (before : List ℕ)
-    (fault : PrintFault) (r : Result Unit PrintFault) → nodes ≡ plan → from ≡ first plan → before ≡ start_text
+pub steps_break_off : (old new : View) (rest : List ℕ) (plan : List Site) (from : State) (before : List ℕ)
+    (fault : PrintFault) (r : Result Unit PrintFault) → from ≡ fresh plan → before ≡ start_text
     → IsSome (started plan) → IsErr r × IsErrAnd r (λ e. e ≡ fault)
-    → PrintsUpTo {T = ℕ} old new rest (before ++ run_text nodes from) (Err fault)
+    → PrintsUpTo {T = ℕ} old new rest (before ++ run_text from.nodes from.world) (Err fault)
     → Prints old new (of_start plan (started plan)).text r
-steps_break_off old new rest plan nodes from before fault r n f b some is p =
-    let more = text_from_start plan nodes from before n f b some in
+steps_break_off old new rest plan from before fault r f b some is p =
+    let run = run_text from.nodes from.world in
+    let more = text_from_start plan from before f b some in
     prints_off old new rest (of_start plan (started plan)).text r is.0
-    (breaks_off_later ℕ old old new rest rest (before ++ run_text nodes from) (of_start plan (started plan)).text fault r is.1 p
-    (part_of old new (before ++ run_text nodes from) (of_start plan (started plan)).text more.0 more.1) (only_same old))
+    (breaks_off_later ℕ old old new rest rest (before ++ run) (of_start plan (started plan)).text fault r is.1 p
+    (part_of old new (before ++ run) (of_start plan (started plan)).text more.0 more.1) (only_same old))
 
-pub end_breaks_off : (old new : View) (rest : List ℕ) (plan nodes : List Site) (from : World) (before : List ℕ)
-    (r : Result Unit PrintFault) → nodes ≡ plan → from ≡ first plan → before ≡ start_text
-    → IsSome (started plan) → IsErr r × IsErrAnd r (λ e. e ≡ NoMemory)
-    → Leaves old new rest (before ++ run_text nodes from)
+pub end_breaks_off : (old new : View) (rest : List ℕ) (plan : List Site) (from : State) (before : List ℕ)
+    (r : Result Unit PrintFault) → from ≡ fresh plan → before ≡ start_text → IsSome (started plan)
+    → IsErr r × IsErrAnd r (λ e. e ≡ NoMemory)
+    → Leaves old new rest (before ++ run_text from.nodes from.world)
     → Prints old new (of_start plan (started plan)).text r
-end_breaks_off old new rest plan nodes from before r n f b some is leaves =
-    steps_break_off old new rest plan nodes from before NoMemory r n f b some is (leaves.0, rest, leaves.1, leaves.2)
+end_breaks_off old new rest plan from before r f b some is leaves =
+    steps_break_off old new rest plan from before NoMemory r f b some is (leaves.0, rest, leaves.1, leaves.2)
 
 -- the rest of a text is printed later
 pub prints_later : (old mid new : View) (rest text : List ℕ) (r : Result Unit PrintFault) → Leaves old mid rest text

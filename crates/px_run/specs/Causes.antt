@@ -2,11 +2,11 @@
 use Rattle.std.specs.Prelude.{◌≡◌, ◌⊎◌, ◌<◌, ◌≤◌, ℕ, List, [], ◌∷◌, length, nat_eq, Option, Some, None, IsSome, IsTrue}
 use Rattle.std.specs.List.{list_any}
 use Rattle.px_ports.specs.Host.{Files, file_at}
-use Rattle.px_sem.specs.Plan.{Tree, sites}
+use Rattle.px_core.specs.Plan.{Tree, sites}
 use Rattle.px_sem.specs.World.{World}
 use Rattle.px_sem.specs.Run.{started}
 use Rattle.px_run.specs.Ending.{Content, Longer, start_ending}
-use Rattle.px_run.specs.FirstForm.{InFirstForm}
+use Rattle.px_form.specs.FirstForm.{InFirstForm}
 use Rattle.px_run.specs.Outcome.{View, Shows, plan_limit}
 use Rattle.px_run.specs.Printing.{Faulted}
 use Rattle.px_run.specs.Words.{TraceStart, command}

@@ -1,10 +1,10 @@
 -- How a command ends: its status, and all of its text.
-use Rattle.std.specs.Prelude.{◌≡◌, ◌⊎◌, ℕ, List, Option, Some, None, codes}
-use Rattle.px_sem.specs.Plan.{Site, Tree, sites}
+use Rattle.std.specs.Prelude.{◌≡◌, ◌⊎◌, ℕ, List, [], Option, Some, None, codes}
+use Rattle.px_core.specs.Plan.{Site, Tree, sites}
 use Rattle.px_sem.specs.World.{World}
 use Rattle.px_sem.specs.Run.{started}
-use Rattle.px_sem.specs.Text.{line, start_log_text}
-use Rattle.px_run.specs.FirstForm.{InFirstForm}
+use Rattle.px_sem.specs.Text.{line, text_of}
+use Rattle.px_form.specs.FirstForm.{InFirstForm}
 
 -- a status and a text
 pub record Ending : Type 0 where
@@ -39,7 +39,7 @@ pub data Seen : Type 0 where
 -- the text of a run from the start, or the refusal of one that does not settle
 abbrev pub of_start : List Site → Option (World × ℕ) → Ending
 of_start plan None = runaway_at_start
-of_start plan (Some settled) = record { status = 0; text = start_log_text plan settled.0 settled.1 }
+of_start plan (Some settled) = record { status = 0; text = text_of plan [] [] settled.0 }
 
 abbrev pub start_ending : Tree → Ending
 start_ending tree = of_start (sites tree) (started (sites tree))

@@ -1,14 +1,7 @@
 pub mod Asked
 pub mod Causes
-pub mod Cutting
-pub mod Drafts
 pub mod Ending
-pub mod FirstForm
-pub mod FormLaws
-pub mod Lexing
-pub mod Lines
 pub mod Outcome
 pub mod Printing
-pub mod Reading
 pub mod Stops
 pub mod Words

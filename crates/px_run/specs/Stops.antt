@@ -2,7 +2,7 @@
 use Rattle.std.specs.Prelude.{◌≡◌, ◌⊎◌, ◌≤◌, ℕ, List, Result, Ok, Err}
 use Rattle.std.specs.Option.{unwrap_or}
 use Rattle.px_ports.specs.Host.{Emits}
-use Rattle.px_sem.specs.Plan.{Site, Tree}
+use Rattle.px_core.specs.Plan.{Site, Tree}
 use Rattle.px_sem.specs.World.{World}
 use Rattle.px_sem.specs.Run.{settling_count}
 use Rattle.px_sem.specs.Text.{steps_text}
@@ -15,7 +15,7 @@ use Rattle.px_run.specs.declared.ending.Stop.TheVariants as stops
 use Rattle.px_run.specs.declared.sink.PrintFault.{PrintFault}
 use Rattle.px_run.specs.declared.sink.PrintFault.TheVariants as faults
 use Rattle.px_run.specs.Ending.{Ending, Seen, Content, TraceStartEnds, usage, plan_too_long, plan_not_in_form, runaway_at_start, read_fault}
-use Rattle.px_run.specs.FirstForm.{InFirstForm}
+use Rattle.px_form.specs.FirstForm.{InFirstForm}
 use Rattle.px_run.specs.Outcome.{View, Shows, EmitsPart}
 use Rattle.px_run.specs.Printing.{Faulted}
 

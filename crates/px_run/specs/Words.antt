@@ -1,7 +1,7 @@
 -- The command words: what they ask for.
 use Rattle.std.specs.Prelude.{ℕ, Bool, false, ◌==◌, List, [], ◌∷◌, Option, Some, None, codes, if◌then◌else◌}
 use Rattle.std.specs.Option.{option_map, option_and_then}
-use Rattle.px_sem.specs.Plan.{is_same}
+use Rattle.px_core.specs.Plan.{is_same}
 
 -- what the program can do
 pub data Command : Type 0 where

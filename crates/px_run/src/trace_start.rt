@@ -1,20 +1,22 @@
 // The command `trace-start`: reads a plan, and prints the run of its start.
-ghost use Rattle.std.specs.Prelude.{◌≡◌, ◌++◌, IfOk, IfErr, IsSome, Some};
-ghost use Rattle.px_sem.specs.Fit.{IsFit};
-ghost use Rattle.px_sem.specs.Plan.{tree_of, sites};
+ghost use Rattle.std.specs.Prelude.{◌≡◌, ◌++◌, IfOk, IfErr, IsSome, IsTrue, Some};
+ghost use Rattle.px_core.specs.Fit.{IsFit};
+ghost use Rattle.px_core.specs.Plan.{tree_of, sites};
+ghost use Rattle.px_core.specs.Simple.{IsSimple};
 ghost use Rattle.px_sem.specs.Run.{started, settled};
+ghost use Rattle.px_sem.specs.Stepper.{is_begun};
 ghost use Rattle.px_run.specs.Ending.{start_ending};
 ghost use Rattle.px_run.specs.Outcome.{view};
 ghost use Rattle.px_run.specs.Printing.{Prints, PrintsUpTo, OnlyPrints};
 ghost use Rattle.px_run.specs.Stops.{KeepsFiles, OnlyReads, ReadsPlan, StopsReading, CallsForStart, Carried, run_text};
 
 use crate::ending::{Refusal, Stop};
-use crate::fault::ReadFault;
-use crate::reader::read_plan;
 use crate::sink::{PrintFault, emit_all, emit_piece};
-use crate::trace::{push_quiet, push_standing, push_start, push_step};
+use px_core::Plan;
+use px_form::{ReadFault, read_plan};
 use px_ports::{Fetched, Host, HostFault};
-use px_sem::{Plan, StepFault, Stepper, start};
+use px_sem::{StepFault, Stepper, start};
+use px_trace::{push_quiet, push_standing, push_start, push_step};
 use std::alloc::Global;
 
 /// The most bytes of a plan's file.
@@ -42,6 +44,7 @@ fn fetch_plan<H: Host>(alloc: Global, name: &str, host: &mut H) -> Result<Plan, 
     ensures ok { IfOk result (λ plan.
         ReadsPlan (view H.Host host.old) (view H.Host host.new) name.now (tree_of plan)) }
     ensures fit { IfOk result (λ plan. IsFit (tree_of plan)) }
+    ensures simple { IfOk result (λ plan. IsSimple (sites (tree_of plan))) }
     ensures err { IfErr result
         (StopsReading (view H.Host host.old) (view H.Host host.new) name.now) }
     ensures only { OnlyReads (view H.Host host.old) (view H.Host host.new) }
@@ -65,6 +68,7 @@ fn print_start<H: Host, S: Stepper>(
     host: &mut H,
 ) -> Result<(), PrintFault>
     requires fit { IsFit (tree_of plan.now) }
+    requires simple { IsSimple (sites (tree_of plan.now)) }
     requires settles { IsSome (started (sites (tree_of plan.now))) }
     ensures prints { Prints (view H.Host host.old) (view H.Host host.new)
         (start_ending (tree_of plan.now)).text result }
@@ -86,12 +90,13 @@ fn print_steps<H: Host, S: Stepper>(
     text: &mut Vec<u8>,
     host: &mut H,
 ) -> Result<u32, PrintFault>
-    requires settles { IsSome (settled (S.nodes stepper.old) (S.world stepper.old)) }
-    ensures plan { S.nodes stepper.new ≡ S.nodes stepper.old }
+    requires begun { IsTrue (is_begun (S.state stepper.old).begun) }
+    requires settles { IsSome (settled (S.state stepper.old).nodes (S.state stepper.old).world) }
+    ensures plan { (S.state stepper.new).nodes ≡ (S.state stepper.old).nodes }
     ensures settled { IfOk result (λ count.
-        settled (S.nodes stepper.old) (S.world stepper.old) ≡ Some (S.world stepper.new, count)) }
+        settled (S.state stepper.old).nodes (S.state stepper.old).world ≡ Some ((S.state stepper.new).world, count)) }
     ensures prints { PrintsUpTo (view H.Host host.old) (view H.Host host.new) text.new.items
-        (text.old.items ++ run_text (S.nodes stepper.old) (S.world stepper.old)) result }
+        (text.old.items ++ run_text (S.state stepper.old).nodes (S.state stepper.old).world) result }
     ensures only { OnlyPrints (view H.Host host.old) (view H.Host host.new) }
 {
     let mut count = 0;

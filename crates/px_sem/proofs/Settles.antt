@@ -1,19 +1,21 @@
 -- When a world settles, from the worlds on its way.
-use Rattle.std.proofs.Common.{◌≡◌, ℕ, zero, suc, ◌+◌, ◌<◌, ◌≤◌, inl, inr, Bool, true, false, List, Option, Some, None, IsSome, if◌then◌else◌, refl, arith, ap, ◌∙◌, add-one}
+use Rattle.std.proofs.Common.{◌≡◌, ℕ, zero, suc, ◌+◌, ◌<◌, ◌≤◌, inl, inr, Bool, true, false, List, Option, Some, None, IsSome, if◌then◌else◌, refl, arith, ap, sym, ◌∙◌, add-one}
 use Rattle.std.specs.Option.{option_map, unwrap_or}
 use Rattle.std.proofs.lemmas.Bool.{cases_lt}
 use Rattle.px_sem.specs.declared.moves.Move.{Move}
-use Rattle.px_sem.specs.Plan.{Site}
+use Rattle.px_core.specs.Plan.{Site}
 use Rattle.px_sem.specs.World.{World}
-use Rattle.px_sem.specs.Step.{micro, is_quiet}
-use Rattle.px_sem.specs.Stepper.{Steps}
+use Rattle.px_sem.specs.Conflicts.{is_quiet}
+use Rattle.px_sem.specs.Step.{micro}
+use Rattle.px_sem.specs.Stepper.{State, Steps}
 use Rattle.px_sem.specs.Run.{step_limit, after_steps, least, settling_count, settled}
 
 -- after so many micro steps, none of which began in a quiet world
-pub record IsUnderway (plan : List Site) (from : World) (nodes : List Site) (world : World) (count : ℕ) : Type 0 where
-  pub same : nodes ≡ plan
-  pub reached : world ≡ after_steps plan from count
-  pub busy : (j : ℕ) → j < count → is_quiet plan (after_steps plan from j) ≡ false
+pub record IsUnderway (from now : State) (count : ℕ) : Type 0 where
+  pub nodes : now.nodes ≡ from.nodes
+  pub begun : now.begun ≡ from.begun
+  pub reached : now.world ≡ after_steps from.nodes from.world count
+  pub busy : (j : ℕ) → j < count → is_quiet from.nodes (after_steps from.nodes from.world j) ≡ false
 
 pub least_none : (test : ℕ → Bool) (bound : ℕ) → ((j : ℕ) → j ≤ bound → test j ≡ false) → least test bound ≡ None
 unfolding least
@@ -36,47 +38,58 @@ least_at test (suc bound) k within holds fails = elim (cases_lt bound k) [
   | inr below ↦ rw (least_at test bound k below holds fails) refl
 ]
 
-pub underway_at_once : (plan : List Site) (from : World) (nodes : List Site) (world : World)
-    → nodes ≡ plan → world ≡ from → IsUnderway plan from nodes world 0
+pub underway_at_once : (from : State) → IsUnderway from from 0
 unfolding after_steps
-underway_at_once plan from nodes world n w =
-    record { same = n; reached = w; busy = λ j h. absurd (omega arith) }
+underway_at_once from = record { nodes = refl; begun = refl; reached = refl; busy = λ j h. absurd (omega arith) }
 
-pub underway_after_step : (plan : List Site) (from : World) (nodes nodes' : List Site) (world world' : World)
-    (count : ℕ) (made : List Move) (answer : Bool)
-    → IsUnderway plan from nodes world count → nodes' ≡ nodes → answer ≡ true
-    → Steps nodes world world' made answer → IsUnderway plan from nodes' world' (count + 1)
+pub underway_after_step : (from now next : State) (count : ℕ) (made : List Move) (answer : Bool)
+    → IsUnderway from now count → answer ≡ true → Steps now next made answer → IsUnderway from next (count + 1)
 unfolding after_steps
-underway_after_step plan from nodes nodes' world world' count made false u n a s = cc
-underway_after_step plan from nodes nodes' world world' count made true u n a s =
-    record { same = n ∙ u.same; reached = after; busy = busy }
+underway_after_step from now next count made false u a s = cc
+underway_after_step from now next count made true u a s =
+    record { nodes = nodes; begun = begun; reached = after; busy = busy }
   where
-    after : world' ≡ after_steps plan from (count + 1)
-    after =
-        let step : after_steps plan from (suc count) ≡ micro plan (after_steps plan from count) = refl in
-        rw add-one cc
+    nodes : next.nodes ≡ from.nodes
+    nodes = ap (λ (x : State). x.nodes) s.1 ∙ u.nodes
 
-    busy : (j : ℕ) → j < count + 1 → is_quiet plan (after_steps plan from j) ≡ false
+    begun : next.begun ≡ from.begun
+    begun = ap (λ (x : State). x.begun) s.1 ∙ u.begun
+
+    after : next.world ≡ after_steps from.nodes from.world (count + 1)
+    after =
+        let step : after_steps from.nodes from.world (suc count) ≡ micro from.nodes (after_steps from.nodes from.world count) = refl in
+        let made : next.world ≡ micro now.nodes now.world = ap (λ (x : State). x.world) s.1 in
+        rw add-one (made ∙ ap (λ plan. micro plan now.world) u.nodes ∙ ap (micro from.nodes) u.reached)
+
+    not_quiet : is_quiet from.nodes (after_steps from.nodes from.world count) ≡ false
+    not_quiet = sym (ap (λ plan. is_quiet plan now.world) u.nodes ∙ ap (is_quiet from.nodes) u.reached) ∙ s.0
+
+    busy : (j : ℕ) → j < count + 1 → is_quiet from.nodes (after_steps from.nodes from.world j) ≡ false
     busy j h = elim (cases_lt j count) [
       | inl below ↦ u.busy j below
-      | inr at ↦ let is : j ≡ count = omega arith in cc
+      | inr at ↦ let is : j ≡ count = omega arith in ap (λ k. is_quiet from.nodes (after_steps from.nodes from.world k)) is ∙ not_quiet
     ]
 
-pub settles_at : (plan : List Site) (from : World) (nodes : List Site) (world world' : World)
-    (count : ℕ) (made : List Move) (answer : Bool)
-    → IsUnderway plan from nodes world count → count ≤ step_limit → answer ≡ false
-    → Steps nodes world world' made answer → settled plan from ≡ Some (world', count)
-settles_at plan from nodes world world' count made true u within a s = cc
-settles_at plan from nodes world world' count made false u within a s =
-    let quiet : is_quiet plan (after_steps plan from count) ≡ true = cc in
-    let at = least_at (λ k. is_quiet plan (after_steps plan from k)) step_limit count within quiet u.busy in
-    let is : world' ≡ after_steps plan from count = cc in
-    rw is (ap (option_map (λ k. (after_steps plan from k, k))) at)
+pub quiet_after : (now next : State) (made : List Move) (answer : Bool) → answer ≡ false → Steps now next made answer
+    → is_quiet next.nodes next.world ≡ true
+quiet_after now next made true a s = cc
+quiet_after now next made false a s = ap (λ (x : State). is_quiet x.nodes x.world) s.1 ∙ s.0
 
-pub runs_away : (plan : List Site) (from : World) (nodes : List Site) (world : World) (count : ℕ)
-    → IsUnderway plan from nodes world count → step_limit < count → settled plan from ≡ None
-runs_away plan from nodes world count u beyond =
-    ap (option_map (λ k. (after_steps plan from k, k)))
+pub settles_at : (from now next : State) (count : ℕ) (made : List Move) (answer : Bool)
+    → IsUnderway from now count → count ≤ step_limit → answer ≡ false → Steps now next made answer
+    → settled from.nodes from.world ≡ Some (next.world, count)
+settles_at from now next count made true u within a s = cc
+settles_at from now next count made false u within a s =
+    let quiet : is_quiet from.nodes (after_steps from.nodes from.world count) ≡ true =
+    sym (ap (λ plan. is_quiet plan now.world) u.nodes ∙ ap (is_quiet from.nodes) u.reached) ∙ s.0 in
+    let at = least_at (λ k. is_quiet from.nodes (after_steps from.nodes from.world k)) step_limit count within quiet u.busy in
+    let is : next.world ≡ after_steps from.nodes from.world count = ap (λ (x : State). x.world) s.1 ∙ u.reached in
+    rw is (ap (option_map (λ k. (after_steps from.nodes from.world k, k))) at)
+
+pub runs_away : (from now : State) (count : ℕ) → IsUnderway from now count → step_limit < count
+    → settled from.nodes from.world ≡ None
+runs_away from now count u beyond =
+    ap (option_map (λ k. (after_steps from.nodes from.world k, k)))
     (least_none _ step_limit (λ j h. u.busy j (omega arith)))
 
 -- what the least number that passes a test is
@@ -110,13 +123,13 @@ least_found test (suc bound) k is = from (least_found test bound) (least test bo
 abbrev pub steps_until_quiet : List Site → World → ℕ
 steps_until_quiet plan from = unwrap_or (settling_count plan from) 0
 
-pub underway_within : (plan : List Site) (from : World) (nodes : List Site) (world : World) (count : ℕ)
-    → IsUnderway plan from nodes world count → IsSome (settled plan from)
-    → (count ≤ steps_until_quiet plan from) × (steps_until_quiet plan from ≤ step_limit)
-underway_within plan from nodes world count u s = at (settling_count plan from) refl s
+pub underway_within : (from now : State) (count : ℕ)
+    → IsUnderway from now count → IsSome (settled from.nodes from.world)
+    → (count ≤ steps_until_quiet from.nodes from.world) × (steps_until_quiet from.nodes from.world ≤ step_limit)
+underway_within from now count u s = at (settling_count from.nodes from.world) refl s
   where
     test : ℕ → Bool
-    test k = is_quiet plan (after_steps plan from k)
+    test k = is_quiet from.nodes (after_steps from.nodes from.world k)
 
     until : (k : ℕ) → test k ≡ true → count ≤ k
     until k quiet = elim (cases_lt k count) [
@@ -124,7 +137,7 @@ underway_within plan from nodes world count u s = at (settling_count plan from) 
       | inr beyond ↦ beyond
     ]
 
-    at : (o : Option ℕ) → settling_count plan from ≡ o
-        → IsSome {T = World × ℕ} (option_map (λ k. (after_steps plan from k, k)) o) → (count ≤ unwrap_or o 0) × (unwrap_or o 0 ≤ step_limit)
+    at : (o : Option ℕ) → settling_count from.nodes from.world ≡ o
+        → IsSome {T = World × ℕ} (option_map (λ k. (after_steps from.nodes from.world k, k)) o) → (count ≤ unwrap_or o 0) × (unwrap_or o 0 ≤ step_limit)
     at None e some = cc
     at (Some k) e some = let found = least_found test step_limit k e in (until k found.passes, found.within)

@@ -1,7 +1,7 @@
 -- How the text of a run grows.
 use Rattle.std.proofs.Common.{◌≡◌, ℕ, zero, suc, ◌+◌, ◌≤◌, inl, inr, List, [], ◌++◌, refl, arith, ap, ◌∙◌, sym, add-one, append-nil, append_assoc}
 use Rattle.std.proofs.lemmas.Bool.{cases_lt}
-use Rattle.px_sem.specs.Plan.{Site}
+use Rattle.px_core.specs.Plan.{Site}
 use Rattle.px_sem.specs.World.{World}
 use Rattle.px_sem.specs.Step.{moves}
 use Rattle.px_sem.specs.Run.{after_steps}

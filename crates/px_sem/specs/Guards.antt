@@ -1,26 +1,21 @@
 -- What holds of a node in a world: its conditions, what its ancestors ask of it, and so the guards of its rows.
-use Rattle.std.specs.Prelude.{ℕ, Bool, true, false, not, ◌&&◌, ◌||◌, List, Option, Some, None}
+use Rattle.std.specs.Prelude.{ℕ, Bool, true, false, not, ◌&&◌, ◌||◌, List, Option, Some, None, is_some}
 use Rattle.std.specs.List.{list_all, list_any}
 use Rattle.px_value.specs.declared.enums.NodeState.{NodeState}
 use Rattle.px_value.specs.declared.enums.NodeState.TheVariants as states
 use Rattle.px_value.specs.declared.enums.Failure.{Failure}
 use Rattle.px_value.specs.declared.enums.Failure.TheVariants as failures
-use Rattle.px_sem.specs.declared.plan.Kind.{Kind}
-use Rattle.px_sem.specs.declared.plan.Kind.TheVariants as kinds
+use Rattle.px_value.specs.declared.enums.Handle.{Handle}
+use Rattle.px_value.specs.declared.enums.Handle.TheVariants as handles
+use Rattle.px_value.specs.Truth.{truth_of}
+use Rattle.px_core.specs.declared.conditions.ConditionKind.{ConditionKind}
+use Rattle.px_core.specs.declared.conditions.ConditionKind.TheVariants as which
+use Rattle.px_core.specs.declared.node.Kind.{Kind}
+use Rattle.px_core.specs.declared.node.Kind.TheVariants as kinds
+use Rattle.px_core.specs.Plan.{Site, site_at, is_child_of, condition_of}
 use Rattle.px_sem.specs.declared.guards.Guards.{Guards}
-use Rattle.px_sem.specs.Plan.{Site, site_at, is_child_of}
-use Rattle.px_sem.specs.World.{World, Record, record_at, state_at, parent_state}
-
--- the eight conditions of a node
-pub data Condition : Type 0 where
-  Start : Condition
-  End : Condition
-  Exit : Condition
-  Skip : Condition
-  Repeat : Condition
-  Pre : Condition
-  Post : Condition
-  Invariant : Condition
+use Rattle.px_sem.specs.Expressions.{value, handle_of, is_acknowledged}
+use Rattle.px_sem.specs.World.{World, Record, Action, NoAction, Assigned, Commanded, Updated, NoAbort, AbortSent, AbortDone, record_at, state_at, parent_state}
 
 -- a truth value of Kleene's logic, where none is UNKNOWN
 abbrev pub Truth : Type 0
@@ -72,6 +67,15 @@ is_failing states.Executing = false
 is_failing states.Finishing = false
 is_failing states.IterationEnded = false
 
+abbrev pub is_finishing : NodeState → Bool
+is_finishing states.Finishing = true
+is_finishing states.Finished = false
+is_finishing states.Inactive = false
+is_finishing states.Waiting = false
+is_finishing states.Executing = false
+is_finishing states.IterationEnded = false
+is_finishing states.Failing = false
+
 -- EXECUTING, FINISHING or FAILING
 abbrev pub is_at_work : NodeState → Bool
 is_at_work states.Executing = true
@@ -101,27 +105,9 @@ abbrev pub each_child : (NodeState → Bool) → List Site → World → List �
 each_child test plan world path =
     list_all (λ site. not (is_child_of path site) || test (state_at world site.path)) plan
 
--- the default End of a node: a List waits for its children, and an Empty node for nothing
-abbrev pub default_end : List Site → World → Site → Truth
-default_end plan world site = of_kind site.head.kind
-  where
-    of_kind : Kind → Truth
-    of_kind kinds.List = Some (each_child is_finished plan world site.path)
-    of_kind kinds.Empty = Some true
-    of_kind kinds.Assignment = Some true
-    of_kind kinds.Command = None
-    of_kind kinds.Update = None
-
--- the value of a condition of a node
-abbrev pub condition : List Site → World → Site → Condition → Truth
-condition plan world site Start = Some true
-condition plan world site End = default_end plan world site
-condition plan world site Exit = Some false
-condition plan world site Skip = Some false
-condition plan world site Repeat = Some false
-condition plan world site Pre = Some true
-condition plan world site Post = Some true
-condition plan world site Invariant = Some true
+-- the truth of a condition of a node
+abbrev pub condition : List Site → World → Site → ConditionKind → Truth
+condition plan world site which = truth_of (value plan world (condition_of site.head.conditions which))
 
 -- a failure that reaches all below: by an Exit, by an Invariant
 abbrev pub is_exit_failure : Option Failure → Bool
@@ -155,9 +141,28 @@ abbrev pub ends : Record → Truth → Bool
 ends r end = (is_executing r.state && is_true end) || is_past_end r.state
 
 -- some proper ancestor asks a node to leave: by its Exit, its Invariant, its End
-abbrev pub some_ancestor : (Record → Truth → Bool) → Condition → List Site → World → Site → Bool
-some_ancestor asks which plan world site =
-    list_any (λ path. asks (record_at world path) (condition plan world (site_at plan path) which)) site.above
+abbrev pub some_ancestor : (Record → Truth → Bool) → ConditionKind → List Site → World → Site → Bool
+some_ancestor asks kind plan world site =
+    list_any (λ path. asks (record_at world path) (condition plan world (site_at plan path) kind)) site.above
+
+-- the outside is done with a command
+abbrev pub is_last_handle : Option Handle → Bool
+is_last_handle (Some handles.CommandSuccess) = true
+is_last_handle (Some handles.CommandFailed) = true
+is_last_handle (Some handles.CommandDenied) = true
+is_last_handle (Some handles.CommandSentToSystem) = false
+is_last_handle (Some handles.CommandAccepted) = false
+is_last_handle (Some handles.CommandRcvdBySystem) = false
+is_last_handle None = false
+
+-- its abort is done, or its handle is a last one
+abbrev pub lets_command_go : Action → Bool
+lets_command_go (Commanded index handle AbortDone) = true
+lets_command_go (Commanded index handle AbortSent) = is_last_handle handle
+lets_command_go (Commanded index handle NoAbort) = is_last_handle handle
+lets_command_go NoAction = false
+lets_command_go (Assigned kept) = false
+lets_command_go (Updated acknowledged) = false
 
 -- whether a failing node may leave FAILING
 abbrev pub is_ready : List Site → World → Site → Bool
@@ -167,8 +172,8 @@ is_ready plan world site = of_kind site.head.kind
     of_kind kinds.List = each_child is_at_rest plan world site.path
     of_kind kinds.Empty = false
     of_kind kinds.Assignment = true
-    of_kind kinds.Command = false
-    of_kind kinds.Update = false
+    of_kind kinds.Command = lets_command_go (record_at world site.path).action
+    of_kind kinds.Update = is_acknowledged (record_at world site.path).action
 
 -- what the transition table asks
 abbrev pub guards : List Site → World → Site → Guards
@@ -178,19 +183,19 @@ guards plan world site = record {
   parent_waiting = is_waiting (parent_state world site);
   parent_executing = is_executing (parent_state world site);
   parent_finished = is_finished (parent_state world site);
-  ancestor_exit = some_ancestor exits Exit plan world site;
-  ancestor_invariant = some_ancestor fails Invariant plan world site;
-  ancestor_end = some_ancestor ends End plan world site;
-  exit_true = is_true (condition plan world site Exit);
-  skip_true = is_true (condition plan world site Skip);
-  start_true = is_true (condition plan world site Start);
-  pre_true = is_true (condition plan world site Pre);
-  invariant_false = is_false (condition plan world site Invariant);
-  end_true = is_true (condition plan world site End);
-  post_true = is_true (condition plan world site Post);
-  repeat_false = is_false (condition plan world site Repeat);
-  repeat_true = is_true (condition plan world site Repeat);
+  ancestor_exit = some_ancestor exits which.Exit plan world site;
+  ancestor_invariant = some_ancestor fails which.Invariant plan world site;
+  ancestor_end = some_ancestor ends which.End plan world site;
+  exit_true = is_true (condition plan world site which.Exit);
+  skip_true = is_true (condition plan world site which.Skip);
+  start_true = is_true (condition plan world site which.Start);
+  pre_true = is_true (condition plan world site which.Pre);
+  invariant_false = is_false (condition plan world site which.Invariant);
+  end_true = is_true (condition plan world site which.End);
+  post_true = is_true (condition plan world site which.Post);
+  repeat_false = is_false (condition plan world site which.Repeat);
+  repeat_true = is_true (condition plan world site which.Repeat);
   children_rest = each_child is_at_rest plan world site.path;
-  handle_known = false;
+  handle_known = is_some (handle_of (record_at world site.path).action);
   ready = is_ready plan world site;
 }

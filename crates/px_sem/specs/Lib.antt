@@ -1,6 +1,9 @@
-pub mod Fit
+pub mod Conflicts
+pub mod Effects
+pub mod Events
+pub mod Expressions
 pub mod Guards
-pub mod Plan
+pub mod Log
 pub mod Run
 pub mod Step
 pub mod Stepper

@@ -1,9 +1,12 @@
 -- Runs: micro steps until the world is quiet.
-use Rattle.std.specs.Prelude.{ℕ, zero, suc, Bool, List, Option, Some, None, if◌then◌else◌}
+use Rattle.std.specs.Prelude.{ℕ, zero, suc, Bool, List, [], ◌∷◌, Option, Some, None, if◌then◌else◌}
 use Rattle.std.specs.Option.{option_map}
-use Rattle.px_sem.specs.Plan.{Site}
+use Rattle.px_core.specs.Plan.{Site}
 use Rattle.px_sem.specs.World.{World, first}
-use Rattle.px_sem.specs.Step.{micro, is_quiet}
+use Rattle.px_event.specs.declared.event.Event.{Event}
+use Rattle.px_sem.specs.Conflicts.{is_quiet}
+use Rattle.px_sem.specs.Events.{take}
+use Rattle.px_sem.specs.Step.{micro}
 
 -- the most micro steps that one event may take
 abbrev pub step_limit : ℕ
@@ -31,6 +34,21 @@ settling_count plan world = least (λ k. is_quiet plan (after_steps plan world k
 abbrev pub settled : List Site → World → Option (World × ℕ)
 settled plan world = option_map (λ k. (after_steps plan world k, k)) (settling_count plan world)
 
--- the run over the empty history: the first world, settled
+-- event 0, the start: the first world, settled
 abbrev pub started : List Site → Option (World × ℕ)
 started plan = settled plan (first plan)
+
+-- an event taken in a world, settled
+abbrev pub posted : List Site → World → Event → Option (World × ℕ)
+posted plan world event = settled plan (take plan world event)
+
+-- the world after more events, if each settles
+unfoldable pub run_on : List Site → Option World → List Event → Option World
+run_on plan None history = None
+run_on plan (Some world) [] = Some world
+run_on plan (Some world) (event ∷ history) =
+    run_on plan (option_map (λ settled. settled.0) (posted plan world event)) history
+
+-- the run over a history: the start, and then each event in order; none where one of them does not settle
+abbrev pub run : List Site → List Event → Option World
+run plan history = run_on plan (option_map (λ settled. settled.0) (started plan)) history

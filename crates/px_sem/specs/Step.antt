@@ -1,48 +1,67 @@
 -- The micro step: all nodes that go move at once, each judged by the world before it.
-use Rattle.std.specs.Prelude.{Bool, List, Option, Some, None, map, filter, is_some, is_none}
-use Rattle.std.specs.List.{list_all, filter_map}
-use Rattle.std.specs.Option.{option_map}
+use Rattle.std.specs.Prelude.{Bool, false, List, Option, Some, None, map, if◌then◌else◌}
+use Rattle.std.specs.List.{filter_map, zip}
+use Rattle.std.specs.Option.{option_map, option_and_then}
+use Rattle.px_value.specs.declared.value.Value.{Value}
+use Rattle.px_core.specs.Plan.{Site}
 use Rattle.px_sem.specs.declared.guards.Arrival.{Arrival}
 use Rattle.px_sem.specs.declared.moves.Move.{Move}
-use Rattle.px_sem.specs.Plan.{Site}
 use Rattle.px_sem.specs.World.{World, Record, record_at}
-use Rattle.px_sem.specs.Guards.{guards}
-use Rattle.px_sem.specs.Table
+use Rattle.px_sem.specs.Conflicts.{way}
+use Rattle.px_sem.specs.Effects.{turn, is_preparing, Write, write_of, action_after, effect_of, initial, write_to, written}
 
--- where a node goes, or none where it stays
-abbrev pub dest : List Site → World → Site → Option Arrival
-dest plan world site = Table.dest site.head.kind (record_at world site.path).state (guards plan world site)
+-- what each node writes, in preorder
+abbrev pub writes : List Site → World → List (Option Write)
+writes plan world = map (λ site. option_and_then (write_of plan world site) (way plan world site)) plan
 
--- the nodes that go, in preorder
-abbrev pub goes : List Site → World → List Site
-goes plan world = filter (λ site. is_some (dest plan world site)) plan
+-- whether a node goes from INACTIVE to WAITING
+abbrev pub prepares : Record → Option Arrival → Bool
+prepares r None = false
+prepares r (Some arrival) = is_preparing (turn r.state arrival.to)
 
--- no node goes
-abbrev pub is_quiet : List Site → World → Bool
-is_quiet plan world = list_all (λ site. is_none (dest plan world site)) plan
+-- The values of a node's variables: the initial ones where the node begins to wait, else as the step writes them. At
+-- most one node that goes writes a variable.
+abbrev pub variables_after : List Site → World → Site → Option Arrival → List (List Value)
+variables_after plan world site arrival =
+    if prepares (record_at world site.path) arrival then map initial site.head.variables
+    else map (λ variable. written variable.1 (write_to site.path variable.0.name (writes plan world)))
+    (zip site.head.variables (record_at world site.path).variables)
 
--- the record after a move
-abbrev pub arrived : Record → Option Arrival → Record
-arrived r None = r
-arrived r (Some arrival) = record { state = arrival.to; outcome = arrival.outcome; failure = arrival.failure }
+-- the record of a node after one step
+abbrev pub record_after : List Site → World → Site → Option Arrival → Record
+record_after plan world site None = record {
+  state = (record_at world site.path).state;
+  outcome = (record_at world site.path).outcome;
+  failure = (record_at world site.path).failure;
+  variables = variables_after plan world site None;
+  action = (record_at world site.path).action;
+}
+record_after plan world site (Some arrival) = record {
+  state = arrival.to;
+  outcome = arrival.outcome;
+  failure = arrival.failure;
+  variables = variables_after plan world site (Some arrival);
+  action = action_after plan world site arrival;
+}
 
 -- the world after one step, node by node
 abbrev pub micro : List Site → World → World
 micro plan world = record {
-  nodes = map (λ site. (site.path, arrived (record_at world site.path) (dest plan world site))) plan;
+  nodes = map (λ site. (site.path, record_after plan world site (way plan world site))) plan;
+  reports = world.reports;
 }
 
 -- what a node's step looks like
-abbrev pub move_of : World → Site → Arrival → Move
-move_of world site arrival = record {
+abbrev pub move_of : List Site → World → Site → Arrival → Move
+move_of plan world site arrival = record {
   node = site.path;
   from = (record_at world site.path).state;
   to = arrival.to;
   outcome = arrival.outcome;
   failure = arrival.failure;
-  effect = None;
+  effect = effect_of plan world site arrival;
 }
 
 -- the moves of one step, in preorder
 abbrev pub moves : List Site → World → List Move
-moves plan world = filter_map (λ site. option_map (move_of world site) (dest plan world site)) plan
+moves plan world = filter_map (λ site. option_map (move_of plan world site) (way plan world site)) plan

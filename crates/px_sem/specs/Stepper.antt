@@ -1,11 +1,62 @@
--- What one call of a stepper does.
+-- What a stepper stands for, and what its calls do.
 use Rattle.std.specs.Prelude.{◌≡◌, Bool, true, false, List, []}
+use Rattle.px_core.specs.Plan.{Site}
+use Rattle.px_event.specs.declared.event.Event.{Event as Posted}
 use Rattle.px_sem.specs.declared.moves.Move.{Move}
-use Rattle.px_sem.specs.Plan.{Site}
-use Rattle.px_sem.specs.World.{World}
-use Rattle.px_sem.specs.Step.{micro, moves, is_quiet}
+use Rattle.px_sem.specs.World.{World, first}
+use Rattle.px_sem.specs.Conflicts.{is_quiet}
+use Rattle.px_sem.specs.Events.{take}
+use Rattle.px_sem.specs.Step.{micro, moves}
+
+-- what is begun: nothing, event 0, or an event, with the settled world before it
+pub data Begun : Type 0 where
+  Nothing : Begun
+  Start : Begun
+  Event : (settled : World) → Begun
+
+abbrev pub is_begun : Begun → Bool
+is_begun Nothing = false
+is_begun Start = true
+is_begun (Event settled) = true
+
+abbrev pub is_event : Begun → Bool
+is_event Nothing = false
+is_event Start = false
+is_event (Event settled) = true
+
+-- the nodes of the plan in preorder, the world, and what is begun in it
+pub record State : Type 0 where
+  pub nodes : List Site
+  pub world : World
+  pub begun : Begun
+
+-- no node has begun, and event 0 is
+abbrev pub fresh : List Site → State
+fresh plan = record { nodes = plan; world = first plan; begun = Start }
+
+-- a settled world, in which nothing is begun
+abbrev pub at_rest : List Site → World → State
+at_rest plan world = record { nodes = plan; world = world; begun = Nothing }
+
+-- an event is taken
+abbrev pub begun_with : State → Posted → State
+begun_with s event = record { nodes = s.nodes; world = take s.nodes s.world event; begun = Event s.world }
+
+-- one micro step more
+abbrev pub stepped : State → State
+stepped s = record { nodes = s.nodes; world = micro s.nodes s.world; begun = s.begun }
+
+-- back in the world before the event
+abbrev pub given_up : State → State
+given_up s = back s.begun
+  where
+    back : Begun → State
+    back Nothing = s
+    back Start = s
+    back (Event settled) = at_rest s.nodes settled
 
 -- Where it answers true, the world was not quiet, and took one micro step with these moves; else nothing changed.
-abbrev pub Steps : List Site → World → World → List Move → Bool → Type 0
-Steps plan old new made true = (is_quiet plan old ≡ false) × (new ≡ micro plan old) × (made ≡ moves plan old)
-Steps plan old new made false = (is_quiet plan old ≡ true) × (new ≡ old) × (made ≡ [])
+abbrev pub Steps : State → State → List Move → Bool → Type 0
+Steps old new made true =
+    (is_quiet old.nodes old.world ≡ false) × (new ≡ stepped old) × (made ≡ moves old.nodes old.world)
+Steps old new made false = (is_quiet old.nodes old.world ≡ true) × (new ≡ old) × (made ≡ [])

@@ -6,8 +6,8 @@ use Rattle.px_value.specs.declared.enums.Outcome.{Outcome}
 use Rattle.px_value.specs.declared.enums.Outcome.TheVariants as outcomes
 use Rattle.px_value.specs.declared.enums.Failure.{Failure}
 use Rattle.px_value.specs.declared.enums.Failure.TheVariants as failures
-use Rattle.px_sem.specs.declared.plan.Kind.{Kind}
-use Rattle.px_sem.specs.declared.plan.Kind.TheVariants as kinds
+use Rattle.px_core.specs.declared.node.Kind.{Kind}
+use Rattle.px_core.specs.declared.node.Kind.TheVariants as kinds
 use Rattle.px_sem.specs.declared.guards.Guards.{Guards}
 use Rattle.px_sem.specs.declared.guards.Arrival.{Arrival}
 

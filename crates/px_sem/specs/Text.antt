@@ -1,22 +1,61 @@
 -- The text of a run, line by line.
-use Rattle.std.specs.Prelude.{ℕ, zero, suc, List, [], ◌++◌, Option, Some, None, codes, decimal}
-use Rattle.std.specs.List.{flat_map}
+use Rattle.std.specs.Prelude.{ℕ, zero, suc, true, false, ◌==◌, List, [], ◌∷◌, ◌++◌, map, Option, Some, None, codes, decimal, if◌then◌else◌}
+use Rattle.std.specs.Fmt.{signed_decimal}
+use Rattle.std.specs.List.{flat_map, zip}
 use Rattle.px_value.specs.declared.enums.Outcome.{Outcome}
 use Rattle.px_value.specs.declared.enums.Failure.{Failure}
-use Rattle.px_value.specs.Words.{state_word, outcome_word, failure_word}
+use Rattle.px_value.specs.declared.value.Value.{Value}
+use Rattle.px_value.specs.declared.value.Value.TheVariants as values
+use Rattle.px_value.specs.Words.{state_word, outcome_word, failure_word, handle_word}
+use Rattle.px_core.specs.Plan.{Site}
+use Rattle.px_event.specs.declared.entry.Entry.{Entry}
+use Rattle.px_event.specs.declared.event.Event.{Event}
+use Rattle.px_event.specs.declared.event.Event.TheVariants as events
+use Rattle.px_event.specs.declared.reply.Reply.{Reply}
+use Rattle.px_event.specs.declared.reply.Reply.TheVariants as replies
 use Rattle.px_sem.specs.declared.moves.Move.{Move}
 use Rattle.px_sem.specs.declared.moves.Effect.{Effect}
-use Rattle.px_sem.specs.declared.moves.Effect.TheVariants.{NoWrite, Aborted}
+use Rattle.px_sem.specs.declared.moves.Effect.TheVariants as effects
 use Rattle.px_sem.specs.declared.standing.Standing.{Standing}
 use Rattle.px_sem.specs.declared.standing.Standing.TheVariants.{Running, Finished as Ended}
-use Rattle.px_sem.specs.Plan.{Site}
 use Rattle.px_sem.specs.World.{World, first, standing_of}
+use Rattle.px_sem.specs.Events.{take}
+use Rattle.px_sem.specs.Log.{Log, accepted}
+use Rattle.px_sem.specs.Run.{after_steps, settled}
 use Rattle.px_sem.specs.Step.{moves}
-use Rattle.px_sem.specs.Run.{after_steps}
 
 -- a line
 abbrev pub line : List ℕ → List ℕ
 line text = text ++ codes "\n"
+
+-- ---- values
+
+-- a byte of a string between quotes: the quote, the backslash, the line feed and the tab are escaped
+abbrev pub escaped : ℕ → List ℕ
+escaped c =
+    if c == 34 then codes "\\\""
+    else (if c == 92 then codes "\\\\" else (if c == 10 then codes "\\n" else (if c == 9 then codes "\\t" else c ∷ [])))
+
+abbrev pub value_text : Value → List ℕ
+value_text values.Unknown = codes "UNKNOWN"
+value_text (values.Boolean true) = codes "true"
+value_text (values.Boolean false) = codes "false"
+value_text (values.Integer number) = signed_decimal number
+value_text (values.Text text) = codes "\"" ++ flat_map escaped text ++ codes "\""
+value_text (values.State state) = state_word state
+value_text (values.Outcome outcome) = outcome_word outcome
+value_text (values.Failure failure) = failure_word failure
+value_text (values.Handle handle) = handle_word handle
+
+-- things parted by commas
+abbrev pub parted : List (List ℕ) → List ℕ
+parted [] = []
+parted (first ∷ rest) = first ++ flat_map (λ text. codes ", " ++ text) rest
+
+abbrev pub arguments_text : List Value → List ℕ
+arguments_text args = codes "(" ++ parted (map value_text args) ++ codes ")"
+
+-- ---- moves
 
 -- what a node has, after a blank, or nothing
 abbrev pub outcome_text : Option Outcome → List ℕ
@@ -33,11 +72,25 @@ change_line m =
     line (codes "  " ++ m.node ++ codes ": " ++ state_word m.from ++ codes " -> " ++ state_word m.to
     ++ outcome_text m.outcome ++ failure_text m.failure)
 
+abbrev pub index_text : Option ℕ → List ℕ
+index_text None = []
+index_text (Some index) = codes "[" ++ decimal index ++ codes "]"
+
+abbrev pub pair_text : List ℕ × Value → List ℕ
+pair_text pair = pair.0 ++ codes " = " ++ value_text pair.1
+
+abbrev pub effect_text : Effect → List ℕ
+effect_text effects.NoWrite = codes "no write"
+effect_text (effects.Wrote owner name index value) =
+    owner ++ codes "." ++ name ++ index_text index ++ codes " = " ++ value_text value
+effect_text (effects.Sent command args) = codes "command " ++ command ++ arguments_text args
+effect_text (effects.Aborted command) = codes "abort " ++ command
+effect_text (effects.Updated names values) = codes "update " ++ parted (map pair_text (zip names values))
+
 -- its effect, on a line with four blanks
 abbrev pub effect_line : Option Effect → List ℕ
 effect_line None = []
-effect_line (Some NoWrite) = line (codes "    no write")
-effect_line (Some (Aborted command)) = line (codes "    abort " ++ command)
+effect_line (Some effect) = line (codes "    " ++ effect_text effect)
 
 abbrev pub move_text : Move → List ℕ
 move_text m = change_line m ++ effect_line m.effect
@@ -54,12 +107,72 @@ steps_text plan world (suc k) = steps_text plan world k ++ step_text (suc k) (mo
 abbrev pub quiet_text : ℕ → List ℕ
 quiet_text count = line (codes "quiet " ++ decimal count)
 
+-- the micro steps of a world up to the quiet one, which is the k-th
+abbrev pub settling_text : List Site → World → ℕ → List ℕ
+settling_text plan world k = steps_text plan world k ++ quiet_text k
+
+-- ---- events
+
+-- what is told of a state: its name, and its arguments where it has some
+abbrev pub state_text : List ℕ → List Value → List ℕ
+state_text name [] = name
+state_text name (arg ∷ args) = name ++ arguments_text (arg ∷ args)
+
+abbrev pub event_text : Event → List ℕ
+event_text (events.Report name args value) = codes "set " ++ state_text name args ++ codes " = " ++ value_text value
+event_text (events.Handle node handle) = codes "handle " ++ node ++ codes " " ++ handle_word handle
+event_text (events.Return node value) = codes "return " ++ node ++ codes " " ++ value_text value
+event_text (events.AbortDone node) = codes "abort " ++ node
+event_text (events.Acknowledged node) = codes "ack " ++ node
+
+-- where an entry comes from
+abbrev pub source_text : ℕ → ℕ → List ℕ
+source_text thread number = codes "thread " ++ decimal thread ++ codes " line " ++ decimal number
+
 abbrev pub start_text : List ℕ
 start_text = line (codes "event 0: start")
 
--- the trace of the empty history, where event 0 takes so many micro steps
-abbrev pub start_trace : List Site → ℕ → List ℕ
-start_trace plan count = start_text ++ steps_text plan (first plan) count ++ quiet_text count
+-- the heading of an event at its position in the history, from 1
+abbrev pub heading_text : ℕ → Entry → List ℕ
+heading_text position entry =
+    line (codes "event " ++ decimal position ++ codes ": " ++ source_text entry.thread entry.line ++ codes " "
+    ++ event_text entry.event)
+
+-- ---- the trace
+
+-- the text of a world up to the one that it settles into, and what follows there
+abbrev pub settling_into : List Site → World → Option (World × ℕ) → (World → List ℕ) → List ℕ
+settling_into plan world None next = []
+settling_into plan world (Some found) next = settling_text plan world found.1 ++ next found.0
+
+abbrev pub settling_then : List Site → World → (World → List ℕ) → List ℕ
+settling_then plan world next = settling_into plan world (settled plan world) next
+
+-- the events of a history in a world, the first of which has this position
+abbrev pub events_trace : List Site → ℕ → List Entry → World → List ℕ
+events_trace plan position [] world = []
+events_trace plan position (entry ∷ history) world =
+    heading_text position entry
+    ++ settling_then plan (take plan world entry.event) (events_trace plan (suc position) history)
+
+-- the trace of a history whose run exists
+abbrev pub trace : List Site → List Entry → List ℕ
+trace plan history = start_text ++ settling_then plan (first plan) (events_trace plan 1 history)
+
+-- ---- the report
+
+abbrev pub reply_text : Reply → List ℕ
+reply_text (replies.Accepted position) = codes "accepted " ++ decimal position
+reply_text replies.PlanFinished = codes "refused plan finished"
+reply_text replies.Full = codes "refused full"
+reply_text replies.Runaway = codes "refused runaway"
+
+-- the line of a post: its thread, its line, and its reply
+abbrev pub reply_line : ℕ → ℕ → Reply → List ℕ
+reply_line thread number reply = line (source_text thread number ++ codes ": " ++ reply_text reply)
+
+abbrev pub report : Log → List ℕ
+report log = flat_map (λ logged. reply_line logged.0.thread logged.0.line logged.1) log
 
 -- the last line
 abbrev pub standing_text : Standing → List ℕ
@@ -67,6 +180,7 @@ standing_text Running = line (codes "plan running")
 standing_text (Ended outcome failure) =
     line (codes "plan finished " ++ outcome_word outcome ++ failure_text failure)
 
--- the text of the empty log, where event 0 takes so many micro steps and then the world stands so
-abbrev pub start_log_text : List Site → World → ℕ → List ℕ
-start_log_text plan world count = start_trace plan count ++ standing_text (standing_of plan world)
+-- the text of a log that goes on from a history, after which the world stands so
+abbrev pub text_of : List Site → List Entry → Log → World → List ℕ
+text_of plan history log world =
+    trace plan (history ++ accepted log) ++ (report log ++ standing_text (standing_of plan world))

@@ -1,40 +1,92 @@
--- The world: what is so of each node.
-use Rattle.std.specs.Prelude.{ℕ, List, [], ◌∷◌, map, Option, None}
+-- The world: what is so of each node, and what was reported of the outside.
+use Rattle.std.specs.Prelude.{ℕ, ℤ, Bool, List, [], ◌∷◌, map, replicate, ◌&&◌, Option, Some, None}
+use Rattle.std.specs.Cmp.Lexicographic.{pointwise}
+use Rattle.std.specs.List.{zip, find}
 use Rattle.std.specs.Map.{lookup}
-use Rattle.std.specs.Option.{unwrap_or}
+use Rattle.std.specs.Option.{option_map, unwrap_or}
 use Rattle.px_value.specs.declared.enums.NodeState.{NodeState}
 use Rattle.px_value.specs.declared.enums.NodeState.TheVariants as states
 use Rattle.px_value.specs.declared.enums.Outcome.{Outcome}
 use Rattle.px_value.specs.declared.enums.Outcome.TheVariants.{Success}
 use Rattle.px_value.specs.declared.enums.Failure.{Failure}
+use Rattle.px_value.specs.declared.enums.Handle.{Handle}
+use Rattle.px_value.specs.declared.value.Value.{Value}
+use Rattle.px_value.specs.declared.value.Value.TheVariants.{Unknown, Integer}
+use Rattle.px_core.specs.Plan.{Site, Head, VariableData, is_same, root_of, site_at}
+use Rattle.px_core.specs.Fit.{cells_of}
+use Rattle.px_event.specs.Values.{value_eq}
 use Rattle.px_sem.specs.declared.standing.Standing.{Standing}
 use Rattle.px_sem.specs.declared.standing.Standing.TheVariants.{Running, Finished}
-use Rattle.px_sem.specs.Plan.{Site, is_same, root_of}
 
--- what is so of one node
+-- how far the abort of a command has come
+pub data Abort : Type 0 where
+  NoAbort : Abort
+  AbortSent : Abort
+  AbortDone : Abort
+
+-- what an assignment wrote over: the element of an array, or none for a scalar, and the value before
+pub record Kept : Type 0 where
+  pub index : Option ℕ
+  pub old : Value
+
+-- What a node has under way: nothing; an assignment, which keeps what it wrote over, or wrote nothing; a command, with
+-- the index of its result where that was in range; or an update.
+pub data Action : Type 0 where
+  NoAction : Action
+  Assigned : (kept : Option Kept) → Action
+  Commanded : (index : Option ℕ) (handle : Option Handle) (abort : Abort) → Action
+  Updated : (acknowledged : Bool) → Action
+
+-- what is so of one node; the values of each of its variables, in order
 pub record Record : Type 0 where
   pub state : NodeState
   pub outcome : Option Outcome
   pub failure : Option Failure
+  pub variables : List (List Value)
+  pub action : Action
 
--- a finite map from the path of each node to its record, in preorder
+-- a state of the outside that plans look up
+pub record LookState : Type 0 where
+  pub name : List ℕ
+  pub args : List Value
+
+-- A finite map from the path of each node to its record, in preorder, and one from each reported state to its last
+-- value, in the order in which the states were first reported.
 pub record World : Type 0 where
   pub nodes : List (List ℕ × Record)
+  pub reports : List (LookState × Value)
 
 -- a node that has not begun
-abbrev pub unborn : Record
-unborn = record { state = states.Inactive; outcome = None; failure = None }
+abbrev pub unborn : Head → Record
+unborn head = record {
+  state = states.Inactive;
+  outcome = None;
+  failure = None;
+  variables = map (λ variable. replicate (cells_of variable) Unknown) head.variables;
+  action = NoAction;
+}
 
 -- the world before the start
 abbrev pub first : List Site → World
-first plan = record { nodes = map (λ site. (site.path, unborn)) plan }
+first plan = record {
+  nodes = map (λ site. (site.path, unborn site.head)) plan;
+  reports = [];
+}
+
+-- what is so of no node
+abbrev pub no_record : Record
+no_record = record { state = states.Inactive; outcome = None; failure = None; variables = []; action = NoAction }
 
 -- the record of the node at a path
 abbrev pub record_at : World → List ℕ → Record
-record_at world path = unwrap_or (lookup (λ key. is_same key path) world.nodes) unborn
+record_at world path = unwrap_or (lookup (λ key. is_same key path) world.nodes) no_record
 
 abbrev pub state_at : World → List ℕ → NodeState
 state_at world path = (record_at world path).state
+
+-- the state of the node at a path, or none where there is no such node
+abbrev pub state_of : World → List ℕ → Option NodeState
+state_of world path = option_map (λ r. r.state) (lookup (λ key. is_same key path) world.nodes)
 
 -- The state of a node's parent. The root has a virtual parent, which is always EXECUTING.
 abbrev pub parent_state : World → Site → NodeState
@@ -43,6 +95,36 @@ parent_state world site = of_first site.above
     of_first : List (List ℕ) → NodeState
     of_first [] = states.Executing
     of_first (parent ∷ above) = state_at world parent
+
+-- what belongs to the variable of this name, among the variables and as many things in their order
+abbrev pub of_variable : {A : Type 0} → List ℕ → List VariableData → List A → Option A
+of_variable name variables things =
+    lookup (λ variable. is_same variable.name name) (zip variables things)
+
+-- the values of the variable that a node declares
+abbrev pub cells_at : List Site → World → List ℕ → List ℕ → List Value
+cells_at plan world owner name =
+    unwrap_or (of_variable name (site_at plan owner).head.variables (record_at world owner).variables) []
+
+-- the Integer that a scalar variable holds
+abbrev pub integer_at : List Site → World → List ℕ → List ℕ → Option ℤ
+integer_at plan world owner name = of_declared (find (λ variable. is_same variable.name name) (site_at plan owner).head.variables)
+  where
+    held : Option ℕ → List Value → Option ℤ
+    held None (Integer number ∷ cells) = Some number
+    held size cells = None
+
+    of_declared : Option VariableData → Option ℤ
+    of_declared None = None
+    of_declared (Some variable) = held variable.size (cells_at plan world owner name)
+
+-- two states of the outside agree by name, and by type and value of each argument
+abbrev pub is_same_state : LookState → LookState → Bool
+is_same_state a b = is_same a.name b.name && pointwise value_eq a.args b.args
+
+-- the last value reported of a state
+abbrev pub last_report : List (LookState × Value) → LookState → Option Value
+last_report reports state = lookup (λ key. is_same_state key state) reports
 
 -- Whether a plan has finished, and how: by the record of its root. A node that has finished has an outcome.
 abbrev pub standing_of : List Site → World → Standing

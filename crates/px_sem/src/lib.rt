@@ -1,16 +1,20 @@
-//! The semantics of plans: what a plan is, the world that it runs in, its steps, and the text of a run.
+//! The semantics of plans: the world that a plan runs in, its steps, what events do to it, and the text of a run.
+//!
+//! `specs/` has the definitions: `World` and `Expressions`, the value of an expression; `Guards` and `Table`, where a
+//! node goes; `Conflicts` and `Effects`, which nodes go and what they do; `Step`, the micro step; `Events`, `Run` and
+//! `Log`; and `Text`. A `Stepper` is what runs a plan by them, and `start` brings one up.
 #![tactic(auto)]
 
 mod guards;
 mod moves;
-mod plan;
+mod names;
 mod settling;
 mod standing;
 mod stepper;
 
 pub use guards::{Arrival, Guards};
 pub use moves::{Effect, Move};
-pub use plan::{Kind, Node, Plan};
+pub use names::Names;
 pub use settling::{STEP_LIMIT, StepFault, start};
 pub use standing::Standing;
 pub use stepper::Stepper;

@@ -1,13 +1,34 @@
 // What one node does in one micro step.
-use px_value::{Failure, Name, NodeState, Outcome, Path};
+use crate::names::Names;
+use px_event::Values;
+use px_value::{Failure, Name, NodeState, Outcome, Path, Value};
 
 /// What a move does beside the change of state.
 #[derive(Debug, Drop)]
 pub enum Effect {
+    /// A variable, or the element of an array at an index from 0, has this value now.
+    Wrote {
+        owner: Path,
+        name: Name,
+        index: Option<u32>,
+        value: Value,
+    },
     /// An assignment that writes nothing.
     NoWrite,
+    /// A command is sent with these arguments.
+    Sent {
+        command: Name,
+        args: Values,
+    },
     /// A command is asked to abort.
-    Aborted { command: Name },
+    Aborted {
+        command: Name,
+    },
+    /// An update is sent: as many values as names.
+    Updated {
+        names: Names,
+        values: Values,
+    },
 }
 
 /// One node's part of a micro step: the atomic step of the small-step semantics.

@@ -1,11 +1,15 @@
-// The start of a plan: micro steps from the first world until it is quiet.
-ghost use Rattle.std.specs.Prelude.{◌≡◌, ℕ, None, Some, IfOk, IsErrOf};
+// Settling: micro steps until the world is quiet.
+ghost use Rattle.std.specs.Prelude.{◌≡◌, ℕ, None, Some, IsTrue, IfOk, OnOk, OnErr, IsErrOf};
+ghost use Rattle.px_core.specs.Fit.{IsFit};
+ghost use Rattle.px_core.specs.Plan.{tree_of, sites};
+ghost use Rattle.px_core.specs.Simple.{IsSimple};
 ghost use Rattle.px_sem.specs.declared.settling.StepFault.TheVariants.{NoMemory as OutOfMemory};
-ghost use Rattle.px_sem.specs.Fit.{IsFit};
-ghost use Rattle.px_sem.specs.Plan.{tree_of, sites};
-ghost use Rattle.px_sem.specs.Run.{started};
+ghost use Rattle.px_sem.specs.Conflicts.{is_quiet};
+ghost use Rattle.px_sem.specs.Run.{started, settled};
+ghost use Rattle.px_sem.specs.Stepper.{is_begun, at_rest};
 
-use crate::{Plan, Stepper};
+use crate::Stepper;
+use px_core::Plan;
 use px_value::NoMemory;
 use std::alloc::Global;
 
@@ -31,19 +35,35 @@ impl From<NoMemory> for StepFault {
 /// The settled world of the start: the first quiet world that micro steps lead to.
 ///
 /// `Runaway` comes exactly where none of the first `STEP_LIMIT` micro steps leads to a quiet world.
-#[tactic(auto)]
 pub fn start<S: Stepper>(alloc: Global, plan: &Plan) -> Result<S, StepFault>
-    requires { IsFit (tree_of plan.now) }
-    ensures plan { IfOk result (λ s. S.nodes s ≡ sites (tree_of plan.now)) }
+    requires fit { IsFit (tree_of plan.now) }
+    requires simple { IsSimple (sites (tree_of plan.now)) }
     ensures settled { IfOk result (λ s.
-        ((k : ℕ) × (started (sites (tree_of plan.now)) ≡ Some (S.world s, k)))) }
+        ((k : ℕ) × (started (sites (tree_of plan.now)) ≡ Some ((S.state s).world, k)))) }
+    ensures rest { IfOk result (λ s. S.state s ≡ at_rest (sites (tree_of plan.now)) (S.state s).world) }
     ensures runaway { IsErrOf result StepFault.Runaway →
         started (sites (tree_of plan.now)) ≡ None }
 {
     let mut stepper = S::fresh(alloc, plan)?;
-    for _taken in 0..STEP_LIMIT + 1 {
+    step_until_quiet(&mut stepper, alloc)?;
+    stepper.settle();
+    Ok(stepper)
+}
+
+// Steps until the world is quiet, and answers in how many micro steps.
+fn step_until_quiet<S: Stepper>(stepper: &mut S, alloc: Global) -> Result<u32, StepFault>
+    requires begun { IsTrue (is_begun (S.state stepper.old).begun) }
+    ensures settled { IfOk result (λ k.
+        settled (S.state stepper.old).nodes (S.state stepper.old).world ≡ Some ((S.state stepper.new).world, k)) }
+    ensures quiet { OnOk result (IsTrue (is_quiet (S.state stepper.new).nodes (S.state stepper.new).world)) }
+    ensures runaway { IsErrOf result StepFault.Runaway
+        → settled (S.state stepper.old).nodes (S.state stepper.old).world ≡ None }
+    ensures nodes { (S.state stepper.new).nodes ≡ (S.state stepper.old).nodes }
+    ensures begun { (S.state stepper.new).begun ≡ (S.state stepper.old).begun }
+{
+    for taken in 0..STEP_LIMIT + 1 {
         if !stepper.step(alloc)? {
-            return Ok(stepper);
+            return Ok(taken);
         }
     }
     Err(StepFault::Runaway)

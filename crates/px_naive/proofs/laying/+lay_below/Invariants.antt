@@ -1,5 +1,5 @@
 use Rattle.std.proofs.Common.{take}
-use Rattle.px_sem.specs.Fit.{count_of}
+use Rattle.px_core.specs.Plan.{count_of}
 use Rattle.px_naive.specs.Laying.{below_it}
 use Rattle.px_naive.proofs.Trees.{LaidSoFar}
 use Rattle.px_naive.proofs.laying.+lay_below.Given as goal

@@ -1,7 +1,7 @@
 use Rattle.std.proofs.Common.{refl, inl, sym}
 use Rattle.px_run.specs.Ending.{Content}
-use Rattle.px_run.specs.FirstForm.{InFirstForm}
-use Rattle.px_sem.specs.Plan.{Tree}
+use Rattle.px_form.specs.FirstForm.{InFirstForm}
+use Rattle.px_core.specs.Plan.{Tree}
 use Rattle.px_run.proofs.trace_start.fetch_plan.Goals as goal
 
 pub returns-in-Err-NotInForm-clause-err : goal.returns-in-Err-NotInForm-clause-err

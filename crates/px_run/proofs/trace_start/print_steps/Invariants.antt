@@ -6,8 +6,8 @@ use Rattle.px_run.proofs.trace_start.print_steps.Given as goal
 
 abbrev pub invariant-loop-count : goal.invariant-loop-count
 invariant-loop-count g l =
-    IsTracing (g.S.Stepper.nodes l.fn.stepper) (g.S.Stepper.world l.fn.stepper) (view g.H.Host l.fn.host) l.fn.text.items
-    (g.S.Stepper.nodes l.stepper) (g.S.Stepper.world l.stepper) l.count (view g.H.Host l.host) l.text.items
+    IsTracing (g.S.Stepper.state l.fn.stepper) (view g.H.Host l.fn.host) l.fn.text.items
+    (g.S.Stepper.state l.stepper) l.count (view g.H.Host l.host) l.text.items
 
 abbrev pub decreases-loop-count : goal.decreases-loop-count
-decreases-loop-count g l = steps_until_quiet (g.S.Stepper.nodes l.fn.stepper) (g.S.Stepper.world l.fn.stepper) - l.count
+decreases-loop-count g l = steps_until_quiet (g.S.Stepper.state l.fn.stepper).nodes (g.S.Stepper.state l.fn.stepper).world - l.count

@@ -1,0 +1,19 @@
+//! The lines that are printed of a run: its trace, the report of what was posted, and how the plan stands.
+//!
+//! The text of each is a definition of px_sem (`Text`). Each call appends whole lines; where memory runs out, it leaves
+//! the text as it was.
+#![tactic(auto)]
+
+mod append;
+mod effects;
+mod events;
+mod headings;
+mod replies;
+mod standings;
+mod steps;
+mod values;
+
+pub use headings::{push_heading, push_start};
+pub use replies::{LoggedLine, push_reply};
+pub use standings::push_standing;
+pub use steps::{push_quiet, push_step};

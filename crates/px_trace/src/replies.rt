@@ -1,0 +1,93 @@
+// The lines of the report: what each post was answered.
+ghost use Rattle.std.specs.Prelude.{◌≡◌, ◌++◌, OnOk, OnErr};
+ghost use Rattle.px_sem.specs.Text.{reply_text, reply_line};
+ghost use Rattle.px_trace.specs.Appending.{Keeps};
+
+use crate::append::{push_all, whole_or_nothing};
+use crate::events::push_source;
+use itoa::Buffer;
+use px_event::Reply;
+use px_value::NoMemory;
+use std::alloc::Global;
+
+/// A post as the report tells of it: the thread and the line that it comes from, and what it was answered.
+#[derive(Clone, Copy, Debug, PartialEq, Eq)]
+pub struct LoggedLine {
+    pub thread: u8,
+    pub line: u32,
+    pub reply: Reply,
+}
+
+/// Appends the report's line of a post.
+///
+/// After `NoMemory` the text is as before.
+pub fn push_reply(_alloc: Global, entry: &LoggedLine, out: &mut Vec<u8>) -> Result<(), NoMemory>
+    ensures ok { OnOk result
+        (out.new.items ≡ out.old.items ++ reply_line entry.now.thread entry.now.line entry.now.reply) }
+    ensures err { OnErr result (out.new.items ≡ out.old.items) }
+{
+    let before = out.len();
+    let pushed = push_line(entry, out);
+    whole_or_nothing(pushed, before, out)
+}
+
+fn push_line(entry: &LoggedLine, out: &mut Vec<u8>) -> Result<(), NoMemory>
+    ensures ok { OnOk result
+        (out.new.items ≡ out.old.items ++ reply_line entry.now.thread entry.now.line entry.now.reply) }
+    ensures err { OnErr result (Keeps out.old.items out.new.items) }
+{
+    push_source(entry.thread, entry.line, out)?;
+    push_all(out, &[": "])?;
+    push_answer(entry.reply, out)?;
+    push_all(out, &["\n"])
+}
+
+fn push_answer(reply: Reply, out: &mut Vec<u8>) -> Result<(), NoMemory>
+    ensures ok { OnOk result (out.new.items ≡ out.old.items ++ reply_text reply) }
+    ensures err { OnErr result (out.new.items ≡ out.old.items) }
+{
+    match reply {
+        Reply::Accepted { position } => {
+            push_all(out, &["accepted ", Buffer::new().format(position)])
+        }
+        Reply::PlanFinished => push_all(out, &["refused plan finished"]),
+        Reply::Full => push_all(out, &["refused full"]),
+        Reply::Runaway => push_all(out, &["refused runaway"]),
+    }
+}
+
+#[cfg(test)]
+mod tests {
+    use super::*;
+    use std::test::Fail;
+
+    #[test]
+    fn a_line_of_the_report_has_its_post_and_the_reply(rt: HostRuntime) -> Result<(), Fail> {
+        for (thread, line, reply, text) in [
+            (1, 1, Reply::Runaway, "thread 1 line 1: refused runaway\n"),
+            (
+                1,
+                2,
+                Reply::Accepted { position: 1 },
+                "thread 1 line 2: accepted 1\n",
+            ),
+            (8, 30, Reply::Full, "thread 8 line 30: refused full\n"),
+            (
+                2,
+                5,
+                Reply::PlanFinished,
+                "thread 2 line 5: refused plan finished\n",
+            ),
+        ] {
+            let mut out = Vec::new(rt.alloc());
+            let entry = LoggedLine {
+                thread,
+                line,
+                reply,
+            };
+            push_reply(rt.alloc(), &entry, &mut out)?;
+            assert_eq!(rt; out.as_slice(), text.as_bytes());
+        }
+        Ok(())
+    }
+}

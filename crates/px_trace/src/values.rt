@@ -1,0 +1,135 @@
+// The texts of values.
+ghost use Rattle.std.specs.Prelude.{◌≡◌, ◌++◌, codes, flat_map, map, OnOk, OnErr};
+ghost use Rattle.px_sem.specs.Text.{escaped, value_text, arguments_text, parted};
+ghost use Rattle.px_trace.specs.Appending.{Keeps};
+
+use crate::append::push_all;
+use itoa::Buffer;
+use px_value::{NoMemory, Value};
+
+/// Appends a value as plans spell it, an UNKNOWN one as its word.
+pub(crate) fn push_value(value: &Value, out: &mut Vec<u8>) -> Result<(), NoMemory>
+    ensures ok { OnOk result (out.new.items ≡ out.old.items ++ value_text value.now) }
+    ensures err { OnErr result (Keeps out.old.items out.new.items) }
+{
+    match value {
+        Value::Unknown => push_all(out, &["UNKNOWN"]),
+        Value::Boolean(true) => push_all(out, &["true"]),
+        Value::Boolean(false) => push_all(out, &["false"]),
+        Value::Integer(number) => push_all(out, &[Buffer::new().format(*number)]),
+        Value::Text(text) => push_quoted(text.as_str().as_bytes(), out),
+        Value::State(state) => push_all(out, &[state.word()]),
+        Value::Outcome(outcome) => push_all(out, &[outcome.word()]),
+        Value::Failure(failure) => push_all(out, &[failure.word()]),
+        Value::Handle(handle) => push_all(out, &[handle.word()]),
+    }
+}
+
+/// Appends the values in parentheses, parted by commas.
+pub(crate) fn push_arguments(args: &[Value], out: &mut Vec<u8>) -> Result<(), NoMemory>
+    ensures ok { OnOk result (out.new.items ≡ out.old.items ++ arguments_text args.now) }
+    ensures err { OnErr result (Keeps out.old.items out.new.items) }
+{
+    push_all(out, &["("])?;
+    push_parted(args, out)?;
+    push_all(out, &[")"])
+}
+
+fn push_parted(values: &[Value], out: &mut Vec<u8>) -> Result<(), NoMemory>
+    ensures ok { OnOk result (out.new.items ≡ out.old.items ++ parted (map value_text values.now)) }
+    ensures err { OnErr result (Keeps out.old.items out.new.items) }
+{
+    let mut values = values.iter();
+    if let Some(first) = values.next() {
+        push_value(first, out)?;
+        for value in values {
+            push_all(out, &[", "])?;
+            push_value(value, out)?;
+        }
+    }
+    Ok(())
+}
+
+fn push_quoted(bytes: &[u8], out: &mut Vec<u8>) -> Result<(), NoMemory>
+    ensures ok { OnOk result (out.new.items ≡ out.old.items ++ value_text (Value.Text bytes.now)) }
+    ensures err { OnErr result (Keeps out.old.items out.new.items) }
+{
+    push_all(out, &["\""])?;
+    push_escaped(bytes, out)?;
+    push_all(out, &["\""])
+}
+
+fn push_escaped(bytes: &[u8], out: &mut Vec<u8>) -> Result<(), NoMemory>
+    ensures ok { OnOk result (out.new.items ≡ out.old.items ++ flat_map escaped bytes.now) }
+    ensures err { OnErr result (Keeps out.old.items out.new.items) }
+{
+    for byte in bytes {
+        push_byte(*byte, out)?;
+    }
+    Ok(())
+}
+
+fn push_byte(byte: u8, out: &mut Vec<u8>) -> Result<(), NoMemory>
+    ensures ok { OnOk result (out.new.items ≡ out.old.items ++ escaped byte) }
+    ensures err { OnErr result (out.new.items ≡ out.old.items) }
+{
+    match byte {
+        b'"' => push_all(out, &["\\\""]),
+        b'\\' => push_all(out, &["\\\\"]),
+        b'\n' => push_all(out, &["\\n"]),
+        b'\t' => push_all(out, &["\\t"]),
+        _ => out.extend_from_slice(&[byte]),
+    }
+}
+
+#[cfg(test)]
+mod tests {
+    use super::*;
+    use px_value::{Failure, Handle, NodeState, Outcome, Text};
+    use std::alloc::Global;
+    use std::test::Fail;
+
+    fn text_of(alloc: Global, value: &Value) -> Result<Vec<u8>, Fail> {
+        let mut out = Vec::new(alloc);
+        push_value(value, &mut out)?;
+        Ok(out)
+    }
+
+    #[test]
+    fn a_value_is_spelled_as_in_plans(rt: HostRuntime) -> Result<(), Fail> {
+        for (value, text) in [
+            (Value::Unknown, "UNKNOWN"),
+            (Value::Boolean(true), "true"),
+            (Value::Boolean(false), "false"),
+            (Value::Integer(0), "0"),
+            (Value::Integer(i32::MIN), "-2147483648"),
+            (Value::State(NodeState::IterationEnded), "ITERATION_ENDED"),
+            (Value::Outcome(Outcome::Skipped), "SKIPPED"),
+            (
+                Value::Failure(Failure::PreConditionFailed),
+                "PRE_CONDITION_FAILED",
+            ),
+            (Value::Handle(Handle::CommandDenied), "COMMAND_DENIED"),
+        ] {
+            let out = text_of(rt.alloc(), &value)?;
+            assert_eq!(rt; out.as_slice(), text.as_bytes());
+        }
+        Ok(())
+    }
+
+    #[test]
+    fn a_string_has_four_escapes(rt: HostRuntime) -> Result<(), Fail> {
+        for (text, printed) in [
+            ("", "\"\""),
+            ("rock é", "\"rock é\""),
+            ("x\"y", "\"x\\\"y\""),
+            ("\\n", "\"\\\\n\""),
+            ("a\n\tb", "\"a\\n\\tb\""),
+            ("\r'", "\"\r'\""),
+        ] {
+            let out = text_of(rt.alloc(), &Value::Text(Text::new(rt.alloc(), text)?))?;
+            assert_eq!(rt; out.as_slice(), printed.as_bytes());
+        }
+        Ok(())
+    }
+}
