@@ -1,5 +1,5 @@
 -- When a world settles, from the worlds on its way.
-use Rattle.std.proofs.Common.{◌≡◌, ℕ, zero, suc, ◌+◌, ◌<◌, ◌≤◌, inl, inr, Bool, true, false, List, Option, Some, None, IsSome, if◌then◌else◌, refl, arith, ap, sym, ◌∙◌, add-one}
+use Rattle.std.proofs.Common.{◌≡◌, ℕ, zero, suc, ◌+◌, ◌<◌, ◌≤◌, inl, inr, Bool, true, false, List, Option, Some, None, IsSome, if◌then◌else◌, refl, arith, ap, sym, subst, ◌∙◌, add-one}
 use Rattle.std.specs.Option.{option_map, unwrap_or}
 use Rattle.std.proofs.lemmas.Bool.{cases_lt}
 use Rattle.px_sem.specs.declared.moves.Move.{Move}
@@ -141,3 +141,15 @@ underway_within from now count u s = at (settling_count from.nodes from.world) r
         → IsSome {T = World × ℕ} (option_map (λ k. (after_steps from.nodes from.world k, k)) o) → (count ≤ unwrap_or o 0) × (unwrap_or o 0 ≤ step_limit)
     at None e some = cc
     at (Some k) e some = let found = least_found test step_limit k e in (until k found.passes, found.within)
+
+-- the world that a world settles into is quiet
+pub settled_quiet : (plan : List Site) (from to : World) (k : ℕ) → settled plan from ≡ Some (to, k) → is_quiet plan to ≡ true
+settled_quiet plan from to k is = at (settling_count plan from) refl is
+  where
+    at : (o : Option ℕ) → settling_count plan from ≡ o
+        → ◌≡◌ {A = Option (World × ℕ)} (option_map (λ j. (after_steps plan from j, j)) o) (Some (to, k)) → is_quiet plan to ≡ true
+    at None e is = cc
+    at (Some j) e is =
+        let pair : ◌≡◌ {A = World × ℕ} (after_steps plan from j, j) (to, k) = cc in
+        let found = least_found (λ j. is_quiet plan (after_steps plan from j)) step_limit j e in
+        subst (λ world. is_quiet plan world ≡ true) (ap (λ p. p.0) pair) found.passes

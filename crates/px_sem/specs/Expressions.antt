@@ -2,7 +2,7 @@
 use Rattle.std.specs.Prelude.{ℕ, pos, Bool, false, not, List, [], ◌∷◌, length, get_or, Option, Some, None, if◌then◌else◌}
 use Rattle.std.specs.List.{list_any}
 use Rattle.std.specs.Option.{unwrap_or}
-use Rattle.px_value.specs.declared.arithmetic.ArithOp.TheVariants.{Minus as Less, Max as Greater}
+use Rattle.px_value.specs.declared.arithmetic.ArithOp.TheVariants as ariths
 use Rattle.px_value.specs.declared.enums.Outcome.{Outcome}
 use Rattle.px_value.specs.declared.enums.Failure.{Failure}
 use Rattle.px_value.specs.declared.enums.Handle.{Handle}
@@ -73,9 +73,9 @@ zero_value = values.Integer (pos 0)
 -- the operations of one operand, and of two
 abbrev pub unary_value : UnaryOp → Value → Value
 unary_value unary.Not a = value_not a
-unary_value unary.Minus a = value_arith Less zero_value a
+unary_value unary.Minus a = value_arith ariths.Minus zero_value a
 unary_value unary.IsKnown a = values.Boolean (is_known a)
-unary_value unary.Abs a = value_arith Greater a (value_arith Less zero_value a)
+unary_value unary.Abs a = value_arith ariths.Max a (value_arith ariths.Minus zero_value a)
 unary_value unary.Length a = value_length a
 
 abbrev pub binary_value : BinaryOp → Value → Value → Value

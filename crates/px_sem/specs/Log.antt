@@ -1,11 +1,12 @@
 -- Logs: which answer each post gets.
-use Rattle.std.specs.Prelude.{◌≡◌, ℕ, ◌+◌, Bool, true, false, nat_le, List, filter, [], ◌∷◌, ◌++◌, length, map, Option, Some, None, if◌then◌else◌}
+use Rattle.std.specs.Prelude.{◌≡◌, ℕ, ◌+◌, Bool, true, false, nat_le, List, filter, [], ◌∷◌, ◌++◌, length, map, Option, Some, None}
 use Rattle.std.specs.Option.{IsSome}
 use Rattle.px_core.specs.Plan.{Site}
 use Rattle.px_event.specs.declared.entry.Entry.{Entry}
 use Rattle.px_event.specs.declared.event.Event.{Event}
 use Rattle.px_event.specs.declared.reply.Reply.{Reply}
 use Rattle.px_event.specs.declared.reply.Reply.TheVariants as replies
+use Rattle.px_sem.specs.declared.log.LogEntry.{LogEntry}
 use Rattle.px_sem.specs.declared.standing.Standing.{Standing}
 use Rattle.px_sem.specs.declared.standing.Standing.TheVariants.{Running, Finished}
 use Rattle.px_sem.specs.World.{World, standing_of}
@@ -13,7 +14,7 @@ use Rattle.px_sem.specs.Run.{run, posted}
 
 -- a log: entries with their replies
 abbrev pub Log : Type 0
-Log = List (Entry × Reply)
+Log = List LogEntry
 
 abbrev pub events_of : List Entry → List Event
 events_of entries = map (λ entry. entry.event) entries
@@ -26,27 +27,37 @@ is_accepted replies.Full = false
 is_accepted replies.Runaway = false
 
 abbrev pub accepted : Log → List Entry
-accepted log = map (λ logged. logged.0) (filter (λ logged. is_accepted logged.1) log)
+accepted log = map (λ logged. logged.entry) (filter (λ logged. is_accepted logged.reply) log)
 
--- The answer to an event in a world with so many events behind it. The first that holds decides: the plan has finished,
--- the history is full, the event does not settle.
+-- The answer to an event with so many behind it, by how the plan stands, whether its history is full, and what the event
+-- settles into. The first that holds decides: the plan has finished, the history is full, the event does not settle.
+abbrev pub answer_by : Standing → Bool → Option (World × ℕ) → ℕ → Reply
+answer_by (Finished outcome failure) full settles count = replies.PlanFinished
+answer_by Running true settles count = replies.Full
+answer_by Running false None count = replies.Runaway
+answer_by Running false (Some settled) count = replies.Accepted (count + 1)
+
 abbrev pub answer : List Site → ℕ → ℕ → World → Event → Reply
-answer plan limit count world event = by_standing (standing_of plan world)
-  where
-    by_settling : Option (World × ℕ) → Reply
-    by_settling None = replies.Runaway
-    by_settling (Some settled) = replies.Accepted (count + 1)
+answer plan limit count world event =
+    answer_by (standing_of plan world) (nat_le limit count) (posted plan world event) count
 
-    by_standing : Standing → Reply
-    by_standing (Finished outcome failure) = replies.PlanFinished
-    by_standing Running = if nat_le limit count then replies.Full else by_settling (posted plan world event)
+-- the world after an event that was answered so
+abbrev pub world_after : List Site → World → Event → Reply → World
+world_after plan world event (replies.Accepted position) = of_settling (posted plan world event)
+  where
+    of_settling : Option (World × ℕ) → World
+    of_settling None = world
+    of_settling (Some settled) = settled.0
+world_after plan world event replies.PlanFinished = world
+world_after plan world event replies.Full = world
+world_after plan world event replies.Runaway = world
 
 -- each reply is the answer over the history of its moment: this history, and the entries accepted since
 abbrev pub AnswersEach : List Site → ℕ → List Event → Log → Type 0
 AnswersEach plan limit history [] = Unit {0}
 AnswersEach plan limit history (logged ∷ log) =
     ((world : World) × (run plan history ≡ Some world)
-    × (logged.1 ≡ answer plan limit (length history) world logged.0.event))
+    × (logged.reply ≡ answer plan limit (length history) world logged.entry.event))
     × AnswersEach plan limit (history ++ events_of (accepted (logged ∷ []))) log
 
 -- a log that goes on from a history, which may grow up to the limit

@@ -172,7 +172,7 @@ abbrev pub reply_line : ℕ → ℕ → Reply → List ℕ
 reply_line thread number reply = line (source_text thread number ++ codes ": " ++ reply_text reply)
 
 abbrev pub report : Log → List ℕ
-report log = flat_map (λ logged. reply_line logged.0.thread logged.0.line logged.1) log
+report log = flat_map (λ logged. reply_line logged.entry.thread logged.entry.line logged.reply) log
 
 -- the last line
 abbrev pub standing_text : Standing → List ℕ

@@ -6,15 +6,19 @@
 #![tactic(auto)]
 
 mod guards;
+mod log;
 mod moves;
 mod names;
+mod posting;
 mod settling;
 mod standing;
 mod stepper;
 
 pub use guards::{Arrival, Guards};
+pub use log::LogEntry;
 pub use moves::{Effect, Move};
 pub use names::Names;
+pub use posting::{Session, post, post_each};
 pub use settling::{STEP_LIMIT, StepFault, start};
 pub use standing::Standing;
 pub use stepper::Stepper;

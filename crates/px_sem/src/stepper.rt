@@ -18,7 +18,7 @@ use px_value::{Name, NoMemory, NodeState, Path};
 use std::alloc::Global;
 
 /// A world of a plan that goes on by micro steps, and takes an event wherever it is quiet.
-pub trait Stepper: Sized + Drop {
+pub trait Stepper: Sized + Send + Drop {
     /// The plan that it stands for, the world, and what is begun in it.
     ghost state: { Self → State };
 

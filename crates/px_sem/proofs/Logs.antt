@@ -1,0 +1,251 @@
+-- How a legal log grows by one post.
+use Rattle.std.proofs.Common.{◌≡◌, ◌≢◌, ℕ, nat_le, Bool, true, false, List, [], ◌∷◌, ◌++◌, length, map, filter, Option, Some, None, IsSome, refl, ap, sym, ◌∙◌, arith, ◌+◌, ◌≤◌, ◌&&◌, subst, length-append, append_assoc, append-nil, if◌then◌else◌}
+use Rattle.std.specs.List.{list_all}
+use Rattle.std.specs.Option.{option_map}
+use Rattle.std.proofs.lemmas.Bool.Decides.{nat_tests}
+use Rattle.std.proofs.lemmas.List.{map-append}
+use Rattle.px_core.specs.Plan.{Site}
+use Rattle.px_event.specs.declared.entry.Entry.{Entry}
+use Rattle.px_event.specs.declared.event.Event.{Event}
+use Rattle.px_event.specs.declared.reply.Reply.{Reply}
+use Rattle.px_event.specs.Fit.{is_fit_entry}
+use Rattle.px_event.specs.declared.reply.Reply.TheVariants as replies
+use Rattle.px_sem.specs.declared.log.LogEntry.{LogEntry}
+use Rattle.px_sem.specs.declared.standing.Standing.{Standing}
+use Rattle.px_sem.specs.declared.standing.Standing.TheVariants.{Running, Finished}
+use Rattle.px_sem.specs.World.{World, standing_of}
+use Rattle.px_sem.specs.Run.{posted, started, run_on, run}
+use Rattle.px_sem.specs.Log.{Log, events_of, is_accepted, accepted, answer_by, answer, world_after, AnswersEach}
+use Rattle.px_sem.specs.Stepper.{State, Nothing, at_rest}
+
+run_on_none : (plan : List Site) (now : Option World) → run_on plan now [] ≡ now
+unfolding run_on
+run_on_none plan None = refl
+run_on_none plan (Some world) = refl
+
+-- one event more in a run
+run_on_more : (plan : List Site) (now : Option World) (history : List Event) (event : Event) (world : World)
+    → run_on plan now history ≡ Some world
+    → run_on plan now (history ++ event ∷ []) ≡ option_map (λ settled. settled.0) (posted plan world event)
+unfolding run_on
+run_on_more plan None [] event world is = absurd (cc)
+run_on_more plan None (first ∷ history) event world is = absurd (cc)
+run_on_more plan (Some now) [] event world is =
+    let same : now ≡ world = (cc) in
+    run_on_none plan (option_map (λ settled. settled.0) (posted plan now event))
+    ∙ ap (λ w. option_map (λ settled. settled.0) (posted plan w event)) same
+run_on_more plan (Some now) (first ∷ history) event world is =
+    run_on_more plan (option_map (λ settled. settled.0) (posted plan now first)) history event world is
+
+-- the start alone
+pub run_at_start : (plan : List Site) (world : World) (k : ℕ) → started plan ≡ Some (world, k) → run plan [] ≡ Some world
+run_at_start plan world k is = run_on_none plan (option_map (λ settled. settled.0) (started plan)) ∙ ap (option_map (λ settled. settled.0)) is
+
+pub run_more : (plan : List Site) (history : List Event) (event : Event) (world : World) → run plan history ≡ Some world
+    → run plan (history ++ event ∷ []) ≡ option_map (λ settled. settled.0) (posted plan world event)
+run_more plan history event world is = run_on_more plan (option_map (λ settled. settled.0) (started plan)) history event world is
+
+-- the accepted entries of one post, and of those behind it
+accepted_first : (logged : LogEntry) (log : Log) → accepted (logged ∷ log) ≡ accepted (logged ∷ []) ++ accepted log
+accepted_first logged log = by (is_accepted logged.reply)
+  where
+    by : (b : Bool) → map (λ l. l.entry) (if b then logged ∷ filter (λ l. is_accepted l.reply) log else filter (λ l. is_accepted l.reply) log)
+        ≡ map (λ l. l.entry) (if b then logged ∷ [] else []) ++ accepted log
+    by true = refl
+    by false = refl
+
+-- the events of a log's history
+abbrev pub history_of : Log → List Event
+history_of log = events_of (accepted log)
+
+history_first : (logged : LogEntry) (log : Log) → history_of (logged ∷ log) ≡ history_of (logged ∷ []) ++ history_of log
+history_first logged log = ap events_of (accepted_first logged log) ∙ map-append (λ e. e.event) (accepted (logged ∷ [])) (accepted log)
+
+accepted_more : (log : Log) (logged : LogEntry) → accepted (log ++ logged ∷ []) ≡ accepted log ++ accepted (logged ∷ [])
+accepted_more [] logged = refl
+accepted_more (first ∷ log) logged =
+    accepted_first first (log ++ logged ∷ [])
+    ∙ ap (λ entries. accepted (first ∷ []) ++ entries) (accepted_more log logged)
+    ∙ sym (append_assoc (accepted (first ∷ [])) (accepted log) (accepted (logged ∷ [])))
+    ∙ ap (λ entries. entries ++ accepted (logged ∷ [])) (sym (accepted_first first log))
+
+history_more : (log : Log) (logged : LogEntry) → history_of (log ++ logged ∷ []) ≡ history_of log ++ history_of (logged ∷ [])
+history_more log logged = ap events_of (accepted_more log logged) ∙ map-append (λ e. e.event) (accepted log) (accepted (logged ∷ []))
+
+-- one post more, answered over the history of its moment
+answers_more : (plan : List Site) (limit : ℕ) (history : List Event) (log : Log) (logged : LogEntry) (world : World)
+    → AnswersEach plan limit history log → run plan (history ++ history_of log) ≡ Some world
+    → logged.reply ≡ answer plan limit (length (history ++ history_of log)) world logged.entry.event
+    → AnswersEach plan limit history (log ++ logged ∷ [])
+answers_more plan limit history [] logged world each runs is = (
+  (world, sym (ap (run plan) (append-nil history)) ∙ runs, is ∙ ap (λ h. answer plan limit (length h) world logged.entry.event) (append-nil history)),
+  tt,
+)
+answers_more plan limit history (first ∷ log) logged world each runs is =
+    let behind : history ++ history_of (first ∷ log) ≡ (history ++ history_of (first ∷ [])) ++ history_of log =
+    ap (λ events. history ++ events) (history_first first log)
+    ∙ sym (append_assoc history (history_of (first ∷ [])) (history_of log)) in (
+      each.0,
+      answers_more plan limit (history ++ history_of (first ∷ [])) log logged world each.1
+          (sym (ap (run plan) behind) ∙ runs) (is ∙ ap (λ h. answer plan limit (length h) world logged.entry.event) behind),
+    )
+
+-- ---- posts one after another
+
+-- so far, these entries were posted, with this log and this history
+pub record IsPosting (plan : List Site) (limit : ℕ) (entries : List Entry) (log : Log) (history : List Entry) (now : State) (count : ℕ) : Type 0 where
+  pub each : map (λ logged. logged.entry) log ≡ entries
+  pub answers : AnswersEach plan limit [] log
+  pub accepts : history ≡ accepted log
+  pub runs : run plan (history_of log) ≡ Some now.world
+  pub rest : now ≡ at_rest plan now.world
+  pub counted : count ≡ length (history_of log)
+  pub within : count ≤ limit
+
+pub posting_at_once : (plan : List Site) (limit : ℕ) (now : State) → now.nodes ≡ plan → now.begun ≡ Nothing → run plan [] ≡ Some now.world
+    → IsPosting plan limit [] [] [] now 0
+posting_at_once plan limit now nodes begun runs = record {
+  each = refl;
+  answers = tt;
+  accepts = refl;
+  runs = runs;
+  rest = ap (λ plan. let s : State = record { nodes = plan; world = now.world; begun = now.begun } in s) nodes
+      ∙ ap (λ begun. let s : State = record { nodes = plan; world = now.world; begun = begun } in s) begun;
+  counted = refl;
+  within = omega arith;
+}
+
+-- the count and the history after a reply
+abbrev pub counted_after : ℕ → Reply → ℕ
+counted_after count (replies.Accepted position) = position
+counted_after count replies.PlanFinished = count
+counted_after count replies.Full = count
+counted_after count replies.Runaway = count
+
+abbrev pub history_after : List Entry → Entry → Reply → List Entry
+history_after history entry (replies.Accepted position) = history ++ entry ∷ []
+history_after history entry replies.PlanFinished = history
+history_after history entry replies.Full = history
+history_after history entry replies.Runaway = history
+
+abbrev pub logged_as : Entry → Reply → LogEntry
+logged_as entry reply = record { entry = entry; reply = reply }
+
+history_grows : (history : List Entry) (entry : Entry) (reply : Reply)
+    → history_after history entry reply ≡ history ++ accepted (logged_as entry reply ∷ [])
+history_grows history entry (replies.Accepted position) = refl
+history_grows history entry replies.PlanFinished = sym (append-nil history)
+history_grows history entry replies.Full = sym (append-nil history)
+history_grows history entry replies.Runaway = sym (append-nil history)
+
+-- what an answer does to the run and to the count
+record Follows (plan : List Site) (history : List Event) (world : World) (entry : Entry) (reply : Reply) : Type 0 where
+  runs : run plan (history ++ history_of (logged_as entry reply ∷ [])) ≡ Some (world_after plan world entry.event reply)
+  counted : counted_after (length history) reply ≡ length (history ++ history_of (logged_as entry reply ∷ []))
+
+kept : (plan : List Site) (history : List Event) (world : World) (entry : Entry) (reply : Reply) → run plan history ≡ Some world
+    → history_of (logged_as entry reply ∷ []) ≡ [] → world_after plan world entry.event reply ≡ world → counted_after (length history) reply ≡ length history
+    → Follows plan history world entry reply
+kept plan history world entry reply runs refused same count =
+    let unchanged : history ++ history_of (logged_as entry reply ∷ []) ≡ history = ap (λ events. history ++ events) refused ∙ append-nil history in
+    record {
+      runs = ap (run plan) unchanged ∙ runs ∙ ap Some (sym same);
+      counted = count ∙ ap length (sym unchanged);
+    }
+
+accepted_by : (s : Standing) (full : Bool) (o : Option (World × ℕ)) (count position : ℕ) → answer_by s full o count ≡ replies.Accepted position
+    → (found : World × ℕ) × (o ≡ Some found) × (position ≡ count + 1) × (full ≡ false)
+accepted_by (Finished outcome failure) full o count position is = absurd (cc)
+accepted_by Running true o count position is = absurd (cc)
+accepted_by Running false None count position is = absurd (cc)
+accepted_by Running false (Some found) count position is = (found, refl, (cc), refl)
+
+follows : (plan : List Site) (limit : ℕ) (history : List Event) (world : World) (entry : Entry) (reply : Reply) → run plan history ≡ Some world
+    → reply ≡ answer plan limit (length history) world entry.event → Follows plan history world entry reply
+follows plan limit history world entry replies.PlanFinished runs is = kept plan history world entry replies.PlanFinished runs refl refl refl
+follows plan limit history world entry replies.Full runs is = kept plan history world entry replies.Full runs refl refl refl
+follows plan limit history world entry replies.Runaway runs is = kept plan history world entry replies.Runaway runs refl refl refl
+follows plan limit history world entry (replies.Accepted position) runs is =
+    let found = accepted_by (standing_of plan world) (nat_le limit (length history)) (posted plan world entry.event) (length history) position (sym is) in
+    record {
+      runs = run_more plan history entry.event world runs
+          ∙ ap (option_map (λ settled. settled.0)) found.1
+          ∙ sym (after found.0 found.1);
+      counted = found.2 ∙ sym (length-append history (entry.event ∷ []));
+    }
+  where
+    after : (found : World × ℕ) → posted plan world entry.event ≡ Some found
+        → ◌≡◌ {A = Option World} (Some (world_after plan world entry.event (replies.Accepted position))) (Some found.0)
+    after found is = rw is refl
+
+below : (full : Bool) (limit count position : ℕ) → nat_le limit count ≡ full → full ≡ false → position ≡ count + 1 → position ≤ limit
+below full limit count position test passes is = let above : nat_le limit count ≡ false = test ∙ passes in grind (arith, nat_tests)
+
+-- a history does not grow past its limit
+within_after : (plan : List Site) (limit count : ℕ) (world : World) (event : Event) (reply : Reply) → count ≤ limit
+    → reply ≡ answer plan limit count world event → counted_after count reply ≤ limit
+within_after plan limit count world event (replies.Accepted position) within is =
+    let found = accepted_by (standing_of plan world) (nat_le limit count) (posted plan world event) count position (sym is) in
+    below (nat_le limit count) limit count position refl found.3 found.2
+within_after plan limit count world event replies.PlanFinished within is = within
+within_after plan limit count world event replies.Full within is = within
+within_after plan limit count world event replies.Runaway within is = within
+
+-- what was accepted is as fit as what was posted
+pub fit_accepted : (log : Log) → list_all is_fit_entry (map (λ logged. logged.entry) log) ≡ true → list_all is_fit_entry (accepted log) ≡ true
+fit_accepted [] fit = refl
+fit_accepted (logged ∷ log) fit =
+    let both = fit_both (is_fit_entry logged.entry) (list_all is_fit_entry (map (λ l. l.entry) log)) fit in
+    fit_first logged log (is_accepted logged.reply) both.0 (fit_accepted log both.1)
+  where
+    fit_both : (a b : Bool) → (a && b) ≡ true → (a ≡ true) × (b ≡ true)
+    fit_both true b both = (refl, both)
+    fit_both false b both = cc
+
+    fit_first : (logged : LogEntry) (log : Log) (b : Bool) → is_fit_entry logged.entry ≡ true → list_all is_fit_entry (accepted log) ≡ true
+        → list_all is_fit_entry (map (λ l. l.entry) (if b then logged ∷ filter (λ l. is_accepted l.reply) log else filter (λ l. is_accepted l.reply) log)) ≡ true
+    fit_first logged log true first others = rw first others
+    fit_first logged log false first others = others
+
+pub posting_more : (plan : List Site) (limit : ℕ) (entries : List Entry) (log : Log) (history : List Entry) (now next : State) (count : ℕ) (entry : Entry) (reply : Reply)
+    → IsPosting plan limit entries log history now count
+    → reply ≡ answer now.nodes limit count now.world entry.event
+    → next ≡ at_rest now.nodes (world_after now.nodes now.world entry.event reply)
+    → IsPosting plan limit (entries ++ entry ∷ []) (log ++ logged_as entry reply ∷ []) (history_after history entry reply) next (counted_after count reply)
+posting_more plan limit entries log history now next count entry reply so_far is moved = record {
+  each = map-append (λ l. l.entry) log (logged ∷ []) ∙ ap (λ es. es ++ entry ∷ []) so_far.each;
+  answers = answers_more plan limit [] log logged now.world so_far.answers so_far.runs reply_is;
+  accepts = history_grows history entry reply ∙ ap (λ h. h ++ accepted (logged ∷ [])) so_far.accepts ∙ sym (accepted_more log logged);
+  runs = ap (run plan) (history_more log logged) ∙ after.runs ∙ ap Some (sym world_is);
+  rest = moved ∙ ap (λ nodes. at_rest nodes (world_after now.nodes now.world entry.event reply)) nodes_is ∙ ap (at_rest plan) (sym (ap (λ (s : State). s.world) moved));
+  counted = ap (λ n. counted_after n reply) so_far.counted ∙ after.counted ∙ ap length (sym (history_more log logged));
+  within = within_after now.nodes limit count now.world entry.event reply so_far.within is;
+}
+  where
+    logged : LogEntry
+    logged = logged_as entry reply
+
+    nodes_is : now.nodes ≡ plan
+    nodes_is = ap (λ (s : State). s.nodes) so_far.rest
+
+    reply_is : reply ≡ answer plan limit (length (history_of log)) now.world entry.event
+    reply_is = is ∙ ap (λ nodes. answer nodes limit count now.world entry.event) nodes_is ∙ ap (λ n. answer plan limit n now.world entry.event) so_far.counted
+
+    after : Follows plan (history_of log) now.world entry reply
+    after = follows plan limit (history_of log) now.world entry reply so_far.runs reply_is
+
+    world_is : next.world ≡ world_after plan now.world entry.event reply
+    world_is = ap (λ (s : State). s.world) moved ∙ ap (λ nodes. world_after nodes now.world entry.event reply) nodes_is
+
+pub counted_other : (count : ℕ) (reply : Reply) → ((position : ℕ) → reply ≢ replies.Accepted position) → count ≡ counted_after count reply
+counted_other count (replies.Accepted position) other = absurd (other position refl)
+counted_other count replies.PlanFinished other = refl
+counted_other count replies.Full other = refl
+counted_other count replies.Runaway other = refl
+
+pub history_other : (history : List Entry) (entry : Entry) (reply : Reply) → ((position : ℕ) → reply ≢ replies.Accepted position)
+    → history ≡ history_after history entry reply
+history_other history entry (replies.Accepted position) other = absurd (other position refl)
+history_other history entry replies.PlanFinished other = refl
+history_other history entry replies.Full other = refl
+history_other history entry replies.Runaway other = refl

@@ -1,0 +1,5 @@
+use Rattle.px_sem.proofs.Logs.{IsPosting}
+use Rattle.px_sem.proofs.posting.post_each.Given as goal
+
+abbrev pub invariant-loop-entry : goal.invariant-loop-entry
+invariant-loop-entry g l = IsPosting (g.S.Stepper.state l.fn.stepper).nodes l.limit l.yielded l.log.items l.history.items (g.S.Stepper.state l.stepper) l.count

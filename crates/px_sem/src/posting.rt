@@ -1,0 +1,92 @@
+// The posting of events to a settled stepper.
+ghost use Rattle.std.specs.Prelude.{◌≡◌, ◌≤◌, Some, [], length, map, IsTrue, IfOk, OnOk, OnErr};
+ghost use Rattle.std.specs.List.{list_all};
+ghost use Rattle.px_event.specs.Fit.{is_fit_event, is_fit_entry};
+ghost use Rattle.px_sem.specs.Log.{events_of, accepted, answer, world_after, AnswersEach};
+ghost use Rattle.px_sem.specs.Run.{run};
+ghost use Rattle.px_sem.specs.Stepper.{Begun, at_rest};
+
+use crate::settling::StepFault;
+use crate::{LogEntry, Standing, Stepper};
+use px_event::{Entry, Event, Reply};
+use px_value::NoMemory;
+use std::alloc::{AllocError, Global};
+
+/// What posts have come to.
+#[derive(Debug, Drop)]
+pub struct Session {
+    /// The accepted entries, in order.
+    pub history: Vec<Entry>,
+    /// All entries with their replies, in order.
+    pub log: Vec<LogEntry>,
+}
+
+/// Posts an event to a settled stepper that has taken so many events, of which a history has at most `limit`, and
+/// answers what has become of it. An event that is refused leaves the world as it was, and so does `NoMemory`.
+pub fn post<S: Stepper>(
+    stepper: &mut S,
+    alloc: Global,
+    limit: u32,
+    count: u32,
+    event: &Event,
+) -> Result<Reply, NoMemory>
+    requires nothing { (S.state stepper.old).begun ≡ Begun.Nothing }
+    requires fit { IsTrue (is_fit_event event.now) }
+    ensures reply { IfOk result (λ reply. reply
+        ≡ answer (S.state stepper.old).nodes limit count (S.state stepper.old).world event.now) }
+    ensures state { IfOk result (λ reply. S.state stepper.new
+        ≡ at_rest (S.state stepper.old).nodes
+        (world_after (S.state stepper.old).nodes (S.state stepper.old).world event.now reply)) }
+    ensures err { OnErr result (S.state stepper.new ≡ S.state stepper.old) }
+{
+    if let Standing::Finished { .. } = stepper.standing() {
+        return Ok(Reply::PlanFinished);
+    }
+    if limit <= count {
+        return Ok(Reply::Full);
+    }
+    match stepper.advance(alloc, event) {
+        Ok(_) => {
+            stepper.settle();
+            Ok(Reply::Accepted {
+                position: count + 1,
+            })
+        }
+        Err(StepFault::Runaway) => Ok(Reply::Runaway),
+        Err(StepFault::NoMemory) => Err(AllocError),
+    }
+}
+
+/// Posts entries one after another to a stepper that has taken no event since the start. The log is legal for a
+/// history of at most `limit` events, and the world is the run over the accepted ones.
+pub fn post_each<S: Stepper>(
+    stepper: &mut S,
+    alloc: Global,
+    limit: u32,
+    entries: Vec<Entry>,
+) -> Result<Session, NoMemory>
+    requires nothing { (S.state stepper.old).begun ≡ Begun.Nothing }
+    requires started { run (S.state stepper.old).nodes [] ≡ Some (S.state stepper.old).world }
+    requires fit { IsTrue (list_all is_fit_entry entries.items) }
+    ensures each { IfOk result (λ session. map (λ logged. logged.entry) session.log.items ≡ entries.items) }
+    ensures legal { IfOk result (λ session. AnswersEach (S.state stepper.old).nodes limit [] session.log.items) }
+    ensures history { IfOk result (λ session. session.history.items ≡ accepted session.log.items) }
+    ensures within { IfOk result (λ session. length session.history.items ≤ limit) }
+    ensures runs { IfOk result (λ session.
+        run (S.state stepper.old).nodes (events_of session.history.items) ≡ Some (S.state stepper.new).world) }
+    ensures rest { OnOk result
+        (S.state stepper.new ≡ at_rest (S.state stepper.old).nodes (S.state stepper.new).world) }
+{
+    let mut history = Vec::new(alloc);
+    let mut log = Vec::with_capacity(alloc, entries.len())?;
+    let mut count = 0;
+    for entry in entries {
+        let reply = post(stepper, alloc, limit, count, &entry.event)?;
+        if let Reply::Accepted { position } = reply {
+            history.push(entry.copy(alloc)?)?;
+            count = position;
+        }
+        log.push(LogEntry { entry, reply })?;
+    }
+    Ok(Session { history, log })
+}
