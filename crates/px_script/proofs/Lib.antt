@@ -1,4 +1,5 @@
 pub mod Cuts
+pub mod Entries
 pub mod Equality
 pub mod Fitness
 pub mod Identifiers

@@ -1,6 +1,7 @@
 pub mod Equality
 pub mod Fit
 pub mod LineEquality
+pub mod Order
 pub mod Said
 pub mod Script
 pub mod Text

@@ -1,12 +1,15 @@
-// Which bytes are read as which script, and which are at fault where.
-ghost use Rattle.std.specs.Prelude.{◌≡◌, IfOk};
+// Which bytes are read as which script, and which are at fault where; and which entries a script posts in which order.
+ghost use Rattle.std.specs.Prelude.{◌≡◌, IsTrue, IfOk};
 ghost use Rattle.px_core.specs.Fit.{IsFit};
 ghost use Rattle.px_core.specs.Plan.{tree_of};
 ghost use Rattle.px_core.specs.Terms.{Literal, term_of};
+ghost use Rattle.px_event.specs.Fit.{is_fit_event};
+ghost use Rattle.px_script.specs.Fit.{is_fit_line, IsFitScript};
+ghost use Rattle.px_value.specs.Names.{is_identifier};
 
 use super::*;
 use px_core::{Body, Conditions, CoreNode, Expr, Kind, Plan};
-use px_event::{Event, Values};
+use px_event::{Cond, Entry, Event, Values};
 use px_value::{Name, NoMemory, Value};
 use std::alloc::Global;
 use std::test::Fail;
@@ -51,19 +54,28 @@ fn read(alloc: Global, bytes: &[u8]) -> Result<Script, ScriptFault> {
     read_script(alloc, bytes, &plan)
 }
 
-/// The post of a line; no value stands for UNKNOWN.
-fn post(alloc: Global, number: u32, name: &str, value: Option<bool>) -> Result<Line, Fail> {
-    let event = Event::Report {
+/// A report without arguments; no value stands for UNKNOWN.
+fn report(alloc: Global, name: &str, value: Option<bool>) -> Result<Event, Fail>
+    ensures { IfOk result (λ event. IsTrue (is_identifier name.now) → IsTrue (is_fit_event event)) }
+{
+    Ok(Event::Report {
         name: Name::new(alloc, name)?,
         args: Values::from(Vec::new(alloc)),
         value: match value {
             Some(truth) => Value::Boolean(truth),
             None => Value::Unknown,
         },
-    };
+    })
+}
+
+/// The post of a line.
+fn post(alloc: Global, number: u32, name: &str, value: Option<bool>) -> Result<Line, Fail>
+    ensures number { IfOk result (λ line. line.number ≡ number) }
+    ensures fit { IfOk result (λ line. IsTrue (is_identifier name.now) → IsTrue (is_fit_line line)) }
+{
     Ok(Line {
         number,
-        what: What::Post(event),
+        what: What::Post(report(alloc, name, value)?),
     })
 }
 
@@ -235,5 +247,63 @@ fn a_thread_has_at_most_100000_lines(rt: HostRuntime) -> Result<(), Fail> {
         let want = Some(ScriptFault::Fault { line, kind });
         assert!(rt; read(alloc, bytes.as_slice()).err() == want, "{text}");
     }
+    Ok(())
+}
+
+/// Thread 1 with posts at lines 2 and 5 and a wait line between them, and thread 2 with a post at line 3.
+fn interleaved(alloc: Global) -> Result<Script, Fail>
+    ensures { IfOk result (λ script. IsFitScript script) }
+{
+    let wait = Line {
+        number: 4,
+        what: What::Wait(Cond::Events { least: 1 }),
+    };
+    let first = vec![in alloc;
+        post(alloc, 2, "a", Some(true))?,
+        wait,
+        post(alloc, 5, "b", None)?,
+    ]?;
+    let second = vec![in alloc; post(alloc, 3, "c", Some(false))?]?;
+    let threads = vec![in alloc;
+        Todo {
+            thread: 1,
+            lines: first.into(),
+        },
+        Todo {
+            thread: 2,
+            lines: second.into(),
+        },
+    ]?;
+    Ok(Script {
+        threads: threads.into(),
+    })
+}
+
+#[test]
+fn entries_come_in_the_order_of_their_lines(rt: HostRuntime) -> Result<(), Fail> {
+    let alloc = rt.alloc();
+    let mut want = Vec::new(alloc);
+    for (thread, line, name, value) in [
+        (1, 2, "a", Some(true)),
+        (2, 3, "c", Some(false)),
+        (1, 5, "b", None),
+    ] {
+        want.push(Entry {
+            thread,
+            line,
+            event: report(alloc, name, value)?,
+        })?;
+    }
+    assert!(rt; interleaved(alloc)?.into_entries(alloc)? == want);
+    Ok(())
+}
+
+#[test]
+fn a_script_without_threads_has_no_entry(rt: HostRuntime) -> Result<(), Fail> {
+    let alloc = rt.alloc();
+    let script = Script {
+        threads: Vec::new(alloc).into(),
+    };
+    assert!(rt; script.into_entries(alloc)?.is_empty());
     Ok(())
 }
