@@ -102,3 +102,50 @@ pub prints_off : (old new : View) (rest text : List ℕ) (r : Result Unit PrintF
 prints_off old new rest text (Ok done) is p = cc
 prints_off old new rest text (Err SinkFailed) is p = p
 prints_off old new rest text (Err OutOfMemory) is p = p
+
+-- ---- one printing behind another
+
+pub leaves_more : (a b c : View) (rest rest' text : List ℕ) → Leaves a b rest text → Leaves b c rest' rest
+    → Leaves a c rest' text
+leaves_more a b c rest rest' text (x, is, one) (y, is', two) =
+    (x ++ y, is ∙ ap (λ left. x ++ left) is' ∙ sym (append_assoc x y rest'), emits_more a.emitted b.emitted c.emitted x y one two)
+
+pub part_more : (a b c : View) (rest text : List ℕ) → Leaves a b rest text → EmitsPart b.emitted c.emitted rest
+    → EmitsPart a.emitted c.emitted text
+part_more a b c rest text (x, is, one) (y, z, is', two) =
+    (x ++ y, z, is ∙ ap (λ left. x ++ left) is' ∙ sym (append_assoc x y z), emits_more a.emitted b.emitted c.emitted x y one two)
+
+pub part_of : (a b : View) (text whole more : List ℕ) → whole ≡ text ++ more → EmitsPart a.emitted b.emitted text
+    → EmitsPart a.emitted b.emitted whole
+part_of a b text whole more is (x, y, is', emits) =
+    (x, y ++ more, is ∙ ap (λ left. left ++ more) is' ∙ append_assoc x y more, emits)
+
+pub leaves_appended : (a b : View) (rest text more : List ℕ) → Leaves a b rest text → Leaves a b (rest ++ more) (text ++ more)
+leaves_appended a b rest text more (front, is, emits) =
+    (front, ap (λ left. left ++ more) is ∙ append_assoc front rest more, emits)
+
+pub prints_behind : (a b c : View) (rest rest' text more : List ℕ) → Leaves a b rest text → Leaves b c rest' (rest ++ more)
+    → Leaves a c rest' (text ++ more)
+prints_behind a b c rest rest' text more one two =
+    leaves_more a b c (rest ++ more) rest' (text ++ more) (leaves_appended a b rest text more one) two
+
+-- a text that is printed up to here is no more than a front of the whole
+pub part_so_far : (a b : View) (rest text more whole : List ℕ) → Leaves a b rest text → whole ≡ text ++ more
+    → EmitsPart a.emitted b.emitted whole
+part_so_far a b rest text more whole leaves is = part_of a b text whole more is (leaves.0, rest, leaves.1, leaves.2)
+
+-- memory is wanting behind a text that was printed so far
+pub breaks_off_at : {T : Type 0} (a b : View) (rest text more whole rest' : List ℕ) (r : Result T PrintFault)
+    → IsErrAnd r (λ fault. fault ≡ OutOfMemory) → Leaves a b rest text → whole ≡ text ++ more → PrintsUpTo a b rest' whole r
+breaks_off_at a b rest text more whole rest' r is leaves whole_is =
+    breaks_off a b rest' whole r is (part_so_far a b rest text more whole leaves whole_is)
+
+-- a printing behind another breaks off
+pub breaks_off_behind : (U : Type 0) {T : Type 0} (a b c : View) (rest text more later whole rest' rest'' : List ℕ) (fault : PrintFault)
+    (r : Result T PrintFault) → IsErrAnd r (λ e. e ≡ fault) → Leaves a b rest text → OnlyPrints a b
+    → PrintsUpTo {T = U} b c rest' (rest ++ more) (Err fault) → whole ≡ (text ++ more) ++ later → PrintsUpTo a c rest'' whole r
+breaks_off_behind U a b c rest text more later whole rest' rest'' fault r is leaves only p whole_is =
+    breaks_off_later U a b c rest' rest'' (rest ++ more) whole fault r is p
+    (λ part. part_of a c (text ++ more) whole later whole_is
+    (part_more a b c (rest ++ more) (text ++ more) (leaves_appended a b rest text more leaves) part))
+    only

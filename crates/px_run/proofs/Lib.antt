@@ -1,6 +1,8 @@
+pub mod Carrying
 pub mod CausesOf
 pub mod Emitting
+pub mod Logging
 pub mod Operating
 pub mod Outcomes
-pub mod Starting
+pub mod Telling
 pub mod Tracing

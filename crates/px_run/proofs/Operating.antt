@@ -1,10 +1,11 @@
 -- The operands of words, walked from the first.
-use Rattle.std.proofs.Common.{◌≡◌, ℕ, suc, ◌+◌, ◌<◌, ◌≤◌, true, false, List, [], ◌∷◌, ◌++◌, Option, Some, None, map, take, drop, length, get_or, refl, ap, ◌∙◌, sym, arith, append_assoc, append-nil, add-one, codes}
+use Rattle.std.proofs.Common.{◌≡◌, ◌≢◌, ℕ, suc, ◌+◌, ◌<◌, ◌≤◌, true, false, List, [], ◌∷◌, ◌++◌, Option, Some, None, map, take, drop, length, get_or, refl, ap, ◌∙◌, sym, arith, append_assoc, append-nil, add-one, codes}
+use Rattle.std.specs.List.{slice_get}
 use Rattle.std.specs.Option.{option_map}
 use Rattle.std.proofs.lemmas.List.{map-append, take_all, drop_all}
 use Rattle.std.proofs.Math.Seq.{take-suc, drop-cons}
 use Rattle.px_core.specs.Plan.{is_same}
-use Rattle.px_run.specs.Words.{operands, one_operand, is_option}
+use Rattle.px_run.specs.Words.{Command, TraceStart, DryRun, operands, trace_start, dry_run, is_option}
 
 -- the first words are operands, and the others stand for the others
 pub record IsWalked {X : Type 0} (text : X → List ℕ) (words : List X) (k : ℕ) : Type 0 where
@@ -52,20 +53,31 @@ pub walked_all : {X : Type 0} (text : X → List ℕ) (words : List X) (k : ℕ)
 walked_all text words k h w =
     sym (w.rest ∙ rw (take_all k words h, drop_all k words h) refl)
 
--- two operands or more are not one
-pub neither_empty : {X : Type 0} (text : X → List ℕ) (before after : List X) → 0 < length before → 0 < length after
-    → one_operand (map text before ++ map text after) ≡ None
-neither_empty text [] after some others = absurd (omega arith)
-neither_empty text (x ∷ before) [] some others = absurd (omega arith)
-neither_empty text (x ∷ []) (y ∷ after) some others = refl
-neither_empty text (x ∷ z ∷ before) (y ∷ after) some others = refl
+-- ---- how many operands there are
 
-pub all_before : {X : Type 0} (text : X → List ℕ) (before after : List X) → length after ≡ 0
-    → one_operand (map text before ++ map text after) ≡ one_operand (map text before)
-all_before text before [] none = rw append-nil refl
-all_before text before (x ∷ after) none = absurd (omega arith)
+pub one_is : (words : List (List ℕ)) (plan : List ℕ) → length words ≡ 1 → slice_get words 0 ≡ Some plan
+    → trace_start words ≡ Some (TraceStart plan)
+one_is [] plan one first = absurd (omega arith)
+one_is (word ∷ []) plan one first = let same : word ≡ plan = cc in ap (λ w. Some (TraceStart w)) same
+one_is (word ∷ other ∷ more) plan one first = absurd (omega arith)
 
-pub all_after : {X : Type 0} (text : X → List ℕ) (before after : List X) → length before ≡ 0
-    → one_operand (map text before ++ map text after) ≡ one_operand (map text after)
-all_after text [] after none = refl
-all_after text (x ∷ before) after none = absurd (omega arith)
+pub not_one : (words : List (List ℕ)) → length words ≢ 1 → trace_start words ≡ None
+not_one [] other = refl
+not_one (word ∷ []) other = absurd (other refl)
+not_one (word ∷ next ∷ more) other = refl
+
+pub two_are : (words : List (List ℕ)) (plan script : List ℕ) → length words ≡ 2 → slice_get words 0 ≡ Some plan
+    → slice_get words 1 ≡ Some script → dry_run words ≡ Some (DryRun plan script)
+two_are [] plan script two first second = absurd (omega arith)
+two_are (word ∷ []) plan script two first second = absurd (omega arith)
+two_are (word ∷ other ∷ []) plan script two first second =
+    let one : word ≡ plan = cc in
+    let next : other ≡ script = cc in
+    ap (λ w. Some (DryRun w other)) one ∙ ap (λ w. Some (DryRun plan w)) next
+two_are (word ∷ other ∷ third ∷ more) plan script two first second = absurd (omega arith)
+
+pub not_two : (words : List (List ℕ)) → length words ≢ 2 → dry_run words ≡ None
+not_two [] other = refl
+not_two (word ∷ []) other = refl
+not_two (word ∷ next ∷ []) other = absurd (other refl)
+not_two (word ∷ next ∷ third ∷ more) other = refl

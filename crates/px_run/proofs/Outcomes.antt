@@ -1,27 +1,29 @@
 -- From what was carried out to the outcome.
-use Rattle.std.proofs.Common.{◌≡◌, ℕ, inl, inr, List, Option, Some, None, arith}
-use Rattle.px_run.specs.Words.{Command, TraceStart, command}
-use Rattle.px_run.specs.Ending.{Ending, Seen, Content, Longer, Unreadable}
-use Rattle.px_run.specs.Outcome.{View, Shows, CommandCallsFor, CallsFor, Ends, Outcome}
+use Rattle.std.proofs.Common.{◌≡◌, ℕ, ◌≤◌, inl, inr, List, Option, Some, None, arith, ap}
+use Rattle.px_run.specs.Words.{Command, TraceStart, DryRun, command}
+use Rattle.px_run.specs.Ending.{Ending, DryRunEnds}
+use Rattle.px_run.specs.Outcome.{View, plan_limit, script_limit, AfterScript, CommandCallsFor, CallsFor, Ends, Outcome}
 use Rattle.px_run.specs.Printing.{OnlyPrints, Faulted}
 use Rattle.px_run.specs.Stops.{KeepsFiles}
+use Rattle.px_run.proofs.Carrying.{shows_later, reads_kept}
 
-pub calls_later : (words : List (List ℕ)) (old mid new : View) (ending : Ending) → new.read_faults ≡ mid.read_faults
+pub calls_later : (words : List (List ℕ)) (old mid new : View) (ending : Ending) → OnlyPrints mid new
     → CallsFor words old mid ending → CallsFor words old new ending
-calls_later words old mid new ending is calls = by (command words) calls
+calls_later words old mid new ending only calls = by (command words) calls
   where
-    shows : (name : List ℕ) (seen : Seen) → Shows old mid name seen → Shows old new name seen
-    shows name (Content bytes) s = s
-    shows name Longer s = s
-    shows name Unreadable s = rw is s
+    later : (other : List ℕ) → mid.read_faults other ≤ new.read_faults other
+    later = reads_kept mid new only
 
     by : (asked : Option Command) → CommandCallsFor asked old mid ending → CommandCallsFor asked old new ending
     by None c = c
-    by (Some (TraceStart plan)) (seen, s, ends) = (seen, shows plan seen s, ends)
+    by (Some (TraceStart plan)) (seen, s, ends) = (seen, shows_later plan_limit old mid new plan seen later s, ends)
+    by (Some (DryRun plan script)) (seen, s, inl refuses) = (seen, shows_later plan_limit old mid new plan seen later s, inl refuses)
+    by (Some (DryRun plan script)) (seen, s, inr (tree, spells, (read, t, ends))) =
+        (seen, shows_later plan_limit old mid new plan seen later s, inr (tree, spells, (read, shows_later script_limit old mid new script read later t, ends)))
 
 pub faulted_after : (old mid new : View) → KeepsFiles old mid → Faulted mid new → Faulted old new
-faulted_after old mid new keeps (inl h) = inl (omega arith)
-faulted_after old mid new keeps (inr h) = inr (omega arith)
+faulted_after old mid new keeps (inl h) = inl (omega (arith, keeps.write_faults))
+faulted_after old mid new keeps (inr h) = inr (omega (arith, keeps.idle))
 
 pub ends_after : (old mid new : View) (ending : Ending) (status : ℕ) → KeepsFiles old mid → mid.emitted ≡ old.emitted
     → Ends mid new ending status → Ends old new ending status
@@ -34,4 +36,4 @@ pub outcome_of_refusal : (words : List (List ℕ)) (old mid new : View) (ending 
     → CallsFor words old mid ending × (mid.emitted ≡ old.emitted) → KeepsFiles old mid
     → Ends mid new ending status → OnlyPrints mid new → Outcome words old new status
 outcome_of_refusal words old mid new ending status (calls, same) keeps ends only =
-    inl (ending, calls_later words old mid new ending only.read_faults calls, ends_after old mid new ending status keeps same ends)
+    inl (ending, calls_later words old mid new ending only calls, ends_after old mid new ending status keeps same ends)

@@ -13,27 +13,12 @@ use Rattle.px_sem.proofs.Texts.{steps_text_none, steps_text_more, steps_text_fro
 use Rattle.px_run.specs.Outcome.{View, EmitsPart}
 use Rattle.px_run.specs.Printing.{OnlyPrints, Leaves}
 use Rattle.px_run.specs.Stops.{run_text}
-use Rattle.px_run.proofs.Emitting.{IsOnItsWay, leaves_all, only_same, only_more, emits_more}
+use Rattle.px_run.proofs.Emitting.{IsOnItsWay, leaves_all, leaves_more, leaves_appended, part_more, part_of, only_same, only_more}
 
 -- so many steps of a run are printed, but for what the buffer holds
 pub record IsTracing (from : State) (old : View) (before : List ℕ) (now : State) (count : ℕ) (new : View) (buffer : List ℕ) : Type 0 where
   pub underway : IsUnderway from now count
   pub way : IsOnItsWay old new buffer (before ++ steps_text from.nodes from.world count)
-
-pub leaves_more : (a b c : View) (rest rest' text : List ℕ) → Leaves a b rest text → Leaves b c rest' rest
-    → Leaves a c rest' text
-leaves_more a b c rest rest' text (x, is, one) (y, is', two) =
-    (x ++ y, is ∙ ap (λ left. x ++ left) is' ∙ sym (append_assoc x y rest'), emits_more a.emitted b.emitted c.emitted x y one two)
-
-pub part_more : (a b c : View) (rest text : List ℕ) → Leaves a b rest text → EmitsPart b.emitted c.emitted rest
-    → EmitsPart a.emitted c.emitted text
-part_more a b c rest text (x, is, one) (y, z, is', two) =
-    (x ++ y, z, is ∙ ap (λ left. x ++ left) is' ∙ sym (append_assoc x y z), emits_more a.emitted b.emitted c.emitted x y one two)
-
-pub part_of : (a b : View) (text whole more : List ℕ) → whole ≡ text ++ more → EmitsPart a.emitted b.emitted text
-    → EmitsPart a.emitted b.emitted whole
-part_of a b text whole more is (x, y, is', emits) =
-    (x, y ++ more, is ∙ ap (λ left. left ++ more) is' ∙ append_assoc x y more, emits)
 
 -- what is emitted of some steps is a front of the run
 pub part_of_run : (from : State) (before : List ℕ) (now : State) (count : ℕ) (a b : View)
@@ -46,10 +31,6 @@ part_of_run from before now count a b u s part =
     let more = steps_text_front from.nodes from.world count (steps_until_quiet from.nodes from.world) (underway_within from now count u s).0 in
     part_of a b (before ++ steps count) (before ++ whole) more.0
     (ap (λ all. before ++ all) more.1 ∙ sym (append_assoc before (steps count) more.0)) part
-
-pub leaves_appended : (a b : View) (rest text more : List ℕ) → Leaves a b rest text → Leaves a b (rest ++ more) (text ++ more)
-leaves_appended a b rest text more (front, is, emits) =
-    (front, ap (λ left. left ++ more) is ∙ append_assoc front rest more, emits)
 
 pub tracing_at_once : (from : State) (old : View) (before : List ℕ) → IsTracing from old before from 0 old before
 tracing_at_once from old before = record {

@@ -3,12 +3,17 @@ use Rattle.std.specs.Prelude.{◌≡◌, ◌⊎◌, ◌<◌, ◌≤◌, ℕ, Lis
 use Rattle.std.specs.Option.{ForSome}
 use Rattle.px_ports.specs.declared.host.Host
 use Rattle.px_ports.specs.Host.{Files, file_at, Rose, Emits}
-use Rattle.px_run.specs.Ending.{Ending, Seen, Content, Longer, Unreadable, TraceStartEnds, usage}
-use Rattle.px_run.specs.Words.{Command, TraceStart, command}
+use Rattle.px_core.specs.Plan.{Tree}
+use Rattle.px_script.specs.declared.todo.Todo.{Todo}
+use Rattle.px_run.specs.Ending.{Ending, Seen, Content, Longer, Unreadable, RefusesPlan, SpellsPlan, RefusesScript, SpellsScript, usage, start_ending, DryRunEnds}
+use Rattle.px_run.specs.Words.{Command, TraceStart, DryRun, command}
 
--- the most bytes of a plan's file
+-- the most bytes of a plan's file, and of a script's
 abbrev pub plan_limit : ℕ
 plan_limit = 1048576
+
+abbrev pub script_limit : ℕ
+script_limit = 16777216
 
 -- what a host shows of itself at one moment
 pub record View : Type 0 where
@@ -27,19 +32,33 @@ view members host = record {
   idle = members.idle host;
 }
 
--- What was seen of a file: where the host tells its files, it is so. None is unreadable but where its count rose.
-abbrev pub Shows : View → View → List ℕ → Seen → Type 0
-Shows old new name (Content bytes) =
-    (length bytes ≤ plan_limit) × ForSome old.files (λ files. file_at files name ≡ Some bytes)
-Shows old new name Longer =
-    ForSome old.files (λ files. IsSomeAnd (file_at files name) (λ bytes. plan_limit < length bytes))
-Shows old new name Unreadable = old.read_faults name < new.read_faults name
+-- What was seen of a file that may have so many bytes: where the host tells its files, it is so. None is unreadable but
+-- where its count rose.
+abbrev pub Shows : ℕ → View → View → List ℕ → Seen → Type 0
+Shows limit old new name (Content bytes) =
+    (length bytes ≤ limit) × ForSome old.files (λ files. file_at files name ≡ Some bytes)
+Shows limit old new name Longer =
+    ForSome old.files (λ files. IsSomeAnd (file_at files name) (λ bytes. limit < length bytes))
+Shows limit old new name Unreadable = old.read_faults name < new.read_faults name
 
--- the ending that a command and the files call for
+-- a plan's file is refused, or it spells a plan, with which it goes on so
+abbrev pub AfterPlan : View → View → List ℕ → (Tree → Ending → Type 0) → Ending → Type 0
+AfterPlan old new name Next ending =
+    (seen : Seen) × Shows plan_limit old new name seen
+    × (RefusesPlan seen ending ⊎ ((tree : Tree) × SpellsPlan seen tree × Next tree ending))
+
+abbrev pub AfterScript : View → View → List ℕ → (List Todo → Ending → Type 0) → Ending → Type 0
+AfterScript old new name Next ending =
+    (seen : Seen) × Shows script_limit old new name seen
+    × (RefusesScript seen ending ⊎ ((threads : List Todo) × SpellsScript seen threads × Next threads ending))
+
+-- the ending that a command and the files call for: the first refusal decides
 abbrev pub CommandCallsFor : Option Command → View → View → Ending → Type 0
 CommandCallsFor None old new ending = ending ≡ usage
 CommandCallsFor (Some (TraceStart plan)) old new ending =
-    (seen : Seen) × Shows old new plan seen × TraceStartEnds seen ending
+    AfterPlan old new plan (λ tree ending. ending ≡ start_ending tree) ending
+CommandCallsFor (Some (DryRun plan script)) old new ending =
+    AfterPlan old new plan (λ tree. AfterScript old new script (DryRunEnds tree)) ending
 
 abbrev pub CallsFor : List (List ℕ) → View → View → Ending → Type 0
 CallsFor words old new ending = CommandCallsFor (command words) old new ending

@@ -6,6 +6,16 @@ use Rattle.px_core.specs.Plan.{is_same}
 -- what the program can do
 pub data Command : Type 0 where
   TraceStart : (plan : List ℕ) → Command
+  DryRun : (plan script : List ℕ) → Command
+
+-- the operands PLAN and SCRIPT of a command, where it has them
+abbrev pub plan_of : Command → Option (List ℕ)
+plan_of (TraceStart plan) = Some plan
+plan_of (DryRun plan script) = Some plan
+
+abbrev pub script_of : Command → Option (List ℕ)
+script_of (TraceStart plan) = None
+script_of (DryRun plan script) = Some script
 
 -- a word of at least two bytes that begins with `-`
 abbrev pub is_option : List ℕ → Bool
@@ -20,15 +30,22 @@ operands (word ∷ words) =
     if is_same word (codes "--") then Some words
     else (if is_option word then None else option_map (λ more. word ∷ more) (operands words))
 
-abbrev pub one_operand : List (List ℕ) → Option (List ℕ)
-one_operand (operand ∷ []) = Some operand
-one_operand [] = None
-one_operand (operand ∷ other ∷ more) = None
+-- the commands, by their operands
+abbrev pub trace_start : List (List ℕ) → Option Command
+trace_start (plan ∷ []) = Some (TraceStart plan)
+trace_start [] = None
+trace_start (plan ∷ other ∷ more) = None
+
+abbrev pub dry_run : List (List ℕ) → Option Command
+dry_run (plan ∷ script ∷ []) = Some (DryRun plan script)
+dry_run [] = None
+dry_run (plan ∷ []) = None
+dry_run (plan ∷ script ∷ other ∷ more) = None
 
 -- the command of the words, or none
 abbrev pub command : List (List ℕ) → Option Command
 command [] = None
 command (name ∷ words) =
-    if is_same name (codes "trace-start") then
-    option_map TraceStart (option_and_then one_operand (operands words))
-    else None
+    if is_same name (codes "trace-start") then option_and_then trace_start (operands words)
+    else (if is_same name (codes "dry-run") then option_and_then dry_run (operands words)
+    else None)

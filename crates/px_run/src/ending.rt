@@ -1,7 +1,13 @@
 // How a command ends: the statuses, and the refusals with their texts.
-ghost use Rattle.std.specs.Prelude.{◌≡◌};
+ghost use Rattle.std.specs.Prelude.{◌≡◌, IfOk};
+ghost use Rattle.std.specs.String.{string_bytes};
+ghost use Rattle.px_run.specs.declared.ending.Stop.TheVariants.{NoMemory as OutOfMemory};
+ghost use Rattle.px_run.specs.Ending.{script_at_fault};
 
 use crate::sink::PrintFault;
+use px_sem::StepFault;
+use px_value::NoMemory;
+use std::alloc::Global;
 
 /// How the program ends. Each has its number.
 #[derive(Clone, Copy, Debug, PartialEq, Eq)]
@@ -12,6 +18,8 @@ pub enum Status {
     NoCommand = 2,
     /// The plan is too long, or not in the form of plans.
     PlanRefused = 3,
+    /// The script is too long, or has a faulty line.
+    ScriptRefused = 4,
     /// The start does not settle.
     Runaway = 6,
     /// A file could not be read.
@@ -29,6 +37,10 @@ pub enum Refusal {
     /// The plan has more bytes than the limit.
     PlanTooLong,
     PlanNotInForm,
+    /// The script has more bytes than the limit.
+    ScriptTooLong,
+    /// A line of the script, counted from 1, has a fault of this kind.
+    ScriptAtFault { line: u32, kind: u8 },
     /// The start does not settle.
     RunawayAtStart,
     /// A file could not be read.
@@ -58,6 +70,27 @@ impl From<PrintFault> for Stop {
     }
 }
 
+impl From<StepFault> for Stop {
+    ghost use Rattle.px_run.specs.Stops.{stop_of_start};
+
+    ghost from_gives = { λ fault stop. stop ≡ stop_of_start fault };
+
+    fn from(fault: StepFault) -> Self {
+        match fault {
+            StepFault::Runaway => Stop::Refused(Refusal::RunawayAtStart),
+            StepFault::NoMemory => Stop::NoMemory,
+        }
+    }
+}
+
+impl From<NoMemory> for Stop {
+    ghost from_gives = { λ _ stop. stop ≡ OutOfMemory };
+
+    fn from(_: NoMemory) -> Self {
+        Stop::NoMemory
+    }
+}
+
 impl Status {
     ghost use Rattle.px_run.specs.Stops.{number_of};
 
@@ -79,23 +112,35 @@ impl Refusal {
         match self {
             Refusal::Usage => Status::NoCommand,
             Refusal::PlanTooLong | Refusal::PlanNotInForm => Status::PlanRefused,
+            Refusal::ScriptTooLong | Refusal::ScriptAtFault { .. } => Status::ScriptRefused,
             Refusal::RunawayAtStart => Status::Runaway,
             Refusal::ReadFault => Status::ReadFault,
         }
     }
 
     /// The line that gives the reason.
-    pub fn text(self) -> &'static str
-        ensures { result.now ≡ (ending_of self).text }
+    pub fn text(self, alloc: Global) -> Result<String, NoMemory>
+        ensures { IfOk result (λ text. string_bytes text ≡ (ending_of self).text) }
     {
-        match self {
+        let text = match self {
             Refusal::Usage => {
                 "usage: plexil trace-start PLAN | dry-run PLAN SCRIPT | run PLAN SCRIPT JOURNAL [--events N] | resume SCRIPT JOURNAL [--events N] | trace JOURNAL | check PLAN | format PLAN | soak COUNT SEED JOURNAL\n"
             }
             Refusal::PlanTooLong => "plan refused: longer than 1048576 bytes\n",
             Refusal::PlanNotInForm => "plan refused: first form\n",
+            Refusal::ScriptTooLong => "script refused: longer than 16777216 bytes\n",
+            Refusal::ScriptAtFault { line, kind } => {
+                return script_at_fault(alloc, line, kind);
+            }
             Refusal::RunawayAtStart => "runaway at start\n",
             Refusal::ReadFault => "read fault\n",
-        }
+        };
+        String::from_str(alloc, text)
     }
+}
+
+fn script_at_fault(alloc: Global, line: u32, kind: u8) -> Result<String, NoMemory>
+    ensures { IfOk result (λ text. string_bytes text ≡ (script_at_fault line kind).text) }
+{
+    format!(in alloc; "script refused: line {line} kind {kind}\n")
 }

@@ -6,6 +6,7 @@ ghost use Rattle.px_run.specs.Outcome.{Outcome, CallsFor, Ends, view};
 ghost use Rattle.px_run.specs.Printing.{OnlyPrints};
 ghost use Rattle.px_run.specs.Stops.{Carried, KeepsFiles, number_of, ending_of};
 
+use crate::dry_run::dry_run;
 use crate::ending::{Refusal, Status, Stop};
 use crate::sink::{PrintFault, emit_all};
 use crate::trace_start::trace_start;
@@ -23,8 +24,9 @@ use std::alloc::Global;
 /// | 0 | the command was carried out to its end |
 /// | 2 | the words are no command |
 /// | 3 | the plan's file has over 1,048,576 bytes, or spells no plan |
+/// | 4 | the script's file has over 16,777,216 bytes, or a faulty line |
 /// | 6 | the start of the plan does not settle |
-/// | 7 | the plan's file could not be read |
+/// | 7 | the plan's or the script's file could not be read |
 /// | 8 | the sink failed, or took nothing |
 /// | 10 | memory ran out |
 pub fn plexil<H: Host>(alloc: Global, words: &[String], host: &mut H) -> u8
@@ -64,7 +66,7 @@ fn ended<H: Host, S: Stepper>(alloc: Global, words: &[String], host: &mut H) -> 
 {
     match carry_out::<H, S>(alloc, words, host) {
         Ok(()) => Status::Done,
-        Err(Stop::Refused(refusal)) => refuse(refusal, host),
+        Err(Stop::Refused(refusal)) => refuse(alloc, refusal, host),
         Err(Stop::SinkFailed) => Status::SinkFault,
         Err(Stop::NoMemory) => Status::NoMemory,
     }
@@ -79,16 +81,20 @@ fn carry_out<H: Host, S: Stepper>(alloc: Global, words: &[String], host: &mut H)
     match Command::of(words) {
         None => Err(Stop::Refused(Refusal::Usage)),
         Some(Command::TraceStart { plan }) => trace_start::<H, S>(alloc, plan, host),
+        Some(Command::DryRun { plan, script }) => dry_run::<H, S>(alloc, plan, script, host),
     }
 }
 
 // Prints the reason, and answers the status: that of the refusal, or of the sink where it fails.
-fn refuse<H: Host>(refusal: Refusal, host: &mut H) -> Status
+fn refuse<H: Host>(alloc: Global, refusal: Refusal, host: &mut H) -> Status
     ensures ends { Ends (view H.Host host.old) (view H.Host host.new)
         (ending_of refusal) (number_of result) }
     ensures only { OnlyPrints (view H.Host host.old) (view H.Host host.new) }
 {
-    match emit_all(host, refusal.text().as_bytes()) {
+    let Ok(text) = refusal.text(alloc) else {
+        return Status::NoMemory;
+    };
+    match emit_all(host, text.as_bytes()) {
         Ok(()) => refusal.status(),
         Err(PrintFault::SinkFailed) => Status::SinkFault,
         Err(PrintFault::NoMemory) => Status::NoMemory,

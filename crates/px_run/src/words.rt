@@ -1,14 +1,16 @@
 // The command words: what they ask for.
-ghost use Rattle.std.specs.Prelude.{◌≡◌, map};
+ghost use Rattle.std.specs.Prelude.{◌≡◌, ◌<◌, map, length, slice_get, Some};
 ghost use Rattle.std.specs.Option.{option_map};
 ghost use Rattle.std.specs.String.{string_bytes};
-ghost use Rattle.px_run.specs.Words.{command, is_option, operands, one_operand};
+ghost use Rattle.px_run.specs.Words.{command, is_option, operands};
 
 /// What the program can do.
 #[derive(Clone, Copy, Debug)]
 pub enum Command<'a> {
     /// Prints the trace of the plan's start.
     TraceStart { plan: &'a str },
+    /// Posts the script's lines in their order, and prints the text of the log.
+    DryRun { plan: &'a str, script: &'a str },
 }
 
 // The operands: the words before `--`, and those after it.
@@ -27,18 +29,18 @@ impl<'a> Command<'a> {
     pub fn of(words: &'a [String]) -> Option<Command<'a>>
         ensures { option_map asked result ≡ command (map string_bytes words.now) }
     {
-        match words {
-            [name, operands @ ..] if name.as_str() == "trace-start" => {
-                let plan = Operands::of(operands)?.one()?;
-                Some(Command::TraceStart { plan })
-            }
+        let (name, words) = words.split_first()?;
+        match name.as_str() {
+            "trace-start" => Operands::of(words)?.trace_start(),
+            "dry-run" => Operands::of(words)?.dry_run(),
             _ => None,
         }
     }
 }
 
 impl<'a> Operands<'a> {
-    ghost use Rattle.px_run.specs.Asked.{listed};
+    ghost use Rattle.px_run.specs.Asked.{asked, listed};
+    ghost use Rattle.px_run.specs.Words.{trace_start, dry_run};
 
     fn of(words: &'a [String]) -> Option<Operands<'a>>
         ensures { option_map listed result ≡ operands (map string_bytes words.now) }
@@ -60,26 +62,45 @@ impl<'a> Operands<'a> {
         })
     }
 
-    #[tactic(auto, using(crate::proofs::Operating::neither_empty, crate::proofs::Operating::all_before, crate::proofs::Operating::all_after))]
-    fn one(self) -> Option<&'a str>
-        ensures { option_map (λ operand. operand.now) result ≡ one_operand (listed self.entry) }
+    #[tactic(auto, using(crate::proofs::Operating::one_is, crate::proofs::Operating::not_one))]
+    fn trace_start(self) -> Option<Command<'a>>
+        ensures { option_map asked result ≡ trace_start (listed self.entry) }
     {
-        if self.after.is_empty() {
-            only(self.before)
-        } else if self.before.is_empty() {
-            only(self.after)
-        } else {
-            None
+        if self.len() != 1 {
+            return None;
         }
+        Some(Command::TraceStart { plan: self.get(0) })
     }
-}
 
-fn only(words: &[String]) -> Option<&str>
-    ensures { option_map (λ word. word.now) result ≡ one_operand (map string_bytes words.now) }
-{
-    match words {
-        [word] => Some(word.as_str()),
-        _ => None,
+    #[tactic(auto, using(crate::proofs::Operating::two_are, crate::proofs::Operating::not_two))]
+    fn dry_run(self) -> Option<Command<'a>>
+        ensures { option_map asked result ≡ dry_run (listed self.entry) }
+    {
+        if self.len() != 2 {
+            return None;
+        }
+        Some(Command::DryRun {
+            plan: self.get(0),
+            script: self.get(1),
+        })
+    }
+
+    fn len(&self) -> usize
+        ensures { result ≡ length (listed self.now) }
+    {
+        self.before.len() + self.after.len()
+    }
+
+    // The operand at a place, from 0.
+    fn get(&self, place: usize) -> &'a str
+        requires { place < length (listed self.now) }
+        ensures { slice_get (listed self.now) place ≡ Some result.now }
+    {
+        if place < self.before.len() {
+            self.before[place].as_str()
+        } else {
+            self.after[place - self.before.len()].as_str()
+        }
     }
 }
 

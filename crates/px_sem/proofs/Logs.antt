@@ -18,7 +18,7 @@ use Rattle.px_sem.specs.Run.{posted, started, run_on, run}
 use Rattle.px_sem.specs.Log.{Log, events_of, is_accepted, accepted, answer_by, answer, world_after, AnswersEach}
 use Rattle.px_sem.specs.Stepper.{State, Nothing, at_rest}
 
-run_on_none : (plan : List Site) (now : Option World) → run_on plan now [] ≡ now
+pub run_on_none : (plan : List Site) (now : Option World) → run_on plan now [] ≡ now
 unfolding run_on
 run_on_none plan None = refl
 run_on_none plan (Some world) = refl

@@ -1,24 +1,27 @@
-use Rattle.std.proofs.Common.{refl}
+use Rattle.px_core.specs.Plan.{tree_of, sites}
+use Rattle.px_sem.proofs.Logs.{run_at_start}
 use Rattle.px_run.specs.Outcome.{view}
-use Rattle.px_run.proofs.Starting.{carried_out, broken_off, runs_away_at_start}
+use Rattle.px_run.proofs.Carrying.{run_exists, start_printed, start_broken_off}
 use Rattle.px_run.proofs.trace_start.trace_start.Goals as goal
 
-pub returns-in_err-print_start-in-Ok-clause-carried :
-    goal.returns-in_err-print_start-in-Ok-clause-carried
-returns-in_err-print_start-in-Ok-clause-carried g c =
-    broken_off (view g.H.Host c.args.host.now) (view g.H.Host c.fetch_plan.new.host) (view g.H.Host c.print_start.new.host)
-    _ _ c.in_err-print_start-in-Ok.field-0.0 _ c.in_ok-plan.ensures.ok c.in_ok-plan.ensures.only
-    c.from_residual-in_err-print_start-in-Ok.ensures.1 c.in_err-print_start-in-Ok.ensures.prints
+pub print_log-requires-clause-runs : goal.print_log-requires-clause-runs
+print_log-requires-clause-runs g c = λ _ _.
+    run_exists (sites (tree_of c.in_ok-plan.plan)) _ c.in_ok-start.ensures.settled
 
-pub returns-in-Ok-clause-carried : goal.returns-in-Ok-clause-carried
-returns-in-Ok-clause-carried g c =
-    carried_out (view g.H.Host c.args.host.now) (view g.H.Host c.fetch_plan.new.host) (view g.H.Host c.print_start.new.host)
-    _ _ c.in_ok-plan.ensures.ok c.in_ok-plan.ensures.only _ c.in-Ok.ensures.settled c.in_ok-print_start-in-Ok.ensures.prints
+pub returns-in_err-print_log-clause-carried : goal.returns-in_err-print_log-clause-carried
+returns-in_err-print_log-clause-carried g c =
+    let tree = tree_of c.in_ok-plan.plan in
+    let settled = c.in_ok-start.ensures.settled in
+    start_broken_off (view g.H.Host c.args.host.now) (view g.H.Host c.fetch_plan.new.host) (view g.H.Host c.print_log.new.host)
+    c.args.plan.now tree _ settled.0 c.in_err-print_log.field-0.0 _ c.in_ok-plan.ensures.ok c.in_ok-plan.ensures.only
+    c.in_err-print_log.ensures.only settled.1 c.from_residual-in_err-print_log.ensures.1
+    (c.in_err-print_log.ensures.prints _ (run_at_start (sites tree) _ settled.0 settled.1))
 
-pub returns-in-Err-Runaway-clause-carried : goal.returns-in-Err-Runaway-clause-carried
-returns-in-Err-Runaway-clause-carried g c =
-    let runaway = rw c.in-Err-Runaway.field-0-is at c.in-Err-Runaway.ensures.runaway in (
-      runs_away_at_start (view g.H.Host c.args.host.now) (view g.H.Host c.fetch_plan.new.host) (view g.H.Host c.fetch_plan.new.host)
-          _ _ c.in_ok-plan.ensures.ok (runaway refl),
-      c.in_ok-plan.ensures.only.emitted,
-    )
+pub returns-clause-carried : goal.returns-clause-carried
+returns-clause-carried g c =
+    let tree = tree_of c.in_ok-plan.plan in
+    let settled = c.in_ok-start.ensures.settled in
+    start_printed (view g.H.Host c.args.host.now) (view g.H.Host c.fetch_plan.new.host) (view g.H.Host c.print_log.new.host)
+    c.args.plan.now tree _ settled.0 c.in_ok-plan.ensures.ok c.in_ok-plan.ensures.only
+    c.in_ok-print_log.ensures.only settled.1
+    (c.in_ok-print_log.ensures.prints _ (run_at_start (sites tree) _ settled.0 settled.1))

@@ -2,7 +2,7 @@ use Rattle.std.proofs.Common.{arith}
 use Rattle.px_run.specs.Outcome.{view}
 use Rattle.px_run.proofs.Emitting.{breaks_off, breaks_off_later}
 use Rattle.px_run.proofs.Tracing.{tracing_at_once, tracing_more, tracing_part, tracing_part_more, tracing_within, tracing_whole}
-use Rattle.px_run.proofs.trace_start.print_steps.Goals as goal
+use Rattle.px_run.proofs.log.print_steps.Goals as goal
 
 pub loop-count-init : goal.loop-count-init
 loop-count-init g c = tracing_at_once _ _ _

@@ -2,7 +2,7 @@ use Rattle.std.proofs.Common.{◌-◌}
 use Rattle.px_sem.proofs.Settles.{steps_until_quiet}
 use Rattle.px_run.specs.Outcome.{view}
 use Rattle.px_run.proofs.Tracing.{IsTracing}
-use Rattle.px_run.proofs.trace_start.print_steps.Given as goal
+use Rattle.px_run.proofs.log.print_steps.Given as goal
 
 abbrev pub invariant-loop-count : goal.invariant-loop-count
 invariant-loop-count g l =

@@ -1,0 +1,54 @@
+// The command `dry-run`: reads a plan and a script, posts all lines in their order, and prints the text of the log.
+ghost use Rattle.std.specs.Prelude.{◌≡◌};
+ghost use Rattle.px_core.specs.Fit.{IsFit};
+ghost use Rattle.px_core.specs.Plan.{tree_of, sites};
+ghost use Rattle.px_core.specs.Simple.{IsSimple};
+ghost use Rattle.px_run.specs.Outcome.{view};
+ghost use Rattle.px_run.specs.Stops.{KeepsFiles, CallsForDryRun, CallsForScript, Carried};
+
+use crate::ending::Stop;
+use crate::log::print_log;
+use crate::reading::{fetch_plan, fetch_script};
+use px_core::Plan;
+use px_ports::Host;
+use px_sem::{Stepper, post_each, start};
+use std::alloc::Global;
+
+/// The most events of a history.
+const EVENT_LIMIT: u32 = 100_000;
+
+/// Posts the lines of the script in one file to the plan in another, those of all threads by rising
+/// number, and prints the text of the log. A start that does not settle is refused before any text.
+pub fn dry_run<H: Host, S: Stepper>(
+    alloc: Global,
+    plan: &str,
+    script: &str,
+    host: &mut H,
+) -> Result<(), Stop>
+    ensures carried { Carried (view H.Host host.old) (view H.Host host.new)
+        (CallsForDryRun (view H.Host host.old) (view H.Host host.new) plan.now script.now) result }
+    ensures keeps { KeepsFiles (view H.Host host.old) (view H.Host host.new) }
+{
+    let plan = fetch_plan(alloc, plan, host)?;
+    dry_run_plan::<H, S>(alloc, &plan, script, host)
+}
+
+fn dry_run_plan<H: Host, S: Stepper>(
+    alloc: Global,
+    plan: &Plan,
+    script: &str,
+    host: &mut H,
+) -> Result<(), Stop>
+    requires fit { IsFit (tree_of plan.now) }
+    requires simple { IsSimple (sites (tree_of plan.now)) }
+    ensures carried { Carried (view H.Host host.old) (view H.Host host.new)
+        (CallsForScript (view H.Host host.old) (view H.Host host.new) script.now (tree_of plan.now))
+        result }
+    ensures keeps { KeepsFiles (view H.Host host.old) (view H.Host host.new) }
+{
+    let entries = fetch_script(alloc, script, plan, host)?.into_entries(alloc)?;
+    let mut stepper = start::<S>(alloc, plan)?;
+    let session = post_each(&mut stepper, alloc, EVENT_LIMIT, entries)?;
+    print_log::<H, S>(alloc, plan, &session.history, &session.log, host)?;
+    Ok(())
+}

@@ -1,0 +1,85 @@
+// Plans and scripts, from their files.
+ghost use Rattle.std.specs.Prelude.{◌≡◌, IfOk, IfErr, IsTrue};
+ghost use Rattle.std.specs.List.{list_all};
+ghost use Rattle.px_core.specs.Fit.{IsFit};
+ghost use Rattle.px_core.specs.Plan.{tree_of, sites};
+ghost use Rattle.px_core.specs.Simple.{IsSimple};
+ghost use Rattle.px_script.specs.Fit.{IsFitScript};
+ghost use Rattle.px_run.specs.Ending.{Content};
+ghost use Rattle.px_run.specs.Outcome.{view, Shows};
+ghost use Rattle.px_run.specs.Stops.{OnlyReads, StopsFetching, ReadsPlan, StopsPlan, ReadsScript, StopsScript};
+
+use crate::ending::{Refusal, Stop};
+use px_core::Plan;
+use px_form::{ReadFault, read_plan};
+use px_ports::{Fetched, Host, HostFault};
+use px_script::{SCRIPT_LIMIT, Script, ScriptFault, read_script};
+use std::alloc::Global;
+
+/// The most bytes of a plan's file.
+const PLAN_LIMIT: usize = 1_048_576;
+
+/// Reads the plan in the file of this name.
+pub fn fetch_plan<H: Host>(alloc: Global, name: &str, host: &mut H) -> Result<Plan, Stop>
+    ensures ok { IfOk result (λ plan.
+        ReadsPlan (view H.Host host.old) (view H.Host host.new) name.now (tree_of plan)) }
+    ensures fit { IfOk result (λ plan. IsFit (tree_of plan)) }
+    ensures simple { IfOk result (λ plan. IsSimple (sites (tree_of plan))) }
+    ensures err { IfErr result
+        (StopsPlan (view H.Host host.old) (view H.Host host.new) name.now) }
+    ensures only { OnlyReads (view H.Host host.old) (view H.Host host.new) }
+{
+    let bytes = fetch_bytes(alloc, name, PLAN_LIMIT, Refusal::PlanTooLong, host)?;
+    match read_plan(alloc, &bytes) {
+        Ok(plan) => Ok(plan),
+        Err(ReadFault::NotInForm) => Err(Stop::Refused(Refusal::PlanNotInForm)),
+        Err(ReadFault::NoMemory) => Err(Stop::NoMemory),
+    }
+}
+
+/// Reads the script for this plan in the file of this name.
+pub fn fetch_script<H: Host>(
+    alloc: Global,
+    name: &str,
+    plan: &Plan,
+    host: &mut H,
+) -> Result<Script, Stop>
+    requires { IsFit (tree_of plan.now) }
+    ensures ok { IfOk result (λ script.
+        ReadsScript (view H.Host host.old) (view H.Host host.new) name.now script.threads) }
+    ensures fit { IfOk result (λ script. IsFitScript script) }
+    ensures err { IfErr result
+        (StopsScript (view H.Host host.old) (view H.Host host.new) name.now) }
+    ensures only { OnlyReads (view H.Host host.old) (view H.Host host.new) }
+{
+    let bytes = fetch_bytes(alloc, name, SCRIPT_LIMIT, Refusal::ScriptTooLong, host)?;
+    match read_script(alloc, &bytes, plan) {
+        Ok(script) => Ok(script),
+        Err(ScriptFault::Fault { line, kind }) => {
+            Err(Stop::Refused(Refusal::ScriptAtFault { line, kind }))
+        }
+        Err(ScriptFault::NoMemory) => Err(Stop::NoMemory),
+    }
+}
+
+// The bytes of a file, which is refused where it has more than the limit.
+fn fetch_bytes<H: Host>(
+    alloc: Global,
+    name: &str,
+    limit: usize,
+    too_long: Refusal,
+    host: &mut H,
+) -> Result<Vec<u8>, Stop>
+    ensures ok { IfOk result (λ bytes. Shows limit (view H.Host host.old)
+        (view H.Host host.new) name.now (Content bytes.items)) }
+    ensures err { IfErr result (StopsFetching limit (view H.Host host.old)
+        (view H.Host host.new) name.now too_long) }
+    ensures only { OnlyReads (view H.Host host.old) (view H.Host host.new) }
+{
+    match host.fetch(alloc, name, limit) {
+        Ok(Fetched::Whole(bytes)) => Ok(bytes),
+        Ok(Fetched::Longer) => Err(Stop::Refused(too_long)),
+        Err(HostFault::Failed) => Err(Stop::Refused(Refusal::ReadFault)),
+        Err(HostFault::NoMemory) => Err(Stop::NoMemory),
+    }
+}
