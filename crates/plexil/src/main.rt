@@ -2,7 +2,11 @@
 //! the top call, and ends with its status.
 #![tactic(auto)]
 
+#[cfg(test)]
+mod dry_runs;
 mod host;
+#[cfg(test)]
+mod hosts;
 #[cfg(test)]
 mod rows;
 

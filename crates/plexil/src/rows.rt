@@ -1,10 +1,9 @@
-// What the program prints, and the status that it ends with, over a host in memory: worked out by hand.
-use px_ports::{MemFile, MemHost};
-use px_run::plexil;
+// What `trace-start` prints, and the status that it ends with, over a host in memory: worked out by hand.
+use crate::hosts::{file, host_of, host_with, outcome};
 use std::alloc::Global;
 use std::test::Fail;
 
-const USAGE: &str =
+pub const USAGE: &str =
     "usage: plexil trace-start PLAN | dry-run PLAN SCRIPT | run PLAN SCRIPT JOURNAL [--events N] | resume SCRIPT JOURNAL [--events N] | trace JOURNAL | check PLAN | format PLAN | soak COUNT SEED JOURNAL
 ";
 
@@ -125,49 +124,6 @@ const NOT_IN_FORM: &str = "plan refused: first form\n";
 
 const TOO_LONG: &str = "plan refused: longer than 1048576 bytes\n";
 
-fn file(alloc: Global, name: &str, bytes: &[u8]) -> Result<MemFile, Fail> {
-    Ok(MemFile {
-        name: String::from_str(alloc, name)?,
-        bytes: bytes.to_vec(alloc)?,
-    })
-}
-
-// A host that has this file alone, and whose sink takes what it is given.
-fn host_of(alloc: Global, name: &str, bytes: &[u8]) -> Result<MemHost, Fail> {
-    host_with(alloc, &[], &[], usize::MAX, file(alloc, name, bytes)?)
-}
-
-fn host_with(
-    alloc: Global,
-    failing_fetches: &[u32],
-    failing_emits: &[u32],
-    piece: usize,
-    file: MemFile,
-) -> Result<MemHost, Fail> {
-    Ok(MemHost::new(
-        alloc,
-        vec![in alloc; file]?,
-        failing_fetches.to_vec(alloc)?,
-        failing_emits.to_vec(alloc)?,
-        piece,
-    )?)
-}
-
-fn words_of(alloc: Global, words: &[&str]) -> Result<Vec<String>, Fail> {
-    let mut owned = Vec::new(alloc);
-    for word in words {
-        owned.push(String::from_str(alloc, word)?)?;
-    }
-    Ok(owned)
-}
-
-// The status of the call, and what was emitted.
-fn outcome(alloc: Global, words: &[&str], mut host: MemHost) -> Result<(u8, String), Fail> {
-    let words = words_of(alloc, words)?;
-    let status = plexil(alloc, &words, &mut host);
-    Ok((status, String::from_utf8(host.emitted().to_vec(alloc)?)?))
-}
-
 // So many blanks, and then the text.
 fn padded(alloc: Global, blanks: usize, text: &str) -> Result<Vec<u8>, Fail> {
     let mut bytes = vec![in alloc; b' '; blanks]?;
@@ -270,8 +226,8 @@ fn a_fault_of_the_host_has_its_status(rt: HostRuntime) -> Result<(), Fail> {
         ("Q", &[], &[2], 4, 8, "read"),
     ];
     for (name, fetches, emits, piece, status, text) in cases {
-        let file = file(alloc, name, b"A: { }")?;
-        let host = host_with(alloc, fetches, emits, piece, file)?;
+        let files = vec![in alloc; file(alloc, name, b"A: { }")?]?;
+        let host = host_with(alloc, fetches, emits, piece, files)?;
         let (answered, emitted) = outcome(alloc, &["trace-start", "P"], host)?;
         let case = (name, fetches, emits, piece);
         assert_eq!(rt; emitted.as_str(), text, "{case:?}");

@@ -63,7 +63,7 @@ pub record KeepsFiles (old new : View) : Type 0 where
   pub write_faults : old.write_faults ≤ new.write_faults
   pub idle : old.idle ≤ new.idle
 
--- a file of at most so many bytes was read, and these were they
+-- what stops a fetch: the file has more bytes than the limit, or it can't be read
 abbrev pub StopsFetching : ℕ → View → View → List ℕ → Refusal → Stop → Type 0
 StopsFetching limit old new name too_long (stops.Refused refusal) =
     (Shows limit old new name Longer × (refusal ≡ too_long))

@@ -103,6 +103,7 @@ fn print_settling<H: Host, S: Stepper>(
 {
     let count = print_steps(alloc, stepper, text, host)?;
     push_quiet(alloc, count, text)?;
+    emit_piece(host, text)?;
     stepper.settle();
     Ok(())
 }

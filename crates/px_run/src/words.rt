@@ -116,26 +116,36 @@ mod tests {
     use std::alloc::{AllocError, Global};
     use std::test::Fail;
 
-    fn plan_of(words: &[String]) -> Option<&str> {
+    // The operands of the command, each behind its name, or nothing where there is none.
+    fn told(alloc: Global, words: &[String]) -> Result<String, AllocError> {
         match Command::of(words) {
-            Some(Command::TraceStart { plan }) => Some(plan),
-            None => None,
+            Some(Command::TraceStart { plan }) => format!(in alloc; "trace-start plan {plan}"),
+            Some(Command::DryRun { plan, script }) => {
+                format!(in alloc; "dry-run plan {plan} script {script}")
+            }
+            None => Ok(String::new(alloc)),
         }
     }
 
     #[test]
-    fn the_plan_is_the_one_operand(rt: HostRuntime) -> Result<(), Fail> {
+    fn the_operands_stand_before_and_behind_two_dashes(rt: HostRuntime) -> Result<(), Fail> {
         let cases = [
-            ("trace-start a.ple", "a.ple"),
-            ("trace-start -", "-"),
-            ("trace-start -- a.ple", "a.ple"),
-            ("trace-start a.ple --", "a.ple"),
-            ("trace-start -- --", "--"),
-            ("trace-start -- -x", "-x"),
+            ("trace-start a.ple", "trace-start plan a.ple"),
+            ("trace-start -", "trace-start plan -"),
+            ("trace-start -- a.ple", "trace-start plan a.ple"),
+            ("trace-start a.ple --", "trace-start plan a.ple"),
+            ("trace-start -- --", "trace-start plan --"),
+            ("trace-start -- -x", "trace-start plan -x"),
+            ("dry-run a b", "dry-run plan a script b"),
+            ("dry-run a -- b", "dry-run plan a script b"),
+            ("dry-run -- a b", "dry-run plan a script b"),
+            ("dry-run a b --", "dry-run plan a script b"),
+            ("dry-run a -- -b", "dry-run plan a script -b"),
+            ("dry-run - -", "dry-run plan - script -"),
         ];
-        for (line, plan) in cases {
+        for (line, want) in cases {
             let words = words_of(rt.alloc(), line)?;
-            assert_eq!(rt; plan_of(&words), Some(plan), "{line}");
+            assert_eq!(rt; told(rt.alloc(), &words)?.as_str(), want, "{line}");
         }
         Ok(())
     }
@@ -143,6 +153,7 @@ mod tests {
     #[test]
     fn other_words_are_no_command(rt: HostRuntime) -> Result<(), Fail> {
         let cases = [
+            "",
             "trace-start",
             "trace-start a b",
             "trace-start -- a b",
@@ -152,17 +163,20 @@ mod tests {
             "trace-star a",
             "-- trace-start a",
             "Trace-start a",
+            "dry-run",
+            "dry-run a",
+            "dry-run a b c",
+            "dry-run a -- b c",
+            "dry-run -- a",
+            "dry-run a -b",
+            "dry-run a b --events=3",
+            "dry-Run a b",
         ];
         for line in cases {
             let words = words_of(rt.alloc(), line)?;
-            assert!(rt; plan_of(&words).is_none(), "{line}");
+            assert_eq!(rt; told(rt.alloc(), &words)?.as_str(), "", "{line}");
         }
         Ok(())
-    }
-
-    #[test]
-    fn no_words_are_no_command(rt: HostRuntime) {
-        assert!(rt; plan_of(&[]).is_none());
     }
 
     fn words_of(alloc: Global, line: &str) -> Result<Vec<String>, AllocError> {

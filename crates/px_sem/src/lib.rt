@@ -2,7 +2,8 @@
 //!
 //! `specs/` has the definitions: `World` and `Expressions`, the value of an expression; `Guards` and `Table`, where a
 //! node goes; `Conflicts` and `Effects`, which nodes go and what they do; `Step`, the micro step; `Events`, `Run` and
-//! `Log`; and `Text`. A `Stepper` is what runs a plan by them, and `start` brings one up.
+//! `Log`; and `Text`. A `Stepper` is what runs a plan by them, `start` brings one up, and `post` and `post_each` post events
+//! to it.
 #![tactic(auto)]
 
 mod guards;
