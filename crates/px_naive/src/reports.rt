@@ -1,22 +1,16 @@
 // What was reported of the outside, and how the last report changed that.
-ghost use Rattle.std.specs.Prelude.{◌≡◌, ◌<◌, [], length, OnOk, OnErr, IfSome};
+ghost use Rattle.std.specs.Prelude.{◌≡◌, [], OnOk, OnErr};
 ghost use Rattle.std.specs.Option.{option_copied};
-ghost use Rattle.px_sem.specs.World.{is_same_state, last_report};
+ghost use Rattle.px_sem.specs.World.{last_report};
 ghost use Rattle.px_sem.specs.Events.{reported};
-ghost use Rattle.px_naive.specs.Reports.{entry_of, entries_of, listed, listed_before, place_of};
+ghost use Rattle.px_naive.specs.Reports.{listed, listed_before};
 
+use crate::look_state::LookState;
+use indexmap::IndexMap;
 use px_event::Values;
 use px_value::{Name, NoMemory, Value};
 use std::alloc::Global;
 use std::mem;
-
-/// The last value of a state of the outside.
-#[derive(Debug, Drop)]
-pub struct Report {
-    pub name: Name,
-    pub args: Values,
-    pub value: Value,
-}
 
 /// How the last report changed the list.
 #[derive(Debug, Drop)]
@@ -27,30 +21,12 @@ pub enum Change {
     Added,
 }
 
-/// The reports in the order in which their states were first reported, and how the last one changed them.
+/// The last value of each reported state, in the order in which the states were first reported, and how the last report
+/// changed them.
 #[derive(Debug, Drop)]
 pub struct Reports {
-    items: Vec<Report>,
+    values: IndexMap<LookState, Value>,
     change: Change,
-}
-
-fn is_same_state(report: &Report, name: &Name, args: &Values) -> bool
-    ensures { result ≡ is_same_state (entry_of report.now).0 (record { name = name.now; args = args.now }) }
-{
-    report.name == *name && report.args == *args
-}
-
-/// Where a state stands among the reports.
-fn place_of(items: &[Report], name: &Name, args: &Values) -> Option<usize>
-    ensures place { result ≡ place_of (record { name = name.now; args = args.now }) (entries_of items.now) }
-    ensures within { IfSome result (λ at. at < length items.now) }
-{
-    for i in 0..items.len() {
-        if is_same_state(&items[i], name, args) {
-            return Some(i);
-        }
-    }
-    None
 }
 
 impl Reports {
@@ -59,20 +35,16 @@ impl Reports {
         ensures { listed result ≡ [] }
     {
         Reports {
-            items: Vec::new(alloc),
+            values: IndexMap::new(alloc),
             change: Change::Nothing,
         }
     }
 
     /// The last value of a state; None where it was never reported.
-    #[tactic(auto, using(crate::proofs::Reporting::last_item, crate::proofs::Reporting::last_none))]
-    pub fn last(&self, name: &Name, args: &Values) -> Option<&Value>
-        ensures { option_copied result ≡ last_report (listed self.now) (record { name = name.now; args = args.now }) }
+    pub fn last(&self, state: &LookState) -> Option<&Value>
+        ensures { option_copied result ≡ last_report (listed self.now) state.now }
     {
-        match place_of(&self.items, name, args) {
-            Some(at) => Some(&self.items[at].value),
-            None => None,
-        }
+        self.values.get(state)
     }
 
     /// Takes a report, which `undo` takes back.
@@ -88,21 +60,12 @@ impl Reports {
         ensures before { OnOk result (listed_before self.new ≡ listed self.old) }
         ensures err { OnErr result (listed self.new ≡ listed self.old) }
     {
-        let value = value.copy(alloc)?;
-        match place_of(&self.items, name, args) {
-            Some(at) => {
-                let old = mem::replace(&mut self.items[at].value, value);
-                self.change = Change::Replaced { at, old };
-            }
-            None => {
-                self.items.push(Report {
-                    name: name.copy(alloc)?,
-                    args: args.copy(alloc)?,
-                    value,
-                })?;
-                self.change = Change::Added;
-            }
-        }
+        let state = LookState::new(name.copy(alloc)?, args.copy(alloc)?);
+        let (at, old) = self.values.insert_full(state, value.copy(alloc)?)?;
+        self.change = match old {
+            Some(old) => Change::Replaced { at, old },
+            None => Change::Added,
+        };
         Ok(())
     }
 
@@ -121,12 +84,12 @@ impl Reports {
         match mem::replace(&mut self.change, Change::Nothing) {
             Change::Nothing => {}
             Change::Replaced { at, old } => {
-                if at < self.items.len() {
-                    self.items[at].value = old;
+                if at < self.values.len() {
+                    self.values[at] = old;
                 }
             }
             Change::Added => {
-                self.items.pop();
+                self.values.pop();
             }
         }
     }
