@@ -94,3 +94,56 @@ impl Reports {
         }
     }
 }
+
+#[cfg(test)]
+mod tests {
+    use super::*;
+    use std::test::Fail;
+
+    fn args(alloc: Global, number: Option<i32>) -> Result<Values, Fail> {
+        let mut values = Vec::new(alloc);
+        if let Some(number) = number {
+            values.push(Value::Integer(number))?;
+        }
+        Ok(Values::from(values))
+    }
+
+    fn number(value: Option<&Value>) -> Option<i32> {
+        match value {
+            Some(Value::Integer(number)) => Some(*number),
+            _ => None,
+        }
+    }
+
+    #[test]
+    fn a_report_is_of_one_state_and_the_last_is_taken_back(rt: HostRuntime) -> Result<(), Fail> {
+        let alloc = rt.alloc();
+        let mut reports = Reports::new(alloc);
+        for (name, arg, value, is_kept, then) in [
+            ("level", None, 10, true, Some(10)),
+            ("level", Some(1), 11, true, Some(11)),
+            ("level", Some(2), 12, false, None),
+            ("door", None, 13, true, Some(13)),
+            ("level", Some(1), 21, false, Some(11)),
+            ("level", None, 30, true, Some(30)),
+            ("door", Some(1), 14, true, Some(14)),
+        ] {
+            let (name, args) = (Name::new(alloc, name)?, args(alloc, arg)?);
+            reports.report(alloc, &name, &args, &Value::Integer(value))?;
+            let state = LookState::new(name, args);
+            assert_eq!(rt; number(reports.last(&state)), Some(value));
+            if is_kept {
+                reports.keep();
+            }
+            reports.undo();
+            assert_eq!(rt; number(reports.last(&state)), then);
+        }
+
+        // In the order of the first reports that were kept.
+        assert_eq!(rt; reports.values.len(), 4);
+        for (value, wanted) in reports.values.values().zip([30, 11, 13, 14]) {
+            assert_eq!(rt; number(Some(value)), Some(wanted));
+        }
+        Ok(())
+    }
+}
