@@ -1,5 +1,6 @@
 -- What a report does to the reports, and how it is taken back.
-use Rattle.std.proofs.Common.{◌≡◌, ℕ, zero, suc, ◌+◌, ◌-◌, ◌≤◌, Bool, true, false, not, cond, List, [], ◌∷◌, ◌++◌, length, take, refl, ap, ◌∙◌, arith, Some, None, if◌then◌else◌, length-append}
+use Rattle.std.proofs.Common.{◌≡◌, ℕ, zero, suc, ◌+◌, ◌-◌, ◌≤◌, Bool, true, false, not, cond, List, [], ◌∷◌, ◌++◌}
+use Rattle.std.proofs.Common.{length, take, refl, ap, ◌∙◌, arith, Some, None, if◌then◌else◌, length-append}
 use Rattle.std.specs.List.{position_or_len}
 use Rattle.std.specs.Map.{keys_of, lookup}
 use Rattle.std.proofs.Math.Seq.{take-append_seam}
@@ -10,7 +11,7 @@ use Rattle.px_sem.specs.World.{LookState, is_same_state, last_report}
 use Rattle.px_sem.specs.Events.{reported}
 use Rattle.px_naive.specs.contracts.look_state.LookStateEq.TheImpl.Laws as same_states
 
--- the same two states either way round: the map asks so of the state that is looked up, the semantics of the one reported
+-- Either way round: the map asks of the state that is looked up, and the semantics of the one that was reported.
 is_same_state-symm : (a b : LookState) → is_same_state a b ≡ is_same_state b a
 is_same_state-symm = same_states.laws-law.symm
 
@@ -26,7 +27,8 @@ insert_entry-reported state value (x ∷ xs) = λ i.
 
 module _ {K X : Type 0} where
   -- an old value put back where a new one took its place
-  pub set_value_at-insert_entry : (eq : K → K → Bool) (k : K) (v old : X) (xs : List (K × X)) → lookup (eq k) xs ≡ Some old
+  pub set_value_at-insert_entry : (eq : K → K → Bool) (k : K) (v old : X) (xs : List (K × X))
+      → lookup (eq k) xs ≡ Some old
       → set_value_at (insert_entry eq xs k v) (position_or_len (eq k) (keys_of xs)) old ≡ xs
   set_value_at-insert_entry eq k v old [] found = absurd (cc)
   set_value_at-insert_entry eq k v old (x ∷ xs) found = by (eq k x.0) found (set_value_at-insert_entry eq k v old xs)

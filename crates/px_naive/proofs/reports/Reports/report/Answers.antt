@@ -10,7 +10,8 @@ pub returns-clause-ok : goal.returns-clause-ok
 returns-clause-ok c =
     let state : LookState = record { name = c.args.name.now; args = c.args.args.now } in
     let entries = c.args.self.now.values.entries in
-    let inserted : c.insert_full.new.self.entries ≡ insert_entry is_same_state entries state c.args.value.now = search rules in
+    let inserted : c.insert_full.new.self.entries ≡ insert_entry is_same_state entries state c.args.value.now =
+    search rules in
     inserted ∙ insert_entry-reported state c.args.value.now entries
 
 pub returns-clause-before : goal.returns-clause-before
@@ -18,7 +19,8 @@ returns-clause-before c =
     let state : LookState = record { name = c.args.name.now; args = c.args.args.now } in
     let before = c.args.self.now.values in
     let value = c.args.value.now in
-    let inserted : c.insert_full.new.self.entries ≡ insert_entry is_same_state before.entries state value = search rules in
+    let inserted : c.insert_full.new.self.entries ≡ insert_entry is_same_state before.entries state value =
+    search rules in
     let same : c.new-state.result ≡ state = search rules in
     let old : c.in_ok-at.old ≡ get is_same_state before state =
     c.in_ok-at.ensures.old ∙ ap (get is_same_state before) same in
