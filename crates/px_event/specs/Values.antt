@@ -1,6 +1,8 @@
--- Which values may be told to a plan, and what `==` answers of two values.
+-- Which values may be told to a plan, what `==` answers of two values, and what a value feeds a hasher.
 use Rattle.std.specs.Prelude.{Bool, true, false}
+use Rattle.std.specs.Hash.{HashWrites}
 use Rattle.px_value.specs.contracts.value.ValuePartialEq.TheImpl as equality
+use Rattle.px_value.specs.contracts.value.ValueHash.TheImpl as hashing
 use Rattle.px_value.specs.declared.value.Value.{Value}
 use Rattle.px_value.specs.declared.value.Value.TheVariants as values
 
@@ -18,3 +20,7 @@ is_plain_or_unknown value = is_plain value
 -- what `==` answers of two values
 abbrev pub value_eq : Value → Value → Bool
 value_eq = (equality.ghosts).eq
+
+-- what a value feeds a hasher
+abbrev pub value_hash_input : Value → HashWrites
+value_hash_input = (hashing.ghosts).hash_input

@@ -1,12 +1,16 @@
 // The arguments of a report.
 ghost use Rattle.std.specs.Prelude.{◌≡◌, IfOk};
 ghost use Rattle.std.specs.Cmp.Lexicographic.{pointwise, lists_per, lists_equiv};
+ghost use Rattle.std.specs.Hash as fed;
+ghost use Rattle.std.specs.Hash.{items_Alike};
 ghost use Rattle.px_value.specs.contracts.value.ValuePartialEq.TheImpl.Laws as same_values;
 ghost use Rattle.px_value.specs.contracts.value.ValueEq.TheImpl.Laws as equal_values;
-ghost use Rattle.px_event.specs.Values.{value_eq};
+ghost use Rattle.px_value.specs.contracts.value.ValueHash.TheImpl.Laws as hashed_values;
+ghost use Rattle.px_event.specs.Values.{value_eq, value_hash_input};
 
 use px_value::{NoMemory, Value};
 use std::alloc::Global;
+use std::hash::{Hash, Hasher};
 use std::marker::Model;
 
 /// Values in order. To contracts they are a list.
@@ -72,6 +76,16 @@ impl PartialEq for Values {
 
 impl Eq for Values {
     ghost laws = { lists_equiv equal_values.laws-law };
+}
+
+impl Hash for Values {
+    ghost hash_input = { fed.slice value_hash_input };
+
+    ghost respects_eq = { (items_Alike (record { fed = hashed_values.respects_eq-law })).fed };
+
+    fn hash<H: Hasher>(&self, state: &mut H) {
+        self.as_slice().hash(state);
+    }
 }
 
 #[cfg(test)]

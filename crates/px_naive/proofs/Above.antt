@@ -1,5 +1,6 @@
 -- What the ancestors of each node ask, seen one node after another.
-use Rattle.std.proofs.Common.{◌≡◌, ℕ, ◌+◌, ◌<◌, Bool, false, List, length, get_or, set, length-set, refl, ap, sym, ◌∙◌, arith, Some, None, below_more}
+use Rattle.std.proofs.Common.{◌≡◌, ℕ, ◌+◌, ◌<◌, Bool, false, List, length, get_or, set, length-set, refl, ap, sym, ◌∙◌}
+use Rattle.std.proofs.Common.{arith, Some, None, below_more}
 use Rattle.std.proofs.lemmas.List.{length-map, get_or-map, get_or-set_same, get_or-set_other, same_lists}
 use Rattle.px_value.specs.declared.value.Value.{Value}
 use Rattle.px_core.specs.declared.conditions.ConditionKind.{ConditionKind}
@@ -18,26 +19,37 @@ use Rattle.px_naive.proofs.Laid.{length-sites_of, site_at_number, found_site}
 use Rattle.px_naive.proofs.Below.{laid_distinct, record_of_number}
 
 -- the truths of a node's conditions, by its number
-pub truths_at_number : (places : List Place) (now : world.World) (truths : List Truths) → truths ≡ truths_of (sites_of places) now
-    → (i : ℕ) (d : Truths) → i < length places → get_or truths i d ≡ truths_at (sites_of places) now (get_or (sites_of places) i nowhere)
+pub truths_at_number : (places : List Place) (now : world.World) (truths : List Truths)
+    → truths ≡ truths_of (sites_of places) now
+    → (i : ℕ) (d : Truths) → i < length places
+    → get_or truths i d ≡ truths_at (sites_of places) now (get_or (sites_of places) i nowhere)
 truths_at_number places now truths same i d h =
-    ap (λ ts. get_or ts i d) same ∙ get_or-map (truths_at (sites_of places) now) (sites_of places) i nowhere d (omega (arith, length-sites_of places))
+    ap (λ ts. get_or ts i d) same ∙ get_or-map (truths_at (sites_of places) now) (sites_of places) i nowhere d
+    (omega (arith, length-sites_of places))
 
-pub length-truths : (places : List Place) (now : world.World) (truths : List Truths) → truths ≡ truths_of (sites_of places) now → length truths ≡ length places
-length-truths places now truths same = ap length same ∙ length-map (sites_of places) (truths_at (sites_of places) now) ∙ length-sites_of places
+pub length-truths : (places : List Place) (now : world.World) (truths : List Truths)
+    → truths ≡ truths_of (sites_of places) now → length truths ≡ length places
+length-truths places now truths same =
+    ap length same ∙ length-map (sites_of places) (truths_at (sites_of places) now) ∙ length-sites_of places
 
 -- what the node at a number asks
-pub asks_at_number : (places : List Place) (records : List Record) (reports : List (world.LookState × Value)) (truths : List Truths) → IsLaid places → length records ≡ length places
+pub asks_at_number : (places : List Place) (records : List Record) (reports : List (world.LookState × Value))
+    (truths : List Truths)
+    → IsLaid places → length records ≡ length places
     → truths ≡ truths_of (sites_of places) (world_of places records reports)
     → (asks : world.Record → Truth → Bool) (kind : ConditionKind) (pick : Truths → Truth)
-    → ((site : Site) → condition (sites_of places) (world_of places records reports) site kind ≡ pick (truths_at (sites_of places) (world_of places records reports) site))
+    → ((site : Site) → condition (sites_of places) (world_of places records reports) site kind
+    ≡ pick (truths_at (sites_of places) (world_of places records reports) site))
     → (j : ℕ) (r : Record) (d : Truths) → j < length places
     → asks (world.record_at (world_of places records reports) (path_at places j)) (condition (sites_of places) (world_of places records reports) (site_at (sites_of places) (path_at places j)) kind)
     ≡ asks (recorded (get_or records j r)) (pick (get_or truths j d))
 asks_at_number places records reports truths laid long same asks kind pick is_pick j r d h =
-    ap (λ own. asks own (condition plan now (site_at plan (path_at places j)) kind)) (record_of_number places records reports laid long j r h)
-    ∙ ap (λ site. asks (recorded (get_or records j r)) (condition plan now site kind)) (found_site plan j (laid_distinct places laid) (omega (arith, length-sites_of places)))
-    ∙ ap (λ t. asks (recorded (get_or records j r)) t) (is_pick (get_or plan j nowhere) ∙ ap pick (sym (truths_at_number places now truths same j d h)))
+    ap (λ own. asks own (condition plan now (site_at plan (path_at places j)) kind))
+    (record_of_number places records reports laid long j r h)
+    ∙ ap (λ site. asks (recorded (get_or records j r)) (condition plan now site kind))
+    (found_site plan j (laid_distinct places laid) (omega (arith, length-sites_of places)))
+    ∙ ap (λ t. asks (recorded (get_or records j r)) t)
+    (is_pick (get_or plan j nowhere) ∙ ap pick (sym (truths_at_number places now truths same j d h)))
   where
     plan : List Site
     plan = sites_of places
@@ -54,21 +66,33 @@ asked_root places now laid i p h none =
     ap (λ site. asked_at (sites_of places) now site) (site_at_number places laid i nowhere p h)
     ∙ ap (λ parent. asked_at (sites_of places) now (record { path = (get_or places i p).path; above = above_in (sites_of places) parent; head = head_in (get_or places i p) })) none
 
-pub asked_child : (places : List Place) (records : List Record) (reports : List (world.LookState × Value)) (truths : List Truths) → IsLaid places → length records ≡ length places
+pub asked_child : (places : List Place) (records : List Record) (reports : List (world.LookState × Value))
+    (truths : List Truths)
+    → IsLaid places → length records ≡ length places
     → truths ≡ truths_of (sites_of places) (world_of places records reports)
     → (i j : ℕ) (p : Place) (r : Record) (d : Truths) → i < length places
     → (get_or places i p).parent ≡ Some j
     → asked_at (sites_of places) (world_of places records reports) (get_or (sites_of places) i nowhere)
-    ≡ asked_too (asks_in (recorded (get_or records j r)) (get_or truths j d)) (asked_at (sites_of places) (world_of places records reports) (get_or (sites_of places) j nowhere))
+    ≡ asked_too (asks_in (recorded (get_or records j r)) (get_or truths j d))
+    (asked_at (sites_of places) (world_of places records reports) (get_or (sites_of places) j nowhere))
 asked_child places records reports truths laid long same i j p r d h some =
     ap (λ site. asked_at plan now site) (site_at_number places laid i nowhere p h)
-    ∙ ap (λ parent. asked_at plan now (record { path = (get_or places i p).path; above = above_in plan parent; head = head_in (get_or places i p) })) some
-    ∙ ap (λ b. asked_too (own b (fails seen (condition plan now parent which.Invariant)) (ends seen (condition plan now parent which.End))) above)
-    (asks_at_number places records reports truths laid long same exits which.Exit (λ t. t.exit) (λ site. refl) j r d within)
-    ∙ ap (λ b. asked_too (own (exits kept (get_or truths j d).exit) b (ends seen (condition plan now parent which.End))) above)
-    (asks_at_number places records reports truths laid long same fails which.Invariant (λ t. t.invariant) (λ site. refl) j r d within)
+    ∙ ap (λ parent. asked_at plan now (record {
+      path = (get_or places i p).path;
+      above = above_in plan parent;
+      head = head_in (get_or places i p);
+    })) some
+    ∙ ap (λ b. asked_too (own b (fails seen (condition plan now parent which.Invariant))
+    (ends seen (condition plan now parent which.End))) above)
+    (asks_at_number places records reports truths laid long same exits which.Exit (λ t. t.exit) (λ site. refl) j r d
+    within)
+    ∙ ap (λ b. asked_too (own (exits kept (get_or truths j d).exit) b (ends seen (condition plan now parent which.End)))
+    above)
+    (asks_at_number places records reports truths laid long same fails which.Invariant (λ t. t.invariant) (λ site. refl)
+    j r d within)
     ∙ ap (λ b. asked_too (own (exits kept (get_or truths j d).exit) (fails kept (get_or truths j d).invariant) b) above)
-    (asks_at_number places records reports truths laid long same ends which.End (λ t. t.end) (λ site. refl) j r d within)
+    (asks_at_number places records reports truths laid long same ends which.End (λ t. t.end) (λ site. refl) j r d
+    within)
   where
     plan : List Site
     plan = sites_of places
@@ -100,8 +124,11 @@ pub record AskedSoFar (places : List Place) (now : world.World) (asked : List As
   pub each : (k : ℕ) (d : Asked) → k < i → k < length places
       → get_or asked k d ≡ asked_at (sites_of places) now (get_or (sites_of places) k nowhere)
 
-pub asked_child_kept : (places : List Place) (records : List Record) (reports : List (world.LookState × Value)) (truths : List Truths) (asked : List Asked) → IsLaid places → length records ≡ length places
-    → truths ≡ truths_of (sites_of places) (world_of places records reports) → (i : ℕ) → AskedSoFar places (world_of places records reports) asked i
+pub asked_child_kept : (places : List Place) (records : List Record) (reports : List (world.LookState × Value))
+    (truths : List Truths) (asked : List Asked)
+    → IsLaid places → length records ≡ length places
+    → truths ≡ truths_of (sites_of places) (world_of places records reports) → (i : ℕ)
+    → AskedSoFar places (world_of places records reports) asked i
     → (j : ℕ) (p : Place) (r : Record) (d : Truths) (e : Asked) → i < length places
     → (get_or places i p).parent ≡ Some j
     → asked_below (recorded (get_or records j r)) (get_or truths j d) (get_or asked j e)
@@ -113,21 +140,30 @@ asked_child_kept places records reports truths asked laid long same i so_far j p
     (so_far.each j e before (omega arith))
     ∙ sym (asked_child places records reports truths laid long same i j p r d h some)
 
-pub asked_one_more : (places : List Place) (now : world.World) (asked : List Asked) (i : ℕ) (a : Asked) → i < length places
+pub asked_one_more : (places : List Place) (now : world.World) (asked : List Asked) (i : ℕ) (a : Asked)
+    → i < length places
     → AskedSoFar places now asked i → a ≡ asked_at (sites_of places) now (get_or (sites_of places) i nowhere)
     → AskedSoFar places now (set asked i a) (i + 1)
 asked_one_more places now asked i a h so_far is = record {
   long = length-set asked i a ∙ so_far.long;
-  each = λ k d hk within. below_more (λ k. (d : Asked) → k < length places → get_or (set asked i a) k d ≡ asked_at (sites_of places) now (get_or (sites_of places) k nowhere)) i
+  each = λ k d hk within. below_more
+      (λ k. (d : Asked) → k < length places
+      → get_or (set asked i a) k d ≡ asked_at (sites_of places) now (get_or (sites_of places) k nowhere)) i
       (λ k hk d within. get_or-set_other asked i k a d (omega arith) ∙ so_far.each k d hk within)
       (λ d within. get_or-set_same asked i a d (omega (arith, so_far.long)) ∙ is)
       k hk d within;
 }
 
-pub asked_all : (places : List Place) (now : world.World) (asked : List Asked) → AskedSoFar places now asked (length places)
+pub asked_all : (places : List Place) (now : world.World) (asked : List Asked)
+    → AskedSoFar places now asked (length places)
     → asked ≡ asked_of (sites_of places) now
 asked_all places now asked so_far =
-    same_lists asked (asked_of plan now) (omega (arith, so_far.long, length-map plan (asked_at plan now), length-sites_of places))
+    same_lists asked (asked_of plan now) (omega (
+      arith,
+      so_far.long,
+      length-map plan (asked_at plan now),
+      length-sites_of places,
+    ))
     (λ k d h. so_far.each k d (omega (arith, so_far.long)) (omega (arith, so_far.long))
     ∙ sym (get_or-map (asked_at plan now) plan k nowhere d (omega (arith, so_far.long, length-sites_of places))))
   where

@@ -1,5 +1,6 @@
 -- The nodes that are laid have neither variables nor a body, and nothing under way.
-use Rattle.std.proofs.Common.{◌≡◌, zero, suc, get_or, replicate, ap, Bool, true, false, List, [], ◌∷◌, ◌++◌, map, refl, cond, Some, ℕ}
+use Rattle.std.proofs.Common.{◌≡◌, zero, suc, get_or, replicate, ap, Bool, true, false, List, [], ◌∷◌, ◌++◌, map, refl}
+use Rattle.std.proofs.Common.{cond, Some, ℕ}
 use Rattle.std.specs.List.{zip, find}
 use Rattle.std.specs.Map.{lookup}
 use Rattle.std.specs.Option.{unwrap_or}
@@ -27,13 +28,15 @@ all_bare-append (first ∷ sites) site all bare = (all.0, all_bare-append sites 
 grown_bare : (sites : List Site) (places : List Place) → AllBare sites → AllBare (grown sites places)
 grown_bare sites [] all = all
 grown_bare sites (place ∷ places) all =
-    grown_bare (sites ++ site_of sites place ∷ []) places (all_bare-append sites (site_of sites place) all (record { variables = refl; body = refl }))
+    grown_bare (sites ++ site_of sites place ∷ []) places
+    (all_bare-append sites (site_of sites place) all (record { variables = refl; body = refl }))
 
 found_bare : (test : Site → Bool) (sites : List Site) → AllBare sites → IsBare (unwrap_or (find test sites) nowhere)
 found_bare test [] all = record { variables = refl; body = refl }
 found_bare test (site ∷ sites) all = by (test site) (found_bare test sites all.1)
   where
-    by : (holds : Bool) → IsBare (unwrap_or (find test sites) nowhere) → IsBare (unwrap_or (cond holds (Some site) (find test sites)) nowhere)
+    by : (holds : Bool) → IsBare (unwrap_or (find test sites) nowhere)
+        → IsBare (unwrap_or (cond holds (Some site) (find test sites)) nowhere)
     by true rest = all.0
     by false rest = rest
 
@@ -47,15 +50,18 @@ idle_in [] records test = refl
 idle_in (path ∷ paths) [] test = refl
 idle_in (path ∷ paths) (r ∷ records) test = by (test path) (idle_in paths records test)
   where
-    by : (holds : Bool) → (unwrap_or (lookup test (zip paths (map recorded records))) world.no_record).action ≡ world.NoAction
-        → (unwrap_or (cond holds (Some (recorded r)) (lookup test (zip paths (map recorded records)))) world.no_record).action ≡ world.NoAction
+    by : (holds : Bool)
+        → (unwrap_or (lookup test (zip paths (map recorded records))) world.no_record).action ≡ world.NoAction
+        → (unwrap_or (cond holds (Some (recorded r)) (lookup test (zip paths (map recorded records))))
+        world.no_record).action ≡ world.NoAction
     by true rest = refl
     by false rest = rest
 
 -- the node at a path has nothing under way
 pub idle_at : (places : List Place) (records : List Record) (reports : List (world.LookState × Value)) (path : List ℕ)
     → (world.record_at (world_of places records reports) path).action ≡ world.NoAction
-idle_at places records reports path = idle_in (map (λ site. site.path) (sites_of places)) records (λ key. is_same key path)
+idle_at places records reports path =
+    idle_in (map (λ site. site.path) (sites_of places)) records (λ key. is_same key path)
 
 bare_in : (sites : List Site) (k : ℕ) → AllBare sites → IsBare (get_or sites k nowhere)
 bare_in [] k all = record { variables = refl; body = refl }
@@ -67,4 +73,5 @@ bare_at_number places k = bare_in (sites_of places) k (grown_bare [] places tt)
 
 pub unborn_bare : (site : Site) → IsBare site → world.unborn site.head ≡ world.no_record
 unborn_bare site bare =
-    ap (λ variables. let r : world.Record = record world.no_record { variables = map (λ variable. replicate (cells_of variable) Unknown) variables } in r) bare.variables
+    ap (λ variables. let r : world.Record = record world.no_record
+    { variables = map (λ variable. replicate (cells_of variable) Unknown) variables } in r) bare.variables

@@ -15,10 +15,25 @@ none [] e = refl
 none (v ∷ variables) e = absurd (omega (arith, eqb-true (length (v ∷ variables)) 0 e))
 
 pub bare_head : (head : Head) → is_simple_head head ≡ true
-    → record { name = head.name; kind = head.kind; conditions = head.conditions; priority = head.priority; variables = []; body = Nothing } ≡ head
+    → record {
+      name = head.name;
+      kind = head.kind;
+      conditions = head.conditions;
+      priority = head.priority;
+      variables = [];
+      body = Nothing;
+    } ≡ head
 bare_head head simple =
-    let outer = and_parts (is_simple_kind head.kind && is_nothing head.body) (nat_eq (length head.variables) 0) simple in
+    let outer =
+    and_parts (is_simple_kind head.kind && is_nothing head.body) (nat_eq (length head.variables) 0) simple in
     let inner = and_parts (is_simple_kind head.kind) (is_nothing head.body) outer.0 in
-    ap (λ variables. let made : Head = record { name = head.name; kind = head.kind; conditions = head.conditions; priority = head.priority; variables = variables; body = Nothing } in made)
+    ap (λ variables. let made : Head = record {
+      name = head.name;
+      kind = head.kind;
+      conditions = head.conditions;
+      priority = head.priority;
+      variables = variables;
+      body = Nothing;
+    } in made)
     (none head.variables outer.1)
     ∙ ap (λ body. let made : Head = record head { body = body } in made) (nothing head.body inner.1)

@@ -1,5 +1,7 @@
 -- Places by number: each place's site stands over its parent's, and a look-up by path finds it.
-use Rattle.std.proofs.Common.{◌≡◌, ◌≢◌, ℕ, zero, suc, ◌+◌, ◌<◌, Bool, true, false, List, [], ◌∷◌, ◌++◌, length, get_or, map, refl, ap, sym, ◌∙◌, subst, arith, Option, Some, None, length-append, zero-add, add-zero}
+use Rattle.std.proofs.Common.{◌≡◌, ◌≢◌, ℕ, zero, suc, ◌+◌, ◌<◌, Bool, true, false, List, [], ◌∷◌, ◌++◌, length, get_or}
+use Rattle.std.proofs.Common.{map, refl, ap, sym, ◌∙◌, subst, arith, Option, Some, None, length-append, zero-add}
+use Rattle.std.proofs.Common.{add-zero}
 use Rattle.std.specs.List.{zip}
 use Rattle.std.specs.Map.{lookup}
 use Rattle.std.specs.Option.{unwrap_or, ForSome}
@@ -26,21 +28,30 @@ same-other a b differ = by (is_same a b) refl
 
 -- ---- sites of places
 
-pub length-grown : (sites : List Site) (places : List Place) → length (grown sites places) ≡ length sites + length places
+pub length-grown : (sites : List Site) (places : List Place)
+    → length (grown sites places) ≡ length sites + length places
 length-grown sites [] = omega arith
 length-grown sites (place ∷ places) =
-    omega (arith, length-grown (sites ++ site_of sites place ∷ []) places, length-append sites (site_of sites place ∷ []))
+    omega (
+      arith,
+      length-grown (sites ++ site_of sites place ∷ []) places,
+      length-append sites
+          (site_of sites place ∷ []),
+    )
 
 -- what is there stays
-pub grown_before : (sites : List Site) (places : List Place) (i : ℕ) (d : Site) → i < length sites → get_or (grown sites places) i d ≡ get_or sites i d
+pub grown_before : (sites : List Site) (places : List Place) (i : ℕ) (d : Site) → i < length sites
+    → get_or (grown sites places) i d ≡ get_or sites i d
 grown_before sites [] i d h = refl
 grown_before sites (place ∷ places) i d h =
-    grown_before (sites ++ site_of sites place ∷ []) places i d (omega (arith, length-append sites (site_of sites place ∷ [])))
+    grown_before (sites ++ site_of sites place ∷ []) places i d
+    (omega (arith, length-append sites (site_of sites place ∷ [])))
     ∙ get_or_append_left sites (site_of sites place ∷ []) d i h
 
 -- a place whose parent is there is the same site over more sites
 site_of_more : (sites more : List Site) (place : Place) → IsBefore (length sites) place
-    → ((j : ℕ) (d : Site) → j < length sites → get_or more j d ≡ get_or sites j d) → site_of sites place ≡ site_of more place
+    → ((j : ℕ) (d : Site) → j < length sites → get_or more j d ≡ get_or sites j d)
+    → site_of sites place ≡ site_of more place
 site_of_more sites more place before same =
     ap (λ above. record { path = place.path; above = above; head = head_in place }) (by place.parent before)
   where
@@ -72,10 +83,12 @@ grown_at sites (place ∷ places) (suc i) d e h before =
 pub length-sites_of : (places : List Place) → length (sites_of places) ≡ length places
 length-sites_of places = omega (arith, length-grown [] places)
 
-pub site_at_linked : (places : List Place) → ((i : ℕ) (d : Place) → i < length places → IsBefore i (get_or places i d)) → (i : ℕ) (d : Site) (e : Place) → i < length places
+pub site_at_linked : (places : List Place) → ((i : ℕ) (d : Place) → i < length places → IsBefore i (get_or places i d))
+    → (i : ℕ) (d : Site) (e : Place) → i < length places
     → get_or (sites_of places) i d ≡ site_of (sites_of places) (get_or places i e)
 site_at_linked places linked i d e h =
-    rw zero-add at (grown_at [] places i d e h (λ k e h. subst (λ n. IsBefore n (get_or places k e)) (sym (zero-add k)) (linked k e h)))
+    rw zero-add at (grown_at [] places i d e h
+    (λ k e h. subst (λ n. IsBefore n (get_or places k e)) (sym (zero-add k)) (linked k e h)))
 
 pub site_at_number : (places : List Place) → IsLaid places → (i : ℕ) (d : Site) (e : Place) → i < length places
     → get_or (sites_of places) i d ≡ site_of (sites_of places) (get_or places i e)
@@ -92,7 +105,8 @@ grown-push sites (first ∷ places) place = grown-push (sites ++ site_of sites f
 -- the paths of different sites differ
 abbrev pub AreDistinct : List Site → Type 0
 AreDistinct sites =
-    (i j : ℕ) → i < length sites → j < length sites → (get_or sites i nowhere).path ≡ (get_or sites j nowhere).path → i ≡ j
+    (i j : ℕ) → i < length sites → j < length sites → (get_or sites i nowhere).path ≡ (get_or sites j nowhere).path
+    → i ≡ j
 
 distinct_tail : (site : Site) (sites : List Site) → AreDistinct (site ∷ sites) → AreDistinct sites
 distinct_tail site sites distinct i j hi hj same =
@@ -103,9 +117,11 @@ head_differs : (site : Site) (sites : List Site) (i : ℕ) → AreDistinct (site
 head_differs site sites i distinct h = same-other _ _ (λ same.
     let e : 0 ≡ suc i = distinct 0 (suc i) (omega arith) (omega arith) same in absurd (omega arith))
 
-pub found_record : (sites : List Site) (records : List world.Record) (i : ℕ) (e : world.Record) → AreDistinct sites → i < length sites
+pub found_record : (sites : List Site) (records : List world.Record) (i : ℕ) (e : world.Record) → AreDistinct sites
+    → i < length sites
     → length records ≡ length sites
-    → unwrap_or (lookup (λ key. is_same key (get_or sites i nowhere).path) (zip (map (λ s. s.path) sites) records)) e ≡ get_or records i e
+    → unwrap_or (lookup (λ key. is_same key (get_or sites i nowhere).path) (zip (map (λ s. s.path) sites) records)) e
+    ≡ get_or records i e
 found_record [] records i e distinct h long = absurd (omega arith)
 found_record (site ∷ sites) [] i e distinct h long = absurd (omega arith)
 found_record (site ∷ sites) (r ∷ records) zero e distinct h long = rw (same-self site.path) refl

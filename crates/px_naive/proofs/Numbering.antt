@@ -1,17 +1,14 @@
 -- The numbers of paths, one place after another.
-use Rattle.std.proofs.Common.{◌≡◌, ℕ, suc, ◌+◌, ◌<◌, Bool, true, false, List, [], ◌∷◌, ◌++◌, length, get_or, take, refl, ap, sym, ◌∙◌, subst, arith, cond, Option, Some, None, IfSome, if◌then◌else◌}
+use Rattle.std.proofs.Common.{◌≡◌, ℕ, suc, ◌+◌, ◌<◌, Bool, true, false, List, [], ◌∷◌, ◌++◌, length, get_or, take, refl}
+use Rattle.std.proofs.Common.{ap, sym, ◌∙◌, subst, arith, cond, Option, Some, None, IfSome, if◌then◌else◌}
 use Rattle.std.specs.Cmp.Lexicographic.{same_text}
 use Rattle.std.specs.Option.{option_map}
 use Rattle.std.proofs.lemmas.List.{take_more, take_all, get_or-map, get_or-take, length-take-le}
 use Rattle.px_core.specs.Plan.{is_same, nowhere}
 use Rattle.px_naive.specs.declared.place.Place.{Place}
 use Rattle.px_naive.specs.Places.{IsLaid, sites_of, paths_of, path_at, number_in}
-use Rattle.px_naive.proofs.Found.{length-paths_of}
+use Rattle.px_naive.proofs.Found.{length-paths_of, none_behind}
 use Rattle.px_naive.proofs.Laid.{length-sites_of}
-
-none_behind : (o : Option ℕ) → option_map suc o ≡ None → o ≡ None
-none_behind None e = refl
-none_behind (Some k) e = absurd (cc)
 
 -- one path more, which is new where it is asked for
 pub number_of_more : (xs : List (List ℕ)) (p q : List ℕ) → (is_same p q ≡ true → number_in xs q ≡ None)
@@ -24,7 +21,8 @@ number_of_more [] p q new = by (is_same p q)
 number_of_more (x ∷ xs) p q new = by (is_same x q) (is_same p q) new (number_of_more xs p q)
   where
     by : (first same : Bool) → (same ≡ true → (if first then Some 0 else option_map suc (number_in xs q)) ≡ None)
-        → ((same ≡ true → number_in xs q ≡ None) → cond same (Some (length xs)) (number_in xs q) ≡ number_in (xs ++ p ∷ []) q)
+        → ((same ≡ true → number_in xs q ≡ None)
+        → cond same (Some (length xs)) (number_in xs q) ≡ number_in (xs ++ p ∷ []) q)
         → cond same (Some (suc (length xs))) (if first then Some 0 else option_map suc (number_in xs q))
         ≡ (if first then Some 0 else option_map suc (number_in (xs ++ p ∷ []) q))
     by true true new rest = absurd (cc (new refl))
@@ -33,7 +31,8 @@ number_of_more (x ∷ xs) p q new = by (is_same x q) (is_same p q) new (number_o
     by false false new rest = ap (option_map suc) (rest (λ e. absurd (cc)))
 
 -- where a path stands
-pub number_sound : (xs : List (List ℕ)) (q : List ℕ) (k : ℕ) (d : List ℕ) → number_in xs q ≡ Some k → (k < length xs) × (get_or xs k d ≡ q)
+pub number_sound : (xs : List (List ℕ)) (q : List ℕ) (k : ℕ) (d : List ℕ) → number_in xs q ≡ Some k
+    → (k < length xs) × (get_or xs k d ≡ q)
 number_sound [] q k d at = absurd (cc)
 number_sound (x ∷ xs) q k d at = by (is_same x q) refl at (λ j is. number_sound xs q j d is)
   where
@@ -63,7 +62,8 @@ absent places laid i q h is = by (number_in (take i (paths_of places)) q) refl
     by None e = refl
     by (Some k) e =
         let found = number_sound (take i (paths_of places)) q k [] e in
-        let long : length (take i (paths_of places)) ≡ i = length-take-le i (paths_of places) (omega (arith, length-paths_of places)) in
+        let long : length (take i (paths_of places)) ≡ i =
+        length-take-le i (paths_of places) (omega (arith, length-paths_of places)) in
         let before : k < length (take i (paths_of places)) = found.0 in
         let lt : k < i = omega arith in
         let path : path_at places k ≡ q =
@@ -72,22 +72,33 @@ absent places laid i q h is = by (number_in (take i (paths_of places)) q) refl
         let same : k ≡ i = laid.distinct k i (omega arith) h (path ∙ sym is) in
         absurd (omega arith)
 
-pub numbered_more : (places : List Place) → IsLaid places → (i : ℕ) (p q : List ℕ) → i < length places → p ≡ path_at places i
-    → cond (is_same p q) (Some i) (number_in (take i (paths_of places)) q) ≡ number_in (take (i + 1) (paths_of places)) q
+pub numbered_more : (places : List Place) → IsLaid places → (i : ℕ) (p q : List ℕ) → i < length places
+    → p ≡ path_at places i
+    → cond (is_same p q) (Some i) (number_in (take i (paths_of places)) q)
+    ≡ number_in (take (i + 1) (paths_of places)) q
 numbered_more places laid i p q h is =
-    let long : length (take i (paths_of places)) ≡ i = length-take-le i (paths_of places) (omega (arith, length-paths_of places)) in
-    let path : get_or (paths_of places) i [] ≡ p = get_or-map (λ site. site.path) (sites_of places) i nowhere [] (omega (arith, length-sites_of places)) ∙ sym is in
+    let long : length (take i (paths_of places)) ≡ i =
+    length-take-le i (paths_of places) (omega (arith, length-paths_of places)) in
+    let path : get_or (paths_of places) i [] ≡ p =
+    get_or-map (λ site. site.path) (sites_of places) i nowhere [] (omega (arith, length-sites_of places))
+    ∙ sym is in
     ap (λ n. cond (is_same p q) (Some n) (number_in (take i (paths_of places)) q)) (sym long)
-    ∙ number_of_more (take i (paths_of places)) p q (λ same. absent places laid i q h (sym is ∙ same_text p q (sym same)))
+    ∙ number_of_more (take i (paths_of places)) p q
+    (λ same. absent places laid i q h (sym is ∙ same_text p q (sym same)))
     ∙ ap (λ path. number_in (take i (paths_of places) ++ path ∷ []) q) (sym path)
     ∙ ap (λ paths. number_in paths q) (sym (take_more (paths_of places) i [] (omega (arith, length-paths_of places))))
 
-pub numbered_all : (places : List Place) (q : List ℕ) → number_in (take (length places) (paths_of places)) q ≡ number_in (paths_of places) q
-numbered_all places q = ap (λ paths. number_in paths q) (take_all (length places) (paths_of places) (omega (arith, length-paths_of places)))
+pub numbered_all : (places : List Place) (q : List ℕ)
+    → number_in (take (length places) (paths_of places)) q ≡ number_in (paths_of places) q
+numbered_all places q =
+    ap (λ paths. number_in paths q) (take_all (length places) (paths_of places) (omega (arith, length-paths_of places)))
 
-pub number_within : (places : List Place) (q : List ℕ) (k : ℕ) → number_in (paths_of places) q ≡ Some k → k < length places
-number_within places q k at = let lt = (number_sound (paths_of places) q k [] at).0 in omega (arith, length-paths_of places, lt)
+pub number_within : (places : List Place) (q : List ℕ) (k : ℕ) → number_in (paths_of places) q ≡ Some k
+    → k < length places
+number_within places q k at =
+    let lt = (number_sound (paths_of places) q k [] at).0 in omega (arith, length-paths_of places, lt)
 
-pub some_within : (places : List Place) (q : List ℕ) (o : Option ℕ) → o ≡ number_in (paths_of places) q → IfSome o (λ k. k < length places)
+pub some_within : (places : List Place) (q : List ℕ) (o : Option ℕ) → o ≡ number_in (paths_of places) q
+    → IfSome o (λ k. k < length places)
 some_within places q None is = tt
 some_within places q (Some k) is = number_within places q k (sym is)

@@ -32,20 +32,29 @@ pub handle_of : (path : Path) → term_of (exprs.HandleOf path) ≡ terms.Handle
 handle_of path = ap term_of (sym (exprs.rolls-HandleOf path)) ∙ fold-roll-Expr Term term_step (Expr-F.HandleOf path)
 
 pub acknowledged : (path : Path) → term_of (exprs.Acknowledged path) ≡ terms.Acknowledged path
-acknowledged path = ap term_of (sym (exprs.rolls-Acknowledged path)) ∙ fold-roll-Expr Term term_step (Expr-F.Acknowledged path)
+acknowledged path =
+    ap term_of (sym (exprs.rolls-Acknowledged path)) ∙ fold-roll-Expr Term term_step (Expr-F.Acknowledged path)
 
 pub variable : (owner : Path) (name : Name) → term_of (exprs.Var owner name) ≡ terms.Var owner name
-variable owner name = ap term_of (sym (exprs.rolls-Var owner name)) ∙ fold-roll-Expr Term term_step (Expr-F.Var owner name)
+variable owner name =
+    ap term_of (sym (exprs.rolls-Var owner name)) ∙ fold-roll-Expr Term term_step (Expr-F.Var owner name)
 
 pub unary : (op : UnaryOp) (arg : Box Expr Global) → term_of (exprs.Unary op arg) ≡ terms.Unary op (term_of arg.value)
 unary op arg = ap term_of (sym (exprs.rolls-Unary op arg)) ∙ fold-roll-Expr Term term_step (Expr-F.Unary op arg)
 
-pub binary : (op : BinaryOp) (left right : Box Expr Global) → term_of (exprs.Binary op left right) ≡ terms.Binary op (term_of left.value) (term_of right.value)
-binary op left right = ap term_of (sym (exprs.rolls-Binary op left right)) ∙ fold-roll-Expr Term term_step (Expr-F.Binary op left right)
+pub binary : (op : BinaryOp) (left right : Box Expr Global)
+    → term_of (exprs.Binary op left right) ≡ terms.Binary op (term_of left.value) (term_of right.value)
+binary op left right =
+    ap term_of (sym (exprs.rolls-Binary op left right)) ∙ fold-roll-Expr Term term_step (Expr-F.Binary op left right)
 
-pub cell : (owner : Path) (name : Name) (index : Box Expr Global) → term_of (exprs.Cell owner name index) ≡ terms.Cell owner name (term_of index.value)
-cell owner name index = ap term_of (sym (exprs.rolls-Cell owner name index)) ∙ fold-roll-Expr Term term_step (Expr-F.Cell owner name index)
+pub cell : (owner : Path) (name : Name) (index : Box Expr Global)
+    → term_of (exprs.Cell owner name index) ≡ terms.Cell owner name (term_of index.value)
+cell owner name index =
+    ap term_of (sym (exprs.rolls-Cell owner name index)) ∙ fold-roll-Expr Term term_step (Expr-F.Cell owner name index)
 
 pub look : (word : LookWord) (name : Name) (args : Vec Expr Global) (tolerance : Option ℕ)
-    → term_of (exprs.Look word name args tolerance) ≡ terms.Look word name (terms.in_turn (map term_of args.items)) tolerance
-look word name args tolerance = ap term_of (sym (exprs.rolls-Look word name args tolerance)) ∙ fold-roll-Expr Term term_step (Expr-F.Look word name args tolerance)
+    → term_of (exprs.Look word name args tolerance)
+    ≡ terms.Look word name (terms.in_turn (map term_of args.items)) tolerance
+look word name args tolerance =
+    ap term_of (sym (exprs.rolls-Look word name args tolerance))
+    ∙ fold-roll-Expr Term term_step (Expr-F.Look word name args tolerance)

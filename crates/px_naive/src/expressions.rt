@@ -10,6 +10,7 @@ ghost use Rattle.px_naive.specs.Places.{sites_of, world_of};
 ghost use Rattle.px_naive.specs.Reports.{listed};
 
 use crate::finding::record_at;
+use crate::look_state::LookState;
 use crate::numbers::Numbers;
 use crate::place::{Place, Record};
 use crate::reports::Reports;
@@ -87,17 +88,17 @@ fn looked_up(
     alloc: Global,
     reports: &Reports,
     name: &Name,
-    args: &Values,
+    args: Values,
     places: &[Place],
     records: &[Record],
 ) -> Result<Value, NoMemory>
     ensures { IfOk result (λ value. value
-        ≡ looked_up (world_of places.now records.now (listed reports.now)) name.now args.now) }
+        ≡ looked_up (world_of places.now records.now (listed reports.now)) name.now args) }
 {
-    if is_any_unknown(args) {
+    if is_any_unknown(&args) {
         return Ok(Value::Unknown);
     }
-    match reports.last(name, args) {
+    match reports.last(&LookState::new(name.copy(alloc)?, args)) {
         Some(value) => value.copy(alloc),
         None => Ok(Value::Unknown),
     }
@@ -128,7 +129,7 @@ pub fn value(
         Expr::Acknowledged(_) => Value::Boolean(false),
         Expr::Look { name, args, .. } => {
             let args = value_of_each(alloc, args, places, numbers, records, reports)?;
-            looked_up(alloc, reports, name, &args, places, records)?
+            looked_up(alloc, reports, name, args, places, records)?
         }
         Expr::Unary { op, arg } => unary(
             *op,

@@ -19,6 +19,7 @@ mod children;
 mod expressions;
 mod finding;
 mod laying;
+mod look_state;
 mod moving;
 mod naive;
 mod numbers;

@@ -1,22 +1,16 @@
 // What was reported of the outside, and how the last report changed that.
-ghost use Rattle.std.specs.Prelude.{◌≡◌, ◌<◌, [], length, OnOk, OnErr, IfSome};
+ghost use Rattle.std.specs.Prelude.{◌≡◌, [], OnOk, OnErr};
 ghost use Rattle.std.specs.Option.{option_copied};
-ghost use Rattle.px_sem.specs.World.{is_same_state, last_report};
+ghost use Rattle.px_sem.specs.World.{last_report};
 ghost use Rattle.px_sem.specs.Events.{reported};
-ghost use Rattle.px_naive.specs.Reports.{entry_of, entries_of, listed, listed_before, place_of};
+ghost use Rattle.px_naive.specs.Reports.{listed, listed_before};
 
+use crate::look_state::LookState;
+use indexmap::IndexMap;
 use px_event::Values;
 use px_value::{Name, NoMemory, Value};
 use std::alloc::Global;
 use std::mem;
-
-/// The last value of a state of the outside.
-#[derive(Debug, Drop)]
-pub struct Report {
-    pub name: Name,
-    pub args: Values,
-    pub value: Value,
-}
 
 /// How the last report changed the list.
 #[derive(Debug, Drop)]
@@ -27,30 +21,12 @@ pub enum Change {
     Added,
 }
 
-/// The reports in the order in which their states were first reported, and how the last one changed them.
+/// The last value of each reported state, in the order in which the states were first reported, and how the last report
+/// changed them.
 #[derive(Debug, Drop)]
 pub struct Reports {
-    items: Vec<Report>,
+    values: IndexMap<LookState, Value>,
     change: Change,
-}
-
-fn is_same_state(report: &Report, name: &Name, args: &Values) -> bool
-    ensures { result ≡ is_same_state (entry_of report.now).0 (record { name = name.now; args = args.now }) }
-{
-    report.name == *name && report.args == *args
-}
-
-/// Where a state stands among the reports.
-fn place_of(items: &[Report], name: &Name, args: &Values) -> Option<usize>
-    ensures place { result ≡ place_of (record { name = name.now; args = args.now }) (entries_of items.now) }
-    ensures within { IfSome result (λ at. at < length items.now) }
-{
-    for i in 0..items.len() {
-        if is_same_state(&items[i], name, args) {
-            return Some(i);
-        }
-    }
-    None
 }
 
 impl Reports {
@@ -59,20 +35,16 @@ impl Reports {
         ensures { listed result ≡ [] }
     {
         Reports {
-            items: Vec::new(alloc),
+            values: IndexMap::new(alloc),
             change: Change::Nothing,
         }
     }
 
     /// The last value of a state; None where it was never reported.
-    #[tactic(auto, using(crate::proofs::Reporting::last_item, crate::proofs::Reporting::last_none))]
-    pub fn last(&self, name: &Name, args: &Values) -> Option<&Value>
-        ensures { option_copied result ≡ last_report (listed self.now) (record { name = name.now; args = args.now }) }
+    pub fn last(&self, state: &LookState) -> Option<&Value>
+        ensures { option_copied result ≡ last_report (listed self.now) state.now }
     {
-        match place_of(&self.items, name, args) {
-            Some(at) => Some(&self.items[at].value),
-            None => None,
-        }
+        self.values.get(state)
     }
 
     /// Takes a report, which `undo` takes back.
@@ -88,21 +60,12 @@ impl Reports {
         ensures before { OnOk result (listed_before self.new ≡ listed self.old) }
         ensures err { OnErr result (listed self.new ≡ listed self.old) }
     {
-        let value = value.copy(alloc)?;
-        match place_of(&self.items, name, args) {
-            Some(at) => {
-                let old = mem::replace(&mut self.items[at].value, value);
-                self.change = Change::Replaced { at, old };
-            }
-            None => {
-                self.items.push(Report {
-                    name: name.copy(alloc)?,
-                    args: args.copy(alloc)?,
-                    value,
-                })?;
-                self.change = Change::Added;
-            }
-        }
+        let state = LookState::new(name.copy(alloc)?, args.copy(alloc)?);
+        let (at, old) = self.values.insert_full(state, value.copy(alloc)?)?;
+        self.change = match old {
+            Some(old) => Change::Replaced { at, old },
+            None => Change::Added,
+        };
         Ok(())
     }
 
@@ -121,13 +84,66 @@ impl Reports {
         match mem::replace(&mut self.change, Change::Nothing) {
             Change::Nothing => {}
             Change::Replaced { at, old } => {
-                if at < self.items.len() {
-                    self.items[at].value = old;
+                if at < self.values.len() {
+                    self.values[at] = old;
                 }
             }
             Change::Added => {
-                self.items.pop();
+                self.values.pop();
             }
         }
+    }
+}
+
+#[cfg(test)]
+mod tests {
+    use super::*;
+    use std::test::Fail;
+
+    fn args(alloc: Global, number: Option<i32>) -> Result<Values, Fail> {
+        let mut values = Vec::new(alloc);
+        if let Some(number) = number {
+            values.push(Value::Integer(number))?;
+        }
+        Ok(Values::from(values))
+    }
+
+    fn number(value: Option<&Value>) -> Option<i32> {
+        match value {
+            Some(Value::Integer(number)) => Some(*number),
+            _ => None,
+        }
+    }
+
+    #[test]
+    fn a_report_is_of_one_state_and_the_last_is_taken_back(rt: HostRuntime) -> Result<(), Fail> {
+        let alloc = rt.alloc();
+        let mut reports = Reports::new(alloc);
+        for (name, arg, value, is_kept, then) in [
+            ("level", None, 10, true, Some(10)),
+            ("level", Some(1), 11, true, Some(11)),
+            ("level", Some(2), 12, false, None),
+            ("door", None, 13, true, Some(13)),
+            ("level", Some(1), 21, false, Some(11)),
+            ("level", None, 30, true, Some(30)),
+            ("door", Some(1), 14, true, Some(14)),
+        ] {
+            let (name, args) = (Name::new(alloc, name)?, args(alloc, arg)?);
+            reports.report(alloc, &name, &args, &Value::Integer(value))?;
+            let state = LookState::new(name, args);
+            assert_eq!(rt; number(reports.last(&state)), Some(value));
+            if is_kept {
+                reports.keep();
+            }
+            reports.undo();
+            assert_eq!(rt; number(reports.last(&state)), then);
+        }
+
+        // In the order of the first reports that were kept.
+        assert_eq!(rt; reports.values.len(), 4);
+        for (value, wanted) in reports.values.values().zip([30, 11, 13, 14]) {
+            assert_eq!(rt; number(Some(value)), Some(wanted));
+        }
+        Ok(())
     }
 }

@@ -6,7 +6,8 @@ use Rattle.px_naive.proofs.children.look_down.Goals.{in-Some, in_default}
 
 pub loop-i-init : goal.loop-i-init
 loop-i-init c = seen_none_yet c.args.places.now c.args.records.now c.fill.new.self (omega arith)
-    (λ k d h. ap (λ seen. get_or seen k d) (c.fill.ensures.after (λ y same. same)) ∙ get_or-replicate (length c.args.children.now) k _ d (omega arith))
+    (λ k d h. ap (λ seen. get_or seen k d) (c.fill.ensures.after (λ y same. same)) ∙ get_or-replicate
+    (length c.args.children.now) k _ d (omega arith))
 
 pub loop-i-preserved : goal.loop-i-preserved
 loop-i-preserved c = elim c.match-places-i.branch [

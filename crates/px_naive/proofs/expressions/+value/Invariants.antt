@@ -7,4 +7,5 @@ use Rattle.px_naive.proofs.expressions.+value.Given as goal
 
 abbrev pub invariant-value_of_each-loop-expr : goal.invariant-value_of_each-loop-expr
 invariant-value_of_each-loop-expr l = l.values.items
-    ≡ map (λ e. value (sites_of l.places) (world_of l.places l.records (listed l.reports)) (term_of e)) (take l.expr-index l.exprs)
+    ≡ map (λ e. value (sites_of l.places) (world_of l.places l.records (listed l.reports)) (term_of e))
+    (take l.expr-index l.exprs)

@@ -5,12 +5,14 @@ use Rattle.px_core.specs.Plan.{count_of}
 use Rattle.px_core.specs.Plan.{sites_under}
 use Rattle.px_naive.specs.Places.{sites_of, above_in}
 use Rattle.px_naive.specs.Laying.{trees, below_it, is_layable, IsLinked, IsPlaceUnder}
-use Rattle.px_naive.proofs.Trees.{LaidSoFar, NextIsLayable, IsPut, long_enough, next_is_layable, next_room, next_simple, put_next, laid_next, laid_more, laid_none, child_smaller}
+use Rattle.px_naive.proofs.Trees.{LaidSoFar, NextIsLayable, IsPut, long_enough, next_is_layable, next_room, next_simple}
+use Rattle.px_naive.proofs.Trees.{put_next, laid_next, laid_more, laid_none, child_smaller}
 use Rattle.px_naive.proofs.laying.+lay_below.Goals as goal
 
 pub place_under-requires-clause-parent : goal.place_under-requires-clause-parent
 place_under-requires-clause-parent t c =
-    rw c.deref.ensures.value (long_enough c.args.places.now.items c.loop-child.places.items c.args.number _ c.requires.number c.loop-child.invariant)
+    rw c.deref.ensures.value (long_enough c.args.places.now.items c.loop-child.places.items c.args.number _
+    c.requires.number c.loop-child.invariant)
 
 pub place_under-requires-clause-linked : goal.place_under-requires-clause-linked
 place_under-requires-clause-linked t c = subst IsLinked (sym c.deref.ensures.value) c.loop-child.invariant.linked
@@ -19,16 +21,19 @@ pub place_under-requires-clause-short : goal.place_under-requires-clause-short
 place_under-requires-clause-short t c =
     let above = above_in (sites_of c.args.places.now.items) (Some c.args.number) in
     let children = c.deref-child-items.result.now in
-    rw c.deref.ensures.value (next_room c.args.places.now.items c.loop-child.places.items c.args.number _ c.child-item.result c.requires.number c.loop-child.invariant
+    rw c.deref.ensures.value (next_room c.args.places.now.items c.loop-child.places.items c.args.number _
+    c.child-item.result c.requires.number c.loop-child.invariant
     (subst (NextIsLayable above) (sym c.child-item.is)
-    (next_is_layable above children c.loop-child.child-index c.child-item.result c.loop-child-test.true (rw c.deref-child-items.ensures.value c.requires.layable))))
+    (next_is_layable above children c.loop-child.child-index c.child-item.result c.loop-child-test.true
+    (rw c.deref-child-items.ensures.value c.requires.layable))))
 
 pub place_under-requires-clause-simple : goal.place_under-requires-clause-simple
 place_under-requires-clause-simple t c =
     let above = above_in (sites_of c.args.places.now.items) (Some c.args.number) in
     let children = c.deref-child-items.result.now in
     next_simple above c.child-item.result (subst (NextIsLayable above) (sym c.child-item.is)
-    (next_is_layable above children c.loop-child.child-index c.child-item.result c.loop-child-test.true (rw c.deref-child-items.ensures.value c.requires.layable)))
+    (next_is_layable above children c.loop-child.child-index c.child-item.result c.loop-child-test.true
+    (rw c.deref-child-items.ensures.value c.requires.layable)))
 
 pub lay_below-requires : goal.lay_below-requires
 lay_below-requires t c =
@@ -36,20 +41,26 @@ lay_below-requires t c =
     let children = c.deref-child-items.result.now in
     let smaller : count_of (below_it c.child-item.result) < count_of (below_it c.args.node.now) =
     subst (λ nodes. count_of (below_it c.child-item.result) < count_of (trees nodes)) c.deref-child-items.ensures.value
-    (subst (λ node. count_of (below_it node) < count_of (trees children)) (sym c.child-item.is) (child_smaller children c.loop-child.child-index c.child-item.result c.loop-child-test.true)) in
+    (subst (λ node. count_of (below_it node) < count_of (trees children)) (sym c.child-item.is)
+    (child_smaller children c.loop-child.child-index c.child-item.result c.loop-child-test.true)) in
     let layable : NextIsLayable above c.child-item.result = subst (NextIsLayable above) (sym c.child-item.is)
-    (next_is_layable above children c.loop-child.child-index c.child-item.result c.loop-child-test.true (rw c.deref-child-items.ensures.value c.requires.layable)) in
+    (next_is_layable above children c.loop-child.child-index c.child-item.result c.loop-child-test.true
+    (rw c.deref-child-items.ensures.value c.requires.layable)) in
     let put : IsPut c.args.places.now.items c.loop-child.places.items c.push.new.self.items c.args.number c.child-item.result =
-    subst (λ put. IsPut c.args.places.now.items c.loop-child.places.items put c.args.number c.child-item.result) (sym c.in_ok-push.ensures.items)
-    (put_next c.args.places.now.items c.loop-child.places.items c.args.number (take c.loop-child.child-index children) c.child-item.result
+    subst (λ put. IsPut c.args.places.now.items c.loop-child.places.items put c.args.number c.child-item.result)
+    (sym c.in_ok-push.ensures.items)
+    (put_next c.args.places.now.items c.loop-child.places.items c.args.number (take c.loop-child.child-index children)
+    c.child-item.result
     c.requires.number c.loop-child.invariant c.in_ok-place.place (subst (λ places. IsPlaceUnder places c.args.number c.child-item.result c.in_ok-place.place) c.deref.ensures.value c.in_ok-place.ensures)) in
     let next : c.len-next.result ≡ length c.loop-child.places.items = omega (arith, c.len-next.ensures, c.loop-child.places.ok.0) in (
       search rules,
       (
         omega (arith, put.long),
         (
-          subst (λ n. list_all is_layable (sites_under (above_in (sites_of c.push.new.self.items) (Some n)) (below_it c.child-item.result)) ≡ true) (sym next)
-              (subst (λ at. list_all is_layable (sites_under at (below_it c.child-item.result)) ≡ true) (sym put.above) layable.inner),
+          subst (λ n. list_all is_layable (sites_under (above_in (sites_of c.push.new.self.items) (Some n))
+              (below_it c.child-item.result)) ≡ true) (sym next)
+              (subst (λ at. list_all is_layable (sites_under at (below_it c.child-item.result)) ≡ true) (sym put.above)
+              layable.inner),
           (put.linked, put.named),
         ),
       ),
@@ -62,19 +73,28 @@ pub loop-child-preserved : goal.loop-child-preserved
 loop-child-preserved t c =
     let children = c.deref-child-items.result.now in
     let put : IsPut c.args.places.now.items c.loop-child.places.items c.push.new.self.items c.args.number c.child-item.result =
-    subst (λ put. IsPut c.args.places.now.items c.loop-child.places.items put c.args.number c.child-item.result) (sym c.in_ok-push.ensures.items)
-    (put_next c.args.places.now.items c.loop-child.places.items c.args.number (take c.loop-child.child-index children) c.child-item.result
+    subst (λ put. IsPut c.args.places.now.items c.loop-child.places.items put c.args.number c.child-item.result)
+    (sym c.in_ok-push.ensures.items)
+    (put_next c.args.places.now.items c.loop-child.places.items c.args.number (take c.loop-child.child-index children)
+    c.child-item.result
     c.requires.number c.loop-child.invariant c.in_ok-place.place (subst (λ places. IsPlaceUnder places c.args.number c.child-item.result c.in_ok-place.place) c.deref.ensures.value c.in_ok-place.ensures)) in
-    let next : c.len-next.result ≡ length c.loop-child.places.items = omega (arith, c.len-next.ensures, c.loop-child.places.ok.0) in
-    laid_more c.args.places.now.items c.lay_below.new.places.items c.args.number children c.loop-child.child-index c.child-item.result c.loop-child-test.true
-    (subst (λ node. LaidSoFar c.args.places.now.items c.lay_below.new.places.items c.args.number (take c.loop-child.child-index children ++ node ∷ [])) c.child-item.is
-    (laid_next c.args.places.now.items c.loop-child.places.items c.push.new.self.items c.lay_below.new.places.items c.args.number (take c.loop-child.child-index children) c.child-item.result
+    let next : c.len-next.result ≡ length c.loop-child.places.items =
+    omega (arith, c.len-next.ensures, c.loop-child.places.ok.0) in
+    laid_more c.args.places.now.items c.lay_below.new.places.items c.args.number children c.loop-child.child-index
+    c.child-item.result c.loop-child-test.true
+    (subst (λ node. LaidSoFar c.args.places.now.items c.lay_below.new.places.items c.args.number
+    (take c.loop-child.child-index children ++ node ∷ [])) c.child-item.is
+    (laid_next c.args.places.now.items c.loop-child.places.items c.push.new.self.items c.lay_below.new.places.items
+    c.args.number (take c.loop-child.child-index children) c.child-item.result
     c.loop-child.invariant put
     (subst (λ n. sites_of c.lay_below.new.places.items ≡ sites_of c.push.new.self.items ++ sites_under (above_in (sites_of c.push.new.self.items) (Some n)) (below_it c.child-item.result)) next c.in_ok-lay_below.ensures.sites)
     c.in_ok-lay_below.ensures.linked c.in_ok-lay_below.ensures.named))
 
 pub returns-clause-sites : goal.returns-clause-sites
-returns-clause-sites t c = c.loop-child.invariant.sites ∙ ap (λ nodes. sites_of c.args.places.now.items ++ sites_under (above_in (sites_of c.args.places.now.items) (Some c.args.number)) (trees nodes))
+returns-clause-sites t c =
+    c.loop-child.invariant.sites
+    ∙ ap (λ nodes. sites_of c.args.places.now.items ++ sites_under
+    (above_in (sites_of c.args.places.now.items) (Some c.args.number)) (trees nodes))
     (take_all c.loop-child.child-index c.deref-child-items.result.now c.loop-child-test.false ∙ c.deref-child-items.ensures.value)
 
 pub returns-clause-linked : goal.returns-clause-linked

@@ -13,12 +13,15 @@ place_of_root-requires c = root_simple c.args.plan.now.root c.requires.simple
 pub lay_below-requires : goal.lay_below-requires
 lay_below-requires c =
     let is : IsRooted c.push.new.self.items c.args.plan.now.root =
-    rooted c.new-places.result.items c.push.new.self.items c.args.plan.now.root _ c.new-places.ensures.items c.in_ok-push.ensures.items
+    rooted c.new-places.result.items c.push.new.self.items c.args.plan.now.root _ c.new-places.ensures.items
+    c.in_ok-push.ensures.items
     c.in_ok-place_of_root.ensures in
     record {
       number = omega (arith, is.long);
-      layable = subst (λ at. list_all is_layable (sites_under at (below_it c.args.plan.now.root)) ≡ true) (sym (above_root c.push.new.self.items c.args.plan.now.root is))
-          (layable_below c.args.plan.now.root (both_of_all has_short_path is_simple_site (sites (tree_of c.args.plan.now)) c.requires.fit.paths c.requires.simple));
+      layable = subst (λ at. list_all is_layable (sites_under at (below_it c.args.plan.now.root)) ≡ true)
+          (sym (above_root c.push.new.self.items c.args.plan.now.root is))
+          (layable_below c.args.plan.now.root (both_of_all has_short_path is_simple_site
+          (sites (tree_of c.args.plan.now)) c.requires.fit.paths c.requires.simple));
       linked = is.linked;
       named = is.named;
     }
@@ -26,7 +29,8 @@ lay_below-requires c =
 pub returns-clause-sites : goal.returns-clause-sites
 returns-clause-sites c =
     all_laid c.push.new.self.items c.lay_below.new.places.items c.args.plan.now.root
-    (rooted c.new-places.result.items c.push.new.self.items c.args.plan.now.root _ c.new-places.ensures.items c.in_ok-push.ensures.items
+    (rooted c.new-places.result.items c.push.new.self.items c.args.plan.now.root _ c.new-places.ensures.items
+    c.in_ok-push.ensures.items
     c.in_ok-place_of_root.ensures)
     c.in_ok-lay_below.ensures.sites
 
@@ -34,7 +38,8 @@ pub returns-clause-laid : goal.returns-clause-laid
 returns-clause-laid c =
     laid c.lay_below.new.places.items (tree_of c.args.plan.now) c.in_ok-place_of_root.field-0
     (all_laid c.push.new.self.items c.lay_below.new.places.items c.args.plan.now.root
-    (rooted c.new-places.result.items c.push.new.self.items c.args.plan.now.root _ c.new-places.ensures.items c.in_ok-push.ensures.items
+    (rooted c.new-places.result.items c.push.new.self.items c.args.plan.now.root _ c.new-places.ensures.items
+    c.in_ok-push.ensures.items
     c.in_ok-place_of_root.ensures)
     c.in_ok-lay_below.ensures.sites)
     c.requires.fit.siblings c.in_ok-lay_below.ensures.linked c.in_ok-lay_below.ensures.named

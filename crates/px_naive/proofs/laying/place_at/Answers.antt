@@ -11,7 +11,14 @@ returns c =
     let name : c.in_ok-copy.field-0 ≡ node.name = search rules in
     let named : IsTrue (is_name node.name) = search rules in
     let made : List ℕ → ConditionTerms → Head =
-    λ name conditions. record { name = name; kind = node.kind; conditions = conditions; priority = node.priority; variables = []; body = Nothing } in
+    λ name conditions. record {
+      name = name;
+      kind = node.kind;
+      conditions = conditions;
+      priority = node.priority;
+      variables = [];
+      body = Nothing;
+    } in
     record {
       path_is = refl;
       parent_is = refl;

@@ -10,12 +10,14 @@ pub child-requires : goal.child-requires
 child-requires c =
     let place = c.index-places-parent.result in
     subst (λ path. length path + length (out-CoreNode c.args.node.now).name < 5000)
-    (ap (λ site. site.path) (site_at_linked c.args.places.now c.requires.linked c.args.parent nowhere place c.requires.parent)) c.requires.short
+    (ap (λ site. site.path) (site_at_linked c.args.places.now c.requires.linked c.args.parent nowhere place
+    c.requires.parent)) c.requires.short
 
 pub returns : goal.returns
 returns c =
     let place = c.index-places-parent.result in
     let node = out-CoreNode c.args.node.now in
     subst (λ path. IfOk c.place_at.result (IsPlaceOf node path (Some c.args.parent)))
-    (c.in_ok-child.ensures ∙ ap (λ site. below site.path node.name) (sym (site_at_linked c.args.places.now c.requires.linked c.args.parent nowhere place c.requires.parent)))
+    (c.in_ok-child.ensures ∙ ap (λ site. below site.path node.name)
+    (sym (site_at_linked c.args.places.now c.requires.linked c.args.parent nowhere place c.requires.parent)))
     c.place_at.ensures

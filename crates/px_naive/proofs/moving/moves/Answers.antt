@@ -6,16 +6,23 @@ use Rattle.px_naive.proofs.moving.moves.Goals as goal
 use Rattle.px_naive.proofs.moving.moves.Goals.{in-Some+in_ok-move_to+in_ok-push, in_default}
 
 pub bounds : goal.bounds
-bounds c = omega (arith, length-arrivals c.args.places.now (world_of c.args.places.now c.args.records.now (listed c.args.reports.now)) c.args.arrivals.now c.requires.arrivals)
+bounds c = omega (
+  arith,
+  length-arrivals c.args.places.now
+      (world_of c.args.places.now c.args.records.now (listed c.args.reports.now)) c.args.arrivals.now c.requires.arrivals,
+)
 
 pub loop-i-preserved : goal.loop-i-preserved
 loop-i-preserved c = elim c.match-arrivals-i.branch [
   | in-Some+in_ok-move_to+in_ok-push w ↦
       ap (λ v. v.items) w.made-is ∙ w.in_ok-push.ensures.items
-      ∙ moves_some_kept c.args.places.now c.args.records.now (listed c.args.reports.now) c.args.arrivals.now c.requires.laid c.requires.records c.requires.arrivals c.loop-i.i
-      _ _ _ w.in-Some.arrival c.loop-i-test.true w.in-Some.is c.loop-i.made.items _ c.loop-i.invariant w.in_ok-move_to.ensures
+      ∙ moves_some_kept c.args.places.now c.args.records.now (listed c.args.reports.now) c.args.arrivals.now
+      c.requires.laid c.requires.records c.requires.arrivals c.loop-i.i
+      _ _ _ w.in-Some.arrival c.loop-i-test.true w.in-Some.is c.loop-i.made.items _ c.loop-i.invariant
+      w.in_ok-move_to.ensures
   | in_default w ↦ ap (λ v. v.items) w.made-is ∙ c.loop-i.invariant
-      ∙ sym (moves_none c.args.places.now (world_of c.args.places.now c.args.records.now (listed c.args.reports.now)) c.args.arrivals.now c.requires.arrivals c.loop-i.i _ c.loop-i-test.true w.in_default.is)
+      ∙ sym (moves_none c.args.places.now (world_of c.args.places.now c.args.records.now (listed c.args.reports.now))
+      c.args.arrivals.now c.requires.arrivals c.loop-i.i _ c.loop-i-test.true w.in_default.is)
 ]
 
 pub returns : goal.returns

@@ -5,4 +5,5 @@ use Rattle.px_naive.proofs.Arriving.{moves_among}
 use Rattle.px_naive.proofs.moving.moves.Given as goal
 
 abbrev pub invariant-loop-i : goal.invariant-loop-i
-invariant-loop-i l = l.made.items ≡ moves_among (take l.i (sites_of l.places)) (sites_of l.places) (world_of l.places l.records (listed l.reports))
+invariant-loop-i l = l.made.items ≡ moves_among (take l.i (sites_of l.places)) (sites_of l.places)
+    (world_of l.places l.records (listed l.reports))

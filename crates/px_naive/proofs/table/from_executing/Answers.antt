@@ -5,4 +5,5 @@ use Rattle.px_naive.proofs.table.from_executing.Goals as goal
 
 pub returns-in-Some : goal.returns-in-Some
 returns-in-Some c =
-    sym (first_row_of_front (stop_rows_of c.args.kind c.args.g.now) (end_row c.args.kind c.args.g.now ∷ []) _ (sym c.in-Some.ensures))
+    sym (first_row_of_front (stop_rows_of c.args.kind c.args.g.now) (end_row c.args.kind c.args.g.now ∷ []) _
+    (sym c.in-Some.ensures))

@@ -8,7 +8,8 @@ pub loop-i-preserved : goal.loop-i-preserved
 loop-i-preserved c =
     let places = c.args.places.now in
     let now = world_of places c.args.records.now (listed c.args.reports.now) in
-    looked_one_more places now c.loop-i.seen c.loop-i.i _ c.index-places-i.result c.requires.laid c.loop-i-test.true c.loop-i.invariant
+    looked_one_more places now c.loop-i.seen c.loop-i.i _ c.index-places-i.result c.requires.laid c.loop-i-test.true
+    c.loop-i.invariant
     c.in_ok-seen.ensures
 
 pub returns : goal.returns

@@ -7,4 +7,5 @@ use Rattle.px_naive.proofs.naive.NaiveStepper.integer.Goals as goal
 pub returns : goal.returns
 returns c =
     let s = c.args.self.now in
-    sym (no_integer s.places.items (world_of s.places.items s.records.items (listed s.reports)) c.args._owner.now c.args._name.now)
+    sym (no_integer s.places.items (world_of s.places.items s.records.items (listed s.reports)) c.args._owner.now
+    c.args._name.now)

@@ -6,4 +6,5 @@ use Rattle.px_naive.proofs.naive.NaiveStepper.standing.Goals as goal
 
 pub returns : goal.returns
 returns c = c.standing_of.ensures ∙ ap standing_in c.deref.ensures.value
-    ∙ standing_so c.args.self.now.places.items c.args.self.now.records.items (listed c.args.self.now.reports) c.args.self.now.laid c.args.self.now.records_fit
+    ∙ standing_so c.args.self.now.places.items c.args.self.now.records.items (listed c.args.self.now.reports)
+    c.args.self.now.laid c.args.self.now.records_fit

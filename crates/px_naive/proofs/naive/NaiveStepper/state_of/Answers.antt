@@ -10,7 +10,8 @@ returns-in-Some c =
     let at : number_in (paths_of s.places.items) c.args.node.now ≡ Some c.in-Some.number = search rules in
     let within : c.in-Some.number < length s.places.items = search rules in
     ap (λ r. Some r.state) c.index.ensures
-    ∙ state_found s.places.items s.records.items (listed s.reports) c.args.node.now c.in-Some.number c.index.result.now s.records_fit at within
+    ∙ state_found s.places.items s.records.items (listed s.reports) c.args.node.now c.in-Some.number c.index.result.now
+    s.records_fit at within
 
 pub returns-in-None : goal.returns-in-None
 returns-in-None c =

@@ -9,7 +9,8 @@ pub loop-i-preserved : goal.loop-i-preserved
 loop-i-preserved c =
     let places = c.args.places.now in
     let key : c.in_ok-copy.field-0 ≡ path_at places c.loop-i.i =
-    c.in_ok-copy.ensures ∙ sym (ap (λ site. site.path) (site_at_number places c.requires c.loop-i.i nowhere c.index-places-i.result c.loop-i-test.true)) in
+    c.in_ok-copy.ensures ∙ sym (ap (λ site. site.path)
+    (site_at_number places c.requires c.loop-i.i nowhere c.index-places-i.result c.loop-i-test.true)) in
     λ path.
     c.in_ok-insert.ensures.updates.0 path
     ∙ ap (cond (is_same c.in_ok-copy.field-0 path) (Some c.loop-i.i)) (c.loop-i.invariant path)

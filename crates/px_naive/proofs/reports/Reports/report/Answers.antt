@@ -1,36 +1,37 @@
-use Rattle.std.proofs.Common.{◌≡◌, ◌<◌, ap, ◌∙◌, set, get_or, length, Some, None, ◌++◌, ◌∷◌, [], rules}
-use Rattle.px_sem.specs.World.{LookState}
-use Rattle.px_sem.specs.Events.{reported}
-use Rattle.px_naive.specs.Reports.{entries_of, place_of, with_value_at}
-use Rattle.px_naive.specs.declared.reports.Report.{Report}
-use Rattle.px_naive.proofs.Reporting.{with_value, report_item, undo_item, report_new}
+use Rattle.std.proofs.Common.{◌≡◌, Some, None, ap, sym, ◌∙◌, rules}
+use Rattle.px_sem.specs.World.{LookState, is_same_state}
+use Rattle.indexmap.specs.IndexMap.{get, insert_entry, insert_index, set_value_at}
+use Rattle.px_naive.specs.Reports.{unchanged}
+use Rattle.px_naive.proofs.Reporting.{insert_entry-reported, set_value_at-insert_entry, take-insert_entry}
 use Rattle.px_naive.proofs.reports.Reports.report.Goals as goal
+use Rattle.px_naive.proofs.reports.Reports.report.Goals.{in-Some, in-None}
 
-pub returns-in-Some-clause-ok : goal.returns-in-Some-clause-ok
-returns-in-Some-clause-ok c =
-    let items = c.args.self.now.items.items in
+pub returns-clause-ok : goal.returns-clause-ok
+returns-clause-ok c =
     let state : LookState = record { name = c.args.name.now; args = c.args.args.now } in
-    let at : place_of state (entries_of items) ≡ Some c.in-Some.at = search rules in
-    let within : c.in-Some.at < length items = search rules in
-    let value : c.replace-old.new.dest ≡ c.args.value.now = search rules in
-    ap (λ r. entries_of (set items c.in-Some.at (with_value r c.replace-old.new.dest))) c.index_mut.ensures.value
-    ∙ report_item items state c.replace-old.new.dest c.in-Some.at c.index_mut.result.now within at
-    ∙ ap (λ v. reported state v (entries_of items)) value
+    let entries = c.args.self.now.values.entries in
+    let inserted : c.insert_full.new.self.entries ≡ insert_entry is_same_state entries state c.args.value.now =
+    search rules in
+    inserted ∙ insert_entry-reported state c.args.value.now entries
 
-pub returns-in-Some-clause-before : goal.returns-in-Some-clause-before
-returns-in-Some-clause-before c =
-    let items = c.args.self.now.items.items in
-    let within : c.in-Some.at < length items = search rules in
-    ap (λ r. with_value_at (entries_of (set items c.in-Some.at (with_value r c.replace-old.new.dest))) c.in-Some.at c.replace-old.result) c.index_mut.ensures.value
-    ∙ ap (with_value_at (entries_of (set items c.in-Some.at (with_value (get_or items c.in-Some.at c.index_mut.result.now) c.replace-old.new.dest))) c.in-Some.at)
-    (c.replace-old.ensures.value ∙ ap (λ (r : Report). r.value) c.index_mut.ensures.value)
-    ∙ undo_item items c.replace-old.new.dest c.in-Some.at c.index_mut.result.now within
-
-pub returns-in_ok-push-in-None-clause-ok : goal.returns-in_ok-push-in-None-clause-ok
-returns-in_ok-push-in-None-clause-ok c =
-    let items = c.args.self.now.items.items in
+pub returns-clause-before : goal.returns-clause-before
+returns-clause-before c =
     let state : LookState = record { name = c.args.name.now; args = c.args.args.now } in
-    let none : place_of state (entries_of items) ≡ None = search rules in
-    let r : Report = record { name = c.args.name.now; args = c.args.args.now; value = c.args.value.now } in
-    let pushed : c.push.new.self.items ≡ items ++ r ∷ [] = search rules in
-    ap entries_of pushed ∙ report_new items r none
+    let before = c.args.self.now.values in
+    let value = c.args.value.now in
+    let inserted : c.insert_full.new.self.entries ≡ insert_entry is_same_state before.entries state value =
+    search rules in
+    let same : c.new-state.result ≡ state = search rules in
+    let old : c.in_ok-at.old ≡ get is_same_state before state =
+    c.in_ok-at.ensures.old ∙ ap (get is_same_state before) same in
+    elim c.match-old.branch [
+      | in-Some w ↦
+          let at : c.in_ok-at.at ≡ insert_index is_same_state before state = search rules in
+          let found : get is_same_state before state ≡ Some w.in-Some.old = sym old ∙ w.in-Some.is in
+          (λ i. unchanged (w.t-47-is i) (inserted i))
+          ∙ ap (λ at. set_value_at (insert_entry is_same_state before.entries state value) at w.in-Some.old) at
+          ∙ set_value_at-insert_entry is_same_state state value w.in-Some.old before.entries found
+      | in-None w ↦
+          let none : get is_same_state before state ≡ None = sym old ∙ w.in-None.is in
+          (λ i. unchanged (w.t-47-is i) (inserted i)) ∙ take-insert_entry is_same_state before state value none
+    ]
