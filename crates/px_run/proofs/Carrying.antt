@@ -1,9 +1,9 @@
 -- What a command has carried out, from what it read and printed.
-use Rattle.std.proofs.Common.{◌≡◌, ℕ, ◌<◌, ◌≤◌, inl, inr, List, [], ◌++◌, map, Option, Some, None, IsSome, Result, Ok, Err, IsErrAnd, refl, arith, ap, subst, sym, ◌∙◌}
+use Rattle.std.proofs.Common.{◌≡◌, ℕ, ◌≤◌, inl, inr, List, [], ◌++◌, map, Some, None, IsSome, Result, Ok, Err, IsErrAnd, refl, arith, ap, subst, sym, ◌∙◌}
 use Rattle.px_core.specs.Plan.{Site, Tree, sites}
 use Rattle.px_event.specs.declared.entry.Entry.{Entry}
 use Rattle.px_sem.specs.World.{World, standing_of}
-use Rattle.px_sem.specs.Log.{Log, IsLegal, AnswersEach, events_of, accepted}
+use Rattle.px_sem.specs.Log.{Log, AnswersEach, events_of, accepted}
 use Rattle.px_sem.specs.Run.{started, run}
 use Rattle.px_sem.specs.Stepper.{State, at_rest}
 use Rattle.px_sem.specs.Text.{trace, report, standing_text}
@@ -16,8 +16,8 @@ use Rattle.px_sem.specs.declared.settling.StepFault.{StepFault}
 use Rattle.px_sem.specs.declared.settling.StepFault.TheVariants as steps
 use Rattle.px_run.specs.declared.ending.Stop.{Stop}
 use Rattle.px_run.specs.declared.ending.Stop.TheVariants as stops
-use Rattle.px_run.specs.Ending.{Ending, Seen, Content, Longer, Unreadable, SpellsPlan, SpellsScript, runaway_at_start, start_ending, of_start, log_ending, IsDryRun, DryRunEndsBy, DryRunEnds, event_limit}
-use Rattle.px_run.specs.Outcome.{View, Shows, AfterPlan, AfterScript, EmitsPart, plan_limit, script_limit}
+use Rattle.px_run.specs.Ending.{Ending, Seen, Content, Longer, Unreadable, runaway_at_start, start_ending, of_start, log_ending, IsDryRun, DryRunEndsBy, DryRunEnds, event_limit}
+use Rattle.px_run.specs.Outcome.{View, Shows, AfterPlan, AfterScript, plan_limit, script_limit}
 use Rattle.px_run.specs.Printing.{OnlyPrints, Faulted, Prints}
 use Rattle.px_run.specs.Stops.{stop_of, stop_of_start, OnlyReads, KeepsFiles, ReadsPlan, ReadsScript, StopsPlan, StopsScript, CallsForStart, CallsForScript, CallsForDryRun, Carried, ending_of}
 use Rattle.px_run.proofs.Logging.{log_text}

@@ -1,7 +1,7 @@
 -- From the outcome to its cause.
-use Rattle.std.proofs.Common.{◌≡◌, ℕ, ◌<◌, ◌⊎◌, inl, inr, List, Option, Some, None, IsSome, length, refl, arith, ap, subst, sym, ◌∙◌}
+use Rattle.std.proofs.Common.{◌≡◌, ℕ, ◌<◌, ◌⊎◌, inl, inr, List, Option, Some, None, IsSome, length, refl, arith, ap, subst, sym}
 use Rattle.std.specs.Option.{option_and_then}
-use Rattle.px_ports.specs.Host.{Files, file_at}
+use Rattle.px_ports.specs.Host.{Files}
 use Rattle.px_core.specs.Plan.{Tree, sites}
 use Rattle.px_sem.specs.World.{World}
 use Rattle.px_sem.specs.Run.{started}
@@ -12,7 +12,7 @@ use Rattle.px_script.specs.Script.{Threads, Fault, script}
 use Rattle.px_run.specs.Causes.{Causes, HasPlan, HasScript, RefusesPlan, RefusesScript, ReadsScript, Starts, FailsToRead, HoldsPlan, HoldsScript, IsComplete}
 use Rattle.px_run.specs.Ending as endings
 use Rattle.px_run.specs.Ending.{Ending, Seen, Content, Longer, Unreadable, DryRunEndsBy, DryRunEnds, of_start, start_ending}
-use Rattle.px_run.specs.Outcome.{View, Shows, AfterPlan, AfterScript, CommandCallsFor, CallsFor, Outcome, plan_limit, script_limit}
+use Rattle.px_run.specs.Outcome.{View, Shows, AfterScript, CommandCallsFor, CallsFor, Outcome, plan_limit, script_limit}
 use Rattle.px_run.specs.Printing.{Faulted}
 use Rattle.px_run.specs.Words.{Command, TraceStart, DryRun, plan_of, script_of, command}
 

@@ -1,5 +1,5 @@
 -- The text of a log, part by part.
-use Rattle.std.proofs.Common.{◌≡◌, ℕ, List, [], ◌++◌, Option, Some, Result, Ok, Err, IsErr, IsErrAnd, refl, ap, subst, sym, ◌∙◌, append_assoc, append-nil}
+use Rattle.std.proofs.Common.{◌≡◌, ℕ, List, [], ◌++◌, Option, Some, Result, Ok, Err, IsErr, IsErrAnd, ap, subst, sym, ◌∙◌, append_assoc}
 use Rattle.px_core.specs.Plan.{Site}
 use Rattle.px_event.specs.declared.entry.Entry.{Entry}
 use Rattle.px_sem.specs.declared.standing.Standing.{Standing}

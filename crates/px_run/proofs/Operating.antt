@@ -1,11 +1,11 @@
 -- The operands of words, walked from the first.
-use Rattle.std.proofs.Common.{◌≡◌, ◌≢◌, ℕ, suc, ◌+◌, ◌<◌, ◌≤◌, true, false, List, [], ◌∷◌, ◌++◌, Option, Some, None, map, take, drop, length, get_or, refl, ap, ◌∙◌, sym, arith, append_assoc, append-nil, add-one, codes}
+use Rattle.std.proofs.Common.{◌≡◌, ◌≢◌, ℕ, suc, ◌+◌, ◌<◌, ◌≤◌, true, false, List, [], ◌∷◌, ◌++◌, Option, Some, None, map, take, drop, length, get_or, refl, ap, ◌∙◌, sym, arith, append_assoc, add-one, codes}
 use Rattle.std.specs.List.{slice_get}
 use Rattle.std.specs.Option.{option_map}
 use Rattle.std.proofs.lemmas.List.{map-append, take_all, drop_all}
 use Rattle.std.proofs.Math.Seq.{take-suc, drop-cons}
 use Rattle.px_core.specs.Plan.{is_same}
-use Rattle.px_run.specs.Words.{Command, TraceStart, DryRun, operands, trace_start, dry_run, is_option}
+use Rattle.px_run.specs.Words.{TraceStart, DryRun, operands, trace_start, dry_run, is_option}
 
 -- the first words are operands, and the others stand for the others
 pub record IsWalked {X : Type 0} (text : X → List ℕ) (words : List X) (k : ℕ) : Type 0 where

@@ -1,8 +1,8 @@
 -- From what was carried out to the outcome.
-use Rattle.std.proofs.Common.{◌≡◌, ℕ, ◌≤◌, inl, inr, List, Option, Some, None, arith, ap}
+use Rattle.std.proofs.Common.{◌≡◌, ℕ, ◌≤◌, inl, inr, List, Option, Some, None, arith}
 use Rattle.px_run.specs.Words.{Command, TraceStart, DryRun, command}
-use Rattle.px_run.specs.Ending.{Ending, DryRunEnds}
-use Rattle.px_run.specs.Outcome.{View, plan_limit, script_limit, AfterScript, CommandCallsFor, CallsFor, Ends, Outcome}
+use Rattle.px_run.specs.Ending.{Ending}
+use Rattle.px_run.specs.Outcome.{View, plan_limit, script_limit, CommandCallsFor, CallsFor, Ends, Outcome}
 use Rattle.px_run.specs.Printing.{OnlyPrints, Faulted}
 use Rattle.px_run.specs.Stops.{KeepsFiles}
 use Rattle.px_run.proofs.Carrying.{shows_later, reads_kept}

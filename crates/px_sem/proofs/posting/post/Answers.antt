@@ -1,4 +1,4 @@
-use Rattle.std.proofs.Common.{◌≡◌, true, ap, sym, ◌∙◌, subst}
+use Rattle.std.proofs.Common.{◌≡◌, true, ap, sym, subst}
 use Rattle.px_sem.specs.Conflicts.{is_quiet}
 use Rattle.px_sem.specs.Stepper.{State}
 use Rattle.px_sem.proofs.Settles.{settled_quiet}
