@@ -4,21 +4,22 @@ use px_run::plexil;
 use std::alloc::Global;
 use std::test::Fail;
 
-pub fn file(alloc: Global, name: &str, bytes: &[u8]) -> Result<MemFile, Fail> {
+/// A file of this name and content.
+pub(crate) fn file(alloc: Global, name: &str, bytes: &[u8]) -> Result<MemFile, Fail> {
     Ok(MemFile {
         name: String::from_str(alloc, name)?,
         bytes: bytes.to_vec(alloc)?,
     })
 }
 
-// A host that has this file alone, and whose sink takes what it is given.
-pub fn host_of(alloc: Global, name: &str, bytes: &[u8]) -> Result<MemHost, Fail> {
+/// A host that has this file alone, and whose sink takes what it is given.
+pub(crate) fn host_of(alloc: Global, name: &str, bytes: &[u8]) -> Result<MemHost, Fail> {
     let files = vec![in alloc; file(alloc, name, bytes)?]?;
     host_with(alloc, &[], &[], usize::MAX, files)
 }
 
-// A host whose fetches and emits of these numbers fail, and whose sink takes so many bytes at once.
-pub fn host_with(
+/// A host whose fetches and emits of these numbers fail, and whose sink takes so many bytes at once.
+pub(crate) fn host_with(
     alloc: Global,
     failing_fetches: &[u32],
     failing_emits: &[u32],
@@ -42,8 +43,12 @@ fn words_of(alloc: Global, words: &[&str]) -> Result<Vec<String>, Fail> {
     Ok(owned)
 }
 
-// The status of the call, and what was emitted.
-pub fn outcome(alloc: Global, words: &[&str], mut host: MemHost) -> Result<(u8, String), Fail> {
+/// The status of the call, and what was emitted.
+pub(crate) fn outcome(
+    alloc: Global,
+    words: &[&str],
+    mut host: MemHost,
+) -> Result<(u8, String), Fail> {
     let words = words_of(alloc, words)?;
     let status = plexil(alloc, &words, &mut host);
     Ok((status, String::from_utf8(host.emitted().to_vec(alloc)?)?))

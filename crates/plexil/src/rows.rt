@@ -3,7 +3,7 @@ use crate::hosts::{file, host_of, host_with, outcome};
 use std::alloc::Global;
 use std::test::Fail;
 
-pub const USAGE: &str =
+pub(crate) const USAGE: &str =
     "usage: plexil trace-start PLAN | dry-run PLAN SCRIPT | run PLAN SCRIPT JOURNAL [--events N] | resume SCRIPT JOURNAL [--events N] | trace JOURNAL | check PLAN | format PLAN | soak COUNT SEED JOURNAL
 ";
 
