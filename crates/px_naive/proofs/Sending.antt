@@ -40,5 +40,15 @@ place_send =
 pub naive_send : IsSend naive.the_row
 naive_send =
     declared_send naive.the_type
-    (search (sendable, crosses, as_row_send, place_send, numbers.the_field_send, records.the_send, reports.the_field_send, begun.the_field_send,
-    moves.the_send, sight.the_field_send) depth 20)
+    (search (
+      sendable,
+      crosses,
+      as_row_send,
+      place_send,
+      numbers.the_field_send,
+      records.the_send,
+      reports.the_field_send,
+      begun.the_field_send,
+      moves.the_send,
+      sight.the_field_send,
+    ) depth 20)

@@ -1,5 +1,5 @@
 -- From the outcome to its cause.
-use Rattle.std.proofs.Common.{◌≡◌, ℕ, ◌<◌, ◌⊎◌, inl, inr, List, Option, Some, None, IsSome, length, refl, arith, ap, subst, sym}
+use Rattle.std.proofs.Common.{◌≡◌, ℕ, ◌<◌, ◌⊎◌, inl, inr, List, Option, Some, None, IsSome, length, refl, arith, ap, subst, sym, ◌∙◌}
 use Rattle.std.specs.Option.{option_and_then}
 use Rattle.px_ports.specs.Host.{Files}
 use Rattle.px_core.specs.Plan.{Tree, sites}
@@ -9,7 +9,7 @@ use Rattle.px_form.specs.FirstForm.{InFirstForm}
 use Rattle.px_form.proofs.Readings.{one_reading}
 use Rattle.px_script.specs.declared.todo.Todo.{Todo}
 use Rattle.px_script.specs.Script.{Threads, Fault, script}
-use Rattle.px_run.specs.Causes.{Causes, HasPlan, HasScript, RefusesPlan, RefusesScript, ReadsScript, Starts, FailsToRead, HoldsPlan, HoldsScript, IsComplete}
+use Rattle.px_run.specs.Causes.{Causes, HasPlan, HasScript, RefusesPlan, RefusesScript, ReadsScript, Starts, FailsToRead, HoldsPlan, HoldsScript, HoldsNoPlan, HoldsNoScript, IsComplete, IsRefused}
 use Rattle.px_run.specs.Ending as endings
 use Rattle.px_run.specs.Ending.{Ending, Seen, Content, Longer, Unreadable, DryRunEndsBy, DryRunEnds, of_start, start_ending}
 use Rattle.px_run.specs.Outcome.{View, Shows, AfterScript, CommandCallsFor, CallsFor, Outcome, plan_limit, script_limit}
@@ -279,3 +279,84 @@ complete words old new status outcome plan files tree has told held scripts read
     by (inl (ending, c, inr (inl (is, part, fault)))) = absurd (sound fault)
     by (inl (ending, c, inr (inr (is, part)))) = inl is
     by (inr (is, same)) = inl is
+
+-- ---- refusals
+
+-- a plan that the host holds and that is none, and whose fetch doesn't fail, is refused
+no_plan_held : (old new : View) (files : Files) (plan : List ℕ) (seen : Seen) (Next : Tree → Ending → Type 0) (ending : Ending)
+    → old.files ≡ Some files → HoldsNoPlan files plan → ¬ (old.read_faults plan < new.read_faults plan) → Shows plan_limit old new plan seen
+    → endings.RefusesPlan seen ending ⊎ ((tree : Tree) × endings.SpellsPlan seen tree × Next tree ending) → ending.status ≡ 3
+no_plan_held old new files plan Unreadable Next ending told held sound shows ends = absurd (sound shows)
+no_plan_held old new files plan Longer Next ending told held sound shows (inl is) = ap (λ e. e.status) is
+no_plan_held old new files plan Longer Next ending told held sound shows (inr none) = absurd none.1
+no_plan_held old new files plan (Content found) Next ending told held sound shows (inl refused) = ap (λ e. e.status) refused.1
+no_plan_held old new files plan (Content found) Next ending told (inl longer) sound (within, shows) (inr spelled) =
+    let more : plan_limit < length found = rw (shows files told) at longer in
+    absurd (omega arith)
+no_plan_held old new files plan (Content found) Next ending told (inr (bytes, here, none)) sound (within, shows) (inr spelled) =
+    let there = shows files told in
+    let same : found ≡ bytes = cc in
+    absurd (none spelled.0 (subst (λ b. InFirstForm b spelled.0) same spelled.1))
+
+-- so of a script
+no_script_held : (old new : View) (files : Files) (name : List ℕ) (seen : Seen) (Next : List Todo → Ending → Type 0) (ending : Ending)
+    → old.files ≡ Some files → HoldsNoScript files name → ¬ (old.read_faults name < new.read_faults name) → Shows script_limit old new name seen
+    → endings.RefusesScript seen ending ⊎ ((threads : List Todo) × endings.SpellsScript seen threads × Next threads ending) → ending.status ≡ 4
+no_script_held old new files name Unreadable Next ending told held sound shows ends = absurd (sound shows)
+no_script_held old new files name Longer Next ending told held sound shows (inl is) = ap (λ e. e.status) is
+no_script_held old new files name Longer Next ending told held sound shows (inr none) = absurd none.1
+no_script_held old new files name (Content found) Next ending told held sound shows (inl refused) = ap (λ e. e.status) refused.3
+no_script_held old new files name (Content found) Next ending told (inl longer) sound (within, shows) (inr spelled) =
+    let more : script_limit < length found = rw (shows files told) at longer in
+    absurd (omega arith)
+no_script_held old new files name (Content found) Next ending told (inr (bytes, number, kind, here, fault)) sound (within, shows) (inr spelled) =
+    let there = shows files told in
+    let same : found ≡ bytes = cc in
+    let spells : script bytes ≡ Threads spelled.0 = subst (λ b. script b ≡ Threads spelled.0) same spelled.1 in
+    absurd (cc)
+
+-- with a file that is refused, and no fault, the ending is the refusal
+pub refused : (words : List (List ℕ)) (old new : View) (status : ℕ) → Outcome words old new status → IsRefused words old new status
+refused words old new status outcome = record {
+  plan = λ plan files has told held readable sound.
+      by 3 outcome sound (λ ending c. of_plan ending plan files has told held readable (command words) refl c);
+  lines = λ plan name files tree has asks told held faulty readable sound.
+      by 4 outcome sound (λ ending c. of_script ending plan name files tree has asks told held faulty readable (command words) refl c);
+}
+  where
+    of_plan : (ending : Ending) (plan : List ℕ) (files : Files) → HasPlan words plan → old.files ≡ Some files → HoldsNoPlan files plan
+        → ¬ FailsToRead words old new → (asked : Option Command) → command words ≡ asked → CommandCallsFor asked old new ending → ending.status ≡ 3
+    of_plan ending plan files has told held readable None is c = absurd (no_plan words plan is has)
+    of_plan ending plan files has told held readable (Some (TraceStart other)) is (seen, shows, ends) =
+        let all = ap (option_and_then plan_of) is in
+        let same : other ≡ plan = cc in
+        no_plan_held old new files plan seen (λ t e. e ≡ start_ending t) ending told held (λ rose. readable (plan, inl has, rose))
+        (subst (λ name. Shows plan_limit old new name seen) same shows) ends
+    of_plan ending plan files has told held readable (Some (DryRun other name)) is (seen, shows, ends) =
+        let all = ap (option_and_then plan_of) is in
+        let same : other ≡ plan = cc in
+        no_plan_held old new files plan seen (λ t. AfterScript old new name (DryRunEnds t)) ending told held (λ rose. readable (plan, inl has, rose))
+        (subst (λ name. Shows plan_limit old new name seen) same shows) ends
+
+    of_script : (ending : Ending) (plan name : List ℕ) (files : Files) (tree : Tree) → HasPlan words plan → HasScript words name
+        → old.files ≡ Some files → HoldsPlan files plan tree → HoldsNoScript files name → ¬ FailsToRead words old new
+        → (asked : Option Command) → command words ≡ asked → CommandCallsFor asked old new ending → ending.status ≡ 4
+    of_script ending plan name files tree has asks told held faulty readable None is c = absurd (no_plan words plan is has)
+    of_script ending plan name files tree has asks told held faulty readable (Some (TraceStart other)) is c =
+        let all = ap (option_and_then script_of) is in cc
+    of_script ending plan name files tree has asks told held faulty readable (Some (DryRun other script)) is (seen, shows, ends) =
+        let plans = ap (option_and_then plan_of) is in
+        let scripts = ap (option_and_then script_of) is in
+        let same : other ≡ plan = cc in
+        let same_script : script ≡ name = cc in
+        let next = plan_held old new files plan tree seen (λ t. AfterScript old new script (DryRunEnds t)) ending told held
+        (λ rose. readable (plan, inl has, rose)) (subst (λ name. Shows plan_limit old new name seen) same shows) ends in
+        no_script_held old new files name next.0 (DryRunEnds tree) ending told faulty (λ rose. readable (name, inr asks, rose))
+        (subst (λ n. Shows script_limit old new n next.0) same_script next.1) next.2
+
+    by : (expected : ℕ) → Outcome words old new status → ¬ Faulted old new
+        → ((ending : Ending) → CallsFor words old new ending → ending.status ≡ expected) → (status ≡ 10) ⊎ (status ≡ expected)
+    by expected (inl (ending, c, inl (is, emits))) sound calls = inr (is ∙ calls ending c)
+    by expected (inl (ending, c, inr (inl (is, part, fault)))) sound calls = absurd (sound fault)
+    by expected (inl (ending, c, inr (inr (is, part)))) sound calls = inl is
+    by expected (inr (is, same)) sound calls = inl is

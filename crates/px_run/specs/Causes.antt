@@ -1,5 +1,5 @@
 -- What each status tells, and when the program carries its command out.
-use Rattle.std.specs.Prelude.{◌≡◌, ◌⊎◌, ◌<◌, ◌≤◌, ℕ, List, [], ◌∷◌, length, nat_eq, Option, Some, None, IsSome, IsTrue}
+use Rattle.std.specs.Prelude.{◌≡◌, ◌⊎◌, ◌<◌, ◌≤◌, ℕ, List, [], ◌∷◌, length, nat_eq, Option, Some, None, IsSome, IsSomeAnd, IsTrue}
 use Rattle.std.specs.List.{list_any}
 use Rattle.std.specs.Option.{option_and_then}
 use Rattle.px_ports.specs.Host.{Files, file_at}
@@ -86,3 +86,23 @@ IsComplete words old new status =
     → ((name : List ℕ) → HasScript words name → HoldsScript files name)
     → ¬ FailsToRead words old new → ¬ Faulted old new
     → (status ≡ 10) ⊎ (status ≡ (start_ending tree).status)
+
+-- a file that spells no plan, or is too long for one; so of a script
+abbrev pub HoldsNoPlan : Files → List ℕ → Type 0
+HoldsNoPlan files plan =
+    IsSomeAnd (file_at files plan) (λ bytes. plan_limit < length bytes)
+    ⊎ ((bytes : List ℕ) × (file_at files plan ≡ Some bytes) × ((tree : Tree) → ¬ InFirstForm bytes tree))
+
+abbrev pub HoldsNoScript : Files → List ℕ → Type 0
+HoldsNoScript files name =
+    IsSomeAnd (file_at files name) (λ bytes. script_limit < length bytes)
+    ⊎ ((bytes : List ℕ) × (number kind : ℕ) × (file_at files name ≡ Some bytes) × (script bytes ≡ Fault number kind))
+
+-- A plan that is refused, or a script behind a plan that is not, and no fault: the command is refused so, or memory is
+-- wanting.
+pub record IsRefused (words : List (List ℕ)) (old new : View) (status : ℕ) : Type 0 where
+  pub plan : (plan : List ℕ) (files : Files) → HasPlan words plan → old.files ≡ Some files → HoldsNoPlan files plan
+      → ¬ FailsToRead words old new → ¬ Faulted old new → (status ≡ 10) ⊎ (status ≡ 3)
+  pub lines : (plan name : List ℕ) (files : Files) (tree : Tree) → HasPlan words plan → HasScript words name
+      → old.files ≡ Some files → HoldsPlan files plan tree → HoldsNoScript files name
+      → ¬ FailsToRead words old new → ¬ Faulted old new → (status ≡ 10) ⊎ (status ≡ 4)

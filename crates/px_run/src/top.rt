@@ -1,7 +1,7 @@
 // The program as a whole: from the words to the status.
 ghost use Rattle.std.specs.Prelude.{◌≡◌, map};
 ghost use Rattle.std.specs.String.{string_bytes};
-ghost use Rattle.px_run.specs.Causes.{Causes, IsComplete};
+ghost use Rattle.px_run.specs.Causes.{Causes, IsComplete, IsRefused};
 ghost use Rattle.px_run.specs.Outcome.{Outcome, CallsFor, Ends, view};
 ghost use Rattle.px_run.specs.Printing.{OnlyPrints};
 ghost use Rattle.px_run.specs.Stops.{Carried, KeepsFiles, number_of, ending_of};
@@ -35,10 +35,12 @@ pub fn plexil<H: Host>(alloc: Global, words: &[String], host: &mut H) -> u8
         (view H.Host host.old) (view H.Host host.new) result }
     ensures files { H.files host.new ≡ H.files host.old }
 
-    // What each status tells, and when the command is carried out.
+    // What each status tells, when the command is carried out, and when its files are refused.
     ensures causes { Causes (map string_bytes words.now)
         (view H.Host host.old) (view H.Host host.new) result }
     ensures complete { IsComplete (map string_bytes words.now)
+        (view H.Host host.old) (view H.Host host.new) result }
+    ensures refused { IsRefused (map string_bytes words.now)
         (view H.Host host.old) (view H.Host host.new) result }
 {
     plexil_with::<H, Naive>(alloc, words, host)
@@ -50,10 +52,12 @@ fn plexil_with<H: Host, S: Stepper>(alloc: Global, words: &[String], host: &mut 
         (view H.Host host.old) (view H.Host host.new) result }
     ensures files { H.files host.new ≡ H.files host.old }
 
-    // What each status tells, and when it is 0 or 6.
+    // What each status tells, when the command is carried out, and when its files are refused.
     ensures causes { Causes (map string_bytes words.now)
         (view H.Host host.old) (view H.Host host.new) result }
     ensures complete { IsComplete (map string_bytes words.now)
+        (view H.Host host.old) (view H.Host host.new) result }
+    ensures refused { IsRefused (map string_bytes words.now)
         (view H.Host host.old) (view H.Host host.new) result }
 {
     ended::<H, S>(alloc, words, host).number()
