@@ -11,7 +11,6 @@ pub mod Looking
 pub mod Numbering
 pub mod Reporting
 pub mod Rows
-pub mod Sending
 pub mod Stepping
 pub mod Taking
 pub mod Terms

@@ -4,5 +4,6 @@ pub mod Emitting
 pub mod Logging
 pub mod Operating
 pub mod Outcomes
+pub mod Sending
 pub mod Telling
 pub mod Tracing

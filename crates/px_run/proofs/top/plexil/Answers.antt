@@ -1,5 +1,5 @@
 use denote.Param.Send.{sendable}
-use Rattle.px_naive.proofs.Sending.{naive_send}
+use Rattle.px_run.proofs.Sending.{naive_send}
 use Rattle.px_run.proofs.top.plexil.Goals as goal
 
 pub plexil_with-requires-send-S : goal.plexil_with-requires-send-S

@@ -1,4 +1,4 @@
--- A stepper may go to another thread.
+-- The stepper that the program runs may go to another thread: one lemma a type, from its parts.
 use Rattle.std.proofs.Crossing.{crosses}
 use denote.Param.Send.{IsSend, sendable}
 use denote.Param.SendFields.{as_row_send, declared_send}
