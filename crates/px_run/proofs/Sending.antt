@@ -5,9 +5,6 @@ use denote.Param.SendFields.{as_row_send, declared_send}
 use Rattle.px_value.proofs.text.Text.TheSendSync as texts
 use Rattle.px_value.proofs.path.Path.TheSendSync as paths
 use Rattle.px_value.proofs.name.Name.TheSendSync as names
-use Rattle.px_core.proofs.expr.LookWord.TheSendSync as words
-use Rattle.px_core.proofs.expr.UnaryOp.TheSendSync as unary
-use Rattle.px_core.proofs.expr.BinaryOp.TheSendSync as binary
 use Rattle.px_core.proofs.node.Kind.TheSendSync as kinds
 use Rattle.px_core.proofs.expr.Expr.TheLaws.TheKnot.{send-Expr}
 use Rattle.px_core.specs.contracts.conditions.Conditions as conditions
