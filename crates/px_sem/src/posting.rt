@@ -1,5 +1,5 @@
 // The posting of events to a settled stepper.
-ghost use Rattle.std.specs.Prelude.{◌≡◌, ◌≤◌, Some, [], length, map, IsTrue, IfOk, OnOk, OnErr};
+ghost use Rattle.std.specs.Prelude.{◌≡◌, ◌≤◌, Some, [], length, map, IsTrue, IfOk, OnErr};
 ghost use Rattle.std.specs.List.{list_all};
 ghost use Rattle.px_event.specs.Fit.{is_fit_event, is_fit_entry};
 ghost use Rattle.px_sem.specs.Log.{events_of, accepted, answer, world_after, AnswersEach};
@@ -58,7 +58,8 @@ pub fn post<S: Stepper>(
 }
 
 /// Posts entries one after another to a stepper that has taken no event since the start. The log is legal for a
-/// history of at most `limit` events, and the world is the run over the accepted ones.
+/// history of at most `limit` events, and the world is the run over the accepted ones. After `NoMemory` the stepper is
+/// settled still, after as many of the entries as were posted.
 pub fn post_each<S: Stepper>(
     stepper: &mut S,
     alloc: Global,
@@ -74,8 +75,8 @@ pub fn post_each<S: Stepper>(
     ensures within { IfOk result (λ session. length session.history.items ≤ limit) }
     ensures runs { IfOk result (λ session.
         run (S.state stepper.old).nodes (events_of session.history.items) ≡ Some (S.state stepper.new).world) }
-    ensures rest { OnOk result
-        (S.state stepper.new ≡ at_rest (S.state stepper.old).nodes (S.state stepper.new).world) }
+    ensures rest { S.state stepper.new
+        ≡ at_rest (S.state stepper.old).nodes (S.state stepper.new).world }
 {
     let mut history = Vec::new(alloc);
     let mut log = Vec::with_capacity(alloc, entries.len())?;
