@@ -71,16 +71,16 @@ abbrev pub variables_differ : Site → Bool
 variables_differ site = all_differ (map (λ variable. variable.name) site.head.variables)
 
 -- a node has the body of its kind
-abbrev pub suits : Kind → BodyData → Bool
-suits kinds.List Nothing = true
-suits kinds.Empty Nothing = true
-suits kinds.Assignment (Assign target value) = true
-suits kinds.Command (Command name args result) = true
-suits kinds.Update (Update pairs) = true
-suits kind body = false
+abbrev pub is_body_of : Kind → BodyData → Bool
+is_body_of kinds.List Nothing = true
+is_body_of kinds.Empty Nothing = true
+is_body_of kinds.Assignment (Assign target value) = true
+is_body_of kinds.Command (Command name args result) = true
+is_body_of kinds.Update (Update pairs) = true
+is_body_of kind body = false
 
 abbrev pub has_its_body : Site → Bool
-has_its_body site = suits site.head.kind site.head.body
+has_its_body site = is_body_of site.head.kind site.head.body
 
 -- an array has 1 to 256 elements, and a variable at most as many initial values as cells
 abbrev pub has_right_size : Option ℕ → Bool
@@ -96,39 +96,39 @@ has_right_variables site = list_all has_right_cells site.head.variables
 -- ---- what a node's expressions speak of
 
 -- a node of any kind, a Command, an Update; a scalar or an array and the node that declares it
-pub data Mention : Type 0 where
-  Node : (path : List ℕ) → Mention
-  CommandNode : (path : List ℕ) → Mention
-  UpdateNode : (path : List ℕ) → Mention
-  Scalar : (owner name : List ℕ) → Mention
-  Array : (owner name : List ℕ) → Mention
+pub data Reference : Type 0 where
+  Node : (path : List ℕ) → Reference
+  CommandNode : (path : List ℕ) → Reference
+  UpdateNode : (path : List ℕ) → Reference
+  Scalar : (owner name : List ℕ) → Reference
+  Array : (owner name : List ℕ) → Reference
 
 -- what an expression speaks of, from left to right
 abbrev mutual
-  pub mentions : Term → List Mention
-  mentions (Literal value) = []
-  mentions (Var owner name) = Scalar owner name ∷ []
-  mentions (Cell owner name index) = Array owner name ∷ mentions index
-  mentions (StateOf path) = Node path ∷ []
-  mentions (OutcomeOf path) = Node path ∷ []
-  mentions (FailureOf path) = Node path ∷ []
-  mentions (HandleOf path) = CommandNode path ∷ []
-  mentions (Acknowledged path) = UpdateNode path ∷ []
-  mentions (Look word name args tolerance) = mentions_of_each args
-  mentions (Unary op arg) = mentions arg
-  mentions (Binary op left right) = mentions left ++ mentions right
+  pub references : Term → List Reference
+  references (Literal value) = []
+  references (Var owner name) = Scalar owner name ∷ []
+  references (Cell owner name index) = Array owner name ∷ references index
+  references (StateOf path) = Node path ∷ []
+  references (OutcomeOf path) = Node path ∷ []
+  references (FailureOf path) = Node path ∷ []
+  references (HandleOf path) = CommandNode path ∷ []
+  references (Acknowledged path) = UpdateNode path ∷ []
+  references (Look word name args tolerance) = references_of_each args
+  references (Unary op arg) = references arg
+  references (Binary op left right) = references left ++ references right
 
-  pub mentions_of_each : Terms → List Mention
-  mentions_of_each NoTerms = []
-  mentions_of_each (More first rest) = mentions first ++ mentions_of_each rest
+  pub references_of_each : Terms → List Reference
+  references_of_each NoTerms = []
+  references_of_each (More first rest) = references first ++ references_of_each rest
 
 -- a target is a scalar, or an element of an array
-abbrev pub mentions_of_target : TargetData → List Mention
-mentions_of_target target = with_index target.index
+abbrev pub references_of_target : TargetData → List Reference
+references_of_target target = with_index target.index
   where
-    with_index : Option Term → List Mention
+    with_index : Option Term → List Reference
     with_index None = Scalar target.owner target.name ∷ []
-    with_index (Some index) = Array target.owner target.name ∷ mentions index
+    with_index (Some index) = Array target.owner target.name ∷ references index
 
 abbrev pub targets_of : BodyData → List TargetData
 targets_of Nothing = []
@@ -147,11 +147,11 @@ abbrev pub terms_of_conditions : ConditionTerms → List Term
 terms_of_conditions c =
     c.start ∷ c.end ∷ c.exit ∷ c.skip ∷ c.repeat ∷ c.pre ∷ c.post ∷ c.invariant ∷ []
 
-abbrev pub mentions_of_site : Site → List Mention
-mentions_of_site site =
-    flat_map mentions (terms_of_conditions site.head.conditions)
-    ++ flat_map mentions (terms_of site.head.body)
-    ++ flat_map mentions_of_target (targets_of site.head.body)
+abbrev pub references_of_site : Site → List Reference
+references_of_site site =
+    flat_map references (terms_of_conditions site.head.conditions)
+    ++ flat_map references (terms_of site.head.body)
+    ++ flat_map references_of_target (targets_of site.head.body)
 
 -- ---- whether a plan has it
 
@@ -176,7 +176,7 @@ declares form name site =
     list_any (λ variable. is_same variable.name name && form (is_array variable.size)) site.head.variables
 
 -- each path is that of a node, of the kind that is asked
-abbrev pub path_is_there : List Site → Mention → Bool
+abbrev pub path_is_there : List Site → Reference → Bool
 path_is_there plan (Node path) = has_site (λ site. true) path plan
 path_is_there plan (CommandNode path) = has_site (λ site. is_command site.head.kind) path plan
 path_is_there plan (UpdateNode path) = has_site (λ site. is_update site.head.kind) path plan
@@ -184,16 +184,16 @@ path_is_there plan (Scalar owner name) = has_site (λ site. true) owner plan
 path_is_there plan (Array owner name) = has_site (λ site. true) owner plan
 
 -- each variable is declared by its owner, and has an index exactly where it is an array
-abbrev pub variable_is_there : List Site → Mention → Bool
+abbrev pub variable_is_there : List Site → Reference → Bool
 variable_is_there plan (Scalar owner name) = has_site (declares not name) owner plan
 variable_is_there plan (Array owner name) = has_site (declares (λ form. form) name) owner plan
 variable_is_there plan mention = true
 
 abbrev pub paths_are_there : List Site → Site → Bool
-paths_are_there plan site = list_all (path_is_there plan) (mentions_of_site site)
+paths_are_there plan site = list_all (path_is_there plan) (references_of_site site)
 
 abbrev pub variables_are_there : List Site → Site → Bool
-variables_are_there plan site = list_all (variable_is_there plan) (mentions_of_site site)
+variables_are_there plan site = list_all (variable_is_there plan) (references_of_site site)
 
 -- the owner of a target is the node that has the target or one of its ancestors
 abbrev pub owns_its_targets : Site → Bool

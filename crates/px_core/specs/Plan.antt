@@ -59,20 +59,20 @@ condition_of conditions which.Post = conditions.post
 condition_of conditions which.Invariant = conditions.invariant
 
 -- what is asked of no node
-abbrev pub unasked : Term
-unasked = Literal values.Unknown
+abbrev pub no_term : Term
+no_term = Literal values.Unknown
 
 abbrev pub no_conditions : ConditionTerms
 no_conditions =
     record {
-      start = unasked;
-      end = unasked;
-      exit = unasked;
-      skip = unasked;
-      repeat = unasked;
-      pre = unasked;
-      post = unasked;
-      invariant = unasked;
+      start = no_term;
+      end = no_term;
+      exit = no_term;
+      skip = no_term;
+      repeat = no_term;
+      pre = no_term;
+      post = no_term;
+      invariant = no_term;
     }
 
 -- a variable that a node declares
@@ -188,9 +188,9 @@ sites tree = sites_under [] tree
 abbrev pub is_same : List ℕ → List ℕ → Bool
 is_same a b = pointwise nat_eq a b
 
--- the node at a path; a path that the plan does not have is asked for nowhere
-abbrev pub nowhere : Site
-nowhere =
+-- the node at a path; a path that the plan does not have is asked for no_site
+abbrev pub no_site : Site
+no_site =
     record {
       path = [];
       above = [];
@@ -206,11 +206,11 @@ nowhere =
 
 -- the first node of a plan
 abbrev pub root_of : List Site → Site
-root_of [] = nowhere
+root_of [] = no_site
 root_of (root ∷ others) = root
 
 abbrev pub site_at : List Site → List ℕ → Site
-site_at plan path = unwrap_or (find (λ site. is_same site.path path) plan) nowhere
+site_at plan path = unwrap_or (find (λ site. is_same site.path path) plan) no_site
 
 -- whether a node is a child of the one at this path
 abbrev pub is_child_of : List ℕ → Site → Bool

@@ -12,7 +12,7 @@ use Rattle.px_core.specs.contracts.conditions.ConditionKindPartialEq.TheImpl as 
 use Rattle.px_core.specs.declared.conditions.ConditionKind.{ConditionKind}
 use Rattle.px_core.specs.declared.conditions.ConditionKind.TheVariants as conditions
 use Rattle.px_core.specs.Defaults.{joined, each_finished, default_end, default_conditions}
-use Rattle.px_core.specs.Fit.{has_one_root, has_short_path, cells_of_site, may_have, only_lists_have_children, names_of, siblings_differ, variables_differ, suits, has_its_body, has_right_variables, Mention, Node, mentions, terms_of_conditions, mentions_of_site, has_site, path_is_there, variable_is_there, paths_are_there, variables_are_there, owns_its_targets, IsFit}
+use Rattle.px_core.specs.Fit.{has_one_root, has_short_path, cells_of_site, may_have, only_lists_have_children, names_of, siblings_differ, variables_differ, is_body_of, has_its_body, has_right_variables, Reference, Node, references, terms_of_conditions, references_of_site, has_site, path_is_there, variable_is_there, paths_are_there, variables_are_there, owns_its_targets, IsFit}
 use Rattle.px_core.specs.Plan.{ConditionTerms, Nothing, count_of, Site, path_under, site_under, sites_under, sites, is_same}
 use Rattle.px_core.specs.Simple.{is_simple_kind, is_simple_site, IsSimple}
 use Rattle.px_core.specs.Terms.{Term}
@@ -113,7 +113,7 @@ each_node test each (Block head actions rest) above f =
     (each_node test each actions (path ∷ above) (below (f head.name)))
     (each_node test each rest above f))
 
-suits_kind : (is_list : Bool) → suits (kind_of is_list) Nothing ≡ true
+suits_kind : (is_list : Bool) → is_body_of (kind_of is_list) Nothing ≡ true
 suits_kind true = refl
 suits_kind false = refl
 
@@ -129,7 +129,7 @@ no_cells (site ∷ plan) h =
 
 -- ---- what conditions speak of
 
-all_both : (test : Mention → Bool) (a b : List Mention) → list_all test a ≡ true → list_all test b ≡ true → list_all test (a ++ b) ≡ true
+all_both : (test : Reference → Bool) (a b : List Reference) → list_all test a ≡ true → list_all test b ≡ true → list_all test (a ++ b) ≡ true
 all_both test a b h g = list_all-append test a b ∙ and_from (list_all test a) (list_all test b) h g
 
 halves : (test : List ℕ → Bool) (n : ℕ) (paths : List (List ℕ)) → list_all test paths ≡ true → (list_all test (take n paths) ≡ true) × (list_all test (drop n paths) ≡ true)
@@ -137,7 +137,7 @@ halves test n paths h =
     and_parts (list_all test (take n paths)) (list_all test (drop n paths))
     (sym (list_all-append test (take n paths) (drop n paths)) ∙ ap (list_all test) (take-append-drop n paths) ∙ h)
 
-joined_speaks : (test : Mention → Bool) (deep : ℕ) (paths : List (List ℕ)) → list_all (λ path. test (Node path)) paths ≡ true → list_all test (mentions (joined deep paths)) ≡ true
+joined_speaks : (test : Reference → Bool) (deep : ℕ) (paths : List (List ℕ)) → list_all (λ path. test (Node path)) paths ≡ true → list_all test (references (joined deep paths)) ≡ true
 joined_speaks test deep [] h = refl
 joined_speaks test deep (path ∷ []) h = h
 joined_speaks test zero (one ∷ other ∷ more) h = refl
@@ -145,44 +145,44 @@ joined_speaks test (suc deep) (one ∷ other ∷ more) h =
     let paths : List (List ℕ) = one ∷ other ∷ more in
     let half : ℕ = length paths / 2 in
     let parts = halves (λ path. test (Node path)) half paths h in
-    all_both test (mentions (joined deep (take half paths))) (mentions (joined deep (drop half paths)))
+    all_both test (references (joined deep (take half paths))) (references (joined deep (drop half paths)))
     (joined_speaks test deep (take half paths) parts.0)
     (joined_speaks test deep (drop half paths) parts.1)
 
-end_speaks : (test : Mention → Bool) (is_list : Bool) (path : List ℕ) (paths : List (List ℕ)) → list_all (λ path. test (Node path)) paths ≡ true → list_all test (mentions (default_end (kind_of is_list) path paths)) ≡ true
+end_speaks : (test : Reference → Bool) (is_list : Bool) (path : List ℕ) (paths : List (List ℕ)) → list_all (λ path. test (Node path)) paths ≡ true → list_all test (references (default_end (kind_of is_list) path paths)) ≡ true
 unfolding each_finished
 end_speaks test true path paths h = joined_speaks test (length paths) paths h
 end_speaks test false path paths h = refl
 
-asked_speaks : (test : Mention → Bool) (negated : Bool) (asked : Asked) → list_all test (mentions (question_term (record { negated = negated; asked = asked }))) ≡ true
+asked_speaks : (test : Reference → Bool) (negated : Bool) (asked : Asked) → list_all test (references (question_term (record { negated = negated; asked = asked }))) ≡ true
 asked_speaks test true (asks.Truth holds) = refl
 asked_speaks test true (asks.Lookup name) = refl
 asked_speaks test false (asks.Truth holds) = refl
 asked_speaks test false (asks.Lookup name) = refl
 
-either_speaks : (test : Mention → Bool) (first : Bool) (one other : Term) → list_all test (mentions one) ≡ true → list_all test (mentions other) ≡ true → list_all test (mentions (cond first one other)) ≡ true
+either_speaks : (test : Reference → Bool) (first : Bool) (one other : Term) → list_all test (references one) ≡ true → list_all test (references other) ≡ true → list_all test (references (cond first one other)) ≡ true
 either_speaks test true one other h g = h
 either_speaks test false one other h g = g
 
-given_speaks : (test : Mention → Bool) (condition : ConditionKind) (items : List Item) (default : Term) → list_all test (mentions default) ≡ true → list_all test (mentions (given_or condition items default)) ≡ true
+given_speaks : (test : Reference → Bool) (condition : ConditionKind) (items : List Item) (default : Term) → list_all test (references default) ≡ true → list_all test (references (given_or condition items default)) ≡ true
 given_speaks test condition [] default h = h
 given_speaks test condition (item ∷ items) default h =
     either_speaks test ((condition_kinds.ghosts).eq item.condition condition) (question_term item.question) (given_or condition items default)
     (asked_speaks test item.question.negated item.question.asked) (given_speaks test condition items default h)
 
-each_speaks : (test : Mention → Bool) (terms : List Term) → list_all (λ term. list_all test (mentions term)) terms ≡ true → list_all test (flat_map mentions terms) ≡ true
+each_speaks : (test : Reference → Bool) (terms : List Term) → list_all (λ term. list_all test (references term)) terms ≡ true → list_all test (flat_map references terms) ≡ true
 each_speaks test [] h = refl
 each_speaks test (term ∷ terms) h =
-    let parts = and_parts (list_all test (mentions term)) (list_all (λ term. list_all test (mentions term)) terms) h in
-    all_both test (mentions term) (flat_map mentions terms) parts.0 (each_speaks test terms parts.1)
+    let parts = and_parts (list_all test (references term)) (list_all (λ term. list_all test (references term)) terms) h in
+    all_both test (references term) (flat_map references terms) parts.0 (each_speaks test terms parts.1)
 
 -- the conditions of a node speak of its children alone
-site_speaks : (test : Mention → Bool) (above : List (List ℕ)) (path : List ℕ) (head : BlockHead) (actions : Form)
-    → list_all (λ path. test (Node path)) (paths_below path actions) ≡ true → list_all test (mentions_of_site (site_under above (head_at path head actions))) ≡ true
+site_speaks : (test : Reference → Bool) (above : List (List ℕ)) (path : List ℕ) (head : BlockHead) (actions : Form)
+    → list_all (λ path. test (Node path)) (paths_below path actions) ≡ true → list_all test (references_of_site (site_under above (head_at path head actions))) ≡ true
 site_speaks test above path head actions h =
     let defaults : ConditionTerms = default_conditions (kind_of head.is_list) path (paths_below path actions) in
     let terms : List Term = terms_of_conditions (conditions_of head.items defaults) in
-    let speaks : List Mention = flat_map mentions terms in
+    let speaks : List Reference = flat_map references terms in
     let all : list_all test speaks ≡ true = each_speaks test terms
     (rw (
       given_speaks test conditions.Start head.items defaults.start refl,

@@ -4,7 +4,7 @@ use Rattle.std.specs.List.{list_all}
 use Rattle.std.specs.Option.{option_map}
 use Rattle.std.proofs.lemmas.List.{at_drop_more, take_rest, take-append-drop, length-take-le, length-drop}
 use Rattle.std.proofs.lemmas.Bool.{and_parts}
-use Rattle.px_value.specs.Names.{goes_on}
+use Rattle.px_value.specs.Names.{continues_identifier}
 use Rattle.px_form.specs.FirstForm.{Token, Word, is_gap}
 use Rattle.px_form.specs.Lexing.{lexed, gap_at, goes_on_at, sign_of, with_sign, IsFirst}
 use Rattle.px_form.proofs.Lexing.{lexed-nil, lexed-gap, lexed-sign, lexed-word, IsSpelled, sign_spelled}
@@ -29,14 +29,14 @@ pub stray_is_first : (bytes after : List ℕ) → lexed after ≡ lexed bytes �
 stray_is_first bytes [] same start some sign off = absurd (omega arith)
 stray_is_first bytes (c ∷ rest) same start some sign off = sym same ∙ lexed-sign c rest start off ∙ ap (λ s. with_sign s (lexed rest)) sign
 
-word_in_front : (word rest : List ℕ) → 0 < length word → list_all goes_on word ≡ true → goes_on_at rest ≡ false → lexed (word ++ rest) ≡ option_map (λ more. Word word ∷ more) (lexed rest)
+word_in_front : (word rest : List ℕ) → 0 < length word → list_all continues_identifier word ≡ true → goes_on_at rest ≡ false → lexed (word ++ rest) ≡ option_map (λ more. Word word ∷ more) (lexed rest)
 word_in_front [] rest some run ends = absurd (omega arith)
 word_in_front (c ∷ cs) rest some run ends =
-    let parts : (goes_on c ≡ true) × (list_all goes_on cs ≡ true) = and_parts (goes_on c) (list_all goes_on cs) run in
+    let parts : (continues_identifier c ≡ true) × (list_all continues_identifier cs ≡ true) = and_parts (continues_identifier c) (list_all continues_identifier cs) run in
     lexed-word c cs rest parts.0 parts.1 ends
 
 -- a word in front
-pub word_is_first : (bytes after : List ℕ) (end : ℕ) → lexed after ≡ lexed bytes → length after ≤ length bytes → 0 < end → end ≤ length after → list_all goes_on (take end after) ≡ true → goes_on_at (drop end after) ≡ false → IsFirst bytes (Word (take end after)) (take (length after - end) (drop end after))
+pub word_is_first : (bytes after : List ℕ) (end : ℕ) → lexed after ≡ lexed bytes → length after ≤ length bytes → 0 < end → end ≤ length after → list_all continues_identifier (take end after) ≡ true → goes_on_at (drop end after) ≡ false → IsFirst bytes (Word (take end after)) (take (length after - end) (drop end after))
 word_is_first bytes after end same within some inside run ends =
     let long : length (take end after) ≡ end = length-take-le end after inside in
     subst (IsFirst bytes (Word (take end after))) (sym (take_rest after end)) (record {

@@ -6,17 +6,17 @@ use Rattle.std.specs.Option.{option_map}
 use Rattle.std.proofs.lemmas.Bool.{and_parts, cases_Bool, not-true, false≢true, both_ways}
 use Rattle.std.proofs.lemmas.Bool.Decides.{nat_tests}
 use Rattle.std.proofs.lemmas.Option.{cond_some}
-use Rattle.px_value.specs.Names.{goes_on}
+use Rattle.px_value.specs.Names.{continues_identifier}
 use Rattle.px_form.specs.FirstForm.{Token, Word, Sign, spelling, is_gap, ends_before, Splits}
 use Rattle.px_form.specs.Lexing.{goes_on_at, with_byte, is_sign_byte, sign_of, with_sign, lexed, is_run_token}
 
-pub on_not_gap : (c : ℕ) → goes_on c ≡ true → is_gap c ≡ false
+pub on_not_gap : (c : ℕ) → continues_identifier c ≡ true → is_gap c ≡ false
 on_not_gap c h = grind (arith, nat_tests)
 
 sign_not_gap : (c : ℕ) → is_sign_byte c ≡ true → is_gap c ≡ false
 sign_not_gap c h = grind (arith, nat_tests)
 
-sign_ends : (c : ℕ) → is_sign_byte c ≡ true → goes_on c ≡ false
+sign_ends : (c : ℕ) → is_sign_byte c ≡ true → continues_identifier c ≡ false
 sign_ends c h = grind (arith, nat_tests)
 
 -- lexing, by what the first byte is
@@ -24,11 +24,11 @@ pub lexed-gap : (c : ℕ) (rest : List ℕ) → is_gap c ≡ true → lexed (c �
 unfolding lexed
 lexed-gap c rest h = rw h
 
-pub lexed-on : (c : ℕ) (rest : List ℕ) → goes_on c ≡ true → lexed (c ∷ rest) ≡ option_map (with_byte c (goes_on_at rest)) (lexed rest)
+pub lexed-on : (c : ℕ) (rest : List ℕ) → continues_identifier c ≡ true → lexed (c ∷ rest) ≡ option_map (with_byte c (goes_on_at rest)) (lexed rest)
 unfolding lexed
 lexed-on c rest h = rw (on_not_gap c h, h)
 
-pub lexed-sign : (c : ℕ) (rest : List ℕ) → is_gap c ≡ false → goes_on c ≡ false → lexed (c ∷ rest) ≡ with_sign (sign_of c) (lexed rest)
+pub lexed-sign : (c : ℕ) (rest : List ℕ) → is_gap c ≡ false → continues_identifier c ≡ false → lexed (c ∷ rest) ≡ with_sign (sign_of c) (lexed rest)
 unfolding lexed
 lexed-sign c rest h g = rw (h, g)
 
@@ -52,21 +52,21 @@ alone_first c None = refl
 alone_first c (Some tokens) = refl
 
 -- a whole word in front is the first token
-pub lexed-word : (c : ℕ) (cs rest : List ℕ) → goes_on c ≡ true → list_all goes_on cs ≡ true → goes_on_at rest ≡ false → lexed (c ∷ (cs ++ rest)) ≡ option_map (λ more. Word (c ∷ cs) ∷ more) (lexed rest)
+pub lexed-word : (c : ℕ) (cs rest : List ℕ) → continues_identifier c ≡ true → list_all continues_identifier cs ≡ true → goes_on_at rest ≡ false → lexed (c ∷ (cs ++ rest)) ≡ option_map (λ more. Word (c ∷ cs) ∷ more) (lexed rest)
 lexed-word c [] rest on all ends = lexed-on c rest on ∙ rw ends (alone_first c (lexed rest))
 lexed-word c (d ∷ ds) rest on all ends =
-    let parts : (goes_on d ≡ true) × (list_all goes_on ds ≡ true) = and_parts (goes_on d) (list_all goes_on ds) all in
+    let parts : (continues_identifier d ≡ true) × (list_all continues_identifier ds ≡ true) = and_parts (continues_identifier d) (list_all continues_identifier ds) all in
     lexed-on c (d ∷ (ds ++ rest)) on ∙ rw (parts.0, lexed-word d ds rest parts.0 parts.1 ends) (word_first c (lexed rest) (d ∷ ds))
 
 ends_word : (word rest : List ℕ) → ends_before (Word word) rest ≡ true → goes_on_at rest ≡ false
 ends_word word [] h = refl
-ends_word word (c ∷ rest) h = not-true (goes_on c) h
+ends_word word (c ∷ rest) h = not-true (continues_identifier c) h
 
 -- a token in front is the first
 pub lexed-token : (token : Token) (rest : List ℕ) → is_run_token token ≡ true → ends_before token rest ≡ true → lexed (spelling token ++ rest) ≡ option_map (λ more. token ∷ more) (lexed rest)
 lexed-token (Word []) rest run ends = absurd (false≢true run)
 lexed-token (Word (c ∷ cs)) rest run ends =
-    let parts : (goes_on c ≡ true) × (list_all goes_on cs ≡ true) = and_parts (goes_on c) (list_all goes_on cs) run in
+    let parts : (continues_identifier c ≡ true) × (list_all continues_identifier cs ≡ true) = and_parts (continues_identifier c) (list_all continues_identifier cs) run in
     lexed-word c cs rest parts.0 parts.1 (ends_word (c ∷ cs) rest ends)
 lexed-token (Sign c) rest run ends = lexed-sign c rest (sign_not_gap c run) (sign_ends c run) ∙ rw run
 
@@ -136,7 +136,7 @@ alone c rest before tokens off h made = record {
 }
 
 abbrev pub IsSpelled : ℕ → Token → Type 0
-IsSpelled c sign = (spelling sign ≡ c ∷ []) × ((rest : List ℕ) → ends_before sign rest ≡ true) × (goes_on c ≡ false)
+IsSpelled c sign = (spelling sign ≡ c ∷ []) × ((rest : List ℕ) → ends_before sign rest ≡ true) × (continues_identifier c ≡ false)
 
 pub sign_spelled : (c : ℕ) (sign : Token) → sign_of c ≡ Some sign → IsSpelled c sign
 sign_spelled c sign h =
@@ -158,7 +158,7 @@ word_before c rest before tokens true on well made = grow c rest before tokens (
 word_before c rest before tokens false off well made = alone c rest before tokens off well.0 made
 
 byte_before : (c : ℕ) (rest : List ℕ) (tokens : List Token) → ((before : List Token) → lexed rest ≡ Some before → SplitsWell rest before) → lexed (c ∷ rest) ≡ Some tokens → SplitsWell (c ∷ rest) tokens
-byte_before c rest tokens go h = elim (cases_Bool (goes_on c)) [
+byte_before c rest tokens go h = elim (cases_Bool (continues_identifier c)) [
   | inl on ↦
       let made : (before : List Token) × (lexed rest ≡ Some before) × (with_byte c (goes_on_at rest) before ≡ tokens) = map_some (with_byte c (goes_on_at rest)) (lexed rest) tokens (sym (lexed-on c rest on) ∙ h) in
       let headed : Headed (c ∷ rest) tokens = word_before c rest made.0 tokens (goes_on_at rest) refl (go made.0 made.1) made.2 in
@@ -168,7 +168,7 @@ byte_before c rest tokens go h = elim (cases_Bool (goes_on c)) [
         | inl gap ↦ gap_before c rest tokens gap (go tokens (sym (lexed-gap c rest gap) ∙ h)).0
         | inr other ↦ sign_before c rest (sign_of c) tokens refl (λ before was. (go before was).0) (sym (lexed-sign c rest other off) ∙ h)
       ] in
-      (splits, λ on. absurd (both_ways (goes_on c) off on))
+      (splits, λ on. absurd (both_ways (continues_identifier c) off on))
 ]
 
 splits_well : (bytes : List ℕ) (tokens : List Token) → lexed bytes ≡ Some tokens → SplitsWell bytes tokens

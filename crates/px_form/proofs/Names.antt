@@ -11,10 +11,10 @@ use Rattle.std.specs.Str.{IsAscii, IsUtf8}
 use Rattle.std.proofs.lemmas.Fmt.{decimal_is_IsNumeral}
 use Rattle.std.specs.Str.Parse.{digits_value}
 use Rattle.px_core.specs.Plan.{is_same}
-use Rattle.px_lex.specs.Words.{keyword_of, is_real_word}
+use Rattle.px_lex.specs.Words.{keyword_of, is_real_type}
 use Rattle.px_form.specs.Core.{Form, NoBlock, Block}
 use Rattle.px_form.specs.Reading.{size_of, is_taken}
-use Rattle.px_value.specs.Names.{begins_identifier, goes_on, is_identifier, is_generated, is_name, generated_name}
+use Rattle.px_value.specs.Names.{begins_identifier, continues_identifier, is_identifier, is_generated, is_name, generated_name}
 use Rattle.px_value.proofs.Names.{generated_is_name}
 use Rattle.px_form.specs.FirstForm.{Word, colon, label_tokens, is_label, is_named_from}
 use Rattle.px_form.specs.Lexing.{is_run}
@@ -22,7 +22,7 @@ use Rattle.px_form.specs.Lexing.{is_run}
 label_parts : (name : List ℕ) → is_label name ≡ true → (is_identifier name && is_name name) ≡ true
 unfolding is_label
 label_parts name h =
-    let parts = and_parts (is_identifier name && is_name name && is_none (keyword_of name)) (not (is_real_word name)) h in
+    let parts = and_parts (is_identifier name && is_name name && is_none (keyword_of name)) (not (is_real_type name)) h in
     (and_parts (is_identifier name && is_name name) (is_none (keyword_of name)) parts.0).0
 
 pub label_identifier : (name : List ℕ) → is_label name ≡ true → is_identifier name ≡ true
@@ -34,21 +34,21 @@ label_name name h = (and_parts (is_identifier name) (is_name name) (label_parts 
 begins_off : (c : ℕ) → begins_identifier c ≡ true → (c == 35) ≡ false
 begins_off c h = grind (arith, nat_tests)
 
-begins_on : (c : ℕ) → begins_identifier c ≡ true → goes_on c ≡ true
+begins_on : (c : ℕ) → begins_identifier c ≡ true → continues_identifier c ≡ true
 begins_on c h = rw h
 
 identifier_off : (name : List ℕ) → is_identifier name ≡ true → is_generated name ≡ false
 identifier_off [] h = refl
 identifier_off (c ∷ []) h = refl
 identifier_off (c ∷ d ∷ cs) h =
-    let parts : (begins_identifier c ≡ true) × (list_all goes_on (d ∷ cs) ≡ true) = and_parts (begins_identifier c) (list_all goes_on (d ∷ cs)) h in
+    let parts : (begins_identifier c ≡ true) × (list_all continues_identifier (d ∷ cs) ≡ true) = and_parts (begins_identifier c) (list_all continues_identifier (d ∷ cs)) h in
     rw (begins_off c parts.0)
 
 identifier_run : (name : List ℕ) → is_identifier name ≡ true → is_run name ≡ true
 identifier_run [] h = h
 identifier_run (c ∷ cs) h =
-    let parts : (begins_identifier c ≡ true) × (list_all goes_on cs ≡ true) = and_parts (begins_identifier c) (list_all goes_on cs) h in
-    and_from (goes_on c) (list_all goes_on cs) (begins_on c parts.0) parts.1
+    let parts : (begins_identifier c ≡ true) × (list_all continues_identifier cs ≡ true) = and_parts (begins_identifier c) (list_all continues_identifier cs) h in
+    and_from (continues_identifier c) (list_all continues_identifier cs) (begins_on c parts.0) parts.1
 
 pub label_run : (name : List ℕ) → is_label name ≡ true → is_run name ≡ true
 label_run name h = identifier_run name (label_identifier name h)
@@ -75,13 +75,13 @@ same_if (x ∷ xs) (y ∷ ys) h =
     let parts : (nat_eq x y ≡ true) × (is_same xs ys ≡ true) = and_parts (nat_eq x y) (is_same xs ys) h in
     cc (eqb-true x y parts.0, same_if xs ys parts.1)
 
-on_ascii : (c : ℕ) → goes_on c ≡ true → c < 128
+on_ascii : (c : ℕ) → continues_identifier c ≡ true → c < 128
 on_ascii c h = grind (arith, nat_tests)
 
-run_ascii : (bytes : List ℕ) → list_all goes_on bytes ≡ true → IsAscii bytes
+run_ascii : (bytes : List ℕ) → list_all continues_identifier bytes ≡ true → IsAscii bytes
 run_ascii [] h = IsAscii-nil
 run_ascii (c ∷ cs) h =
-    let parts : (goes_on c ≡ true) × (list_all goes_on cs ≡ true) = and_parts (goes_on c) (list_all goes_on cs) h in
+    let parts : (continues_identifier c ≡ true) × (list_all continues_identifier cs ≡ true) = and_parts (continues_identifier c) (list_all continues_identifier cs) h in
     IsAscii-cons c cs (on_ascii c parts.0) (run_ascii cs parts.1)
 
 label_ascii : (name : List ℕ) → is_run name ≡ true → IsAscii name

@@ -72,10 +72,10 @@ record IsGood (s : State) (read : List Token) : Type 0 where
   text : read ≡ seen s.levels s.blocks ++ last_tokens s.expects
 
 -- the block that has begun goes on
-goes_on : (levels : List Level) (blocks : Form) (count : ℕ) (before after : Expects) (token : Token) (text : List Token)
+continues_identifier : (levels : List Level) (blocks : Form) (count : ℕ) (before after : Expects) (token : Token) (text : List Token)
     → IsGood (state levels blocks count before) text → begun_count before ≡ begun_count after → Awaits levels blocks after
     → last_tokens after ≡ last_tokens before ++ (token ∷ []) → IsGood (state levels blocks count after) (text ++ token ∷ [])
-goes_on levels blocks count before after token text good same awaits more = record {
+continues_identifier levels blocks count before after token text good same awaits more = record {
   done = good.done;
   sound = good.sound;
   counted = ap (λ n. good.done + n) (sym same) ∙ good.counted;
@@ -111,7 +111,7 @@ label_good levels blocks count word text next good h =
     let made : ((not (is_taken word blocks) && is_label word) ≡ true) × (state levels blocks count (ColonOf word) ≡ next) = cond_some (not (is_taken word blocks) && is_label word) (state levels blocks count (ColonOf word)) next h in
     let parts : (not (is_taken word blocks) ≡ true) × (is_label word ≡ true) = and_parts (not (is_taken word blocks)) (is_label word) made.0 in
     subst (λ t. IsGood t (text ++ Word word ∷ [])) made.1
-    (goes_on levels blocks count AnyBlock (ColonOf word) (Word word) text good refl (parts.1, not-true (is_taken word blocks) parts.0) refl)
+    (continues_identifier levels blocks count AnyBlock (ColonOf word) (Word word) text good refl (parts.1, not-true (is_taken word blocks) parts.0) refl)
 
 unlabelled_good : (levels : List Level) (blocks : Form) (count : ℕ) (text : List Token) (next : State)
     → IsGood (state levels blocks count AnyBlock) text → unlabelled (state levels blocks count AnyBlock) ≡ Some next → IsGood next (text ++ open_block ∷ [])
@@ -164,7 +164,7 @@ condition_good levels blocks count body word text next (Some condition) good is 
     let began : Begun = record { condition = condition.0; long = condition.1; colon = false; negated = false } in
     let made : (is_given condition.0 body.items ≡ false) × (state levels blocks count (RestOf body (parts.Question began)) ≡ next) = refused (is_given condition.0 body.items) (state levels blocks count (RestOf body (parts.Question began))) next h in
     subst (λ t. IsGood t (text ++ Word word ∷ [])) made.1
-    (goes_on levels blocks count (ItemOf body) (RestOf body (parts.Question began)) (Word word) text good refl
+    (continues_identifier levels blocks count (ItemOf body) (RestOf body (parts.Question began)) (Word word) text good refl
     (good.awaits, record { new = made.0; good = refl })
     (ap (λ w. body_tokens body ++ (Word w ∷ [])) (sym (condition_spelled word condition is))))
   where
@@ -179,7 +179,7 @@ word_good : (levels : List Level) (blocks : Form) (count : ℕ) (body : OpenBloc
 word_good levels blocks count body word text next true is good h =
     let after : state levels blocks count (ActionsOf body) ≡ next = cc in
     subst (λ t. IsGood t (text ++ Word word ∷ [])) after
-    (goes_on levels blocks count (ItemOf body) (ActionsOf body) (Word word) text good refl good.awaits
+    (continues_identifier levels blocks count (ItemOf body) (ActionsOf body) (Word word) text good refl good.awaits
     (ap (λ w. body_tokens body ++ (Word w ∷ [])) (sym (same_if word (codes "NodeList") is))))
 word_good levels blocks count body word text next false is good h =
     condition_good levels blocks count body word text next (option_and_then condition_of (keyword_of word)) good refl h
@@ -213,7 +213,7 @@ rest_good levels blocks count body part token text next good h =
     map_some (λ more. state levels blocks count (RestOf body more)) (item_step (room_in levels) part token) next h in
     let on : GoesOn (room_in levels) part token made.0 = item_goes_on (room_in levels) part token made.0 good.awaits.1.good made.1 in
     subst (λ t. IsGood t (text ++ token ∷ [])) made.2
-    (goes_on levels blocks count (RestOf body part) (RestOf body made.0) token text good refl
+    (continues_identifier levels blocks count (RestOf body part) (RestOf body made.0) token text good refl
     (good.awaits.0, record { new = ap (λ kind. is_given kind body.items) on.same ∙ good.awaits.1.new; good = on.good })
     (ap (λ t. body_tokens body ++ t) on.text ∙ sym (append_assoc (body_tokens body) (part_tokens part) (token ∷ []))))
 
@@ -251,7 +251,7 @@ item_good levels blocks count body item token text next good h =
     let room : length levels < 64 = omega (arith, free.depth) in
     subst (λ t. IsGood next (text ++ t ∷ [])) (sym (sign_is token 59 made.0))
     (subst (λ t. IsGood t (text ++ semicolon ∷ [])) made.1
-    (goes_on levels blocks count (RestOf body (parts.End item)) (ItemOf more) semicolon text good refl
+    (continues_identifier levels blocks count (RestOf body (parts.End item)) (ItemOf more) semicolon text good refl
     (record {
       stands = free.stands;
       free = free.free;
@@ -279,7 +279,7 @@ step_good levels blocks count AnyBlock (Sign c) text next good h = node_sign lev
 step_good levels blocks count (ColonOf name) token text next good h =
     let made : (is_sign token 58 ≡ true) × (state levels blocks count (BracketOf name) ≡ next) = cond_some (is_sign token 58) (state levels blocks count (BracketOf name)) next h in
     subst (λ t. IsGood t (text ++ token ∷ [])) made.1
-    (goes_on levels blocks count (ColonOf name) (BracketOf name) token text good refl good.awaits
+    (continues_identifier levels blocks count (ColonOf name) (BracketOf name) token text good refl good.awaits
     (ap (λ t. Word name ∷ t ∷ []) (sym (sign_is token 58 made.0))))
 step_good levels blocks count (BracketOf name) token text next good h =
     let made : (is_sign token 123 ≡ true) × (opened (state levels blocks count (BracketOf name)) name ≡ Some next) = guarded (is_sign token 123) (opened (state levels blocks count (BracketOf name)) name) next h in

@@ -1,8 +1,8 @@
 -- The first form of plans: blocks in blocks, each with or without a label, and each with some of its conditions.
 use Rattle.std.specs.Prelude.{◌≡◌, ℕ, suc, ◌+◌, ◌≤◌, max, Bool, true, false, not, is_none, ◌&&◌, ◌||◌, ◌==◌, List, [], ◌∷◌, ◌++◌, codes, IsTrue}
 use Rattle.std.specs.List.{list_all, list_any, flat_map}
-use Rattle.px_value.specs.Names.{goes_on, is_identifier, is_generated, is_name, generated_name}
-use Rattle.px_lex.specs.Words.{keyword_of, is_real_word}
+use Rattle.px_value.specs.Names.{continues_identifier, is_identifier, is_generated, is_name, generated_name}
+use Rattle.px_lex.specs.Words.{keyword_of, is_real_type}
 use Rattle.px_core.specs.contracts.conditions.ConditionKindPartialEq.TheImpl as condition_kinds
 use Rattle.px_core.specs.declared.conditions.ConditionKind.{ConditionKind}
 use Rattle.px_core.specs.declared.conditions.ConditionKind.TheVariants as conditions
@@ -53,7 +53,7 @@ is_gap c = (c == 32) || (c == 9) || (c == 10) || (c == 13)
 -- a word is as long as it can be
 abbrev pub ends_before : Token → List ℕ → Bool
 ends_before (Word word) [] = true
-ends_before (Word word) (c ∷ rest) = not (goes_on c)
+ends_before (Word word) (c ∷ rest) = not (continues_identifier c)
 ends_before (Sign sign) rest = true
 
 -- the bytes are gaps and these tokens in turn
@@ -126,7 +126,7 @@ tokens_of (Block head actions rest) =
 
 -- a label: an identifier of at most 64 bytes that is neither a keyword nor the name of a type that is left out
 unfoldable pub is_label : List ℕ → Bool
-is_label name = is_identifier name && is_name name && is_none (keyword_of name) && not (is_real_word name)
+is_label name = is_identifier name && is_name name && is_none (keyword_of name) && not (is_real_type name)
 
 -- there is one root
 abbrev pub is_one_block : Form → Bool

@@ -2,13 +2,13 @@
 use Rattle.std.specs.Prelude.{◌≡◌, ℕ, Bool, true, false, ◌&&◌, ◌||◌, ◌==◌, ◌<◌, List, [], ◌∷◌, length, Option, Some, None, if◌then◌else◌}
 use Rattle.std.specs.List.{list_all}
 use Rattle.std.specs.Option.{option_map}
-use Rattle.px_value.specs.Names.{goes_on}
+use Rattle.px_value.specs.Names.{continues_identifier}
 use Rattle.px_form.specs.FirstForm.{Token, Word, Sign, is_gap}
 
 -- whether the bytes begin inside a word
 abbrev pub goes_on_at : List ℕ → Bool
 goes_on_at [] = false
-goes_on_at (c ∷ rest) = goes_on c
+goes_on_at (c ∷ rest) = continues_identifier c
 
 -- a byte before tokens whose first word it belongs to, or else as a word of its own
 abbrev pub with_byte : ℕ → Bool → List Token → List Token
@@ -33,13 +33,13 @@ unfoldable pub lexed : List ℕ → Option (List Token)
 lexed [] = Some []
 lexed (c ∷ rest) =
     if is_gap c then lexed rest
-    else (if goes_on c then option_map (with_byte c (goes_on_at rest)) (lexed rest)
+    else (if continues_identifier c then option_map (with_byte c (goes_on_at rest)) (lexed rest)
     else with_sign (sign_of c) (lexed rest))
 
 -- a word as it can stand in the bytes: one byte or more, each of which goes on
 abbrev pub is_run : List ℕ → Bool
 is_run [] = false
-is_run (c ∷ cs) = goes_on c && list_all goes_on cs
+is_run (c ∷ cs) = continues_identifier c && list_all continues_identifier cs
 
 abbrev pub is_run_token : Token → Bool
 is_run_token (Word word) = is_run word

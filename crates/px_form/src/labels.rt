@@ -3,7 +3,7 @@ ghost use Rattle.std.specs.Prelude.{◌≡◌, true, false, IfOk, IsErrOf};
 ghost use Rattle.px_form.specs.FirstForm.{is_label};
 
 use crate::fault::ReadFault;
-use px_lex::{is_real_word, keyword_of};
+use px_lex::{is_real_type, keyword_of};
 use px_value::{Name, NameFault, is_identifier, is_name};
 use std::alloc::Global;
 use std::str;
@@ -34,7 +34,7 @@ pub fn label(alloc: Global, word: &[u8]) -> Result<Name, ReadFault>
 fn is_label(word: &[u8]) -> bool
     ensures { result ≡ is_label word.now }
 {
-    is_identifier(word) && is_name(word) && keyword_of(word).is_none() && !is_real_word(word)
+    is_identifier(word) && is_name(word) && keyword_of(word).is_none() && !is_real_type(word)
 }
 
 #[cfg(test)]

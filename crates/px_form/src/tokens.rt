@@ -2,14 +2,14 @@
 ghost use Rattle.std.specs.Prelude.{◌≡◌, ◌<◌, ◌≤◌, true, false, take, drop, length, [], IsTrue, None, Some, IfOk, IfSome, IfNone, IsErrOf, MatchOption};
 ghost use Rattle.std.specs.List.{list_all};
 ghost use Rattle.std.specs.Option.{option_map};
-ghost use Rattle.px_value.specs.Names.{goes_on};
+ghost use Rattle.px_value.specs.Names.{continues_identifier};
 ghost use Rattle.px_form.specs.FirstForm.{is_gap};
 ghost use Rattle.px_form.specs.Lexing.{lexed, gap_at, goes_on_at, sign_of, IsFirst};
 ghost use Rattle.px_form.specs.Items.{is_sign};
 ghost use Rattle.px_form.specs.Cutting.{byte_of, token_of};
 
 use crate::fault::ReadFault;
-use px_value::goes_on;
+use px_value::continues_identifier;
 
 /// The signs, one byte each.
 #[derive(Clone, Copy, Debug, PartialEq, Eq)]
@@ -98,11 +98,11 @@ fn after_gaps(bytes: &[u8]) -> &[u8]
 /// How many bytes the word at the front has.
 fn word_end(bytes: &[u8]) -> usize
     ensures within { result ≤ length bytes.now }
-    ensures word { list_all goes_on (take result bytes.now) ≡ true }
+    ensures word { list_all continues_identifier (take result bytes.now) ≡ true }
     ensures ends { goes_on_at (drop result bytes.now) ≡ false }
 {
     for (i, c) in bytes.iter().enumerate() {
-        if !goes_on(*c) {
+        if !continues_identifier(*c) {
             return i;
         }
     }

@@ -7,13 +7,13 @@ use Rattle.std.specs.Cmp.Lexicographic.{bytes_decides}
 use Rattle.std.proofs.Math.Seq.{take-append_seam, drop-append_seam}
 use Rattle.std.proofs.lemmas.Bool.{and_parts, and_from, or_parts, or_cases, or_left, cases_Bool, false≢true, lt-ltb, le-ltb, le-leb, lt-leb, eqb-true, not-true, ne_eqb}
 use Rattle.std.proofs.lemmas.Bool.Decides.{nat_tests}
-use Rattle.px_value.specs.Names.{is_digit, begins_identifier, goes_on}
+use Rattle.px_value.specs.Names.{is_digit, begins_identifier, continues_identifier}
 use Rattle.px_lex.specs.declared.keyword.Keyword.{Keyword}
 use Rattle.px_lex.specs.declared.sign.Sign.{Sign}
 use Rattle.px_lex.specs.declared.token.TokenKind.{TokenKind}
 use Rattle.px_lex.specs.declared.token.TokenKind.TheVariants as kinds
-use Rattle.px_lex.specs.Gaps.{begins, is_blank, is_in_line, after_close, IsGap}
-use Rattle.px_lex.specs.Words.{IsWord, keyword_rows, keyword_of, is_real_word}
+use Rattle.px_lex.specs.Gaps.{begins, is_white_space, is_in_line, after_close, IsGap}
+use Rattle.px_lex.specs.Words.{IsWord, keyword_rows, keyword_of, is_real_type}
 use Rattle.px_lex.specs.Numbers.{IsNumber, number_of, is_fraction}
 use Rattle.px_lex.specs.Strings.{is_quote, read_string}
 use Rattle.px_lex.specs.Signs.{sign_rows, sign_of, opens_comment, ends_sign}
@@ -41,11 +41,11 @@ pub data Class : Type 0 where
 
 abbrev class_of : List ℕ → Class
 class_of text =
-    if begins is_blank text then a_blank
+    if begins is_white_space text then a_blank
     else if bytes_eq (take 2 text) (codes "//") then a_line
     else if bytes_eq (take 2 text) (codes "/*") then a_comment
     else if begins is_quote text then a_quote
-    else if begins goes_on text then a_run
+    else if begins continues_identifier text then a_run
     else an_other
 
 abbrev comment_front : Option (List ℕ) → Front
@@ -62,7 +62,7 @@ value_front rest (Some value) = if nat_lt value (2 ^ 31) then piece (Some (kinds
 
 abbrev word_front : List ℕ → List ℕ → Option Keyword → Front
 word_front word rest (Some keyword) = piece (Some (kinds.Keyword keyword)) rest
-word_front word rest None = if is_real_word word then real else if nat_le (length word) 64 then piece (Some (kinds.Identifier word)) rest else too_long
+word_front word rest None = if is_real_type word then real else if nat_le (length word) 64 then piece (Some (kinds.Identifier word)) rest else too_long
 
 abbrev run_front : List ℕ → List ℕ → Front
 run_front spelling rest =
@@ -87,7 +87,7 @@ by_class a_blank text = piece None (drop 1 text)
 by_class a_line text = piece None (drop (prefix_len is_in_line text) text)
 by_class a_comment text = comment_front (after_close (drop 2 text))
 by_class a_quote text = string_front (read_string text)
-by_class a_run text = run_front (take (prefix_len goes_on text) text) (drop (prefix_len goes_on text) text)
+by_class a_run text = run_front (take (prefix_len continues_identifier text) text) (drop (prefix_len continues_identifier text) text)
 by_class an_other text = sign_front text
 
 abbrev pub front : List ℕ → Front
@@ -95,16 +95,16 @@ front text = by_class (class_of text) text
 
 -- ---- which class stands where
 
-run_no_blank : (c : ℕ) → goes_on c ≡ true → is_blank c ≡ false
+run_no_blank : (c : ℕ) → continues_identifier c ≡ true → is_white_space c ≡ false
 run_no_blank c h = grind (arith, nat_tests)
 
-run_no_slash : (c : ℕ) → goes_on c ≡ true → (c == 47) ≡ false
+run_no_slash : (c : ℕ) → continues_identifier c ≡ true → (c == 47) ≡ false
 run_no_slash c h = grind (arith, nat_tests)
 
-run_no_quote : (c : ℕ) → goes_on c ≡ true → (c == 34) ≡ false
+run_no_quote : (c : ℕ) → continues_identifier c ≡ true → (c == 34) ≡ false
 run_no_quote c h = grind (arith, nat_tests)
 
-class_run : (text : List ℕ) → begins goes_on text ≡ true → class_of text ≡ a_run
+class_run : (text : List ℕ) → begins continues_identifier text ≡ true → class_of text ≡ a_run
 class_run [] h = cc
 class_run (c ∷ cs) h = rw (run_no_blank c h, run_no_slash c h, run_no_quote c h, h)
 
@@ -112,13 +112,13 @@ class_quote : (text : List ℕ) → begins is_quote text ≡ true → class_of t
 class_quote [] h = cc
 class_quote (c ∷ cs) h = let quote : c ≡ 34 = eqb-true c 34 h in rw quote
 
-other_no_blank : (c : ℕ) → is_other c ≡ true → is_blank c ≡ false
+other_no_blank : (c : ℕ) → is_other c ≡ true → is_white_space c ≡ false
 other_no_blank c h = grind (arith, nat_tests)
 
 other_no_quote : (c : ℕ) → is_other c ≡ true → (c == 34) ≡ false
 other_no_quote c h = grind (arith, nat_tests)
 
-other_no_run : (c : ℕ) → is_other c ≡ true → goes_on c ≡ false
+other_no_run : (c : ℕ) → is_other c ≡ true → continues_identifier c ≡ false
 other_no_run c h = grind (arith, nat_tests)
 
 class_other : (text : List ℕ) → begins is_other text ≡ true → opens_comment (take 2 text) ≡ false → class_of text ≡ an_other
@@ -153,12 +153,12 @@ gap_front spelling rest (IsGap.comment g) = rw (g.spelled, g.closed)
 
 -- ---- words and numbers
 
-run_is : (spelling rest : List ℕ) → begins goes_on spelling ≡ true → list_all goes_on spelling ≡ true → begins goes_on rest ≡ false → front (spelling ++ rest) ≡ run_front spelling rest
+run_is : (spelling rest : List ℕ) → begins continues_identifier spelling ≡ true → list_all continues_identifier spelling ≡ true → begins continues_identifier rest ≡ false → front (spelling ++ rest) ≡ run_front spelling rest
 run_is [] rest first pass stop = cc
 run_is (c ∷ cs) rest first pass stop =
-    rw (class_run (c ∷ cs ++ rest) first, taken_of goes_on (c ∷ cs) rest pass stop, left_of goes_on (c ∷ cs) rest pass stop)
+    rw (class_run (c ∷ cs ++ rest) first, taken_of continues_identifier (c ∷ cs) rest pass stop, left_of continues_identifier (c ∷ cs) rest pass stop)
 
-digit_goes_on : (c : ℕ) → is_digit c ≡ true → goes_on c ≡ true
+digit_goes_on : (c : ℕ) → is_digit c ≡ true → continues_identifier c ≡ true
 digit_goes_on c h = grind (arith, nat_tests)
 
 number_is : (spelling rest : List ℕ) → IsNumber spelling rest → front (spelling ++ rest) ≡ (if is_fraction spelling rest then real else value_front rest (number_of spelling))
@@ -171,9 +171,9 @@ letter_no_digit c h = grind (arith, nat_tests)
 word_is : (spelling rest : List ℕ) → IsWord spelling rest → front (spelling ++ rest) ≡ word_front spelling rest (keyword_of spelling)
 word_is [] rest w = absurd (false≢true w.word)
 word_is (c ∷ cs) rest w =
-    let parts : (begins_identifier c ≡ true) × (list_all goes_on cs ≡ true) = and_parts (begins_identifier c) (list_all goes_on cs) w.word in
-    let on : goes_on c ≡ true = or_left (begins_identifier c) (is_digit c) parts.0 in
-    run_is (c ∷ cs) rest on (and_from (goes_on c) (list_all goes_on cs) on parts.1) w.longest ∙ rw (letter_no_digit c parts.0)
+    let parts : (begins_identifier c ≡ true) × (list_all continues_identifier cs ≡ true) = and_parts (begins_identifier c) (list_all continues_identifier cs) w.word in
+    let on : continues_identifier c ≡ true = or_left (begins_identifier c) (is_digit c) parts.0 in
+    run_is (c ∷ cs) rest on (and_from (continues_identifier c) (list_all continues_identifier cs) on parts.1) w.longest ∙ rw (letter_no_digit c parts.0)
 
 none_unless : {K : Type 0} (o : Option K) → ((k : K) → o ≡ Some k → ⊥) → o ≡ None
 none_unless None h = refl
@@ -182,14 +182,14 @@ none_unless (Some k) h = absurd (h k refl)
 keyword_is : (p : List ℕ → Bool) → list_all (λ (row : List ℕ × Keyword). p row.0) keyword_rows ≡ true → (word : List ℕ) → p word ≡ false → keyword_of word ≡ None
 keyword_is p each word h = none_unless (keyword_of word) (λ k found. false≢true (sym h ∙ row_of-all p keyword_rows word k each found))
 
-real_is_no_keyword : (word : List ℕ) → is_real_word word ≡ true → keyword_of word ≡ None
-real_is_no_keyword word h = keyword_is (λ w. not (is_real_word w)) refl word (rw h)
+real_is_no_keyword : (word : List ℕ) → is_real_type word ≡ true → keyword_of word ≡ None
+real_is_no_keyword word h = keyword_is (λ w. not (is_real_type w)) refl word (rw h)
 
 long_is_no_keyword : (word : List ℕ) → 64 < length word → keyword_of word ≡ None
 long_is_no_keyword word h = keyword_is (λ w. nat_le (length w) 64) refl word (lt-leb (length word) 64 h)
 
-long_is_not_real : (word : List ℕ) → 64 < length word → is_real_word word ≡ false
-long_is_not_real word h = false_unless (is_real_word word) (λ r. elim (or_cases (bytes_eq word (codes "Real") || bytes_eq word (codes "Date")) (bytes_eq word (codes "Duration")) r) [
+long_is_not_real : (word : List ℕ) → 64 < length word → is_real_type word ≡ false
+long_is_not_real word h = false_unless (is_real_type word) (λ r. elim (or_cases (bytes_eq word (codes "Real") || bytes_eq word (codes "Date")) (bytes_eq word (codes "Duration")) r) [
   | inl one ↦ elim (or_cases (bytes_eq word (codes "Real")) (bytes_eq word (codes "Date")) one) [
     | inl e ↦ omega (arith, h, ap length ((bytes_decides word (codes "Real")).0 e))
     | inr e ↦ omega (arith, h, ap length ((bytes_decides word (codes "Date")).0 e))

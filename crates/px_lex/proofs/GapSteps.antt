@@ -7,20 +7,20 @@ use Rattle.std.proofs.lemmas.Bool.{cases_Bool, and_parts, not-false, eqb-true}
 use Rattle.std.proofs.lemmas.Bool.Decides.{nat_tests}
 use Rattle.std.proofs.lemmas.Str.{IsCharBoundary-end, IsCharBoundary-before_ascii, IsCharBoundary-after_ascii}
 use Rattle.std.proofs.Math.Seq.{take-length, drop-append_seam, get_or-append_seam}
-use Rattle.px_lex.specs.Gaps.{begins, is_blank, is_in_line, after_close, blank, line_comment, comment}
+use Rattle.px_lex.specs.Gaps.{begins, is_white_space, is_in_line, after_close, blank, line_comment, comment}
 use Rattle.px_lex.specs.Splits.{Begins}
 use Rattle.px_lex.proofs.Cuts.{is_ascii, cut_behind}
 use Rattle.px_lex.proofs.Spans.{Span, span}
 
 -- a blank
-ascii_blank : (c : ℕ) → is_blank c ≡ true → is_ascii c ≡ true
+ascii_blank : (c : ℕ) → is_white_space c ≡ true → is_ascii c ≡ true
 ascii_blank c h = grind (arith, nat_tests)
 
-pub blank_cut : (text : List ℕ) → begins is_blank text ≡ true → IsUtf8 text → IsCharBoundary text 1
+pub blank_cut : (text : List ℕ) → begins is_white_space text ≡ true → IsUtf8 text → IsCharBoundary text 1
 blank_cut [] h u = cc
 blank_cut (c ∷ cs) h u = cut_behind (c ∷ cs) (c ∷ []) cs refl (rw (ascii_blank c h)) u
 
-pub blank_begins : (text : List ℕ) → begins is_blank text ≡ true → Begins None text (drop 1 text)
+pub blank_begins : (text : List ℕ) → begins is_white_space text ≡ true → Begins None text (drop 1 text)
 blank_begins [] h = cc
 blank_begins (c ∷ cs) h = record { spelling = c ∷ []; split = refl; some = omega arith; stands = blank c refl h }
 

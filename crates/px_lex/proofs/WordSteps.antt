@@ -3,19 +3,19 @@ use Rattle.std.proofs.Common.{◌≡◌, ℕ, ◌<◌, ◌≤◌, true, false, �
 use Rattle.std.specs.Prelude.{nat_le}
 use Rattle.std.specs.List.{list_all}
 use Rattle.std.proofs.lemmas.Bool.{and_parts, and_from, or_left, or_right, false≢true}
-use Rattle.px_value.specs.Names.{begins_identifier, goes_on, is_digit, is_identifier, is_generated, is_name}
+use Rattle.px_value.specs.Names.{begins_identifier, continues_identifier, is_digit, is_identifier, is_generated, is_name}
 use Rattle.px_lex.specs.Gaps.{begins}
 use Rattle.px_lex.specs.Words.{IsWord}
 use Rattle.px_lex.specs.Numbers.{IsNumber}
 
-pub word_of : (text word rest : List ℕ) → begins begins_identifier text ≡ true → text ≡ word ++ rest → list_all goes_on word ≡ true → begins goes_on rest ≡ false → IsWord word rest
+pub word_of : (text word rest : List ℕ) → begins begins_identifier text ≡ true → text ≡ word ++ rest → list_all continues_identifier word ≡ true → begins continues_identifier rest ≡ false → IsWord word rest
 word_of text [] [] first e pass stop = cc
 word_of text [] (c ∷ cs) first e pass stop = let here : begins_identifier c ≡ true = rw e at first in cc
 word_of text (c ∷ cs) rest first e pass stop =
     let here : begins_identifier c ≡ true = rw e at first in
-    record { word = and_from (begins_identifier c) (list_all goes_on cs) here (and_parts (goes_on c) (list_all goes_on cs) pass).1; longest = stop }
+    record { word = and_from (begins_identifier c) (list_all continues_identifier cs) here (and_parts (continues_identifier c) (list_all continues_identifier cs) pass).1; longest = stop }
 
-pub number_of_run : (text run rest : List ℕ) → begins is_digit text ≡ true → text ≡ run ++ rest → list_all goes_on run ≡ true → begins goes_on rest ≡ false → IsNumber run rest
+pub number_of_run : (text run rest : List ℕ) → begins is_digit text ≡ true → text ≡ run ++ rest → list_all continues_identifier run ≡ true → begins continues_identifier rest ≡ false → IsNumber run rest
 number_of_run text [] [] first e pass stop = cc
 number_of_run text [] (c ∷ cs) first e pass stop = let here : is_digit c ≡ true = rw e at first in
     absurd (false≢true (sym stop ∙ or_right (begins_identifier c) (is_digit c) here))

@@ -1,8 +1,8 @@
 -- What is at fault in a text at whose front neither a gap nor a token stands.
 use Rattle.std.specs.Prelude.{◌≡◌, ℕ, Bool, true, false, not, ◌||◌, ◌≤◌, ◌<◌, ◌^◌, List, ◌++◌, length, take, Some, None, codes}
-use Rattle.px_value.specs.Names.{goes_on}
-use Rattle.px_lex.specs.Gaps.{begins, is_blank, after_close}
-use Rattle.px_lex.specs.Words.{IsWord, is_real_word}
+use Rattle.px_value.specs.Names.{continues_identifier}
+use Rattle.px_lex.specs.Gaps.{begins, is_white_space, after_close}
+use Rattle.px_lex.specs.Words.{IsWord, is_real_type}
 use Rattle.px_lex.specs.Numbers.{IsNumber, number_of, is_fraction}
 use Rattle.px_lex.specs.Strings.{is_quote, read_string}
 use Rattle.px_lex.specs.Signs.{sign_of}
@@ -20,7 +20,7 @@ pub record HasNumber (text number rest : List ℕ) (fraction : Bool) : Type 0 wh
 
 -- a byte with which neither a gap, a word, a number nor a string begins
 abbrev pub is_other : ℕ → Bool
-is_other c = not (is_blank c || goes_on c || is_quote c)
+is_other c = not (is_white_space c || continues_identifier c || is_quote c)
 
 -- a comment that isn't closed; a number directly followed by a letter or _, or 0x alone; a string
 -- that isn't closed or holds what it may not; and any other byte with which no sign begins
@@ -36,7 +36,7 @@ pub data IsBad (text : List ℕ) : Type 0 where
 
 -- the word Real, Date or Duration, or a number with a fraction
 pub data IsReal (text : List ℕ) : Type 0 where
-  real_word : (word rest : List ℕ) → HasWord text word rest → is_real_word word ≡ true → IsReal text
+  real_word : (word rest : List ℕ) → HasWord text word rest → is_real_type word ≡ true → IsReal text
   real_number : (number rest : List ℕ) → HasNumber text number rest true → IsReal text
 
 -- a word of over 64 bytes, an integer over 2147483647, a string of over 1,024 bytes of content

@@ -8,8 +8,8 @@ begins test [] = false
 begins test (c ∷ cs) = test c
 
 -- a blank, a tab, a line feed or a carriage return
-abbrev pub is_blank : ℕ → Bool
-is_blank c = (c == 32) || (c == 9) || (c == 10) || (c == 13)
+abbrev pub is_white_space : ℕ → Bool
+is_white_space c = (c == 32) || (c == 9) || (c == 10) || (c == 13)
 
 -- every byte but a line feed
 abbrev pub is_in_line : ℕ → Bool
@@ -36,6 +36,6 @@ pub record IsComment (spelling rest : List ℕ) : Type 0 where
 
 -- a gap before the rest
 pub data IsGap (spelling rest : List ℕ) : Type 0 where
-  blank : (c : ℕ) → spelling ≡ c ∷ [] → is_blank c ≡ true → IsGap spelling rest
+  blank : (c : ℕ) → spelling ≡ c ∷ [] → is_white_space c ≡ true → IsGap spelling rest
   line_comment : IsLineComment spelling rest → IsGap spelling rest
   comment : IsComment spelling rest → IsGap spelling rest

@@ -3,14 +3,14 @@ use Rattle.std.specs.Prelude.{◌≡◌, ℕ, Bool, true, false, ◌&&◌, ◌==
 use Rattle.std.specs.Char.{digit_value}
 use Rattle.std.specs.List.{list_all}
 use Rattle.std.specs.Str.Parse.{digits_value}
-use Rattle.px_value.specs.Names.{is_digit, goes_on}
+use Rattle.px_value.specs.Names.{is_digit, continues_identifier}
 use Rattle.px_lex.specs.Gaps.{begins}
 
 -- a digit and all letters, digits and _ that directly follow it
 pub record IsNumber (spelling rest : List ℕ) : Type 0 where
   pub first : begins is_digit spelling ≡ true
-  pub going_on : list_all goes_on spelling ≡ true
-  pub longest : begins goes_on rest ≡ false
+  pub going_on : list_all continues_identifier spelling ≡ true
+  pub longest : begins continues_identifier rest ≡ false
 
 -- there are digits, and all are of the base
 abbrev pub is_numeral : ℕ → List ℕ → Bool

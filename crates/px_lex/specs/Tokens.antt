@@ -2,7 +2,7 @@
 use Rattle.std.specs.Prelude.{◌≡◌, ℕ, false, true, ◌≤◌, ◌<◌, ◌^◌, pos, List, ◌++◌, length, Some, None}
 use Rattle.px_lex.specs.declared.token.TokenKind.{TokenKind}
 use Rattle.px_lex.specs.declared.token.TokenKind.TheVariants as kinds
-use Rattle.px_lex.specs.Words.{IsWord, keyword_of, is_real_word}
+use Rattle.px_lex.specs.Words.{IsWord, keyword_of, is_real_type}
 use Rattle.px_lex.specs.Numbers.{IsNumber, number_of, is_fraction}
 use Rattle.px_lex.specs.Strings.{read_string}
 use Rattle.px_lex.specs.Signs.{sign_of, ends_sign}
@@ -12,7 +12,7 @@ pub record SpellsIdentifier (name spelling rest : List ℕ) : Type 0 where
   pub same : spelling ≡ name
   pub word : IsWord spelling rest
   pub no_keyword : keyword_of spelling ≡ None
-  pub allowed : is_real_word spelling ≡ false
+  pub allowed : is_real_type spelling ≡ false
   pub short : length spelling ≤ 64
 
 -- an integer of 32 bits

@@ -2,7 +2,7 @@
 ghost use Rattle.std.specs.Prelude.{◌≡◌, ◌++◌, List, ℕ, codes, IsTrue, IfOk, IfErr};
 ghost use Rattle.std.specs.List.{prefix_len};
 ghost use Rattle.std.specs.Option.{option_copied};
-ghost use Rattle.px_lex.specs.Gaps.{begins, is_blank, is_in_line, after_close};
+ghost use Rattle.px_lex.specs.Gaps.{begins, is_white_space, is_in_line, after_close};
 ghost use Rattle.px_lex.specs.Splits.{Begins, IsFault};
 
 use crate::fault::LexFault;
@@ -31,7 +31,7 @@ fn after_close(mut text: &[u8]) -> Option<&[u8]>
 
 /// The text behind a blank.
 pub(crate) fn behind_blank(text: &str) -> &str
-    requires { IsTrue (begins is_blank text.now) }
+    requires { IsTrue (begins is_white_space text.now) }
     ensures { Begins None text.now result.now }
 {
     &text[1..]

@@ -1,30 +1,32 @@
 // Words: identifiers and keywords.
 ghost use Rattle.std.specs.Prelude.{◌≡◌, ◌++◌, false, IsTrue, IfOk, IfErr};
 ghost use Rattle.std.specs.List.{list_all, prefix_len};
-ghost use Rattle.px_value.specs.Names.{begins_identifier, goes_on};
+ghost use Rattle.px_value.specs.Names.{begins_identifier, continues_identifier};
 ghost use Rattle.px_lex.specs.Gaps.{begins};
 ghost use Rattle.px_lex.specs.Splits.{Begins, IsFault};
-ghost use Rattle.px_lex.specs.Words.{keyword_of, is_real_word};
+ghost use Rattle.px_lex.specs.Words.{keyword_of, is_real_type};
 
 use crate::fault::LexFault;
 use crate::keyword::{KEYWORDS, Keyword};
 use crate::table::row_of;
 use crate::token::TokenKind;
-use px_value::{NAME_LIMIT, Name, NameFault, goes_on};
+use px_value::{NAME_LIMIT, Name, NameFault, continues_identifier};
 use std::alloc::Global;
 
 /// How many letters, digits and `_` a text begins with.
 fn run_length(text: &[u8]) -> usize
-    ensures { result ≡ prefix_len goes_on text.now }
+    ensures { result ≡ prefix_len continues_identifier text.now }
 {
-    text.iter().take_while(|c| goes_on(**c)).count()
+    text.iter()
+        .take_while(|c| continues_identifier(**c))
+        .count()
 }
 
 /// The letters, digits and `_` that a text begins with, and what is behind them.
 pub(crate) fn split_run(text: &str) -> (&str, &str)
     ensures whole { text.now ≡ result.0.now ++ result.1.now }
-    ensures run { IsTrue (list_all goes_on result.0.now) }
-    ensures longest { begins goes_on result.1.now ≡ false }
+    ensures run { IsTrue (list_all continues_identifier result.0.now) }
+    ensures longest { begins continues_identifier result.1.now ≡ false }
 {
     text.split_at(run_length(text.as_bytes()))
 }
@@ -37,8 +39,8 @@ pub fn keyword_of(word: &[u8]) -> Option<Keyword>
 }
 
 /// Whether a word is the name of a type that is left out: Real, Date or Duration.
-pub fn is_real_word(word: &[u8]) -> bool
-    ensures { result ≡ is_real_word word.now }
+pub fn is_real_type(word: &[u8]) -> bool
+    ensures { result ≡ is_real_type word.now }
 {
     word == b"Real".as_slice() || word == b"Date".as_slice() || word == b"Duration".as_slice()
 }
@@ -50,9 +52,9 @@ fn keyword(word: &str) -> Option<Keyword>
 }
 
 fn is_left_out(word: &str) -> bool
-    ensures { result ≡ is_real_word word.now }
+    ensures { result ≡ is_real_type word.now }
 {
-    is_real_word(word.as_bytes())
+    is_real_type(word.as_bytes())
 }
 
 /// The word at the front of a text, and what is behind it.
@@ -93,7 +95,7 @@ mod tests {
             Some(Keyword::IterationEnded)
         );
         assert_eq!(rt; keyword_of(b"ITERATION"), None);
-        assert!(rt; is_real_word(b"Duration"));
-        assert!(rt; !is_real_word(b"Durations"));
+        assert!(rt; is_real_type(b"Duration"));
+        assert!(rt; !is_real_type(b"Durations"));
     }
 }

@@ -11,10 +11,10 @@ use Rattle.px_value.specs.declared.enums.NodeState.{NodeState}
 use Rattle.px_value.specs.declared.value.Value.{Value}
 use Rattle.px_sem.specs.declared.guards.Arrival.{Arrival}
 use Rattle.px_sem.specs.declared.moves.Move.{Move}
-use Rattle.px_core.specs.Plan.{Site, nowhere}
+use Rattle.px_core.specs.Plan.{Site, no_site}
 use Rattle.px_sem.specs.World as world
-use Rattle.px_sem.specs.Conflicts.{way}
-use Rattle.px_sem.specs.Step.{prepares, record_after, micro, move_of, moves}
+use Rattle.px_sem.specs.Conflicts.{transition}
+use Rattle.px_sem.specs.Step.{initializes, record_after, micro, move_of, moves}
 use Rattle.px_naive.specs.declared.place.Place.{Place}
 use Rattle.px_naive.specs.declared.place.Record.{Record}
 use Rattle.px_naive.specs.Places.{site_of, sites_of, IsLaid, recorded, world_of}
@@ -23,9 +23,9 @@ use Rattle.px_naive.proofs.Laid.{length-sites_of, site_at_number}
 use Rattle.px_naive.proofs.Below.{record_of_number, no_record}
 
 -- each key beside what a function gives of its element
-pub zip_as_map : (sites : List Site) (records : List world.Record) (f : Site → world.Record)
+pub zip_as_map : (sites : List Site) (records : List world.NodeRecord) (f : Site → world.NodeRecord)
     → length records ≡ length sites
-    → ((k : ℕ) (d : world.Record) → k < length sites → get_or records k d ≡ f (get_or sites k nowhere))
+    → ((k : ℕ) (d : world.NodeRecord) → k < length sites → get_or records k d ≡ f (get_or sites k no_site))
     → zip (map (λ s. s.path) sites) records ≡ map (λ s. (s.path, f s)) sites
 zip_as_map [] records f long each = refl
 zip_as_map (site ∷ sites) [] f long each = absurd (omega arith)
@@ -36,42 +36,42 @@ zip_as_map (site ∷ sites) (r ∷ records) f long each =
 
 -- the moves of some of the nodes
 abbrev pub moves_among : List Site → List Site → world.World → List Move
-moves_among some plan now = filter_map (λ site. option_map (move_of plan now site) (way plan now site)) some
+moves_among some plan now = filter_map (λ site. option_map (move_of plan now site) (transition plan now site)) some
 
 arrival_kept : (places : List Place) (now : world.World) (arrivals : List (Option Arrival))
-    → arrivals ≡ map (way (sites_of places) now) (sites_of places)
+    → arrivals ≡ map (transition (sites_of places) now) (sites_of places)
     → (i : ℕ) (a : Option Arrival) → i < length places
-    → get_or arrivals i a ≡ way (sites_of places) now (get_or (sites_of places) i nowhere)
+    → get_or arrivals i a ≡ transition (sites_of places) now (get_or (sites_of places) i no_site)
 arrival_kept places now arrivals same i a h =
     ap (λ all. get_or all i a) same
-    ∙ get_or-map (way (sites_of places) now) (sites_of places) i nowhere a (omega (arith, length-sites_of places))
+    ∙ get_or-map (transition (sites_of places) now) (sites_of places) i no_site a (omega (arith, length-sites_of places))
 
 pub length-arrivals : (places : List Place) (now : world.World) (arrivals : List (Option Arrival))
-    → arrivals ≡ map (way (sites_of places) now) (sites_of places) → length arrivals ≡ length places
+    → arrivals ≡ map (transition (sites_of places) now) (sites_of places) → length arrivals ≡ length places
 length-arrivals places now arrivals same =
-    ap length same ∙ length-map (sites_of places) (way (sites_of places) now) ∙ length-sites_of places
+    ap length same ∙ length-map (sites_of places) (transition (sites_of places) now) ∙ length-sites_of places
 
 -- one node more: its move, where it goes
 moves_more : (places : List Place) (now : world.World) (i : ℕ) → i < length places
     → moves_among (take (i + 1) (sites_of places)) (sites_of places) now
     ≡ moves_among (take i (sites_of places)) (sites_of places) now
-    ++ cons_option (option_map (move_of (sites_of places) now (get_or (sites_of places) i nowhere))
-    (way (sites_of places) now (get_or (sites_of places) i nowhere))) []
+    ++ cons_option (option_map (move_of (sites_of places) now (get_or (sites_of places) i no_site))
+    (transition (sites_of places) now (get_or (sites_of places) i no_site))) []
 moves_more places now i h =
     ap (λ some. moves_among some (sites_of places) now)
-    (take_more (sites_of places) i nowhere (omega (arith, length-sites_of places)))
-    ∙ filter_map-append (λ site. option_map (move_of (sites_of places) now site) (way (sites_of places) now site))
-    (take i (sites_of places)) (get_or (sites_of places) i nowhere ∷ [])
+    (take_more (sites_of places) i no_site (omega (arith, length-sites_of places)))
+    ∙ filter_map-append (λ site. option_map (move_of (sites_of places) now site) (transition (sites_of places) now site))
+    (take i (sites_of places)) (get_or (sites_of places) i no_site ∷ [])
 
 pub moves_none : (places : List Place) (now : world.World) (arrivals : List (Option Arrival))
-    → arrivals ≡ map (way (sites_of places) now) (sites_of places)
+    → arrivals ≡ map (transition (sites_of places) now) (sites_of places)
     → (i : ℕ) (a : Option Arrival) → i < length places → get_or arrivals i a ≡ None
     → moves_among (take (i + 1) (sites_of places)) (sites_of places) now
     ≡ moves_among (take i (sites_of places)) (sites_of places) now
 moves_none places now arrivals same i a h none =
     moves_more places now i h
     ∙ ap (λ arrival. moves_among (take i (sites_of places)) (sites_of places) now ++ cons_option (option_map
-    (move_of (sites_of places) now (get_or (sites_of places) i nowhere)) arrival) [])
+    (move_of (sites_of places) now (get_or (sites_of places) i no_site)) arrival) [])
     (sym (arrival_kept places now arrivals same i a h) ∙ none)
     ∙ append-nil (moves_among (take i (sites_of places)) (sites_of places) now)
 
@@ -79,13 +79,13 @@ moves_none places now arrivals same i a h none =
 pub made_at_number : (places : List Place) (records : List Record) (reports : List (world.LookState × Value))
     → IsLaid places → length records ≡ length places
     → (i : ℕ) (p : Place) (r : Record) (arrival : Arrival) → i < length places
-    → move_of (sites_of places) (world_of places records reports) (get_or (sites_of places) i nowhere) arrival
+    → move_of (sites_of places) (world_of places records reports) (get_or (sites_of places) i no_site) arrival
     ≡ move_to (get_or places i p).path (get_or records i r) arrival
 unfolding move_to
 made_at_number places records reports laid long i p r arrival h =
-    ap (λ s. move_of (sites_of places) now s arrival) (site_at_number places laid i nowhere p h)
+    ap (λ s. move_of (sites_of places) now s arrival) (site_at_number places laid i no_site p h)
     ∙ ap (λ path. made (get_or places i p).path (world.record_at now path).state)
-    (sym (ap (λ s. s.path) (site_at_number places laid i nowhere p h)))
+    (sym (ap (λ s. s.path) (site_at_number places laid i no_site p h)))
     ∙ ap (λ own. made (get_or places i p).path own.state) (record_of_number places records reports laid long i r h)
   where
     now : world.World
@@ -104,7 +104,7 @@ made_at_number places records reports laid long i p r arrival h =
 pub moves_some_kept : (places : List Place) (records : List Record) (reports : List (world.LookState × Value))
     (arrivals : List (Option Arrival))
     → IsLaid places → length records ≡ length places
-    → arrivals ≡ map (way (sites_of places) (world_of places records reports)) (sites_of places)
+    → arrivals ≡ map (transition (sites_of places) (world_of places records reports)) (sites_of places)
     → (i : ℕ) (a : Option Arrival) (p : Place) (r : Record) (arrival : Arrival) → i < length places
     → get_or arrivals i a ≡ Some arrival
     → (made : List Move) (m : Move)
@@ -114,8 +114,8 @@ pub moves_some_kept : (places : List Place) (records : List Record) (reports : L
 moves_some_kept places records reports arrivals laid long same i a p r arrival h some made m so_far is =
     ap (λ items. items ++ m ∷ []) so_far
     ∙ ap (λ one. before ++ one ∷ []) (is ∙ sym (made_at_number places records reports laid long i p r arrival h))
-    ∙ ap (λ way. before ++ cons_option (option_map (move_of (sites_of places) now (get_or (sites_of places) i nowhere))
-    way) []) (sym some ∙ arrival_kept places now arrivals same i a h)
+    ∙ ap (λ transition. before ++ cons_option (option_map (move_of (sites_of places) now (get_or (sites_of places) i no_site))
+    transition) []) (sym some ∙ arrival_kept places now arrivals same i a h)
     ∙ sym (moves_more places now i h)
   where
     now : world.World
@@ -149,7 +149,7 @@ arrived_more old now arrivals i d a h long so_far = record {
       (λ k hk e f b within. get_or-set_other now i k new e (omega arith) ∙ so_far.done k e f b hk within)
       (λ e f b within. get_or-set_same now i new e (omega (arith, so_far.long))
       ∙ ap (λ r. moved r (get_or arrivals i a)) (so_far.left i d (omega arith) ∙ get_or_default old i d f within)
-      ∙ ap (λ way. moved (get_or old i f) way) (get_or_default arrivals i a b (omega arith)))
+      ∙ ap (λ transition. moved (get_or old i f) transition) (get_or_default arrivals i a b (omega arith)))
       k hk e f b within;
   left = λ k e hk. get_or-set_other now i k new e (omega arith) ∙ so_far.left k e (omega arith);
 }
@@ -173,13 +173,13 @@ after_so plan now p r site is own None =
     sym (ap (λ s. record_after plan now s None) is
     ∙ ap kept (ap (λ s. world.record_at now s.path) (sym is) ∙ own))
   where
-    kept : world.Record → world.Record
+    kept : world.NodeRecord → world.NodeRecord
     kept r = record { state = r.state; outcome = r.outcome; failure = r.failure; variables = []; action = r.action }
 after_so plan now p r site is own (Some arrival) =
     sym (ap (λ s. record_after plan now s (Some arrival)) is
-    ∙ ap with_variables (either_empty (prepares (world.record_at now p.path) (Some arrival))))
+    ∙ ap with_variables (either_empty (initializes (world.record_at now p.path) (Some arrival))))
   where
-    with_variables : List (List Value) → world.Record
+    with_variables : List (List Value) → world.NodeRecord
     with_variables variables = record {
       state = arrival.to;
       outcome = arrival.outcome;
@@ -197,21 +197,21 @@ spare (place ∷ places) k h = place
 pub arrived_all : (places : List Place) (old now : List Record) (reports : List (world.LookState × Value))
     (arrivals : List (Option Arrival))
     → IsLaid places → length old ≡ length places
-    → arrivals ≡ map (way (sites_of places) (world_of places old reports)) (sites_of places)
+    → arrivals ≡ map (transition (sites_of places) (world_of places old reports)) (sites_of places)
     → ArrivedSoFar old now arrivals (length old)
     → world_of places now reports ≡ micro (sites_of places) (world_of places old reports)
 arrived_all places old now reports arrivals laid long same so_far =
     ap (λ nodes. let made : world.World = record { nodes = nodes; reports = reports } in made)
-    (zip_as_map plan (map recorded now) (λ site. record_after plan before site (way plan before site))
+    (zip_as_map plan (map recorded now) (λ site. record_after plan before site (transition plan before site))
     (omega (arith, length-map now recorded, so_far.long, length-sites_of places))
     (λ k d h.
     let within : k < length places = omega (arith, length-sites_of places) in
     get_or-map recorded now k no_record d (omega (arith, so_far.long))
     ∙ ap recorded (so_far.done k no_record no_record None (omega arith) (omega arith))
-    ∙ after_so plan before (get_or places k (spare places k within)) (get_or old k no_record) (get_or plan k nowhere)
-    (site_at_number places laid k nowhere (spare places k within) within)
+    ∙ after_so plan before (get_or places k (spare places k within)) (get_or old k no_record) (get_or plan k no_site)
+    (site_at_number places laid k no_site (spare places k within) within)
     (record_of_number places old reports laid long k no_record within) (get_or arrivals k None)
-    ∙ ap (record_after plan before (get_or plan k nowhere)) (arrival_kept places before arrivals same k None within)))
+    ∙ ap (record_after plan before (get_or plan k no_site)) (arrival_kept places before arrivals same k None within)))
   where
     plan : List Site
     plan = sites_of places

@@ -7,7 +7,7 @@ use Rattle.std.specs.Option.{unwrap_or}
 use Rattle.px_value.specs.declared.value.Value.{Value}
 use Rattle.px_value.specs.declared.value.Value.TheVariants.{Unknown}
 use Rattle.px_core.specs.Fit.{cells_of}
-use Rattle.px_core.specs.Plan.{Site, Nothing, nowhere, site_at, is_same}
+use Rattle.px_core.specs.Plan.{Site, Nothing, no_site, site_at, is_same}
 use Rattle.px_sem.specs.World as world
 use Rattle.px_naive.specs.declared.place.Place.{Place}
 use Rattle.px_naive.specs.declared.place.Record.{Record}
@@ -31,12 +31,12 @@ grown_bare sites (place ∷ places) all =
     grown_bare (sites ++ site_of sites place ∷ []) places
     (all_bare-append sites (site_of sites place) all (record { variables = refl; body = refl }))
 
-found_bare : (test : Site → Bool) (sites : List Site) → AllBare sites → IsBare (unwrap_or (find test sites) nowhere)
+found_bare : (test : Site → Bool) (sites : List Site) → AllBare sites → IsBare (unwrap_or (find test sites) no_site)
 found_bare test [] all = record { variables = refl; body = refl }
 found_bare test (site ∷ sites) all = by (test site) (found_bare test sites all.1)
   where
-    by : (holds : Bool) → IsBare (unwrap_or (find test sites) nowhere)
-        → IsBare (unwrap_or (cond holds (Some site) (find test sites)) nowhere)
+    by : (holds : Bool) → IsBare (unwrap_or (find test sites) no_site)
+        → IsBare (unwrap_or (cond holds (Some site) (find test sites)) no_site)
     by true rest = all.0
     by false rest = rest
 
@@ -63,15 +63,15 @@ pub idle_at : (places : List Place) (records : List Record) (reports : List (wor
 idle_at places records reports path =
     idle_in (map (λ site. site.path) (sites_of places)) records (λ key. is_same key path)
 
-bare_in : (sites : List Site) (k : ℕ) → AllBare sites → IsBare (get_or sites k nowhere)
+bare_in : (sites : List Site) (k : ℕ) → AllBare sites → IsBare (get_or sites k no_site)
 bare_in [] k all = record { variables = refl; body = refl }
 bare_in (site ∷ sites) zero all = all.0
 bare_in (site ∷ sites) (suc k) all = bare_in sites k all.1
 
-pub bare_at_number : (places : List Place) (k : ℕ) → IsBare (get_or (sites_of places) k nowhere)
+pub bare_at_number : (places : List Place) (k : ℕ) → IsBare (get_or (sites_of places) k no_site)
 bare_at_number places k = bare_in (sites_of places) k (grown_bare [] places tt)
 
-pub unborn_bare : (site : Site) → IsBare site → world.unborn site.head ≡ world.no_record
+pub unborn_bare : (site : Site) → IsBare site → world.initial_record site.head ≡ world.no_record
 unborn_bare site bare =
-    ap (λ variables. let r : world.Record = record world.no_record
+    ap (λ variables. let r : world.NodeRecord = record world.no_record
     { variables = map (λ variable. replicate (cells_of variable) Unknown) variables } in r) bare.variables

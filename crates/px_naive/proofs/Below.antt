@@ -10,7 +10,7 @@ use Rattle.std.proofs.Math.Bool.{and-true}
 use Rattle.px_value.specs.declared.enums.NodeState.{NodeState}
 use Rattle.px_value.specs.declared.enums.NodeState.TheVariants.{Inactive}
 use Rattle.px_value.specs.declared.value.Value.{Value}
-use Rattle.px_core.specs.Plan.{Site, is_same, nowhere, is_child_of}
+use Rattle.px_core.specs.Plan.{Site, is_same, no_site, is_child_of}
 use Rattle.px_sem.specs.World as world
 use Rattle.px_sem.specs.Guards.{is_at_rest, each_child}
 use Rattle.px_naive.specs.declared.place.Place.{Place}
@@ -55,9 +55,9 @@ same_number places laid j k hj hk = by (eqb_tells j k)
 -- whether one node is another's child: by number
 pub is_child_by_number : (places : List Place) → IsLaid places → (i k : ℕ) (e : Place) → i < length places
     → k < length places
-    → is_child_of (path_at places k) (get_or (sites_of places) i nowhere) ≡ is_parent (get_or places i e) k
+    → is_child_of (path_at places k) (get_or (sites_of places) i no_site) ≡ is_parent (get_or places i e) k
 is_child_by_number places laid i k e hi hk =
-    rw (site_at_number places laid i nowhere e hi) (by (get_or places i e) (laid.linked i e hi))
+    rw (site_at_number places laid i no_site e hi) (by (get_or places i e) (laid.linked i e hi))
   where
     by : (place : Place) → IsBefore i place
         → is_child_of (path_at places k) (site_of (sites_of places) place) ≡ is_parent place k
@@ -85,7 +85,7 @@ among_more places records laid long i k p r hi hk =
     ≡ (each_child test (take i plan) now (path_at places k)
     && (not (is_parent (get_or places i p) k) || test (get_or records i r).state))
     = λ test. list_all_more (λ site. not (is_child_of (path_at places k) site) || test (world.state_at now site.path))
-    plan i nowhere (omega (arith, length-sites_of places))
+    plan i no_site (omega (arith, length-sites_of places))
     ∙ ap (λ mine. each_child test (take i plan) now (path_at places k) && (not mine || test (world.state_at now (path_at places i)))) (is_child_by_number places laid i k p hi hk)
     ∙ ap (λ own. each_child test (take i plan) now (path_at places k) && (not (is_parent (get_or places i p) k) || test own.state)) (record_of_number places records [] laid long i r hi) in
     ap (λ b. let made : Children = record { at_rest = b } in made) (more is_at_rest)
@@ -166,7 +166,7 @@ seen_all places records seen so_far =
     (λ k d h. so_far.each k d (omega (arith, so_far.long))
     ∙ ap (λ some. children_among some now (path_at places k))
     (take_all (length places) plan (omega (arith, length-sites_of places)))
-    ∙ sym (get_or-map (λ site. children_among plan now site.path) plan k nowhere d
+    ∙ sym (get_or-map (λ site. children_among plan now site.path) plan k no_site d
     (omega (arith, so_far.long, length-sites_of places))))
   where
     plan : List Site

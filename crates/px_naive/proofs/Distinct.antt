@@ -7,7 +7,7 @@ use Rattle.std.specs.List.{list_any}
 use Rattle.std.proofs.lemmas.List.{append_cancel_left}
 use Rattle.px_value.specs.Names.{is_name}
 use Rattle.px_value.proofs.Paths.{is_dotless, name_dotless}
-use Rattle.px_core.specs.Plan.{Tree, NoNode, Branch, Site, nowhere, is_same, path_under, sites_under}
+use Rattle.px_core.specs.Plan.{Tree, NoNode, Branch, Site, no_site, is_same, path_under, sites_under}
 use Rattle.px_core.specs.Fit.{names_of, siblings_differ}
 use Rattle.px_naive.proofs.Laid.{same-self, AreDistinct}
 
@@ -58,9 +58,9 @@ pub are_distinct : (sites : List Site) → Differ sites → AreDistinct sites
 are_distinct [] differ i j hi hj same = absurd (omega arith)
 are_distinct (site ∷ sites) differ zero zero hi hj same = refl
 are_distinct (site ∷ sites) differ zero (suc j) hi hj same =
-    absurd (each_at (λ other. site.path ≢ other.path) sites j nowhere (omega arith) differ.0 same)
+    absurd (each_at (λ other. site.path ≢ other.path) sites j no_site (omega arith) differ.0 same)
 are_distinct (site ∷ sites) differ (suc i) zero hi hj same =
-    absurd (each_at (λ other. site.path ≢ other.path) sites i nowhere (omega arith) differ.0 (sym same))
+    absurd (each_at (λ other. site.path ≢ other.path) sites i no_site (omega arith) differ.0 (sym same))
 are_distinct (site ∷ sites) differ (suc i) (suc j) hi hj same =
     ap suc (are_distinct sites differ.1 i j (omega arith) (omega arith) same)
 

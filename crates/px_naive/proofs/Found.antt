@@ -6,7 +6,7 @@ use Rattle.std.specs.Map.{lookup}
 use Rattle.std.specs.Option.{option_map, unwrap_or}
 use Rattle.std.proofs.lemmas.List.{length-map, get_or-map}
 use Rattle.px_value.specs.declared.value.Value.{Value}
-use Rattle.px_core.specs.Plan.{is_same, nowhere}
+use Rattle.px_core.specs.Plan.{is_same, no_site}
 use Rattle.px_sem.specs.World as world
 use Rattle.px_naive.specs.declared.place.Place.{Place}
 use Rattle.px_naive.specs.declared.place.Record.{Record}
@@ -51,11 +51,11 @@ length-paths_of places = length-map (sites_of places) (λ site. site.path) ∙ l
 pub path_of_number : (places : List Place) → IsLaid places → (i : ℕ) (d : List ℕ) (p : Place) → i < length places
     → get_or (paths_of places) i d ≡ (get_or places i p).path
 path_of_number places laid i d p h =
-    get_or-map (λ site. site.path) (sites_of places) i nowhere d (omega (arith, length-sites_of places))
-    ∙ ap (λ site. site.path) (site_at_number places laid i nowhere p h)
+    get_or-map (λ site. site.path) (sites_of places) i no_site d (omega (arith, length-sites_of places))
+    ∙ ap (λ site. site.path) (site_at_number places laid i no_site p h)
 
 -- a look-up gives what stands at the number
-looked_up : (paths : List (List ℕ)) (records : List world.Record) (path : List ℕ) (d : world.Record)
+looked_up : (paths : List (List ℕ)) (records : List world.NodeRecord) (path : List ℕ) (d : world.NodeRecord)
     → length records ≡ length paths
     → lookup (λ key. is_same key path) (zip paths records) ≡ option_map (λ i. get_or records i d) (number_in paths path)
 looked_up [] records path d long = refl

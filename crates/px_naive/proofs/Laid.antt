@@ -9,7 +9,7 @@ use Rattle.std.specs.Cmp.Lexicographic.{same_text}
 use Rattle.std.proofs.lemmas.Cmp.{nat_list_eq_equiv}
 use Rattle.std.proofs.lemmas.List.{get_or_append_left}
 use Rattle.std.proofs.Math.Seq.{get_or-append_seam}
-use Rattle.px_core.specs.Plan.{Site, is_same, nowhere, site_at}
+use Rattle.px_core.specs.Plan.{Site, is_same, no_site, site_at}
 use Rattle.px_sem.specs.World as world
 use Rattle.px_naive.specs.declared.place.Place.{Place}
 use Rattle.px_naive.specs.Places.{above_in, head_in, site_of, grown, sites_of, IsBefore, IsLaid}
@@ -57,7 +57,7 @@ site_of_more sites more place before same =
   where
     by : (parent : Option ℕ) → ForSome parent (λ j. j < length sites) → above_in sites parent ≡ above_in more parent
     by None h = refl
-    by (Some j) h = rw (same j nowhere (h j refl)) refl
+    by (Some j) h = rw (same j no_site (h j refl)) refl
 
 -- each place is a site over the whole list, where its parent stands before it
 grown_at : (sites : List Site) (places : List Place) (i : ℕ) (d : Site) (e : Place) → i < length places
@@ -105,7 +105,7 @@ grown-push sites (first ∷ places) place = grown-push (sites ++ site_of sites f
 -- the paths of different sites differ
 abbrev pub AreDistinct : List Site → Type 0
 AreDistinct sites =
-    (i j : ℕ) → i < length sites → j < length sites → (get_or sites i nowhere).path ≡ (get_or sites j nowhere).path
+    (i j : ℕ) → i < length sites → j < length sites → (get_or sites i no_site).path ≡ (get_or sites j no_site).path
     → i ≡ j
 
 distinct_tail : (site : Site) (sites : List Site) → AreDistinct (site ∷ sites) → AreDistinct sites
@@ -113,14 +113,14 @@ distinct_tail site sites distinct i j hi hj same =
     let e : suc i ≡ suc j = distinct (suc i) (suc j) (omega arith) (omega arith) same in omega arith
 
 head_differs : (site : Site) (sites : List Site) (i : ℕ) → AreDistinct (site ∷ sites) → i < length sites
-    → is_same site.path (get_or sites i nowhere).path ≡ false
+    → is_same site.path (get_or sites i no_site).path ≡ false
 head_differs site sites i distinct h = same-other _ _ (λ same.
     let e : 0 ≡ suc i = distinct 0 (suc i) (omega arith) (omega arith) same in absurd (omega arith))
 
-pub found_record : (sites : List Site) (records : List world.Record) (i : ℕ) (e : world.Record) → AreDistinct sites
+pub found_record : (sites : List Site) (records : List world.NodeRecord) (i : ℕ) (e : world.NodeRecord) → AreDistinct sites
     → i < length sites
     → length records ≡ length sites
-    → unwrap_or (lookup (λ key. is_same key (get_or sites i nowhere).path) (zip (map (λ s. s.path) sites) records)) e
+    → unwrap_or (lookup (λ key. is_same key (get_or sites i no_site).path) (zip (map (λ s. s.path) sites) records)) e
     ≡ get_or records i e
 found_record [] records i e distinct h long = absurd (omega arith)
 found_record (site ∷ sites) [] i e distinct h long = absurd (omega arith)
@@ -131,7 +131,7 @@ found_record (site ∷ sites) (r ∷ records) (suc i) e distinct h long =
     (found_record sites records i e (distinct_tail site sites distinct) within (omega arith))
 
 pub found_site : (sites : List Site) (i : ℕ) → AreDistinct sites → i < length sites
-    → site_at sites (get_or sites i nowhere).path ≡ get_or sites i nowhere
+    → site_at sites (get_or sites i no_site).path ≡ get_or sites i no_site
 found_site [] i distinct h = absurd (omega arith)
 found_site (site ∷ sites) zero distinct h = rw (same-self site.path) refl
 found_site (site ∷ sites) (suc i) distinct h =

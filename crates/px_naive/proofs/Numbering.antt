@@ -4,7 +4,7 @@ use Rattle.std.proofs.Common.{ap, sym, ◌∙◌, subst, arith, cond, Option, So
 use Rattle.std.specs.Cmp.Lexicographic.{same_text}
 use Rattle.std.specs.Option.{option_map}
 use Rattle.std.proofs.lemmas.List.{take_more, take_all, get_or-map, get_or-take, length-take-le}
-use Rattle.px_core.specs.Plan.{is_same, nowhere}
+use Rattle.px_core.specs.Plan.{is_same, no_site}
 use Rattle.px_naive.specs.declared.place.Place.{Place}
 use Rattle.px_naive.specs.Places.{IsLaid, sites_of, paths_of, path_at, number_in}
 use Rattle.px_naive.proofs.Found.{length-paths_of, none_behind}
@@ -67,7 +67,7 @@ absent places laid i q h is = by (number_in (take i (paths_of places)) q) refl
         let before : k < length (take i (paths_of places)) = found.0 in
         let lt : k < i = omega arith in
         let path : path_at places k ≡ q =
-        sym (get_or-map (λ site. site.path) (sites_of places) k nowhere [] (omega (arith, length-sites_of places)))
+        sym (get_or-map (λ site. site.path) (sites_of places) k no_site [] (omega (arith, length-sites_of places)))
         ∙ sym (get_or-take i (paths_of places) k [] lt) ∙ found.1 in
         let same : k ≡ i = laid.distinct k i (omega arith) h (path ∙ sym is) in
         absurd (omega arith)
@@ -80,7 +80,7 @@ numbered_more places laid i p q h is =
     let long : length (take i (paths_of places)) ≡ i =
     length-take-le i (paths_of places) (omega (arith, length-paths_of places)) in
     let path : get_or (paths_of places) i [] ≡ p =
-    get_or-map (λ site. site.path) (sites_of places) i nowhere [] (omega (arith, length-sites_of places))
+    get_or-map (λ site. site.path) (sites_of places) i no_site [] (omega (arith, length-sites_of places))
     ∙ sym is in
     ap (λ n. cond (is_same p q) (Some n) (number_in (take i (paths_of places)) q)) (sym long)
     ∙ number_of_more (take i (paths_of places)) p q

@@ -16,11 +16,11 @@ use Rattle.px_sem.specs.declared.moves.Move.{Move}
 use Rattle.px_sem.specs.declared.standing.Standing.{Standing}
 use Rattle.px_sem.specs.declared.standing.Standing.TheVariants.{Running, Finished}
 use Rattle.px_value.specs.declared.value.Value.{Value}
-use Rattle.px_core.specs.Plan.{Site, nowhere, root_of}
+use Rattle.px_core.specs.Plan.{Site, no_site, root_of}
 use Rattle.px_sem.specs.World as world
-use Rattle.px_sem.specs.Conflicts.{way, is_quiet}
+use Rattle.px_sem.specs.Conflicts.{transition, is_quiet}
 use Rattle.px_sem.specs.Step.{move_of, moves, micro}
-use Rattle.px_sem.specs.Stepper.{State, Begun, Steps}
+use Rattle.px_sem.specs.Stepper.{State, Pending, Steps}
 use Rattle.px_naive.specs.Moving.{Goes}
 use Rattle.px_naive.specs.declared.place.Place.{Place}
 use Rattle.px_naive.specs.declared.place.Record.{Record}
@@ -32,56 +32,56 @@ use Rattle.px_naive.proofs.Arriving.{zip_as_map}
 use Rattle.px_naive.proofs.Bare.{unborn_bare, bare_at_number}
 
 -- no node has begun
-pub world_before : (places : List Place) (records : List Record) (unborn : Record) → recorded unborn ≡ world.no_record
+pub world_before : (places : List Place) (records : List Record) (initial_record : Record) → recorded initial_record ≡ world.no_record
     → length records ≡ length places
-    → ((k : ℕ) (d : Record) → k < length places → get_or records k d ≡ unborn)
+    → ((k : ℕ) (d : Record) → k < length places → get_or records k d ≡ initial_record)
     → world_of places records [] ≡ world.first (sites_of places)
-world_before places records unborn is long each =
+world_before places records initial_record is long each =
     ap (λ nodes. let made : world.World = record { nodes = nodes; reports = [] } in made)
-    (zip_as_map (sites_of places) (map recorded records) (λ site. world.unborn site.head)
+    (zip_as_map (sites_of places) (map recorded records) (λ site. world.initial_record site.head)
     (omega (arith, length-map records recorded, length-sites_of places))
-    (λ k d h. get_or-map recorded records k unborn d (omega (arith, length-sites_of places))
-    ∙ ap recorded (each k unborn (omega (arith, length-sites_of places))) ∙ is
-    ∙ sym (unborn_bare (get_or (sites_of places) k nowhere) (bare_at_number places k))))
+    (λ k d h. get_or-map recorded records k initial_record d (omega (arith, length-sites_of places))
+    ∙ ap recorded (each k initial_record (omega (arith, length-sites_of places))) ∙ is
+    ∙ sym (unborn_bare (get_or (sites_of places) k no_site) (bare_at_number places k))))
 
-replicate_at : (records : List Record) (n : ℕ) (unborn : Record) → records ≡ replicate n unborn → (k : ℕ) (d : Record)
-    → k < n → get_or records k d ≡ unborn
-replicate_at records n unborn is k d h = ap (λ rs. get_or rs k d) is ∙ get_or-replicate n k unborn d h
+replicate_at : (records : List Record) (n : ℕ) (initial_record : Record) → records ≡ replicate n initial_record → (k : ℕ) (d : Record)
+    → k < n → get_or records k d ≡ initial_record
+replicate_at records n initial_record is k d h = ap (λ rs. get_or rs k d) is ∙ get_or-replicate n k initial_record d h
 
-pub world_of_unborn : (places : List Place) (records : List Record) (n : ℕ) (unborn : Record)
-    → recorded unborn ≡ world.no_record → n ≡ length places → records ≡ replicate n unborn
+pub world_of_unborn : (places : List Place) (records : List Record) (n : ℕ) (initial_record : Record)
+    → recorded initial_record ≡ world.no_record → n ≡ length places → records ≡ replicate n initial_record
     → world_of places records [] ≡ world.first (sites_of places)
-world_of_unborn places records n unborn so n_is is =
-    world_before places records unborn so (ap length is ∙ length-replicate n unborn ∙ n_is)
-    (λ k d h. replicate_at records n unborn is k d (omega arith))
+world_of_unborn places records n initial_record so n_is is =
+    world_before places records initial_record so (ap length is ∙ length-replicate n initial_record ∙ n_is)
+    (λ k d h. replicate_at records n initial_record is k d (omega arith))
 
 -- no moves are made in a quiet world alone
 no_moves_among : (plan : List Site) (now : world.World) (some : List Site)
-    → filter_map (λ site. option_map (move_of plan now site) (way plan now site)) some ≡ []
-    → list_all (λ site. is_none (way plan now site)) some ≡ true
+    → filter_map (λ site. option_map (move_of plan now site) (transition plan now site)) some ≡ []
+    → list_all (λ site. is_none (transition plan now site)) some ≡ true
 no_moves_among plan now [] none = refl
-no_moves_among plan now (site ∷ some) none = by (way plan now site) none (no_moves_among plan now some)
+no_moves_among plan now (site ∷ some) none = by (transition plan now site) none (no_moves_among plan now some)
   where
     by : (arrival : Option Arrival)
         → cons_option (option_map (move_of plan now site) arrival)
-        (filter_map (λ site. option_map (move_of plan now site) (way plan now site)) some) ≡ []
-        → (filter_map (λ site. option_map (move_of plan now site) (way plan now site)) some ≡ []
-        → list_all (λ site. is_none (way plan now site)) some ≡ true)
-        → (is_none arrival && list_all (λ site. is_none (way plan now site)) some) ≡ true
+        (filter_map (λ site. option_map (move_of plan now site) (transition plan now site)) some) ≡ []
+        → (filter_map (λ site. option_map (move_of plan now site) (transition plan now site)) some ≡ []
+        → list_all (λ site. is_none (transition plan now site)) some ≡ true)
+        → (is_none arrival && list_all (λ site. is_none (transition plan now site)) some) ≡ true
     by None none rest = rest none
     by (Some arrival) none rest = absurd (cc)
 
 some_moves_among : (plan : List Site) (now : world.World) (some : List Site)
-    → list_all (λ site. is_none (way plan now site)) some ≡ true
-    → filter_map (λ site. option_map (move_of plan now site) (way plan now site)) some ≡ []
+    → list_all (λ site. is_none (transition plan now site)) some ≡ true
+    → filter_map (λ site. option_map (move_of plan now site) (transition plan now site)) some ≡ []
 some_moves_among plan now [] quiet = refl
-some_moves_among plan now (site ∷ some) quiet = by (way plan now site) quiet (some_moves_among plan now some)
+some_moves_among plan now (site ∷ some) quiet = by (transition plan now site) quiet (some_moves_among plan now some)
   where
-    by : (arrival : Option Arrival) → (is_none arrival && list_all (λ site. is_none (way plan now site)) some) ≡ true
-        → (list_all (λ site. is_none (way plan now site)) some ≡ true
-        → filter_map (λ site. option_map (move_of plan now site) (way plan now site)) some ≡ [])
+    by : (arrival : Option Arrival) → (is_none arrival && list_all (λ site. is_none (transition plan now site)) some) ≡ true
+        → (list_all (λ site. is_none (transition plan now site)) some ≡ true
+        → filter_map (λ site. option_map (move_of plan now site) (transition plan now site)) some ≡ [])
         → cons_option (option_map (move_of plan now site) arrival)
-        (filter_map (λ site. option_map (move_of plan now site) (way plan now site)) some) ≡ []
+        (filter_map (λ site. option_map (move_of plan now site) (transition plan now site)) some) ≡ []
     by None quiet rest = rest quiet
     by (Some arrival) quiet rest = absurd (cc)
 
@@ -105,21 +105,21 @@ goes_some plan now next (first ∷ more) is some next_is = (by (is_quiet plan no
     by true h = absurd (some (ap length (is ∙ some_moves_among plan now plan h)))
     by false h = refl
 
-pub steps_so : (plan : List Site) (old new : world.World) (begun : Begun) (made : List Move) → Goes plan old new made
+pub steps_so : (plan : List Site) (old new : world.World) (begun : Pending) (made : List Move) → Goes plan old new made
     → (answer : Bool) → answer ≡ not (nat_eq (length made) 0)
-    → Steps (record { nodes = plan; world = old; begun = begun }) (record { nodes = plan; world = new; begun = begun })
+    → Steps (record { nodes = plan; world = old; pending = begun }) (record { nodes = plan; world = new; pending = begun })
     made answer
 steps_so plan old new begun [] goes answer is =
     subst (Steps (state old) (state new) []) (sym is) (goes.0, ap state goes.1, refl)
   where
     state : world.World → State
-    state now = record { nodes = plan; world = now; begun = begun }
+    state now = record { nodes = plan; world = now; pending = begun }
 steps_so plan old new begun (first ∷ more) goes answer is =
     subst (Steps (state old) (state new) (first ∷ more)) (sym (is ∙ ap not (nonzero (length more))))
     (goes.0, ap state goes.1, goes.2)
   where
     state : world.World → State
-    state now = record { nodes = plan; world = now; begun = begun }
+    state now = record { nodes = plan; world = now; pending = begun }
 
     nonzero : (n : ℕ) → nat_eq (suc n) 0 ≡ false
     nonzero n = by (eqb_tells (suc n) 0)
@@ -137,7 +137,7 @@ written_back new old n is =
 
 -- ---- the root
 
-standing_by_world : world.Record → Standing
+standing_by_world : world.NodeRecord → Standing
 standing_by_world r = of_state r.state
   where
     of_state : NodeState → Standing
@@ -164,6 +164,6 @@ standing_so (place ∷ places) (r ∷ records) reports laid long =
     now : world.World
     now = world_of (place ∷ places) (r ∷ records) reports
 
-    first_is : (sites : List Site) → length sites ≡ length (place ∷ places) → root_of sites ≡ get_or sites 0 nowhere
+    first_is : (sites : List Site) → length sites ≡ length (place ∷ places) → root_of sites ≡ get_or sites 0 no_site
     first_is [] h = absurd (omega arith)
     first_is (site ∷ sites) h = refl

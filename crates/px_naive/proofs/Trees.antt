@@ -14,7 +14,7 @@ use Rattle.px_value.specs.Names.{below, is_name}
 use Rattle.px_core.specs.declared.node.CoreNode.{CoreNode}
 use Rattle.px_core.specs.declared.node.CoreNode.TheViews.{out-CoreNode}
 use Rattle.px_core.specs.declared.node.CoreNode.TheFolds.{fold-CoreNode, fold_out-CoreNode}
-use Rattle.px_core.specs.Plan.{Tree, Branch, NoNode, Head, count_of, Site, nowhere, branch, head_of, path_under}
+use Rattle.px_core.specs.Plan.{Tree, Branch, NoNode, Head, count_of, Site, no_site, branch, head_of, path_under}
 use Rattle.px_core.specs.Plan.{site_under, sites_under, sites}
 use Rattle.px_core.specs.Fit.{siblings_differ, has_short_path}
 use Rattle.px_core.specs.Simple.{is_simple_head, is_simple_site}
@@ -67,10 +67,10 @@ pub record LaidSoFar (old places : List Place) (parent : ℕ) (done : List CoreN
 -- the parent is where it was
 parent_stays : (old places : List Place) (parent : ℕ) (done : List CoreNode) → parent < length old
     → LaidSoFar old places parent done
-    → get_or (sites_of places) parent nowhere ≡ get_or (sites_of old) parent nowhere
+    → get_or (sites_of places) parent no_site ≡ get_or (sites_of old) parent no_site
 parent_stays old places parent done h so_far =
-    ap (λ all. get_or all parent nowhere) so_far.sites
-    ∙ get_or_append_left (sites_of old) _ nowhere parent (omega (arith, length-sites_of old))
+    ap (λ all. get_or all parent no_site) so_far.sites
+    ∙ get_or_append_left (sites_of old) _ no_site parent (omega (arith, length-sites_of old))
 
 pub long_enough : (old places : List Place) (parent : ℕ) (done : List CoreNode) → parent < length old
     → LaidSoFar old places parent done → parent < length places
@@ -83,7 +83,7 @@ long_enough old places parent done h so_far =
 -- the path of the parent, which the next node's path goes on from
 pub parent_path : (old places : List Place) (parent : ℕ) (done : List CoreNode) → parent < length old
     → LaidSoFar old places parent done
-    → path_at places parent ≡ (get_or (sites_of old) parent nowhere).path
+    → path_at places parent ≡ (get_or (sites_of old) parent no_site).path
 parent_path old places parent done h so_far = ap (λ site. site.path) (parent_stays old places parent done h so_far)
 
 -- the next node's place is its site
@@ -99,7 +99,7 @@ place_is_site old places parent done node place h so_far is =
     ∙ ap (λ parent. at own (parent.path ∷ parent.above) (node_head node)) (parent_stays old places parent done h so_far)
   where
     own : List ℕ
-    own = below (get_or (sites_of old) parent nowhere).path (node_head node).name
+    own = below (get_or (sites_of old) parent no_site).path (node_head node).name
 
     at : List ℕ → List (List ℕ) → Head → Site
     at path above head = record { path = path; above = above; head = head }
@@ -174,11 +174,11 @@ put_next old places parent done node h so_far place is = record {
   named = each_put (λ i p. is_name p.name ≡ true) places place so_far.named
       (ap (λ (head : Head). is_name head.name) is.head_is ∙ is.named);
   above = ap (λ site. site.path ∷ site.above)
-      (ap (λ all. get_or all (length places) nowhere) put_sites
+      (ap (λ all. get_or all (length places) no_site) put_sites
       ∙ ap (λ n. get_or (sites_of places ++ site_under (above_in (sites_of old) (Some parent)) (node_head node) ∷ []) n
-      nowhere) (sym (length-sites_of places))
+      no_site) (sym (length-sites_of places))
       ∙ get_or-append_seam (sites_of places) (site_under (above_in (sites_of old) (Some parent)) (node_head node)) []
-      nowhere);
+      no_site);
   long = length-append places (place ∷ []);
 }
   where
@@ -241,7 +241,7 @@ pub next_room : (old places : List Place) (parent : ℕ) (done : List CoreNode) 
 next_room old places parent done node h so_far layable =
     subst (λ path. length path + length (node_head node).name < 5000)
     (sym (parent_path old places parent done h so_far))
-    (short_room (get_or (sites_of old) parent nowhere).path (node_head node).name (and_parts _ _ layable.own).0)
+    (short_room (get_or (sites_of old) parent no_site).path (node_head node).name (and_parts _ _ layable.own).0)
 
 pub next_simple : (above : List (List ℕ)) (node : CoreNode) → NextIsLayable above node
     → is_simple_head (node_head node) ≡ true
@@ -295,7 +295,7 @@ sites_of_root root =
 
 pub above_root : (places : List Place) (root : CoreNode) → IsRooted places root
     → above_in (sites_of places) (Some 0) ≡ (node_head root).name ∷ []
-above_root places root is = ap (λ all. (get_or all 0 nowhere).path ∷ (get_or all 0 nowhere).above) is.sites
+above_root places root is = ap (λ all. (get_or all 0 no_site).path ∷ (get_or all 0 no_site).above) is.sites
 
 pub layable_below : (root : CoreNode)
     → list_all is_layable (sites (fold-CoreNode (Tree → Tree) branch root NoNode)) ≡ true
@@ -341,9 +341,9 @@ laid places tree spare same siblings linked named = record {
 }
   where
     each_named : Each (λ site. is_name site.head.name ≡ true) (sites_of places)
-    each_named = each_from (λ site. is_name site.head.name ≡ true) (sites_of places) nowhere (λ i h.
+    each_named = each_from (λ site. is_name site.head.name ≡ true) (sites_of places) no_site (λ i h.
         let within : i < length places = omega (arith, length-sites_of places) in
-        subst (λ site. is_name site.head.name ≡ true) (sym (site_at_linked places linked i nowhere spare within))
+        subst (λ site. is_name site.head.name ≡ true) (sym (site_at_linked places linked i no_site spare within))
         (named i spare within))
 
     distinct : AreDistinct (sites_of places)

@@ -20,7 +20,7 @@ abbrev pub asked_of : List Site → world.World → List Asked
 asked_of plan now = map (asked_at plan now) plan
 
 -- what one node asks
-abbrev pub asks_in : world.Record → Truths → Asked
+abbrev pub asks_in : world.NodeRecord → Truths → Asked
 asks_in r truths = record {
   exit = exits r truths.exit;
   invariant = fails r truths.invariant;
@@ -36,5 +36,5 @@ asked_too own above = record {
 }
 
 -- what is asked of a child, by what its parent is and what is asked of the parent
-unfoldable pub asked_below : world.Record → Truths → Asked → Asked
+unfoldable pub asked_below : world.NodeRecord → Truths → Asked → Asked
 asked_below r truths above = asked_too (asks_in r truths) above

@@ -8,9 +8,9 @@ use Rattle.px_sem.specs.declared.guards.Guards.{Guards}
 use Rattle.px_sem.specs.declared.guards.Arrival.{Arrival}
 use Rattle.px_core.specs.Plan.{Site}
 use Rattle.px_sem.specs.World as world
-use Rattle.px_sem.specs.Conflicts.{way}
+use Rattle.px_sem.specs.Conflicts.{transition}
 use Rattle.px_sem.specs.Expressions.{handle_of, is_acknowledged}
-use Rattle.px_sem.specs.Guards.{is_true, is_false, lets_command_go, is_waiting, is_executing, is_finished}
+use Rattle.px_sem.specs.Guards.{is_true, is_false, command_is_over, is_waiting, is_executing, is_finished}
 use Rattle.px_sem.specs.Table
 use Rattle.px_naive.specs.declared.place.Record.{Record}
 use Rattle.px_naive.specs.declared.asked.Asked.{Asked}
@@ -18,24 +18,24 @@ use Rattle.px_naive.specs.declared.children.Children.{Children}
 use Rattle.px_naive.specs.declared.truths.Truths.{Truths}
 
 -- what is so of a node that has not begun
-abbrev pub unborn : Record
-unborn = record { state = Inactive; outcome = None; failure = None }
+abbrev pub initial_record : Record
+initial_record = record { state = Inactive; outcome = None; failure = None }
 
 -- the state of a parent by its number, or of the root's virtual parent
 abbrev pub parent_in : List Record → Option ℕ → NodeState
 parent_in records None = Executing
-parent_in records (Some j) = (slice_index_or records j unborn).state
+parent_in records (Some j) = (slice_index_or records j initial_record).state
 
 -- whether a failing node may leave FAILING
 abbrev pub ready_in : Kind → world.Action → Children → Bool
 ready_in kinds.List _ children = children.at_rest
 ready_in kinds.Empty _ children = false
 ready_in kinds.Assignment _ children = true
-ready_in kinds.Command action children = lets_command_go action
+ready_in kinds.Command action children = command_is_over action
 ready_in kinds.Update action children = is_acknowledged action
 
 -- all guards of a node
-abbrev pub guards_in : Kind → world.Record → NodeState → Asked → Children → Truths → Guards
+abbrev pub guards_in : Kind → world.NodeRecord → NodeState → Asked → Children → Truths → Guards
 guards_in kind r parent asked children truths = record {
   outcome = r.outcome;
   failure = r.failure;
@@ -60,9 +60,9 @@ guards_in kind r parent asked children truths = record {
 }
 
 -- where a node goes
-unfoldable pub dest_in : Kind → world.Record → NodeState → Asked → Children → Truths → Option Arrival
+unfoldable pub dest_in : Kind → world.NodeRecord → NodeState → Asked → Children → Truths → Option Arrival
 dest_in kind r parent asked children truths = Table.dest kind r.state (guards_in kind r parent asked children truths)
 
 -- where each node of a plan goes in a world
 abbrev pub arrivals_of : List Site → world.World → List (Option Arrival)
-arrivals_of plan now = map (way plan now) plan
+arrivals_of plan now = map (transition plan now) plan

@@ -4,7 +4,7 @@ use Rattle.std.specs.Prelude.{List, [], ◌∷◌, ◌++◌, map, length, slice_
 use Rattle.std.specs.List.{zip}
 use Rattle.std.specs.Option.{ForSome, option_map}
 use Rattle.px_value.specs.declared.value.Value.{Value}
-use Rattle.px_core.specs.Plan.{Site, Head, is_same, Nothing, nowhere, condition_terms}
+use Rattle.px_core.specs.Plan.{Site, Head, is_same, Nothing, no_site, condition_terms}
 use Rattle.px_sem.specs.World as world
 use Rattle.px_naive.specs.declared.place.Place.{Place}
 use Rattle.px_naive.specs.declared.place.Record.{Record}
@@ -12,7 +12,7 @@ use Rattle.px_naive.specs.declared.place.Record.{Record}
 -- the paths from a parent up, where the sites up to the parent's are known
 abbrev pub above_in : List Site → Option ℕ → List (List ℕ)
 above_in sites None = []
-above_in sites (Some j) = (slice_index_or sites j nowhere).path ∷ (slice_index_or sites j nowhere).above
+above_in sites (Some j) = (slice_index_or sites j no_site).path ∷ (slice_index_or sites j no_site).above
 
 -- the node that stands there, which has neither variables nor a body
 abbrev pub head_in : Place → Head
@@ -40,7 +40,7 @@ sites_of places = grown [] places
 
 -- the path at a number
 abbrev pub path_at : List Place → ℕ → List ℕ
-path_at places i = (slice_index_or (sites_of places) i nowhere).path
+path_at places i = (slice_index_or (sites_of places) i no_site).path
 
 -- a parent stands before its children
 abbrev pub IsBefore : ℕ → Place → Type 0
@@ -61,7 +61,7 @@ pub record IsLaid (places : List Place) : Type 0 where
   pub distinct : (i j : ℕ) → i < length places → j < length places → path_at places i ≡ path_at places j → i ≡ j
 
 -- what is so of a node, as the semantics has it
-abbrev pub recorded : Record → world.Record
+abbrev pub recorded : Record → world.NodeRecord
 recorded r = record {
   state = r.state;
   outcome = r.outcome;

@@ -8,7 +8,7 @@ ghost use Rattle.px_naive.specs.Above.{asked_of, asks_in, asked_too, asked_below
 use crate::place::{Place, Record};
 use crate::reports::Reports;
 use crate::states::{
-    is_at_work, is_executing, is_exit_failure, is_failing, is_false, is_invariant_failure,
+    is_active, is_executing, is_exit_failure, is_failing, is_false, is_invariant_failure,
     is_past_end, is_true,
 };
 use crate::truths::Truths;
@@ -32,9 +32,9 @@ fn asks(r: Record, truths: Truths) -> Asked
     ensures { result ≡ asks_in (recorded r) truths }
 {
     Asked {
-        exit: (is_at_work(r.state) && is_true(truths.exit))
+        exit: (is_active(r.state) && is_true(truths.exit))
             || (is_failing(r.state) && is_exit_failure(r.failure)),
-        invariant: (is_at_work(r.state) && is_false(truths.invariant))
+        invariant: (is_active(r.state) && is_false(truths.invariant))
             || (is_failing(r.state) && is_invariant_failure(r.failure)),
         end: (is_executing(r.state) && is_true(truths.end)) || is_past_end(r.state),
     }

@@ -95,7 +95,7 @@ impl Stepper for Naive {
     ghost state = { λ s. record {
       nodes = sites_of s.places.items;
       world = world_of s.places.items s.records.items (listed s.reports);
-      begun = begun_in s.begun (world_of s.places.items s.settled.items (listed_before s.reports));
+      pending = begun_in s.begun (world_of s.places.items s.settled.items (listed_before s.reports));
     } };
 
     ghost last_moves = { λ s. s.moves.items };

@@ -2,7 +2,7 @@
 ghost use Rattle.std.specs.Prelude.{◌≡◌};
 ghost use Rattle.px_sem.specs.Guards.{is_true, is_false, is_exit_failure, is_invariant_failure};
 ghost use Rattle.px_sem.specs.Guards.{is_waiting, is_executing, is_failing, is_finished};
-ghost use Rattle.px_sem.specs.Guards.{is_at_work, is_past_end, is_at_rest};
+ghost use Rattle.px_sem.specs.Guards.{is_active, is_past_end, is_at_rest};
 
 use px_value::Failure;
 use px_value::NodeState::{self, Executing, Failing, Finished, Finishing, IterationEnded, Waiting};
@@ -50,8 +50,8 @@ pub fn is_finished(state: NodeState) -> bool
 }
 
 /// EXECUTING, FINISHING or FAILING.
-pub fn is_at_work(state: NodeState) -> bool
-    ensures { result ≡ is_at_work state }
+pub fn is_active(state: NodeState) -> bool
+    ensures { result ≡ is_active state }
 {
     matches!(state, Executing | Finishing | Failing)
 }

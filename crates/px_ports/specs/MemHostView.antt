@@ -7,8 +7,8 @@ use Rattle.px_ports.specs.MemHost.{MemHostState}
 use Rattle.px_ports.specs.declared.mem_host.MemHost.TheInside.{Inside}
 
 -- the state that the fields keep
-abbrev pub state_of : Inside → MemHostState
-state_of host = record {
+abbrev pub host_state : Inside → MemHostState
+host_state host = record {
   files = files_of host.files.items;
   failing_fetches = host.failing_fetches.items;
   failing_emits = host.failing_emits.items;

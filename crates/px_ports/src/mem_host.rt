@@ -41,9 +41,9 @@ impl Model for MemHost {
 
     ghost Value = { MemHostState };
 
-    ghost use Rattle.px_ports.specs.MemHostView.{state_of};
+    ghost use Rattle.px_ports.specs.MemHostView.{host_state};
 
-    ghost view = { state_of };
+    ghost view = { host_state };
 }
 
 impl MemHost {

@@ -6,7 +6,7 @@ use Rattle.px_sem.specs.World.{World, standing_of}
 use Rattle.px_sem.specs.Log.{Log, AnswersEach, events_of, accepted}
 use Rattle.px_sem.specs.Run.{started, run}
 use Rattle.px_sem.specs.Stepper.{State, at_rest}
-use Rattle.px_sem.specs.Text.{trace, report, standing_text}
+use Rattle.px_sem.specs.Text.{trace, log_lines, standing_text}
 use Rattle.px_sem.proofs.Logs.{run_at_start}
 use Rattle.px_script.specs.declared.todo.Todo.{Todo}
 use Rattle.px_script.specs.Order.{InFileOrder}
@@ -148,7 +148,7 @@ posted_all tree threads now world log entries history (count, start) rest order 
 pub prints_log : (mid new : View) (plan : List Site) (shown : List Entry) (shown_log log : Log) (history : List Entry) (world : World)
     (r : Result Unit PrintFault) → shown ≡ history → shown_log ≡ log → run plan (events_of history) ≡ Some world
     → ((w : World) → run plan (events_of shown) ≡ Some w
-    → Prints mid new (trace plan shown ++ (report shown_log ++ standing_text (standing_of plan w))) r)
+    → Prints mid new (trace plan shown ++ (log_lines shown_log ++ standing_text (standing_of plan w))) r)
     → Prints mid new (log_text plan history log world) r
 prints_log mid new plan shown shown_log log history world r entries_is log_is runs prints =
     let here = prints world (ap (λ h. run plan (events_of h)) entries_is ∙ runs) in

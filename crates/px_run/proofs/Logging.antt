@@ -6,7 +6,7 @@ use Rattle.px_sem.specs.declared.standing.Standing.{Standing}
 use Rattle.px_sem.specs.World.{World, standing_of}
 use Rattle.px_sem.specs.Log.{Log, events_of}
 use Rattle.px_sem.specs.Run.{run}
-use Rattle.px_sem.specs.Text.{trace, report, standing_text}
+use Rattle.px_sem.specs.Text.{trace, log_lines, standing_text}
 use Rattle.px_run.specs.declared.sink.PrintFault.{PrintFault}
 use Rattle.px_run.specs.declared.sink.PrintFault.TheVariants.{SinkFailed, NoMemory}
 use Rattle.px_run.specs.Outcome.{View}
@@ -15,7 +15,7 @@ use Rattle.px_run.proofs.Emitting.{emits_more, faulted_later, only_same, only_mo
 
 -- the trace of the history, the report, and how the plan stands
 abbrev pub log_text : List Site → List Entry → Log → World → List ℕ
-log_text plan history log world = trace plan history ++ (report log ++ standing_text (standing_of plan world))
+log_text plan history log world = trace plan history ++ (log_lines log ++ standing_text (standing_of plan world))
 
 -- the trace breaks off
 pub trace_breaks_off : (plan nodes : List Site) (history : List Entry) (log : Log) (world : World) (old mid : View) (before rest' : List ℕ)
@@ -23,9 +23,9 @@ pub trace_breaks_off : (plan nodes : List Site) (history : List Entry) (log : Lo
     → PrintsUpTo {T = Unit} old mid rest' (before ++ trace nodes history) (Err fault) → Prints old mid (log_text plan history log world) r
 trace_breaks_off plan nodes history log world old mid before rest' fault r n b is p =
     prints_off old mid rest' (log_text plan history log world) r is.0
-    (breaks_off_behind Unit old old mid before before (trace nodes history) (report log ++ standing_text (standing_of plan world))
+    (breaks_off_behind Unit old old mid before before (trace nodes history) (log_lines log ++ standing_text (standing_of plan world))
     (log_text plan history log world) rest' rest' fault r is.1 (leaves_all old before) (only_same old) p
-    (ap (λ text. text ++ (report log ++ standing_text (standing_of plan world))) (ap (λ nodes. trace nodes history) (sym n) ∙ ap (λ text. text ++ trace nodes history) (sym b))))
+    (ap (λ text. text ++ (log_lines log ++ standing_text (standing_of plan world))) (ap (λ nodes. trace nodes history) (sym n) ∙ ap (λ text. text ++ trace nodes history) (sym b))))
 
 -- the trace is told, but for what the buffer holds; and then the report
 pub record IsTraced (plan : List Site) (history : List Entry) (old new : View) (buffer : List ℕ) : Type 0 where
@@ -40,26 +40,26 @@ traced plan nodes history old mid before buffer n b leaves only = record {
 }
 
 report_within : (plan : List Site) (history : List Entry) (log : Log) (world : World)
-    → log_text plan history log world ≡ (trace plan history ++ report log) ++ standing_text (standing_of plan world)
-report_within plan history log world = sym (append_assoc (trace plan history) (report log) (standing_text (standing_of plan world)))
+    → log_text plan history log world ≡ (trace plan history ++ log_lines log) ++ standing_text (standing_of plan world)
+report_within plan history log world = sym (append_assoc (trace plan history) (log_lines log) (standing_text (standing_of plan world)))
 
 -- the report breaks off
 pub report_off : (plan : List Site) (history : List Entry) (log : Log) (world : World) (old mid new : View) (buffer rest' : List ℕ)
     (fault : PrintFault) (r : Result Unit PrintFault) → IsTraced plan history old mid buffer → IsErr r × IsErrAnd r (λ e. e ≡ fault)
-    → PrintsUpTo {T = Unit} mid new rest' (buffer ++ report log) (Err fault) → Prints old new (log_text plan history log world) r
+    → PrintsUpTo {T = Unit} mid new rest' (buffer ++ log_lines log) (Err fault) → Prints old new (log_text plan history log world) r
 report_off plan history log world old mid new buffer rest' fault r t is p =
     prints_off old new rest' (log_text plan history log world) r is.0
-    (breaks_off_behind Unit old mid new buffer (trace plan history) (report log) (standing_text (standing_of plan world))
+    (breaks_off_behind Unit old mid new buffer (trace plan history) (log_lines log) (standing_text (standing_of plan world))
     (log_text plan history log world) rest' rest' fault r is.1 t.leaves t.only p (report_within plan history log world))
 
 -- memory is wanting for the last line
 pub standing_off : (plan : List Site) (history : List Entry) (log : Log) (world : World) (old mid new : View) (buffer buffer' : List ℕ)
-    (r : Result Unit PrintFault) → IsTraced plan history old mid buffer → Leaves mid new buffer' (buffer ++ report log)
+    (r : Result Unit PrintFault) → IsTraced plan history old mid buffer → Leaves mid new buffer' (buffer ++ log_lines log)
     → IsErr r × IsErrAnd r (λ e. e ≡ NoMemory) → Prints old new (log_text plan history log world) r
 standing_off plan history log world old mid new buffer buffer' r t leaves is =
     prints_off old new buffer' (log_text plan history log world) r is.0
-    (breaks_off_at old new buffer' (trace plan history ++ report log) (standing_text (standing_of plan world)) (log_text plan history log world) buffer' r is.1
-    (prints_behind old mid new buffer buffer' (trace plan history) (report log) t.leaves leaves) (report_within plan history log world))
+    (breaks_off_at old new buffer' (trace plan history ++ log_lines log) (standing_text (standing_of plan world)) (log_text plan history log world) buffer' r is.1
+    (prints_behind old mid new buffer buffer' (trace plan history) (log_lines log) t.leaves leaves) (report_within plan history log world))
 
 -- the rest of a text is printed later
 prints_later : (old mid new : View) (rest text : List ℕ) (r : Result Unit PrintFault) → Leaves old mid rest text
@@ -72,18 +72,18 @@ prints_later old mid new rest text (Err NoMemory) leaves only p = part_more old 
 
 -- what the buffer holds with the last line is emitted
 pub log_whole : (plan nodes : List Site) (history : List Entry) (log : Log) (world : World) (old mid new last : View) (buffer buffer' text : List ℕ)
-    (standing : Standing) (r : Result Unit PrintFault) → IsTraced plan history old mid buffer → Leaves mid new buffer' (buffer ++ report log)
+    (standing : Standing) (r : Result Unit PrintFault) → IsTraced plan history old mid buffer → Leaves mid new buffer' (buffer ++ log_lines log)
     → OnlyPrints mid new → nodes ≡ plan → standing ≡ standing_of nodes world → text ≡ buffer' ++ standing_text standing
     → Prints new last text r → Prints old last (log_text plan history log world) r
 log_whole plan nodes history log world old mid new last buffer buffer' text standing r t leaves only n st is p =
-    let told = prints_behind old mid new buffer buffer' (trace plan history) (report log) t.leaves leaves in
+    let told = prints_behind old mid new buffer buffer' (trace plan history) (log_lines log) t.leaves leaves in
     let end : List ℕ = standing_text (standing_of plan world) in
     let ending : buffer' ++ standing_text standing ≡ buffer' ++ end =
     ap (λ s. buffer' ++ standing_text s) (st ∙ ap (λ nodes. standing_of nodes world) n) in
     prints_later old new last text (log_text plan history log world) r
     (subst (λ whole. Leaves old new text whole) (sym (report_within plan history log world))
-    (subst (λ rest. Leaves old new rest ((trace plan history ++ report log) ++ end)) (sym (is ∙ ending))
-    (leaves_appended old new buffer' (trace plan history ++ report log) end told)))
+    (subst (λ rest. Leaves old new rest ((trace plan history ++ log_lines log) ++ end)) (sym (is ∙ ending))
+    (leaves_appended old new buffer' (trace plan history ++ log_lines log) end told)))
     (only_more old mid new t.only only) p
 
 -- the world after the history is the only one

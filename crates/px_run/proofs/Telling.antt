@@ -12,8 +12,8 @@ use Rattle.px_sem.specs.World.{World, first}
 use Rattle.px_sem.specs.Events.{take as taken}
 use Rattle.px_sem.specs.Log.{Log, events_of}
 use Rattle.px_sem.specs.Run.{settled, started, posted, run_on, run}
-use Rattle.px_sem.specs.Stepper.{State, fresh, at_rest, begun_with}
-use Rattle.px_sem.specs.Text.{start_text, quiet_text, heading_text, settling_text, settling_into, settling_then, events_trace, trace, reply_line, report}
+use Rattle.px_sem.specs.Stepper.{State, fresh, at_rest, with_event}
+use Rattle.px_sem.specs.Text.{start_text, quiet_text, heading_text, settling_text, settling_into, settling_then, events_trace, trace, reply_line, log_lines}
 use Rattle.px_sem.proofs.Logs.{run_on_none}
 use Rattle.px_run.specs.Outcome.{View}
 use Rattle.px_run.specs.declared.sink.PrintFault.{PrintFault}
@@ -99,7 +99,7 @@ drop_item xs k x within is =
 -- an event is the next of the history, and was begun
 pub record IsNext (plan : List Site) (history : List Entry) (position : ℕ) (now begun : State) (entry : Entry) : Type 0 where
   pub behind : drop position history ≡ entry ∷ drop (position + 1) history
-  pub begins : begun ≡ begun_with now entry.event
+  pub begins : begun ≡ with_event now entry.event
 
 -- an event of a run that exists settles
 event_settles : (plan : List Site) (world : World) (event : Event) (events : List Event)
@@ -117,15 +117,15 @@ next_settles plan history whole position now begun old new buffer entry t n some
     let settles = event_settles plan now.world entry.event (events_of (drop (position + 1) history)) first_one in
     subst (λ (x : State). IsSome (settled x.nodes x.world)) (sym (begun_is plan now begun entry.event t.rest n.begins)) settles
   where
-    begun_is : (plan : List Site) (now begun : State) (event : Event) → now ≡ at_rest plan now.world → begun ≡ begun_with now event
-        → begun ≡ begun_with (at_rest plan now.world) event
-    begun_is plan now begun event rest begins = begins ∙ ap (λ s. begun_with s event) rest
+    begun_is : (plan : List Site) (now begun : State) (event : Event) → now ≡ at_rest plan now.world → begun ≡ with_event now event
+        → begun ≡ with_event (at_rest plan now.world) event
+    begun_is plan now begun event rest begins = begins ∙ ap (λ s. with_event s event) rest
 
-begun_nodes : (plan : List Site) (now begun : State) (event : Event) → now ≡ at_rest plan now.world → begun ≡ begun_with now event
+begun_nodes : (plan : List Site) (now begun : State) (event : Event) → now ≡ at_rest plan now.world → begun ≡ with_event now event
     → begun.nodes ≡ plan
 begun_nodes plan now begun event rest begins = ap (λ (s : State). s.nodes) begins ∙ ap (λ (s : State). s.nodes) rest
 
-begun_world : (plan : List Site) (now begun : State) (event : Event) → now ≡ at_rest plan now.world → begun ≡ begun_with now event
+begun_world : (plan : List Site) (now begun : State) (event : Event) → now ≡ at_rest plan now.world → begun ≡ with_event now event
     → begun.world ≡ taken plan now.world event
 begun_world plan now begun event rest begins =
     ap (λ (s : State). s.world) begins ∙ ap (λ (s : State). taken s.nodes now.world event) rest
@@ -246,19 +246,19 @@ told_to_end plan history whole position now old new buffer t end =
 
 -- so many lines of the report are told, but for what the buffer holds
 pub record IsReported (log : Log) (before : List ℕ) (count : ℕ) (old new : View) (buffer : List ℕ) : Type 0 where
-  pub way : IsOnItsWay old new buffer (before ++ report (take count log))
+  pub way : IsOnItsWay old new buffer (before ++ log_lines (take count log))
 
 pub reported_none : (log : Log) (before : List ℕ) (v : View) → IsReported log before 0 v v before
 reported_none log before v = record { way = record { leaves = rw append-nil (leaves_all v before); only = only_same v } }
 
 pub report_more : (log : Log) (before : List ℕ) (count : ℕ) (logged : LogEntry) → take (count + 1) log ≡ take count log ++ logged ∷ []
-    → before ++ report (take (count + 1) log) ≡ (before ++ report (take count log)) ++ reply_line logged.entry.thread logged.entry.line logged.reply
+    → before ++ log_lines (take (count + 1) log) ≡ (before ++ log_lines (take count log)) ++ reply_line logged.entry.thread logged.entry.line logged.reply
 report_more log before count logged is =
     let one : List ℕ = reply_line logged.entry.thread logged.entry.line logged.reply in
-    ap (λ entries. before ++ report entries) is
+    ap (λ entries. before ++ log_lines entries) is
     ∙ ap (λ text. before ++ text) (flat_map-append (λ l. reply_line l.entry.thread l.entry.line l.reply) (take count log) (logged ∷ []))
-    ∙ ap (λ text. before ++ (report (take count log) ++ text)) (append-nil one)
-    ∙ sym (append_assoc before (report (take count log)) one)
+    ∙ ap (λ text. before ++ (log_lines (take count log) ++ text)) (append-nil one)
+    ∙ sym (append_assoc before (log_lines (take count log)) one)
 
 -- one line more
 pub reported_more : (log : Log) (before : List ℕ) (count : ℕ) (logged : LogEntry) (old mid new : View) (buffer appended buffer' : List ℕ)
@@ -268,7 +268,7 @@ pub reported_more : (log : Log) (before : List ℕ) (count : ℕ) (logged : LogE
 reported_more log before count logged old mid new buffer appended buffer' r next is leaves only = record {
   way = record {
     leaves = rw (report_more log before count logged next)
-        (prints_behind old mid new buffer buffer' (before ++ report (take count log)) (reply_line logged.entry.thread logged.entry.line logged.reply)
+        (prints_behind old mid new buffer buffer' (before ++ log_lines (take count log)) (reply_line logged.entry.thread logged.entry.line logged.reply)
         r.way.leaves (rw is at leaves));
     only = only_more old mid new r.way.only only;
   };
@@ -276,17 +276,17 @@ reported_more log before count logged old mid new buffer appended buffer' r next
 
 -- what of the report is still to come
 pub report_left : (log : Log) (before : List ℕ) (count : ℕ)
-    → before ++ report log ≡ (before ++ report (take count log)) ++ report (drop count log)
+    → before ++ log_lines log ≡ (before ++ log_lines (take count log)) ++ log_lines (drop count log)
 report_left log before count =
-    ap (λ entries. before ++ report entries) (sym (take-append-drop count log))
+    ap (λ entries. before ++ log_lines entries) (sym (take-append-drop count log))
     ∙ ap (λ text. before ++ text) (flat_map-append (λ l. reply_line l.entry.thread l.entry.line l.reply) (take count log) (drop count log))
-    ∙ sym (append_assoc before (report (take count log)) (report (drop count log)))
+    ∙ sym (append_assoc before (log_lines (take count log)) (log_lines (drop count log)))
 
 -- the report breaks off, in the buffer or on its way to the sink
 pub report_breaks_off_at : (log : Log) (before : List ℕ) (count : ℕ) (old mid : View) (buffer rest' : List ℕ) (r : Result Unit PrintFault)
-    → IsReported log before count old mid buffer → IsErrAnd r (λ e. e ≡ OutOfMemory) → PrintsUpTo old mid rest' (before ++ report log) r
+    → IsReported log before count old mid buffer → IsErrAnd r (λ e. e ≡ OutOfMemory) → PrintsUpTo old mid rest' (before ++ log_lines log) r
 report_breaks_off_at log before count old mid buffer rest' r t is =
-    breaks_off_at old mid buffer (before ++ report (take count log)) (report (drop count log)) (before ++ report log) rest' r is
+    breaks_off_at old mid buffer (before ++ log_lines (take count log)) (log_lines (drop count log)) (before ++ log_lines log) rest' r is
     t.way.leaves (report_left log before count)
 
 pub report_breaks_off : (log : Log) (before : List ℕ) (count : ℕ) (logged : LogEntry) (old mid new : View)
@@ -294,9 +294,9 @@ pub report_breaks_off : (log : Log) (before : List ℕ) (count : ℕ) (logged : 
     → IsReported log before count old mid buffer → take (count + 1) log ≡ take count log ++ logged ∷ []
     → appended ≡ buffer ++ reply_line logged.entry.thread logged.entry.line logged.reply
     → IsErrAnd r (λ e. e ≡ fault) → PrintsUpTo {T = Unit} mid new rest' appended (Err fault)
-    → PrintsUpTo old new rest'' (before ++ report log) r
+    → PrintsUpTo old new rest'' (before ++ log_lines log) r
 report_breaks_off log before count logged old mid new buffer appended rest' rest'' fault r t next appends is p =
-    breaks_off_behind Unit old mid new buffer (before ++ report (take count log)) (reply_line logged.entry.thread logged.entry.line logged.reply)
-    (report (drop (count + 1) log)) (before ++ report log) rest' rest'' fault r is t.way.leaves t.way.only
+    breaks_off_behind Unit old mid new buffer (before ++ log_lines (take count log)) (reply_line logged.entry.thread logged.entry.line logged.reply)
+    (log_lines (drop (count + 1) log)) (before ++ log_lines log) rest' rest'' fault r is t.way.leaves t.way.only
     (subst (λ text. PrintsUpTo {T = Unit} mid new rest' text (Err fault)) appends p)
-    (report_left log before (count + 1) ∙ ap (λ text. text ++ report (drop (count + 1) log)) (report_more log before count logged next))
+    (report_left log before (count + 1) ∙ ap (λ text. text ++ log_lines (drop (count + 1) log)) (report_more log before count logged next))

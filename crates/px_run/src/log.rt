@@ -8,8 +8,8 @@ ghost use Rattle.px_core.specs.Simple.{IsSimple};
 ghost use Rattle.px_event.specs.Fit.{is_fit_entry};
 ghost use Rattle.px_sem.specs.Log.{events_of};
 ghost use Rattle.px_sem.specs.Run.{run, settled};
-ghost use Rattle.px_sem.specs.Stepper.{is_begun, fresh, at_rest};
-ghost use Rattle.px_sem.specs.Text.{trace, report, standing_text};
+ghost use Rattle.px_sem.specs.Stepper.{is_pending, fresh, at_rest};
+ghost use Rattle.px_sem.specs.Text.{trace, log_lines, standing_text};
 ghost use Rattle.px_sem.specs.World.{World, standing_of};
 ghost use Rattle.px_run.specs.Outcome.{view};
 ghost use Rattle.px_run.specs.Printing.{Prints, PrintsUpTo, OnlyPrints};
@@ -42,7 +42,7 @@ pub fn print_log<H: Host, S: Stepper>(
     ensures prints { (world : World) → run (sites (tree_of plan.now)) (events_of history.now) ≡ Some world
         → Prints (view H.Host host.old) (view H.Host host.new)
         (trace (sites (tree_of plan.now)) history.now
-        ++ (report log.now ++ standing_text (standing_of (sites (tree_of plan.now)) world))) result }
+        ++ (log_lines log.now ++ standing_text (standing_of (sites (tree_of plan.now)) world))) result }
     ensures only { OnlyPrints (view H.Host host.old) (view H.Host host.new) }
 {
     let mut stepper = S::fresh(alloc, plan)?;
@@ -91,7 +91,7 @@ fn print_settling<H: Host, S: Stepper>(
     text: &mut Vec<u8>,
     host: &mut H,
 ) -> Result<(), PrintFault>
-    requires begun { IsTrue (is_begun (S.state stepper.old).begun) }
+    requires pending { IsTrue (is_pending (S.state stepper.old).pending) }
     requires settles { IsSome (settled (S.state stepper.old).nodes (S.state stepper.old).world) }
     ensures settled { IfOk result (λ _. ((count : ℕ) × (settled (S.state stepper.old).nodes
         (S.state stepper.old).world ≡ Some ((S.state stepper.new).world, count)))) }
@@ -115,10 +115,10 @@ fn print_steps<H: Host, S: Stepper>(
     text: &mut Vec<u8>,
     host: &mut H,
 ) -> Result<u32, PrintFault>
-    requires begun { IsTrue (is_begun (S.state stepper.old).begun) }
+    requires pending { IsTrue (is_pending (S.state stepper.old).pending) }
     requires settles { IsSome (settled (S.state stepper.old).nodes (S.state stepper.old).world) }
     ensures plan { (S.state stepper.new).nodes ≡ (S.state stepper.old).nodes }
-    ensures begun { (S.state stepper.new).begun ≡ (S.state stepper.old).begun }
+    ensures pending { (S.state stepper.new).pending ≡ (S.state stepper.old).pending }
     ensures settled { IfOk result (λ count.
         settled (S.state stepper.old).nodes (S.state stepper.old).world ≡ Some ((S.state stepper.new).world, count)) }
     ensures prints { PrintsUpTo (view H.Host host.old) (view H.Host host.new) text.new.items
@@ -142,7 +142,7 @@ fn print_report<H: Host>(
     host: &mut H,
 ) -> Result<(), PrintFault>
     ensures prints { PrintsUpTo (view H.Host host.old) (view H.Host host.new) text.new.items
-        (text.old.items ++ report log.now) result }
+        (text.old.items ++ log_lines log.now) result }
     ensures only { OnlyPrints (view H.Host host.old) (view H.Host host.new) }
 {
     for logged in log {

@@ -13,22 +13,22 @@ use Rattle.px_event.specs.Fit.{is_fit_event}
 use Rattle.px_event.specs.Values.{is_plain_or_unknown}
 use Rattle.px_event.specs.declared.event.Event.{Event}
 use Rattle.px_script.specs.Text.{trim, content, first_word, behind_word, lines_of}
-use Rattle.px_script.specs.Said.{value_of, is_report_name, report, is_equals, report_of, set_line, is_silent, said}
+use Rattle.px_script.specs.ParsedLine.{value_of, is_report_name, report, is_equals, report_of, set_line, is_silent, parsed_line}
 use Rattle.px_script.specs.Script.{Threads, Fault, threads_of, script}
 use Rattle.px_script.specs.Fit.{rise_above, is_fit_line, IsFitScript}
 use Rattle.px_script.specs.declared.line.Line.{Line}
 use Rattle.px_script.specs.declared.script.Script.{Script}
-use Rattle.px_script.specs.declared.said.Said.{Said}
-use Rattle.px_script.specs.declared.said.Said.TheVariants.{Nothing, Posts, Faulty}
+use Rattle.px_script.specs.declared.parsed_line.ParsedLine.{ParsedLine}
+use Rattle.px_script.specs.declared.parsed_line.ParsedLine.TheVariants.{Nothing, Posts, Faulty}
 use Rattle.px_script.proofs.Reading.{post_line, read_on, AllBelow, below_next, below_push, script_reads}
 
 -- ---- what a line says
 
 -- what it posts is fit
-abbrev IsFitSaid : Said → Type 0
-IsFitSaid Nothing = Unit {0}
-IsFitSaid (Posts event) = is_fit_event event ≡ true
-IsFitSaid (Faulty kind) = Unit {0}
+abbrev IsFitParsedLine : ParsedLine → Type 0
+IsFitParsedLine Nothing = Unit {0}
+IsFitParsedLine (Posts event) = is_fit_event event ≡ true
+IsFitParsedLine (Faulty kind) = Unit {0}
 
 abbrev IsFitPost : Option Event → Type 0
 IsFitPost None = Unit {0}
@@ -60,30 +60,30 @@ report_fit name (Some value) told =
 report_of_fit : (text : List ℕ) → IsFitPost (report_of text)
 report_of_fit text = report_fit (trim (before_first is_equals text)) (value_of (trim (after_first is_equals text))) (IsTold-value_of (trim (after_first is_equals text)))
 
-posted_fit : (post : Option Event) → IsFitPost post → IsFitSaid (unwrap_or (option_map Posts post) (Faulty 1))
+posted_fit : (post : Option Event) → IsFitPost post → IsFitParsedLine (unwrap_or (option_map Posts post) (Faulty 1))
 posted_fit None fit = tt
 posted_fit (Some event) fit = fit
 
-shaped_fit : (b : Bool) (post : Option Event) → IsFitPost post → IsFitSaid (unwrap_or (cond b (option_map Posts post) None) (Faulty 1))
+shaped_fit : (b : Bool) (post : Option Event) → IsFitPost post → IsFitParsedLine (unwrap_or (cond b (option_map Posts post) None) (Faulty 1))
 shaped_fit true post fit = posted_fit post fit
 shaped_fit false post fit = tt
 
-heard_fit : (b : Bool) (says : Said) → IsFitSaid says → IsFitSaid (cond b Nothing says)
+heard_fit : (b : Bool) (says : ParsedLine) → IsFitParsedLine says → IsFitParsedLine (cond b Nothing says)
 heard_fit true says fit = tt
 heard_fit false says fit = fit
 
-said_fit : (line : List ℕ) → IsFitSaid (said line)
-said_fit line =
+parsed_line_fit : (line : List ℕ) → IsFitParsedLine (parsed_line line)
+parsed_line_fit line =
     heard_fit (is_silent (content line)) (unwrap_or (set_line (content line)) (Faulty 1))
     (shaped_fit (is_same (first_word (content line)) (codes "set")) (report_of (behind_word (content line))) (report_of_fit (behind_word (content line))))
 
-abbrev AllFit : List Said → Type 0
+abbrev AllFit : List ParsedLine → Type 0
 AllFit [] = Unit {0}
-AllFit (says ∷ more) = IsFitSaid says × AllFit more
+AllFit (says ∷ more) = IsFitParsedLine says × AllFit more
 
-all_fit : (lines : List (List ℕ)) → AllFit (map said lines)
+all_fit : (lines : List (List ℕ)) → AllFit (map parsed_line lines)
 all_fit [] = tt
-all_fit (line ∷ lines) = (said_fit line, all_fit lines)
+all_fit (line ∷ lines) = (parsed_line_fit line, all_fit lines)
 
 -- ---- the lines that are kept
 
@@ -134,7 +134,7 @@ threads_fit number (line ∷ kept) spelled k is =
       lines = rw (← one) (rw (le-leb 1 (length (line ∷ kept)) (omega arith), le-leb (length (line ∷ kept)) 100000 k.short, k.rising, k.fit));
     }
 
-read_fit : (number : ℕ) (kept : List Line) (more : List Said) (spelled : Script) → AllFit more → IsKept number kept
+read_fit : (number : ℕ) (kept : List Line) (more : List ParsedLine) (spelled : Script) → AllFit more → IsKept number kept
     → read_on kept number more ≡ Threads spelled.threads → IsFitScript spelled
 read_fit number kept [] spelled fit k is = threads_fit number kept spelled k is
 read_fit number kept (Nothing ∷ more) spelled fit k is = read_fit (number + 1) kept more spelled fit.1 (kept_next number kept k) is
@@ -153,6 +153,6 @@ read_fit number kept (Faulty kind ∷ more) spelled fit k is = cc
 -- a script that bytes spell is fit
 pub script_fit : (bytes : List ℕ) (spelled : Script) → script bytes ≡ Threads spelled.threads → IsFitScript spelled
 script_fit bytes spelled is =
-    read_fit 1 [] (map said (lines_of bytes)) spelled (all_fit (lines_of bytes))
+    read_fit 1 [] (map parsed_line (lines_of bytes)) spelled (all_fit (lines_of bytes))
     (record { above = omega arith; below = tt; short = omega arith; rising = refl; fit = refl })
-    (script_reads (map said (lines_of bytes)) ∙ is)
+    (script_reads (map parsed_line (lines_of bytes)) ∙ is)

@@ -7,9 +7,9 @@ use Rattle.px_script.specs.declared.line.Line.{Line}
 use Rattle.px_script.specs.declared.line.What.TheVariants as whats
 use Rattle.px_script.specs.declared.todo.Todo.{Todo}
 use Rattle.px_script.specs.Text.{lines_of}
-use Rattle.px_script.specs.declared.said.Said.{Said}
-use Rattle.px_script.specs.declared.said.Said.TheVariants.{Nothing, Posts, Faulty}
-use Rattle.px_script.specs.Said.{said}
+use Rattle.px_script.specs.declared.parsed_line.ParsedLine.{ParsedLine}
+use Rattle.px_script.specs.declared.parsed_line.ParsedLine.TheVariants.{Nothing, Posts, Faulty}
+use Rattle.px_script.specs.ParsedLine.{parsed_line}
 
 -- a script's threads, or its first faulty line with the kind of the fault
 pub data Reading : Type 0 where
@@ -17,25 +17,25 @@ pub data Reading : Type 0 where
   Fault : (line kind : ℕ) → Reading
 
 -- what each line says, with the line's number
-abbrev pub sayings : List ℕ → List (ℕ × Said)
-sayings bytes = enumerate_from 1 (map said (lines_of bytes))
+abbrev pub parsed_lines : List ℕ → List (ℕ × ParsedLine)
+parsed_lines bytes = enumerate_from 1 (map parsed_line (lines_of bytes))
 
 -- what a line posts
-abbrev pub post_of : ℕ × Said → Option Line
+abbrev pub post_of : ℕ × ParsedLine → Option Line
 post_of (number, Nothing) = None
 post_of (number, Posts event) = Some (record { number = number; what = whats.Post event })
 post_of (number, Faulty kind) = None
 
 -- the lines that post
-abbrev pub posts : List (ℕ × Said) → List Line
+abbrev pub posts : List (ℕ × ParsedLine) → List Line
 posts lines = filter_map post_of lines
 
 -- how many lines with a lower number post
-abbrev pub posts_before : ℕ → List (ℕ × Said) → ℕ
+abbrev pub posts_before : ℕ → List (ℕ × ParsedLine) → ℕ
 posts_before number lines = count_by (λ post. nat_lt post.number number) (posts lines)
 
 -- the fault of one of the lines, if it has one: its own, or of kind 5 where it posts after 100,000 others
-abbrev pub fault_in : List (ℕ × Said) → ℕ × Said → Option (ℕ × ℕ)
+abbrev pub fault_in : List (ℕ × ParsedLine) → ℕ × ParsedLine → Option (ℕ × ℕ)
 fault_in lines (number, Nothing) = None
 fault_in lines (number, Posts event) = if nat_le 100000 (posts_before number lines) then Some (number, 5) else None
 fault_in lines (number, Faulty kind) = Some (number, kind)
@@ -51,12 +51,12 @@ by_faults [] lines = Threads (threads_of lines)
 by_faults ((line, kind) ∷ later) lines = Fault line kind
 
 -- what lines are read as
-abbrev pub reading : List (ℕ × Said) → Reading
+abbrev pub reading : List (ℕ × ParsedLine) → Reading
 reading lines = by_faults (filter_map (fault_in lines) lines) (posts lines)
 
 -- the script that bytes spell, or its first fault
 abbrev pub script : List ℕ → Reading
-script bytes = reading (sayings bytes)
+script bytes = reading (parsed_lines bytes)
 
 -- the fault is what is read, and want of memory says nothing of it
 abbrev pub IsFaultOf : Reading → ScriptFault → Type 0

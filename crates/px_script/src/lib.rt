@@ -1,8 +1,8 @@
 //! Scripts: what each thread posts to a running plan, and what it waits for, line by line.
 //!
 //! `script`, `todo` and `line` are the parts of a script, with `Todos` and `Lines` the lists of them. `read` reads a
-//! script from bytes, `said` one line, and `text` cuts lines and words; `order` turns a script into its posts, in file
-//! order. `specs/Script.antt` says which script the bytes spell, `specs/Said.antt` what a line says, and
+//! script from bytes, `parsed_line` one line, and `text` cuts lines and words; `order` turns a script into its posts, in file
+//! order. `specs/Script.antt` says which script the bytes spell, `specs/ParsedLine.antt` what a line says, and
 //! `specs/Order.antt` what file order is; `laws` has what a script means.
 #![tactic(auto)]
 
@@ -11,8 +11,8 @@ pub mod laws;
 mod line;
 mod lines;
 mod order;
+mod parsed_line;
 mod read;
-mod said;
 mod script;
 #[cfg(test)]
 mod tests;

@@ -7,7 +7,7 @@ ghost use Rattle.px_script.specs.Script.{Threads, threads_of, script, IsFaultOf}
 
 use crate::fault::{ScriptFault, TOO_MANY_LINES};
 use crate::line::{Line, What};
-use crate::said::{Said, read_line};
+use crate::parsed_line::{ParsedLine, read_line};
 use crate::script::Script;
 use crate::text::split_line;
 use crate::todo::Todo;
@@ -61,8 +61,8 @@ fn read_lines(alloc: Global, bytes: &[u8]) -> Result<Vec<Line>, ScriptFault>
         let (line, behind) = split_line(text);
         number += 1;
         match read_line(alloc, line)? {
-            Said::Nothing => {}
-            Said::Posts(event) => {
+            ParsedLine::Nothing => {}
+            ParsedLine::Posts(event) => {
                 if lines.len() >= LINE_LIMIT {
                     return Err(ScriptFault::Fault {
                         line: number,
@@ -72,7 +72,7 @@ fn read_lines(alloc: Global, bytes: &[u8]) -> Result<Vec<Line>, ScriptFault>
                 let what = What::Post(event);
                 lines.push(Line { number, what })?;
             }
-            Said::Faulty { kind } => return Err(ScriptFault::Fault { line: number, kind }),
+            ParsedLine::Faulty { kind } => return Err(ScriptFault::Fault { line: number, kind }),
         }
         left = behind;
     }

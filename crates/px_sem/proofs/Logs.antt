@@ -102,15 +102,15 @@ pub record IsPosting (plan : List Site) (limit : ℕ) (entries : List Entry) (lo
   pub counted : count ≡ length (history_of log)
   pub within : count ≤ limit
 
-pub posting_at_once : (plan : List Site) (limit : ℕ) (now : State) → now.nodes ≡ plan → now.begun ≡ Nothing → run plan [] ≡ Some now.world
+pub posting_at_once : (plan : List Site) (limit : ℕ) (now : State) → now.nodes ≡ plan → now.pending ≡ Nothing → run plan [] ≡ Some now.world
     → IsPosting plan limit [] [] [] now 0
-posting_at_once plan limit now nodes begun runs = record {
+posting_at_once plan limit now nodes pending runs = record {
   each = refl;
   answers = tt;
   accepts = refl;
   runs = runs;
-  rest = ap (λ plan. let s : State = record { nodes = plan; world = now.world; begun = now.begun } in s) nodes
-      ∙ ap (λ begun. let s : State = record { nodes = plan; world = now.world; begun = begun } in s) begun;
+  rest = ap (λ plan. let s : State = record { nodes = plan; world = now.world; pending = now.pending } in s) nodes
+      ∙ ap (λ pending. let s : State = record { nodes = plan; world = now.world; pending = pending } in s) pending;
   counted = refl;
   within = omega arith;
 }

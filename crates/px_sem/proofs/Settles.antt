@@ -13,7 +13,7 @@ use Rattle.px_sem.specs.Run.{step_limit, after_steps, least, settling_count, set
 -- after so many micro steps, none of which began in a quiet world
 pub record IsUnderway (from now : State) (count : ℕ) : Type 0 where
   pub nodes : now.nodes ≡ from.nodes
-  pub begun : now.begun ≡ from.begun
+  pub pending : now.pending ≡ from.pending
   pub reached : now.world ≡ after_steps from.nodes from.world count
   pub busy : (j : ℕ) → j < count → is_quiet from.nodes (after_steps from.nodes from.world j) ≡ false
 
@@ -40,20 +40,20 @@ least_at test (suc bound) k within holds fails = elim (cases_lt bound k) [
 
 pub underway_at_once : (from : State) → IsUnderway from from 0
 unfolding after_steps
-underway_at_once from = record { nodes = refl; begun = refl; reached = refl; busy = λ j h. absurd (omega arith) }
+underway_at_once from = record { nodes = refl; pending = refl; reached = refl; busy = λ j h. absurd (omega arith) }
 
 pub underway_after_step : (from now next : State) (count : ℕ) (made : List Move) (answer : Bool)
     → IsUnderway from now count → answer ≡ true → Steps now next made answer → IsUnderway from next (count + 1)
 unfolding after_steps
 underway_after_step from now next count made false u a s = cc
 underway_after_step from now next count made true u a s =
-    record { nodes = nodes; begun = begun; reached = after; busy = busy }
+    record { nodes = nodes; pending = pending; reached = after; busy = busy }
   where
     nodes : next.nodes ≡ from.nodes
     nodes = ap (λ (x : State). x.nodes) s.1 ∙ u.nodes
 
-    begun : next.begun ≡ from.begun
-    begun = ap (λ (x : State). x.begun) s.1 ∙ u.begun
+    pending : next.pending ≡ from.pending
+    pending = ap (λ (x : State). x.pending) s.1 ∙ u.pending
 
     after : next.world ≡ after_steps from.nodes from.world (count + 1)
     after =

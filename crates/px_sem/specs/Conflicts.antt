@@ -4,7 +4,7 @@ use Rattle.std.specs.List.{list_all, list_any, find}
 use Rattle.px_core.specs.Plan.{Site, BodyData, Nothing, Assign, Command, Update, TargetData, is_same}
 use Rattle.px_sem.specs.declared.guards.Arrival.{Arrival}
 use Rattle.px_sem.specs.World.{World, record_at, state_at}
-use Rattle.px_sem.specs.Guards.{guards, is_waiting, is_executing, is_at_work}
+use Rattle.px_sem.specs.Guards.{guards, is_waiting, is_executing, is_active}
 use Rattle.px_sem.specs.Table
 
 -- where a node's row leads, or none where no guard holds
@@ -31,7 +31,7 @@ writes variable site = of_target (target_of site.head.body)
 
 -- a writer that is at work holds its variable
 abbrev pub holds : World → Site → Bool
-holds world site = is_at_work (state_at world site.path)
+holds world site = is_active (state_at world site.path)
 
 -- a node's row leads from WAITING to EXECUTING
 abbrev pub would_start : List Site → World → Site → Bool
@@ -70,13 +70,13 @@ is_loser plan world site = over (target_of site.head.body)
         would_start plan world site && list_any (keeps_back plan world variable site) plan
 
 -- where a node goes, or none where it stays
-abbrev pub way : List Site → World → Site → Option Arrival
-way plan world site = if is_loser plan world site then None else dest plan world site
+abbrev pub transition : List Site → World → Site → Option Arrival
+transition plan world site = if is_loser plan world site then None else dest plan world site
 
 -- the nodes that go, in preorder
 abbrev pub goes : List Site → World → List Site
-goes plan world = filter (λ site. is_some (way plan world site)) plan
+goes plan world = filter (λ site. is_some (transition plan world site)) plan
 
 -- no node goes
 abbrev pub is_quiet : List Site → World → Bool
-is_quiet plan world = list_all (λ site. is_none (way plan world site)) plan
+is_quiet plan world = list_all (λ site. is_none (transition plan world site)) plan

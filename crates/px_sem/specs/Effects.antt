@@ -15,36 +15,36 @@ use Rattle.px_sem.specs.declared.guards.Arrival.{Arrival}
 use Rattle.px_sem.specs.declared.moves.Effect.{Effect}
 use Rattle.px_sem.specs.declared.moves.Effect.TheVariants as effects
 use Rattle.px_sem.specs.Expressions.{value}
-use Rattle.px_sem.specs.World.{World, Action, NoAction, Assigned, Commanded, Updated, NoAbort, AbortSent, Kept, record_at, cells_at, of_variable}
+use Rattle.px_sem.specs.World.{World, Action, NoAction, Assigned, Commanded, Updated, NoAbort, AbortSent, Overwritten, record_at, cells_at, of_variable}
 
 -- ---- which move it is
 
-pub data Turn : Type 0 where
+pub data MoveKind : Type 0 where
   -- INACTIVE to WAITING
-  Prepares : Turn
+  Initializes : MoveKind
   -- ITERATION_ENDED to WAITING, FINISHED to INACTIVE
-  Clears : Turn
+  Resets : MoveKind
   -- WAITING to EXECUTING
-  Starts : Turn
+  Starts : MoveKind
   -- to FAILING
-  Fails : Turn
+  Fails : MoveKind
   -- every other move
-  Passes : Turn
+  Other : MoveKind
 
-abbrev pub turn : NodeState → NodeState → Turn
-turn states.Inactive states.Waiting = Prepares
-turn states.IterationEnded states.Waiting = Clears
-turn states.Finished states.Inactive = Clears
-turn states.Waiting states.Executing = Starts
-turn from states.Failing = Fails
-turn from to = Passes
+abbrev pub move_kind : NodeState → NodeState → MoveKind
+move_kind states.Inactive states.Waiting = Initializes
+move_kind states.IterationEnded states.Waiting = Resets
+move_kind states.Finished states.Inactive = Resets
+move_kind states.Waiting states.Executing = Starts
+move_kind from states.Failing = Fails
+move_kind from to = Other
 
-abbrev pub is_preparing : Turn → Bool
-is_preparing Prepares = true
-is_preparing Clears = false
-is_preparing Starts = false
-is_preparing Fails = false
-is_preparing Passes = false
+abbrev pub is_initializing : MoveKind → Bool
+is_initializing Initializes = true
+is_initializing Resets = false
+is_initializing Starts = false
+is_initializing Fails = false
+is_initializing Other = false
 
 -- ---- writes
 
@@ -105,8 +105,8 @@ first_write plan world target right = at (place_of plan world target)
       value = taken_as plan target (value plan world right);
     })
 
-abbrev pub first_kept : List Site → World → TargetData → Option Kept
-first_kept plan world target =
+abbrev pub overwritten_by : List Site → World → TargetData → Option Overwritten
+overwritten_by plan world target =
     option_map (λ index. record { index = index; old = held_at (cells_at plan world target.owner target.name) index })
     (place_of plan world target)
 
@@ -121,9 +121,9 @@ written_back target (Updated acknowledged) = None
 
 -- what a node writes by its move
 abbrev pub write_of : List Site → World → Site → Arrival → Option Write
-write_of plan world site arrival = by site.head.body (turn (record_at world site.path).state arrival.to)
+write_of plan world site arrival = by site.head.body (move_kind (record_at world site.path).state arrival.to)
   where
-    by : BodyData → Turn → Option Write
+    by : BodyData → MoveKind → Option Write
     by (Assign target right) Starts = first_write plan world target right
     by (Assign target right) Fails = written_back target (record_at world site.path).action
     by body move = None
@@ -147,16 +147,16 @@ result_index plan world (Some target) = of_place (place_of plan world target)
 
 -- A node without a body never has anything under way.
 abbrev pub action_after : List Site → World → Site → Arrival → Action
-action_after plan world site arrival = by site.head.body (turn (record_at world site.path).state arrival.to)
+action_after plan world site arrival = by site.head.body (move_kind (record_at world site.path).state arrival.to)
   where
     old : Action
     old = (record_at world site.path).action
 
-    by : BodyData → Turn → Action
+    by : BodyData → MoveKind → Action
     by Nothing move = NoAction
-    by body Prepares = NoAction
-    by body Clears = NoAction
-    by (Assign target right) Starts = Assigned (first_kept plan world target)
+    by body Initializes = NoAction
+    by body Resets = NoAction
+    by (Assign target right) Starts = Assigned (overwritten_by plan world target)
     by (Command name args result) Starts = Commanded (result_index plan world result) None NoAbort
     by (Update pairs) Starts = Updated false
     by (Command name args result) Fails = aborted old
@@ -185,13 +185,13 @@ abbrev pub told_write : Write → Effect
 told_write write = effects.Wrote write.owner write.name write.index write.value
 
 abbrev pub effect_of : List Site → World → Site → Arrival → Option Effect
-effect_of plan world site arrival = by site.head.body (turn (record_at world site.path).state arrival.to)
+effect_of plan world site arrival = by site.head.body (move_kind (record_at world site.path).state arrival.to)
   where
     told : Option Write → Option Effect
     told None = Some effects.NoWrite
     told (Some write) = Some (told_write write)
 
-    by : BodyData → Turn → Option Effect
+    by : BodyData → MoveKind → Option Effect
     by (Assign target right) Starts = told (first_write plan world target right)
     by (Assign target right) Fails = option_map told_write (written_back target (record_at world site.path).action)
     by (Command name args result) Starts = Some (effects.Sent name (map (value plan world) args))

@@ -7,8 +7,8 @@ use Rattle.px_core.specs.Plan.{Site, BodyData, Command, Update, TargetData, Vari
 use Rattle.px_core.specs.Terms.{Term}
 use Rattle.px_event.specs.declared.event.Event.{Event}
 use Rattle.px_event.specs.declared.event.Event.TheVariants as events
-use Rattle.px_sem.specs.World.{World, Record, Action, NoAction, Assigned, Commanded, Updated, AbortDone, LookState, is_same_state, record_at, state_at}
-use Rattle.px_sem.specs.Guards.{is_at_work, is_executing, is_failing, is_finishing}
+use Rattle.px_sem.specs.World.{World, NodeRecord, Action, NoAction, Assigned, Commanded, Updated, AbortDone, LookState, is_same_state, record_at, state_at}
+use Rattle.px_sem.specs.Guards.{is_active, is_executing, is_failing, is_finishing}
 use Rattle.px_sem.specs.Effects.{Write, taken_as, written}
 
 -- a report in the place of the last one of its state, or after all others
@@ -18,7 +18,7 @@ reported state value (report ∷ reports) =
     if is_same_state report.0 state then (report.0, value) ∷ reports else report ∷ reported state value reports
 
 -- the world with another record of one node
-abbrev pub with_record : World → List ℕ → Record → World
+abbrev pub with_record : World → List ℕ → NodeRecord → World
 with_record world path r = record world {
   nodes = map (λ entry. (entry.0, if is_same entry.0 path then r else entry.1)) world.nodes;
 }
@@ -31,7 +31,7 @@ with_action world path action = with_record world path (record (record_at world 
 abbrev pub with_write : List Site → World → Write → World
 with_write plan world write = with_record world write.owner (record r { variables = map one (zip variables r.variables) })
   where
-    r : Record
+    r : NodeRecord
     r = record_at world write.owner
 
     variables : List VariableData
@@ -81,7 +81,7 @@ take plan world (events.Handle node handle) = by (site_at plan node).head.body
   where
     by : BodyData → World
     by (Command name args result) =
-        if is_at_work (state_at world node) then with_action world node (with_handle handle (record_at world node).action)
+        if is_active (state_at world node) then with_action world node (with_handle handle (record_at world node).action)
         else world
     by body = world
 take plan world (events.Return node given) = by (site_at plan node).head.body

@@ -15,7 +15,7 @@ use Rattle.px_core.specs.declared.node.Kind.TheVariants as kinds
 use Rattle.px_core.specs.Plan.{Site, site_at, is_child_of, condition_of}
 use Rattle.px_sem.specs.declared.guards.Guards.{Guards}
 use Rattle.px_sem.specs.Expressions.{value, handle_of, is_acknowledged}
-use Rattle.px_sem.specs.World.{World, Record, Action, NoAction, Assigned, Commanded, Updated, NoAbort, AbortSent, AbortDone, record_at, state_at, parent_state}
+use Rattle.px_sem.specs.World.{World, NodeRecord, Action, NoAction, Assigned, Commanded, Updated, NoAbort, AbortSent, AbortDone, record_at, state_at, parent_state}
 
 -- a truth value of Kleene's logic, where none is UNKNOWN
 abbrev pub Truth : Type 0
@@ -77,14 +77,14 @@ is_finishing states.IterationEnded = false
 is_finishing states.Failing = false
 
 -- EXECUTING, FINISHING or FAILING
-abbrev pub is_at_work : NodeState → Bool
-is_at_work states.Executing = true
-is_at_work states.Finishing = true
-is_at_work states.Failing = true
-is_at_work states.Inactive = false
-is_at_work states.Waiting = false
-is_at_work states.IterationEnded = false
-is_at_work states.Finished = false
+abbrev pub is_active : NodeState → Bool
+is_active states.Executing = true
+is_active states.Finishing = true
+is_active states.Failing = true
+is_active states.Inactive = false
+is_active states.Waiting = false
+is_active states.IterationEnded = false
+is_active states.Finished = false
 
 -- FINISHING, ITERATION_ENDED or FINISHED
 abbrev pub is_past_end : NodeState → Bool
@@ -129,40 +129,40 @@ is_invariant_failure (Some failures.ParentExited) = false
 is_invariant_failure None = false
 
 -- whether an ancestor with this record and this value of its Exit asks all below it to leave; so by its Invariant, its End
-abbrev pub exits : Record → Truth → Bool
+abbrev pub exits : NodeRecord → Truth → Bool
 exits r exit =
-    (is_at_work r.state && is_true exit) || (is_failing r.state && is_exit_failure r.failure)
+    (is_active r.state && is_true exit) || (is_failing r.state && is_exit_failure r.failure)
 
-abbrev pub fails : Record → Truth → Bool
+abbrev pub fails : NodeRecord → Truth → Bool
 fails r invariant =
-    (is_at_work r.state && is_false invariant) || (is_failing r.state && is_invariant_failure r.failure)
+    (is_active r.state && is_false invariant) || (is_failing r.state && is_invariant_failure r.failure)
 
-abbrev pub ends : Record → Truth → Bool
+abbrev pub ends : NodeRecord → Truth → Bool
 ends r end = (is_executing r.state && is_true end) || is_past_end r.state
 
 -- some proper ancestor asks a node to leave: by its Exit, its Invariant, its End
-abbrev pub some_ancestor : (Record → Truth → Bool) → ConditionKind → List Site → World → Site → Bool
+abbrev pub some_ancestor : (NodeRecord → Truth → Bool) → ConditionKind → List Site → World → Site → Bool
 some_ancestor asks kind plan world site =
     list_any (λ path. asks (record_at world path) (condition plan world (site_at plan path) kind)) site.above
 
 -- the outside is done with a command
-abbrev pub is_last_handle : Option Handle → Bool
-is_last_handle (Some handles.CommandSuccess) = true
-is_last_handle (Some handles.CommandFailed) = true
-is_last_handle (Some handles.CommandDenied) = true
-is_last_handle (Some handles.CommandSentToSystem) = false
-is_last_handle (Some handles.CommandAccepted) = false
-is_last_handle (Some handles.CommandRcvdBySystem) = false
-is_last_handle None = false
+abbrev pub is_final_handle : Option Handle → Bool
+is_final_handle (Some handles.CommandSuccess) = true
+is_final_handle (Some handles.CommandFailed) = true
+is_final_handle (Some handles.CommandDenied) = true
+is_final_handle (Some handles.CommandSentToSystem) = false
+is_final_handle (Some handles.CommandAccepted) = false
+is_final_handle (Some handles.CommandRcvdBySystem) = false
+is_final_handle None = false
 
 -- its abort is done, or its handle is a last one
-abbrev pub lets_command_go : Action → Bool
-lets_command_go (Commanded index handle AbortDone) = true
-lets_command_go (Commanded index handle AbortSent) = is_last_handle handle
-lets_command_go (Commanded index handle NoAbort) = is_last_handle handle
-lets_command_go NoAction = false
-lets_command_go (Assigned kept) = false
-lets_command_go (Updated acknowledged) = false
+abbrev pub command_is_over : Action → Bool
+command_is_over (Commanded index handle AbortDone) = true
+command_is_over (Commanded index handle AbortSent) = is_final_handle handle
+command_is_over (Commanded index handle NoAbort) = is_final_handle handle
+command_is_over NoAction = false
+command_is_over (Assigned kept) = false
+command_is_over (Updated acknowledged) = false
 
 -- whether a failing node may leave FAILING
 abbrev pub is_ready : List Site → World → Site → Bool
@@ -172,7 +172,7 @@ is_ready plan world site = of_kind site.head.kind
     of_kind kinds.List = each_child is_at_rest plan world site.path
     of_kind kinds.Empty = false
     of_kind kinds.Assignment = true
-    of_kind kinds.Command = lets_command_go (record_at world site.path).action
+    of_kind kinds.Command = command_is_over (record_at world site.path).action
     of_kind kinds.Update = is_acknowledged (record_at world site.path).action
 
 -- what the transition table asks

@@ -6,29 +6,29 @@ use Rattle.px_value.specs.declared.value.Value.{Value}
 use Rattle.px_core.specs.Plan.{Site}
 use Rattle.px_sem.specs.declared.guards.Arrival.{Arrival}
 use Rattle.px_sem.specs.declared.moves.Move.{Move}
-use Rattle.px_sem.specs.World.{World, Record, record_at}
-use Rattle.px_sem.specs.Conflicts.{way}
-use Rattle.px_sem.specs.Effects.{turn, is_preparing, Write, write_of, action_after, effect_of, initial, write_to, written}
+use Rattle.px_sem.specs.World.{World, NodeRecord, record_at}
+use Rattle.px_sem.specs.Conflicts.{transition}
+use Rattle.px_sem.specs.Effects.{move_kind, is_initializing, Write, write_of, action_after, effect_of, initial, write_to, written}
 
 -- what each node writes, in preorder
 abbrev pub writes : List Site → World → List (Option Write)
-writes plan world = map (λ site. option_and_then (write_of plan world site) (way plan world site)) plan
+writes plan world = map (λ site. option_and_then (write_of plan world site) (transition plan world site)) plan
 
 -- whether a node goes from INACTIVE to WAITING
-abbrev pub prepares : Record → Option Arrival → Bool
-prepares r None = false
-prepares r (Some arrival) = is_preparing (turn r.state arrival.to)
+abbrev pub initializes : NodeRecord → Option Arrival → Bool
+initializes r None = false
+initializes r (Some arrival) = is_initializing (move_kind r.state arrival.to)
 
 -- The values of a node's variables: the initial ones where the node begins to wait, else as the step writes them. At
 -- most one node that goes writes a variable.
 abbrev pub variables_after : List Site → World → Site → Option Arrival → List (List Value)
 variables_after plan world site arrival =
-    if prepares (record_at world site.path) arrival then map initial site.head.variables
+    if initializes (record_at world site.path) arrival then map initial site.head.variables
     else map (λ variable. written variable.1 (write_to site.path variable.0.name (writes plan world)))
     (zip site.head.variables (record_at world site.path).variables)
 
 -- the record of a node after one step
-abbrev pub record_after : List Site → World → Site → Option Arrival → Record
+abbrev pub record_after : List Site → World → Site → Option Arrival → NodeRecord
 record_after plan world site None = record {
   state = (record_at world site.path).state;
   outcome = (record_at world site.path).outcome;
@@ -47,7 +47,7 @@ record_after plan world site (Some arrival) = record {
 -- the world after one step, node by node
 abbrev pub micro : List Site → World → World
 micro plan world = record {
-  nodes = map (λ site. (site.path, record_after plan world site (way plan world site))) plan;
+  nodes = map (λ site. (site.path, record_after plan world site (transition plan world site))) plan;
   reports = world.reports;
 }
 
@@ -64,4 +64,4 @@ move_of plan world site arrival = record {
 
 -- the moves of one step, in preorder
 abbrev pub moves : List Site → World → List Move
-moves plan world = filter_map (λ site. option_map (move_of plan world site) (way plan world site)) plan
+moves plan world = filter_map (λ site. option_map (move_of plan world site) (transition plan world site)) plan

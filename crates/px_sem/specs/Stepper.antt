@@ -9,17 +9,17 @@ use Rattle.px_sem.specs.Events.{take}
 use Rattle.px_sem.specs.Step.{micro, moves}
 
 -- what is begun: nothing, event 0, or an event, with the settled world before it
-pub data Begun : Type 0 where
-  Nothing : Begun
-  Start : Begun
-  Event : (settled : World) → Begun
+pub data Pending : Type 0 where
+  Nothing : Pending
+  Start : Pending
+  Event : (settled : World) → Pending
 
-abbrev pub is_begun : Begun → Bool
-is_begun Nothing = false
-is_begun Start = true
-is_begun (Event settled) = true
+abbrev pub is_pending : Pending → Bool
+is_pending Nothing = false
+is_pending Start = true
+is_pending (Event settled) = true
 
-abbrev pub is_event : Begun → Bool
+abbrev pub is_event : Pending → Bool
 is_event Nothing = false
 is_event Start = false
 is_event (Event settled) = true
@@ -28,29 +28,29 @@ is_event (Event settled) = true
 pub record State : Type 0 where
   pub nodes : List Site
   pub world : World
-  pub begun : Begun
+  pub pending : Pending
 
 -- no node has begun, and event 0 is
 abbrev pub fresh : List Site → State
-fresh plan = record { nodes = plan; world = first plan; begun = Start }
+fresh plan = record { nodes = plan; world = first plan; pending = Start }
 
 -- a settled world, in which nothing is begun
 abbrev pub at_rest : List Site → World → State
-at_rest plan world = record { nodes = plan; world = world; begun = Nothing }
+at_rest plan world = record { nodes = plan; world = world; pending = Nothing }
 
 -- an event is taken
-abbrev pub begun_with : State → Posted → State
-begun_with s event = record { nodes = s.nodes; world = take s.nodes s.world event; begun = Event s.world }
+abbrev pub with_event : State → Posted → State
+with_event s event = record { nodes = s.nodes; world = take s.nodes s.world event; pending = Event s.world }
 
 -- one micro step more
 abbrev pub stepped : State → State
-stepped s = record { nodes = s.nodes; world = micro s.nodes s.world; begun = s.begun }
+stepped s = record { nodes = s.nodes; world = micro s.nodes s.world; pending = s.pending }
 
 -- back in the world before the event
 abbrev pub given_up : State → State
-given_up s = back s.begun
+given_up s = back s.pending
   where
-    back : Begun → State
+    back : Pending → State
     back Nothing = s
     back Start = s
     back (Event settled) = at_rest s.nodes settled

@@ -171,8 +171,8 @@ reply_text replies.Runaway = codes "refused runaway"
 abbrev pub reply_line : ℕ → ℕ → Reply → List ℕ
 reply_line thread number reply = line (source_text thread number ++ codes ": " ++ reply_text reply)
 
-abbrev pub report : Log → List ℕ
-report log = flat_map (λ logged. reply_line logged.entry.thread logged.entry.line logged.reply) log
+abbrev pub log_lines : Log → List ℕ
+log_lines log = flat_map (λ logged. reply_line logged.entry.thread logged.entry.line logged.reply) log
 
 -- the last line
 abbrev pub standing_text : Standing → List ℕ
@@ -183,4 +183,4 @@ standing_text (Ended outcome failure) =
 -- the text of a log that goes on from a history, after which the world stands so
 abbrev pub text_of : List Site → List Entry → Log → World → List ℕ
 text_of plan history log world =
-    trace plan (history ++ accepted log) ++ (report log ++ standing_text (standing_of plan world))
+    trace plan (history ++ accepted log) ++ (log_lines log ++ standing_text (standing_of plan world))

@@ -25,7 +25,7 @@ pub data Abort : Type 0 where
   AbortDone : Abort
 
 -- what an assignment wrote over: the element of an array, or none for a scalar, and the value before
-pub record Kept : Type 0 where
+pub record Overwritten : Type 0 where
   pub index : Option ℕ
   pub old : Value
 
@@ -33,12 +33,12 @@ pub record Kept : Type 0 where
 -- the index of its result where that was in range; or an update.
 pub data Action : Type 0 where
   NoAction : Action
-  Assigned : (kept : Option Kept) → Action
+  Assigned : (kept : Option Overwritten) → Action
   Commanded : (index : Option ℕ) (handle : Option Handle) (abort : Abort) → Action
   Updated : (acknowledged : Bool) → Action
 
 -- what is so of one node; the values of each of its variables, in order
-pub record Record : Type 0 where
+pub record NodeRecord : Type 0 where
   pub state : NodeState
   pub outcome : Option Outcome
   pub failure : Option Failure
@@ -53,12 +53,12 @@ pub record LookState : Type 0 where
 -- A finite map from the path of each node to its record, in preorder, and one from each reported state to its last
 -- value, in the order in which the states were first reported.
 pub record World : Type 0 where
-  pub nodes : List (List ℕ × Record)
+  pub nodes : List (List ℕ × NodeRecord)
   pub reports : List (LookState × Value)
 
 -- a node that has not begun
-abbrev pub unborn : Head → Record
-unborn head = record {
+abbrev pub initial_record : Head → NodeRecord
+initial_record head = record {
   state = states.Inactive;
   outcome = None;
   failure = None;
@@ -69,16 +69,16 @@ unborn head = record {
 -- the world before the start
 abbrev pub first : List Site → World
 first plan = record {
-  nodes = map (λ site. (site.path, unborn site.head)) plan;
+  nodes = map (λ site. (site.path, initial_record site.head)) plan;
   reports = [];
 }
 
 -- what is so of no node
-abbrev pub no_record : Record
+abbrev pub no_record : NodeRecord
 no_record = record { state = states.Inactive; outcome = None; failure = None; variables = []; action = NoAction }
 
 -- the record of the node at a path
-abbrev pub record_at : World → List ℕ → Record
+abbrev pub record_at : World → List ℕ → NodeRecord
 record_at world path = unwrap_or (lookup (λ key. is_same key path) world.nodes) no_record
 
 abbrev pub state_at : World → List ℕ → NodeState
@@ -130,7 +130,7 @@ last_report reports state = lookup (λ key. is_same_state key state) reports
 abbrev pub standing_of : List Site → World → Standing
 standing_of plan world = of_state (state_at world (root_of plan).path)
   where
-    root : Record
+    root : NodeRecord
     root = record_at world (root_of plan).path
 
     of_state : NodeState → Standing

@@ -4,7 +4,7 @@ ghost use Rattle.std.specs.List.{list_all};
 ghost use Rattle.px_event.specs.Fit.{is_fit_event, is_fit_entry};
 ghost use Rattle.px_sem.specs.Log.{events_of, accepted, answer, world_after, AnswersEach};
 ghost use Rattle.px_sem.specs.Run.{run};
-ghost use Rattle.px_sem.specs.Stepper.{Begun, at_rest};
+ghost use Rattle.px_sem.specs.Stepper.{Pending, at_rest};
 
 use crate::settling::StepFault;
 use crate::{LogEntry, Standing, Stepper};
@@ -30,7 +30,7 @@ pub fn post<S: Stepper>(
     count: u32,
     event: &Event,
 ) -> Result<Reply, NoMemory>
-    requires nothing { (S.state stepper.old).begun ≡ Begun.Nothing }
+    requires nothing { (S.state stepper.old).pending ≡ Pending.Nothing }
     requires fit { IsTrue (is_fit_event event.now) }
     ensures reply { IfOk result (λ reply. reply
         ≡ answer (S.state stepper.old).nodes limit count (S.state stepper.old).world event.now) }
@@ -66,7 +66,7 @@ pub fn post_each<S: Stepper>(
     limit: u32,
     entries: Vec<Entry>,
 ) -> Result<Session, NoMemory>
-    requires nothing { (S.state stepper.old).begun ≡ Begun.Nothing }
+    requires nothing { (S.state stepper.old).pending ≡ Pending.Nothing }
     requires started { run (S.state stepper.old).nodes [] ≡ Some (S.state stepper.old).world }
     requires fit { IsTrue (list_all is_fit_entry entries.items) }
     ensures each { IfOk result (λ session. map (λ logged. logged.entry) session.log.items ≡ entries.items) }

@@ -6,7 +6,7 @@ ghost use Rattle.px_core.specs.Simple.{IsSimple};
 ghost use Rattle.px_sem.specs.declared.settling.StepFault.TheVariants.{NoMemory as OutOfMemory};
 ghost use Rattle.px_sem.specs.Conflicts.{is_quiet};
 ghost use Rattle.px_sem.specs.Run.{started, settled};
-ghost use Rattle.px_sem.specs.Stepper.{is_begun, at_rest};
+ghost use Rattle.px_sem.specs.Stepper.{is_pending, at_rest};
 
 use crate::Stepper;
 use px_core::Plan;
@@ -52,14 +52,14 @@ pub fn start<S: Stepper>(alloc: Global, plan: &Plan) -> Result<S, StepFault>
 
 // Steps until the world is quiet, and answers in how many micro steps.
 fn step_until_quiet<S: Stepper>(stepper: &mut S, alloc: Global) -> Result<u32, StepFault>
-    requires begun { IsTrue (is_begun (S.state stepper.old).begun) }
+    requires pending { IsTrue (is_pending (S.state stepper.old).pending) }
     ensures settled { IfOk result (λ k.
         settled (S.state stepper.old).nodes (S.state stepper.old).world ≡ Some ((S.state stepper.new).world, k)) }
     ensures quiet { OnOk result (IsTrue (is_quiet (S.state stepper.new).nodes (S.state stepper.new).world)) }
     ensures runaway { IsErrOf result StepFault.Runaway
         → settled (S.state stepper.old).nodes (S.state stepper.old).world ≡ None }
     ensures nodes { (S.state stepper.new).nodes ≡ (S.state stepper.old).nodes }
-    ensures begun { (S.state stepper.new).begun ≡ (S.state stepper.old).begun }
+    ensures pending { (S.state stepper.new).pending ≡ (S.state stepper.old).pending }
 {
     for taken in 0..STEP_LIMIT + 1 {
         if !stepper.step(alloc)? {

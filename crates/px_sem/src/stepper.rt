@@ -7,7 +7,7 @@ ghost use Rattle.px_event.specs.Fit.{is_fit_event};
 ghost use Rattle.px_sem.specs.declared.moves.Move.{Move};
 ghost use Rattle.px_sem.specs.Conflicts.{is_quiet};
 ghost use Rattle.px_sem.specs.Run.{posted};
-ghost use Rattle.px_sem.specs.Stepper.{State, Begun, is_begun, is_event, fresh, at_rest, begun_with, given_up, Steps};
+ghost use Rattle.px_sem.specs.Stepper.{State, Pending, is_pending, is_event, fresh, at_rest, with_event, given_up, Steps};
 ghost use Rattle.px_sem.specs.World.{standing_of, state_of, integer_at};
 
 use crate::settling::{STEP_LIMIT, StepFault};
@@ -33,15 +33,15 @@ pub trait Stepper: Sized + Send + Drop {
 
     /// Takes an event, which is begun then. After `NoMemory` all is as before.
     fn begin(&mut self, alloc: Global, event: &Event) -> Result<(), NoMemory>
-        requires nothing { (state self.old).begun ≡ Begun.Nothing }
+        requires nothing { (state self.old).pending ≡ Pending.Nothing }
         requires fit { IsTrue (is_fit_event event.now) }
-        ensures ok { OnOk result (state self.new ≡ begun_with (state self.old) event.now) }
+        ensures ok { OnOk result (state self.new ≡ with_event (state self.old) event.now) }
         ensures err { OnErr result (state self.new ≡ state self.old) };
 
     /// Takes one micro step and answers true, or answers false where the world is quiet. After `NoMemory` all is as
     /// before.
     fn step(&mut self, alloc: Global) -> Result<bool, NoMemory>
-        requires begun { IsTrue (is_begun (state self.old).begun) }
+        requires pending { IsTrue (is_pending (state self.old).pending) }
         ensures ok { IfOk result (Steps (state self.old) (state self.new) (last_moves self.new)) }
         ensures err { OnErr result (state self.new ≡ state self.old) }
         ensures kept { OnErr result (last_moves self.new ≡ last_moves self.old) };
@@ -55,12 +55,12 @@ pub trait Stepper: Sized + Send + Drop {
     ///
     /// `Runaway` comes exactly where there is no such number. After a fault all is as before.
     fn advance(&mut self, alloc: Global, event: &Event) -> Result<u32, StepFault>
-        requires nothing { (state self.old).begun ≡ Begun.Nothing }
+        requires nothing { (state self.old).pending ≡ Pending.Nothing }
         requires fit { IsTrue (is_fit_event event.now) }
         ensures settled { IfOk result (λ k.
             posted (state self.old).nodes (state self.old).world event.now ≡ Some ((state self.new).world, k)) }
-        ensures begun { OnOk result (state self.new
-            ≡ record { nodes = (state self.old).nodes; world = (state self.new).world; begun = Begun.Event (state self.old).world }) }
+        ensures pending { OnOk result (state self.new
+            ≡ record { nodes = (state self.old).nodes; world = (state self.new).world; pending = Pending.Event (state self.old).world }) }
         ensures runaway { IsErrOf result StepFault.Runaway
             → posted (state self.old).nodes (state self.old).world event.now ≡ None }
         ensures err { OnErr result (state self.new ≡ state self.old) }
@@ -82,13 +82,13 @@ pub trait Stepper: Sized + Send + Drop {
 
     /// Makes the world, which is quiet, the settled one, in which nothing is begun.
     fn settle(&mut self)
-        requires begun { IsTrue (is_begun (state self.old).begun) }
+        requires pending { IsTrue (is_pending (state self.old).pending) }
         requires quiet { IsTrue (is_quiet (state self.old).nodes (state self.old).world) }
         ensures { state self.new ≡ at_rest (state self.old).nodes (state self.old).world };
 
     /// Goes back to the settled world before the event that is begun.
     fn give_up(&mut self)
-        requires event { IsTrue (is_event (state self.old).begun) }
+        requires event { IsTrue (is_event (state self.old).pending) }
         ensures { state self.new ≡ given_up (state self.old) };
 
     /// Whether the plan has finished.

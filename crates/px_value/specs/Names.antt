@@ -16,12 +16,12 @@ is_letter_or_digit c = is_letter c || is_digit c
 abbrev pub begins_identifier : ℕ → Bool
 begins_identifier c = is_letter c || (c == 95)
 
-abbrev pub goes_on : ℕ → Bool
-goes_on c = begins_identifier c || is_digit c
+abbrev pub continues_identifier : ℕ → Bool
+continues_identifier c = begins_identifier c || is_digit c
 
 abbrev pub is_identifier : List ℕ → Bool
 is_identifier [] = false
-is_identifier (c ∷ cs) = begins_identifier c && list_all goes_on cs
+is_identifier (c ∷ cs) = begins_identifier c && list_all continues_identifier cs
 
 -- # and one or more letters or digits: the name of a node that the plan gives none
 abbrev pub is_generated : List ℕ → Bool

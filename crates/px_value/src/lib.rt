@@ -20,7 +20,8 @@ pub use cells::index;
 pub use comparison::{CompareOp, compare};
 pub use enums::{Failure, Handle, NodeState, Outcome};
 pub use name::{
-    NAME_LIMIT, Name, NameFault, begins_identifier, goes_on, is_digit, is_identifier, is_name,
+    NAME_LIMIT, Name, NameFault, begins_identifier, continues_identifier, is_digit, is_identifier,
+    is_name,
 };
 pub use path::{PATH_LIMIT, Path, PathFault, is_path};
 pub use text::{TEXT_LIMIT, Text, TextFault};

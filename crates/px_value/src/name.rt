@@ -6,7 +6,7 @@ ghost use Rattle.std.specs.Cmp.Rules.{hashing};
 ghost use Rattle.std.specs.Hash as fed;
 ghost use Rattle.std.proofs.Common.{rules};
 ghost use Rattle.std.specs.List.{list_all};
-ghost use Rattle.px_value.specs.Names.{is_digit, is_letter, is_letter_or_digit, begins_identifier, goes_on, is_identifier, is_generated, generated_name, is_name};
+ghost use Rattle.px_value.specs.Names.{is_digit, is_letter, is_letter_or_digit, begins_identifier, continues_identifier, is_identifier, is_generated, generated_name, is_name};
 ghost use Rattle.px_value.specs.declared.name.NameFault.TheVariants.{NoMemory as OutOfMemory};
 
 use itoa::Buffer;
@@ -144,8 +144,8 @@ pub fn begins_identifier(c: u8) -> bool
 }
 
 /// Whether an identifier may go on with the byte: a letter, a digit or `_`.
-pub fn goes_on(c: u8) -> bool
-    ensures { result ≡ goes_on c }
+pub fn continues_identifier(c: u8) -> bool
+    ensures { result ≡ continues_identifier c }
 {
     begins_identifier(c) || is_digit(c)
 }
@@ -156,10 +156,10 @@ fn is_letter_or_digit(c: u8) -> bool
     is_letter(c) || is_digit(c)
 }
 
-fn all_go_on(bytes: &[u8]) -> bool
-    ensures { result ≡ list_all goes_on bytes.now }
+fn all_continue(bytes: &[u8]) -> bool
+    ensures { result ≡ list_all continues_identifier bytes.now }
 {
-    bytes.iter().all(|c| goes_on(*c))
+    bytes.iter().all(|c| continues_identifier(*c))
 }
 
 fn all_letters_or_digits(bytes: &[u8]) -> bool
@@ -173,7 +173,7 @@ pub fn is_identifier(bytes: &[u8]) -> bool
     ensures { result ≡ is_identifier bytes.now }
 {
     match bytes {
-        [first, rest @ ..] => begins_identifier(*first) && all_go_on(rest),
+        [first, rest @ ..] => begins_identifier(*first) && all_continue(rest),
         [] => false,
     }
 }

@@ -1,4 +1,4 @@
-use Rattle.px_value.specs.Names.{goes_on}
+use Rattle.px_value.specs.Names.{continues_identifier}
 use Rattle.px_lex.proofs.Cuts.{cut_run}
 use Rattle.px_lex.proofs.Spans.{taken_pass, left_stops}
 use Rattle.px_lex.proofs.word.split_run.Goals as goal
@@ -8,8 +8,8 @@ split_at-requires c = rw (c.run_length.ensures, c.as_bytes.ensures.value) (cut_r
 
 pub returns-clause-run : goal.returns-clause-run
 returns-clause-run c =
-    taken_pass goes_on c.args.text.now c.split_at.result.0.now (rw (c.run_length.ensures, c.as_bytes.ensures.value) at c.split_at.ensures.front)
+    taken_pass continues_identifier c.args.text.now c.split_at.result.0.now (rw (c.run_length.ensures, c.as_bytes.ensures.value) at c.split_at.ensures.front)
 
 pub returns-clause-longest : goal.returns-clause-longest
 returns-clause-longest c =
-    left_stops goes_on c.args.text.now c.split_at.result.1.now (rw (c.run_length.ensures, c.as_bytes.ensures.value) at c.split_at.ensures.back)
+    left_stops continues_identifier c.args.text.now c.split_at.result.1.now (rw (c.run_length.ensures, c.as_bytes.ensures.value) at c.split_at.ensures.back)

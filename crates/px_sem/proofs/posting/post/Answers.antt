@@ -7,5 +7,5 @@ use Rattle.px_sem.proofs.posting.post.Goals as goal
 pub settle-requires-clause-quiet : goal.settle-requires-clause-quiet
 settle-requires-clause-quiet g c =
     let new = g.S.Stepper.state c.advance.new.self in
-    subst (λ nodes. is_quiet nodes new.world ≡ true) (sym (ap (λ (s : State). s.nodes) c.in-Ok.ensures.begun))
+    subst (λ nodes. is_quiet nodes new.world ≡ true) (sym (ap (λ (s : State). s.nodes) c.in-Ok.ensures.pending))
     (settled_quiet _ _ _ _ c.in-Ok.ensures.settled)

@@ -11,13 +11,13 @@ returns-clause-ok c =
     let s = c.args.self.now in
     let places = s.places.items in
     let state : World → World → stepper.State =
-    λ now settled. record { nodes = sites_of places; world = now; begun = stepper.Event settled } in
+    λ now settled. record { nodes = sites_of places; world = now; pending = stepper.Event settled } in
     let old : World = world_of places s.records.items (listed s.reports) in
     let kept : c.copy_from_slice.new.self.items ≡ s.records.items = search rules in
     ap (λ now. state now (world_of places c.copy_from_slice.new.self.items (listed_before c.take.new.reports)))
     (ap (world_of places s.records.items) c.in_ok-take.ensures.ok ∙ taken places s.records.items (listed s.reports)
     c.args.event.now)
-    ∙ ap (λ records. state (stepper.begun_with (state old old) c.args.event.now).world
+    ∙ ap (λ records. state (stepper.with_event (state old old) c.args.event.now).world
     (world_of places records (listed_before c.take.new.reports))) kept
-    ∙ ap (λ reports. state (stepper.begun_with (state old old) c.args.event.now).world
+    ∙ ap (λ reports. state (stepper.with_event (state old old) c.args.event.now).world
     (world_of places s.records.items reports)) c.in_ok-take.ensures.before

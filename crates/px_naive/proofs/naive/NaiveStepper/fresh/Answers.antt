@@ -11,7 +11,7 @@ returns c =
     let places = c.in_ok-places.places.items in
     let records = c.in_ok-vec.field-0.items in
     let state : List Site → World → stepper.State =
-    λ plan now. record { nodes = plan; world = now; begun = stepper.Start } in
+    λ plan now. record { nodes = plan; world = now; pending = stepper.Start } in
     ap (λ reports. state (sites_of places) (world_of places records reports)) c.new.ensures
     ∙ ap (state (sites_of places)) (world_of_unborn places records c.len-count.result _ refl
     (c.len-count.ensures ∙ c.in_ok-places.places.ok.0)

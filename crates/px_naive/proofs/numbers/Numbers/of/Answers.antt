@@ -1,5 +1,5 @@
 use Rattle.std.proofs.Common.{◌≡◌, ap, sym, ◌∙◌, cond, take, arith, Some}
-use Rattle.px_core.specs.Plan.{is_same, nowhere}
+use Rattle.px_core.specs.Plan.{is_same, no_site}
 use Rattle.px_naive.specs.Places.{number_in, paths_of, path_at}
 use Rattle.px_naive.proofs.Laid.{site_at_number}
 use Rattle.px_naive.proofs.Numbering.{numbered_more, numbered_all}
@@ -10,7 +10,7 @@ loop-i-preserved c =
     let places = c.args.places.now in
     let key : c.in_ok-copy.field-0 ≡ path_at places c.loop-i.i =
     c.in_ok-copy.ensures ∙ sym (ap (λ site. site.path)
-    (site_at_number places c.requires c.loop-i.i nowhere c.index-places-i.result c.loop-i-test.true)) in
+    (site_at_number places c.requires c.loop-i.i no_site c.index-places-i.result c.loop-i-test.true)) in
     λ path.
     c.in_ok-insert.ensures.updates.0 path
     ∙ ap (cond (is_same c.in_ok-copy.field-0 path) (Some c.loop-i.i)) (c.loop-i.invariant path)

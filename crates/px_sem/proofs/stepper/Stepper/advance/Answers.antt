@@ -1,11 +1,11 @@
 use Rattle.std.proofs.Common.{sym, subst, arith}
-use Rattle.px_sem.specs.Stepper.{begun_with}
+use Rattle.px_sem.specs.Stepper.{with_event}
 use Rattle.px_sem.proofs.Settles.{IsUnderway, underway_at_once, underway_after_step, settles_at, runs_away}
 use Rattle.px_sem.proofs.stepper.Stepper.advance.Goals as goal
 
 pub loop-taken-init : goal.loop-taken-init
 loop-taken-init g c =
-    let from = begun_with (g.Self.Stepper.state c.args.self.now) c.args.event.now in
+    let from = with_event (g.Self.Stepper.state c.args.self.now) c.args.event.now in
     subst (λ now. IsUnderway from now 0) (sym c.in_ok-begin.ensures.ok) (underway_at_once from)
 
 pub returns-in-Ok-false-clause-settled : goal.returns-in-Ok-false-clause-settled

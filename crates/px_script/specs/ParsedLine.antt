@@ -8,8 +8,8 @@ use Rattle.px_value.specs.declared.value.Value.TheVariants as values
 use Rattle.px_core.specs.Plan.{is_same}
 use Rattle.px_event.specs.declared.event.Event.{Event}
 use Rattle.px_event.specs.declared.event.Event.TheVariants as events
-use Rattle.px_script.specs.declared.said.Said.{Said}
-use Rattle.px_script.specs.declared.said.Said.TheVariants.{Nothing, Posts, Faulty}
+use Rattle.px_script.specs.declared.parsed_line.ParsedLine.{ParsedLine}
+use Rattle.px_script.specs.declared.parsed_line.ParsedLine.TheVariants.{Nothing, Posts, Faulty}
 use Rattle.px_script.specs.Text.{trim, content, first_word, behind_word}
 
 -- the value that a word spells
@@ -37,7 +37,7 @@ abbrev pub report_of : List ℕ → Option Event
 report_of text = report (trim (before_first is_equals text)) (value_of (trim (after_first is_equals text)))
 
 -- `set NAME = VALUE`
-abbrev pub set_line : List ℕ → Option Said
+abbrev pub set_line : List ℕ → Option ParsedLine
 set_line text = if is_same (first_word text) (codes "set") then option_map Posts (report_of (behind_word text)) else None
 
 -- a line that is empty or begins with # says nothing
@@ -46,5 +46,5 @@ is_silent [] = true
 is_silent (c ∷ cs) = c == 35
 
 -- what a line says by the shape that it has; a line of no shape is at fault, of kind 1
-abbrev pub said : List ℕ → Said
-said line = if is_silent (content line) then Nothing else unwrap_or (set_line (content line)) (Faulty 1)
+abbrev pub parsed_line : List ℕ → ParsedLine
+parsed_line line = if is_silent (content line) then Nothing else unwrap_or (set_line (content line)) (Faulty 1)

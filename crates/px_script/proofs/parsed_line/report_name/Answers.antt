@@ -1,7 +1,7 @@
 use Rattle.std.proofs.Common.{◌≡◌, true, rules}
 use Rattle.px_value.specs.Names.{is_identifier}
 use Rattle.px_script.proofs.Identifiers.{identifier_text}
-use Rattle.px_script.proofs.said.report_name.Goals as goal
+use Rattle.px_script.proofs.parsed_line.report_name.Goals as goal
 
 pub returns-in_default : goal.returns-in_default
 returns-in_default c =

@@ -1,7 +1,7 @@
 // What a line of a script says.
 ghost use Rattle.std.specs.Prelude.{◌≡◌, IfOk, if◌then◌else◌};
 ghost use Rattle.std.specs.Option.{option_map};
-ghost use Rattle.px_script.specs.Said.{value_of, is_report_name, report_of, set_line, is_silent, said};
+ghost use Rattle.px_script.specs.ParsedLine.{value_of, is_report_name, report_of, set_line, is_silent, parsed_line};
 
 use crate::fault::BAD_LINE;
 use crate::text::{content, is_word, split_at, split_word, trim};
@@ -12,7 +12,7 @@ use std::str;
 
 /// What a line says.
 #[derive(Debug, Drop)]
-pub(crate) enum Said {
+pub(crate) enum ParsedLine {
     Nothing,
     /// The thread posts the event.
     Posts(Event),
@@ -21,16 +21,16 @@ pub(crate) enum Said {
 }
 
 /// Reads one line.
-pub(crate) fn read_line(alloc: Global, line: &[u8]) -> Result<Said, NoMemory>
-    ensures { IfOk result (λ says. says ≡ said line.now) }
+pub(crate) fn read_line(alloc: Global, line: &[u8]) -> Result<ParsedLine, NoMemory>
+    ensures { IfOk result (λ says. says ≡ parsed_line line.now) }
 {
     let text = content(line);
     if is_silent(text) {
-        return Ok(Said::Nothing);
+        return Ok(ParsedLine::Nothing);
     }
     match set_line(alloc, text)? {
-        Some(event) => Ok(Said::Posts(event)),
-        None => Ok(Said::Faulty { kind: BAD_LINE }),
+        Some(event) => Ok(ParsedLine::Posts(event)),
+        None => Ok(ParsedLine::Faulty { kind: BAD_LINE }),
     }
 }
 
@@ -43,7 +43,7 @@ fn is_silent(text: &[u8]) -> bool
 
 /// The event of a line `set NAME = VALUE`; None exactly where the line is none.
 fn set_line(alloc: Global, text: &[u8]) -> Result<Option<Event>, NoMemory>
-    ensures { IfOk result (λ event. option_map Said.Posts event ≡ set_line text.now) }
+    ensures { IfOk result (λ event. option_map ParsedLine.Posts event ≡ set_line text.now) }
 {
     let (word, behind) = split_word(text);
     if is_word(word, "set") {
