@@ -1,59 +1,71 @@
--- The default end of a List, by its halves.
-use Rattle.std.proofs.Common.{◌≡◌, true, ℕ, zero, suc, ◌-◌, ◌/◌, ◌<◌, ◌≤◌, List, [], ◌∷◌, length, take, drop, slice_index_or, refl, ap, ◌∙◌, arith}
-use Rattle.std.proofs.lemmas.List.{length-take-le, length-drop}
-use Rattle.px_core.specs.declared.expr.BinaryOp.TheVariants as binary
-use Rattle.px_core.specs.Defaults.{truth, is_finished, joined, each_finished}
-use Rattle.px_core.specs.Terms.{Binary}
+-- Terms joined in halves: the term that joins them is there, and it is one.
+use Rattle.std.proofs.Common.{◌≡◌, Bool, ℕ, zero, suc, ◌+◌, ◌-◌, ◌/◌, ◌<◌, ◌≤◌, List, [], ◌∷◌, ◌++◌, length, take, drop, refl, sym, ap, ◌∙◌, subst, arith, length-append}
+use Rattle.std.proofs.Math.Seq.{take-append_seam, drop-append_seam}
+use Rattle.std.proofs.lemmas.List.{length-take-le, length-drop, take-append-drop}
+use Rattle.px_core.specs.declared.expr.BinaryOp.{BinaryOp}
+use Rattle.px_core.specs.Expr.{Term, Binary}
+use Rattle.px_core.specs.Joined.{truth, Joins, joined_within, joined}
 
-half_within : (n : ℕ) → n / 2 ≤ n
+pub half_within : (n : ℕ) → n / 2 ≤ n
 half_within n = omega arith
 
--- it makes no difference how much deeper the joining might go
-pub joined_any : (deep other : ℕ) (paths : List (List ℕ)) → length paths ≤ deep → length paths ≤ other → joined deep paths ≡ joined other paths
-joined_any deep other [] h g = refl
-joined_any deep other (path ∷ []) h g = refl
-joined_any zero other (one ∷ two ∷ more) h g = absurd (omega arith)
-joined_any (suc deep) zero (one ∷ two ∷ more) h g = absurd (omega arith)
-joined_any (suc deep) (suc other) (one ∷ two ∷ more) h g =
-    let paths : List (List ℕ) = one ∷ two ∷ more in
-    let half : ℕ = length paths / 2 in
-    let front : length (take half paths) ≡ half = length-take-le half paths (half_within (length paths)) in
-    let back : length (drop half paths) ≡ length paths - half = length-drop half paths in
-    ap (λ left. Binary binary.And left (joined deep (drop half paths))) (joined_any deep other (take half paths) (omega arith) (omega arith))
-    ∙ ap (λ right. Binary binary.And (joined other (take half paths)) right) (joined_any deep other (drop half paths) (omega arith) (omega arith))
+pub front_half : (terms : List Term) → length (take (length terms / 2) terms) ≡ length terms / 2
+front_half terms = length-take-le (length terms / 2) terms (half_within (length terms))
 
-pub none_finished : (paths : List (List ℕ)) → length paths < 1 → each_finished paths ≡ truth true
-unfolding each_finished
-none_finished [] h = refl
-none_finished (path ∷ paths) h = absurd (omega arith)
+back_half : (terms : List Term) → length (drop (length terms / 2) terms) ≡ length terms - length terms / 2
+back_half terms = length-drop (length terms / 2) terms
 
-pub one_finished : (paths : List (List ℕ)) (path : List ℕ) → length paths < 2 → slice_index_or paths 0 path ≡ path → 1 ≤ length paths → each_finished paths ≡ is_finished path
-unfolding each_finished
-one_finished [] path short is some = absurd (omega arith)
-one_finished (first ∷ []) path short is some = ap is_finished is
-one_finished (first ∷ other ∷ paths) path short is some = absurd (omega arith)
+-- joined halves of several terms
+pub joins_halves : (op : BinaryOp) (none : Bool) (terms : List Term) (left right : Term) → 2 ≤ length terms
+    → Joins op none (take (length terms / 2) terms) left → Joins op none (drop (length terms / 2) terms) right
+    → Joins op none terms (Binary op left right)
+joins_halves op none terms left right two f r =
+    let half : ℕ = length terms / 2 in
+    let whole : take half terms ++ drop half terms ≡ terms = take-append-drop half terms in
+    subst (λ all. Joins op none all (Binary op left right)) whole
+    (Joins.halves (take half terms) (drop half terms) left right (omega (arith, front_half terms)) (rw whole (front_half terms)) f r)
 
-by_halves : (deep : ℕ) (paths : List (List ℕ)) → length paths ≡ deep → 2 ≤ deep
-    → joined deep paths ≡ Binary binary.And (joined (length paths) (take (length paths / 2) paths)) (joined (length paths) (drop (length paths / 2) paths))
-by_halves deep [] long two = absurd (omega arith)
-by_halves deep (path ∷ []) long two = absurd (omega arith)
-by_halves zero (one ∷ other ∷ more) long two = absurd (omega arith)
-by_halves (suc deep) (one ∷ other ∷ more) long two =
-    let paths : List (List ℕ) = one ∷ other ∷ more in
-    let half : ℕ = length paths / 2 in
-    let front : length (take half paths) ≡ half = length-take-le half paths (half_within (length paths)) in
-    let back : length (drop half paths) ≡ length paths - half = length-drop half paths in
-    ap (λ left. Binary binary.And left (joined deep (drop half paths))) (joined_any deep (length paths) (take half paths) (omega arith) (omega arith))
-    ∙ ap (λ right. Binary binary.And (joined (length paths) (take half paths)) right) (joined_any deep (length paths) (drop half paths) (omega arith) (omega arith))
+-- what is found within any bound that suffices joins the terms
+joins_within : (op : BinaryOp) (none : Bool) (bound : ℕ) (terms : List Term) → length terms ≤ bound
+    → Joins op none terms (joined_within op none bound terms)
+joins_within op none bound [] h = Joins.no_term
+joins_within op none bound (term ∷ []) h = Joins.one_term term
+joins_within op none zero (one ∷ other ∷ more) h = absurd (omega arith)
+joins_within op none (suc bound) (one ∷ other ∷ more) h =
+    let terms : List Term = one ∷ other ∷ more in
+    let half : ℕ = length terms / 2 in
+    joins_halves op none terms (joined_within op none bound (take half terms)) (joined_within op none bound (drop half terms))
+    (omega arith)
+    (joins_within op none bound (take half terms) (omega (arith, front_half terms)))
+    (joins_within op none bound (drop half terms) (omega (arith, back_half terms)))
 
--- two halves are joined
-pub halves_finished : (paths : List (List ℕ)) → 2 ≤ length paths
-    → each_finished paths ≡ Binary binary.And (each_finished (take (length paths / 2) paths)) (each_finished (drop (length paths / 2) paths))
-unfolding each_finished
-halves_finished paths two =
-    let half : ℕ = length paths / 2 in
-    let front : length (take half paths) ≡ half = length-take-le half paths (half_within (length paths)) in
-    let back : length (drop half paths) ≡ length paths - half = length-drop half paths in
-    by_halves (length paths) paths refl two
-    ∙ ap (λ left. Binary binary.And left (joined (length paths) (drop half paths))) (joined_any (length paths) (length (take half paths)) (take half paths) (omega arith) (omega arith))
-    ∙ ap (λ right. Binary binary.And (joined (length (take half paths)) (take half paths)) right) (joined_any (length paths) (length (drop half paths)) (drop half paths) (omega arith) (omega arith))
+pub joins : (op : BinaryOp) (none : Bool) (terms : List Term) → Joins op none terms (joined op none terms)
+unfolding joined
+joins op none terms = joins_within op none (length terms) terms (omega arith)
+
+by_halves : (op : BinaryOp) (none : Bool) (bound : ℕ) (terms : List Term) → 2 ≤ length terms
+    → joined_within op none (suc bound) terms
+    ≡ Binary op (joined_within op none bound (take (length terms / 2) terms)) (joined_within op none bound (drop (length terms / 2) terms))
+by_halves op none bound [] two = absurd (omega arith)
+by_halves op none bound (term ∷ []) two = absurd (omega arith)
+by_halves op none bound (one ∷ other ∷ more) two = refl
+
+-- and it is the only one
+same_within : (op : BinaryOp) (none : Bool) (bound : ℕ) (terms : List Term) (whole : Term) → length terms ≤ bound
+    → Joins op none terms whole → whole ≡ joined_within op none bound terms
+same_within op none bound _ _ h Joins.no_term = refl
+same_within op none bound _ _ h (Joins.one_term term) = refl
+same_within op none zero _ _ h (Joins.halves front rest left right some half f r) =
+    absurd (omega (arith, length-append front rest))
+same_within op none (suc bound) _ _ h (Joins.halves front rest left right some half f r) =
+    let terms : List Term = front ++ rest in
+    let long : length terms ≡ length front + length rest = length-append front rest in
+    let first : take (length terms / 2) terms ≡ front = ap (λ n. take n terms) (sym half) ∙ take-append_seam front rest in
+    let last : drop (length terms / 2) terms ≡ rest = ap (λ n. drop n terms) (sym half) ∙ drop-append_seam front rest in
+    ap (λ left. Binary op left right) (same_within op none bound front left (omega (arith, half, long)) f)
+    ∙ ap (λ right. Binary op (joined_within op none bound front) right) (same_within op none bound rest right (omega (arith, half, long)) r)
+    ∙ sym (by_halves op none bound terms (omega (arith, half, long)) ∙ rw (first, last))
+
+pub one_joined : (op : BinaryOp) (none : Bool) (terms : List Term) (whole : Term) → Joins op none terms whole → whole ≡ joined op none terms
+unfolding joined
+one_joined op none terms whole j = same_within op none (length terms) terms whole (omega arith) j

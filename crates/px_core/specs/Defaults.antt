@@ -1,5 +1,5 @@
 -- The conditions of a node where its plan gives none (PLEXIL reference manual, "Node Conditions").
-use Rattle.std.specs.Prelude.{ℕ, zero, suc, ◌/◌, Bool, true, false, List, [], ◌∷◌, length, take, drop}
+use Rattle.std.specs.Prelude.{ℕ, true, false, List, map}
 use Rattle.px_value.specs.declared.comparison.CompareOp.TheVariants as compare
 use Rattle.px_value.specs.declared.enums.NodeState.TheVariants as states
 use Rattle.px_value.specs.declared.value.Value.TheVariants as values
@@ -7,29 +7,17 @@ use Rattle.px_core.specs.declared.expr.BinaryOp.TheVariants as binary
 use Rattle.px_core.specs.declared.expr.UnaryOp.TheVariants as unary
 use Rattle.px_core.specs.declared.node.Kind.{Kind}
 use Rattle.px_core.specs.declared.node.Kind.TheVariants as kinds
+use Rattle.px_core.specs.Joined.{truth, joined}
 use Rattle.px_core.specs.Plan.{ConditionTerms}
-use Rattle.px_core.specs.Terms.{Term, Literal, StateOf, HandleOf, Acknowledged, Unary, Binary}
-
-abbrev pub truth : Bool → Term
-truth holds = Literal (values.Boolean holds)
+use Rattle.px_core.specs.Expr.{Term, Literal, StateOf, HandleOf, Acknowledged, Unary, Binary}
 
 -- the node at this path is FINISHED
 abbrev pub is_finished : List ℕ → Term
 is_finished path = Binary (binary.Compare compare.Equal) (StateOf path) (Literal (values.State states.Finished))
 
--- Each of these nodes is FINISHED. Of several, the first half, rounded down, and the rest are joined, each so in turn;
--- `deep` is no less than how many they are.
-abbrev pub joined : ℕ → List (List ℕ) → Term
-joined deep [] = truth true
-joined deep (path ∷ []) = is_finished path
-joined zero (one ∷ other ∷ more) = truth true
-joined (suc deep) (one ∷ other ∷ more) =
-    Binary binary.And
-    (joined deep (take (length (one ∷ other ∷ more) / 2) (one ∷ other ∷ more)))
-    (joined deep (drop (length (one ∷ other ∷ more) / 2) (one ∷ other ∷ more)))
-
-unfoldable pub each_finished : List (List ℕ) → Term
-each_finished paths = joined (length paths) paths
+-- each of these nodes is FINISHED
+abbrev pub each_finished : List (List ℕ) → Term
+each_finished paths = joined binary.And true (map is_finished paths)
 
 -- a node of this kind at this path, with children at these, ends
 abbrev pub default_end : Kind → List ℕ → List (List ℕ) → Term

@@ -3,7 +3,7 @@ use Rattle.std.specs.Prelude.{ℕ, ◌≤◌, Bool, true, false, not, ◌&&◌, 
 use Rattle.std.specs.List.{list_all, list_any, flat_map}
 use Rattle.px_core.specs.declared.node.Kind.{Kind}
 use Rattle.px_core.specs.declared.node.Kind.TheVariants as kinds
-use Rattle.px_core.specs.Terms.{Term, Terms, Literal, Var, Cell, StateOf, OutcomeOf, FailureOf, HandleOf, Acknowledged, Look, Unary, Binary, NoTerms, More}
+use Rattle.px_core.specs.Expr.{Term, Terms, Literal, Var, Cell, StateOf, OutcomeOf, FailureOf, HandleOf, Acknowledged, Look, Unary, Binary, NoTerms, More}
 use Rattle.px_core.specs.Plan.{ConditionTerms, VariableData, TargetData, BodyData, Nothing, Assign, Command, Update, Tree, NoNode, Branch, Site, count_of, is_same, sites}
 
 -- ---- the tree
@@ -171,9 +171,14 @@ abbrev pub is_array : Option ℕ → Bool
 is_array None = false
 is_array (Some size) = true
 
-abbrev pub declares : (Bool → Bool) → List ℕ → Site → Bool
-declares form name site =
-    list_any (λ variable. is_same variable.name name && form (is_array variable.size)) site.head.variables
+-- a node declares a scalar of this name; an array
+abbrev pub declares_scalar : List ℕ → Site → Bool
+declares_scalar name site =
+    list_any (λ variable. is_same variable.name name && not (is_array variable.size)) site.head.variables
+
+abbrev pub declares_array : List ℕ → Site → Bool
+declares_array name site =
+    list_any (λ variable. is_same variable.name name && is_array variable.size) site.head.variables
 
 -- each path is that of a node, of the kind that is asked
 abbrev pub path_is_there : List Site → Reference → Bool
@@ -185,8 +190,8 @@ path_is_there plan (Array owner name) = has_site (λ site. true) owner plan
 
 -- each variable is declared by its owner, and has an index exactly where it is an array
 abbrev pub variable_is_there : List Site → Reference → Bool
-variable_is_there plan (Scalar owner name) = has_site (declares not name) owner plan
-variable_is_there plan (Array owner name) = has_site (declares (λ form. form) name) owner plan
+variable_is_there plan (Scalar owner name) = has_site (declares_scalar name) owner plan
+variable_is_there plan (Array owner name) = has_site (declares_array name) owner plan
 variable_is_there plan mention = true
 
 abbrev pub paths_are_there : List Site → Site → Bool

@@ -1,5 +1,6 @@
 pub mod Defaults
 pub mod Fit
+pub mod Joined
 pub mod Plan
 pub mod Simple
-pub mod Terms
+pub mod Expr

@@ -3,10 +3,10 @@ use Rattle.std.specs.Prelude.{ℕ, ◌+◌, Bool, false, List, [], ◌∷◌, �
 use Rattle.std.specs.Cmp.Lexicographic.{pointwise}
 use Rattle.std.specs.List.{find}
 use Rattle.std.specs.Option.{option_map, unwrap_or}
-use Rattle.px_value.specs.Names.{below}
+use Rattle.px_value.specs.Path.{below}
 use Rattle.px_value.specs.declared.value.Value.{Value}
 use Rattle.px_value.specs.declared.value.Value.TheVariants as values
-use Rattle.px_core.specs.Terms.{Term, Literal, term_of}
+use Rattle.px_core.specs.Expr.{Term, Literal, term_of}
 use Rattle.px_core.specs.declared.body.Body.{Body}
 use Rattle.px_core.specs.declared.body.Body.TheVariants as bodies
 use Rattle.px_core.specs.declared.body.Pair.{Pair}
@@ -58,7 +58,7 @@ condition_of conditions which.Pre = conditions.pre
 condition_of conditions which.Post = conditions.post
 condition_of conditions which.Invariant = conditions.invariant
 
--- what is asked of no node
+-- the term and the conditions of a node that a plan does not have
 abbrev pub no_term : Term
 no_term = Literal values.Unknown
 
@@ -188,7 +188,7 @@ sites tree = sites_under [] tree
 abbrev pub is_same : List ℕ → List ℕ → Bool
 is_same a b = pointwise nat_eq a b
 
--- the node at a path; a path that the plan does not have is asked for no_site
+-- the site of a path that a plan does not have
 abbrev pub no_site : Site
 no_site =
     record {
@@ -209,6 +209,7 @@ abbrev pub root_of : List Site → Site
 root_of [] = no_site
 root_of (root ∷ others) = root
 
+-- the node at a path
 abbrev pub site_at : List Site → List ℕ → Site
 site_at plan path = unwrap_or (find (λ site. is_same site.path path) plan) no_site
 

@@ -1,7 +1,7 @@
 // What a node does: it assigns, commands or updates.
 ghost use Rattle.std.specs.Prelude.{◌≡◌, map, IfOk};
 ghost use Rattle.std.specs.Option.{option_map};
-ghost use Rattle.px_core.specs.Terms.{term_of};
+ghost use Rattle.px_core.specs.Expr.{term_of};
 ghost use Rattle.px_core.specs.Plan.{body_data, pair_data, target_data};
 
 use crate::expr::{self, Expr};

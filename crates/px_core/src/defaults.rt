@@ -1,8 +1,9 @@
 // The conditions that a node has where its plan gives none.
 ghost use Rattle.std.specs.Prelude.{◌≡◌, IfOk};
-ghost use Rattle.px_core.specs.Defaults.{truth, is_finished, each_finished, default_end, default_conditions};
+ghost use Rattle.px_core.specs.Defaults.{is_finished, each_finished, default_end, default_conditions};
+ghost use Rattle.px_core.specs.Joined.{truth};
 ghost use Rattle.px_core.specs.Plan.{condition_terms};
-ghost use Rattle.px_core.specs.Terms.{Binary, term_of};
+ghost use Rattle.px_core.specs.Expr.{Binary, term_of};
 
 use crate::conditions::Conditions;
 use crate::expr::{BinaryOp, Expr, UnaryOp};

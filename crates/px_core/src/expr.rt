@@ -1,6 +1,6 @@
 // Expressions: what conditions, targets and bodies compute.
 ghost use Rattle.std.specs.Prelude.{◌≡◌, map, IfOk};
-ghost use Rattle.px_core.specs.Terms.{term_of};
+ghost use Rattle.px_core.specs.Expr.{term_of};
 
 use px_value::{ArithOp, CompareOp, Name, NoMemory, Path, Value};
 use std::alloc::Global;
@@ -72,7 +72,7 @@ pub enum Expr {
         word: LookWord,
         name: Name,
         args: Vec<Expr>,
-        /// How far a report must lie from the one before it to count; None where each one counts.
+        /// How far a report must lie from the value that is kept to take its place; None where each one does.
         tolerance: Option<u32>,
     },
     Unary {

@@ -9,6 +9,7 @@ mod body;
 mod conditions;
 mod defaults;
 mod expr;
+pub mod laws;
 mod node;
 mod plan;
 #[cfg(test)]

@@ -25,7 +25,8 @@ pub struct CoreNode {
     pub name: Name,
     pub kind: Kind,
     pub conditions: Conditions,
-    /// Of the assignments to one variable that are ready at once, that with the lowest number goes.
+    /// Of the nodes that would write one variable at once, assignments and commands with a result alike, that with the
+    /// lowest number goes.
     pub priority: u32,
     pub variables: Vec<Variable>,
     pub body: Body,

@@ -4,7 +4,7 @@ use Rattle.std.specs.Prelude.{not}
 use Rattle.std.specs.List.{list_any}
 use Rattle.std.specs.Cmp.Lexicographic.{nat_list_eq_equiv}
 use Rattle.std.proofs.lemmas.List.Folds.{list_any-append}
-use Rattle.px_value.specs.Names.{generated_name}
+use Rattle.px_value.specs.Name.{generated_name}
 use Rattle.px_core.specs.Plan.{is_same}
 use Rattle.px_form.specs.Core.{BlockHead, Form, NoBlock, Block}
 use Rattle.px_form.specs.FirstForm.{Token, open_block, close_block, label_tokens, items_tokens, actions_tokens, tokens_of, is_label, is_named_from, names_of, labels_differ, may_have, only_lists_have_actions, has_right_items, items_are_right, depth_of, blocks_of}

@@ -4,7 +4,7 @@ use Rattle.std.specs.Prelude.{not, codes}
 use Rattle.std.specs.List.{list_any, list_all}
 use Rattle.std.proofs.lemmas.Bool.{and_parts, or_cases, or_parts, or_from, not-true, false≢true}
 use Rattle.std.proofs.lemmas.List.Folds.{list_any-append}
-use Rattle.px_value.specs.Names.{generated_name}
+use Rattle.px_value.specs.Name.{generated_name}
 use Rattle.px_core.specs.declared.conditions.ConditionKind.{ConditionKind}
 use Rattle.px_core.specs.Plan.{is_same}
 use Rattle.px_form.specs.declared.item.Asked.{Asked}

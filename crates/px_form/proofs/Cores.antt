@@ -5,9 +5,10 @@ use Rattle.std.proofs.lemmas.Bool.{and_parts, leb-true}
 use Rattle.std.proofs.lemmas.List.{at_drop_more}
 use Rattle.px_core.specs.contracts.conditions.ConditionKindPartialEq.TheImpl as condition_kinds
 use Rattle.px_core.specs.declared.conditions.ConditionKind.{ConditionKind}
-use Rattle.px_core.specs.Terms.{Term}
+use Rattle.px_core.specs.Expr.{Term}
 use Rattle.px_form.specs.declared.item.Item.{Item}
-use Rattle.px_value.specs.Names.{is_identifier, is_generated, is_name, below}
+use Rattle.px_value.specs.Name.{is_identifier, is_generated, is_name}
+use Rattle.px_value.specs.Path.{below}
 use Rattle.px_core.specs.declared.node.CoreNode.{CoreNode}
 use Rattle.px_core.specs.declared.node.CoreNode.TheOpen.{CoreNode-F}
 use Rattle.px_core.specs.declared.node.CoreNode.TheViews.{out-CoreNode, roll-CoreNode}

@@ -6,16 +6,19 @@ use Rattle.std.proofs.lemmas.Bool.{and_parts, and_from, or_cases, or_left, or_ri
 use Rattle.std.proofs.lemmas.List.{take-append-drop}
 use Rattle.std.proofs.lemmas.List.Folds.{list_all-append, list_any-append}
 use Rattle.std.proofs.lemmas.List.Sums.{sum_by-cons}
-use Rattle.px_value.specs.Names.{is_identifier, is_generated, is_name, generated_name, below}
+use Rattle.px_value.specs.Name.{is_identifier, is_generated, is_name, generated_name}
+use Rattle.px_value.specs.Path.{below}
 use Rattle.px_value.proofs.Names.{generated_is_name}
 use Rattle.px_core.specs.contracts.conditions.ConditionKindPartialEq.TheImpl as condition_kinds
 use Rattle.px_core.specs.declared.conditions.ConditionKind.{ConditionKind}
 use Rattle.px_core.specs.declared.conditions.ConditionKind.TheVariants as conditions
-use Rattle.px_core.specs.Defaults.{joined, each_finished, default_end, default_conditions}
+use Rattle.px_core.specs.declared.expr.BinaryOp.TheVariants as binary
+use Rattle.px_core.specs.Defaults.{is_finished, default_end, default_conditions}
+use Rattle.px_core.specs.Joined.{joined_within, joined}
 use Rattle.px_core.specs.Fit.{has_one_root, has_short_path, cells_of_site, may_have, only_lists_have_children, names_of, siblings_differ, variables_differ, is_body_of, has_its_body, has_right_variables, Reference, Node, references, terms_of_conditions, references_of_site, has_site, path_is_there, variable_is_there, paths_are_there, variables_are_there, owns_its_targets, IsFit}
 use Rattle.px_core.specs.Plan.{ConditionTerms, Nothing, count_of, Site, path_under, site_under, sites_under, sites, is_same}
 use Rattle.px_core.specs.Simple.{is_simple_kind, is_simple_site, IsSimple}
-use Rattle.px_core.specs.Terms.{Term}
+use Rattle.px_core.specs.Expr.{Term}
 use Rattle.px_form.specs.declared.item.Asked.{Asked}
 use Rattle.px_form.specs.declared.item.Asked.TheVariants as asks
 use Rattle.px_form.specs.declared.item.Item.{Item}
@@ -132,26 +135,33 @@ no_cells (site ∷ plan) h =
 all_both : (test : Reference → Bool) (a b : List Reference) → list_all test a ≡ true → list_all test b ≡ true → list_all test (a ++ b) ≡ true
 all_both test a b h g = list_all-append test a b ∙ and_from (list_all test a) (list_all test b) h g
 
-halves : (test : List ℕ → Bool) (n : ℕ) (paths : List (List ℕ)) → list_all test paths ≡ true → (list_all test (take n paths) ≡ true) × (list_all test (drop n paths) ≡ true)
-halves test n paths h =
-    and_parts (list_all test (take n paths)) (list_all test (drop n paths))
-    (sym (list_all-append test (take n paths) (drop n paths)) ∙ ap (list_all test) (take-append-drop n paths) ∙ h)
+halves : (test : Term → Bool) (n : ℕ) (terms : List Term) → list_all test terms ≡ true → (list_all test (take n terms) ≡ true) × (list_all test (drop n terms) ≡ true)
+halves test n terms h =
+    and_parts (list_all test (take n terms)) (list_all test (drop n terms))
+    (sym (list_all-append test (take n terms) (drop n terms)) ∙ ap (list_all test) (take-append-drop n terms) ∙ h)
 
-joined_speaks : (test : Reference → Bool) (deep : ℕ) (paths : List (List ℕ)) → list_all (λ path. test (Node path)) paths ≡ true → list_all test (references (joined deep paths)) ≡ true
-joined_speaks test deep [] h = refl
-joined_speaks test deep (path ∷ []) h = h
+joined_speaks : (test : Reference → Bool) (bound : ℕ) (terms : List Term) → list_all (λ term. list_all test (references term)) terms ≡ true → list_all test (references (joined_within binary.And true bound terms)) ≡ true
+joined_speaks test bound [] h = refl
+joined_speaks test bound (term ∷ []) h = (and_parts (list_all test (references term)) true h).0
 joined_speaks test zero (one ∷ other ∷ more) h = refl
-joined_speaks test (suc deep) (one ∷ other ∷ more) h =
-    let paths : List (List ℕ) = one ∷ other ∷ more in
-    let half : ℕ = length paths / 2 in
-    let parts = halves (λ path. test (Node path)) half paths h in
-    all_both test (references (joined deep (take half paths))) (references (joined deep (drop half paths)))
-    (joined_speaks test deep (take half paths) parts.0)
-    (joined_speaks test deep (drop half paths) parts.1)
+joined_speaks test (suc bound) (one ∷ other ∷ more) h =
+    let terms : List Term = one ∷ other ∷ more in
+    let half : ℕ = length terms / 2 in
+    let parts = halves (λ term. list_all test (references term)) half terms h in
+    all_both test (references (joined_within binary.And true bound (take half terms))) (references (joined_within binary.And true bound (drop half terms)))
+    (joined_speaks test bound (take half terms) parts.0)
+    (joined_speaks test bound (drop half terms) parts.1)
+
+finished_speak : (test : Reference → Bool) (paths : List (List ℕ)) → list_all (λ path. test (Node path)) paths ≡ true → list_all (λ term. list_all test (references term)) (map is_finished paths) ≡ true
+finished_speak test [] h = refl
+finished_speak test (path ∷ paths) h =
+    let parts = and_parts (test (Node path)) (list_all (λ path. test (Node path)) paths) h in
+    and_from (test (Node path) && true) (list_all (λ term. list_all test (references term)) (map is_finished paths))
+    (and_from (test (Node path)) true parts.0 refl) (finished_speak test paths parts.1)
 
 end_speaks : (test : Reference → Bool) (is_list : Bool) (path : List ℕ) (paths : List (List ℕ)) → list_all (λ path. test (Node path)) paths ≡ true → list_all test (references (default_end (kind_of is_list) path paths)) ≡ true
-unfolding each_finished
-end_speaks test true path paths h = joined_speaks test (length paths) paths h
+unfolding joined
+end_speaks test true path paths h = joined_speaks test (length (map is_finished paths)) (map is_finished paths) (finished_speak test paths h)
 end_speaks test false path paths h = refl
 
 asked_speaks : (test : Reference → Bool) (negated : Bool) (asked : Asked) → list_all test (references (question_term (record { negated = negated; asked = asked }))) ≡ true

@@ -4,7 +4,7 @@ use Rattle.std.specs.List.{list_all}
 use Rattle.std.specs.Option.{option_map}
 use Rattle.std.proofs.lemmas.List.{at_drop_more, take_rest, take-append-drop, length-take-le, length-drop}
 use Rattle.std.proofs.lemmas.Bool.{and_parts}
-use Rattle.px_value.specs.Names.{continues_identifier}
+use Rattle.px_value.specs.Name.{continues_identifier}
 use Rattle.px_form.specs.FirstForm.{Token, Word, is_gap}
 use Rattle.px_form.specs.Lexing.{lexed, gap_at, goes_on_at, sign_of, with_sign, IsFirst}
 use Rattle.px_form.proofs.Lexing.{lexed-nil, lexed-gap, lexed-sign, lexed-word, IsSpelled, sign_spelled}

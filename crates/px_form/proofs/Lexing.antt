@@ -6,7 +6,7 @@ use Rattle.std.specs.Option.{option_map}
 use Rattle.std.proofs.lemmas.Bool.{and_parts, cases_Bool, not-true, false≢true, both_ways}
 use Rattle.std.proofs.lemmas.Bool.Decides.{nat_tests}
 use Rattle.std.proofs.lemmas.Option.{cond_some}
-use Rattle.px_value.specs.Names.{continues_identifier}
+use Rattle.px_value.specs.Name.{continues_identifier}
 use Rattle.px_form.specs.FirstForm.{Token, Word, Sign, spelling, is_gap, ends_before, Splits}
 use Rattle.px_form.specs.Lexing.{goes_on_at, with_byte, is_sign_byte, sign_of, with_sign, lexed, is_run_token}
 

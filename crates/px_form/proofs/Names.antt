@@ -11,10 +11,11 @@ use Rattle.std.specs.Str.{IsAscii, IsUtf8}
 use Rattle.std.proofs.lemmas.Fmt.{decimal_is_IsNumeral}
 use Rattle.std.specs.Str.Parse.{digits_value}
 use Rattle.px_core.specs.Plan.{is_same}
-use Rattle.px_lex.specs.Words.{keyword_of, is_real_type}
+use Rattle.px_lex.specs.Keyword.{keyword_of}
+use Rattle.px_lex.specs.Word.{is_real_type}
 use Rattle.px_form.specs.Core.{Form, NoBlock, Block}
 use Rattle.px_form.specs.Reading.{size_of, is_taken}
-use Rattle.px_value.specs.Names.{begins_identifier, continues_identifier, is_identifier, is_generated, is_name, generated_name}
+use Rattle.px_value.specs.Name.{begins_identifier, continues_identifier, is_identifier, is_generated, is_name, generated_name}
 use Rattle.px_value.proofs.Names.{generated_is_name}
 use Rattle.px_form.specs.FirstForm.{Word, colon, label_tokens, is_label, is_named_from}
 use Rattle.px_form.specs.Lexing.{is_run}

@@ -4,7 +4,7 @@ use Rattle.std.specs.List.{list_all}
 use Rattle.std.specs.Option.{option_and_then, option_map}
 use Rattle.std.proofs.lemmas.Bool.{and_parts, and_from, or_cases, false≢true}
 use Rattle.std.proofs.lemmas.List.Folds.{list_all-append}
-use Rattle.px_value.specs.Names.{generated_name}
+use Rattle.px_value.specs.Name.{generated_name}
 use Rattle.px_core.specs.Plan.{Tree, is_same}
 use Rattle.px_form.specs.declared.item.Asked.{Asked}
 use Rattle.px_form.specs.declared.item.Asked.TheVariants as asks

@@ -6,10 +6,10 @@ use Rattle.std.specs.Option.{option_map, option_and_then}
 use Rattle.std.proofs.lemmas.Bool.{and_parts, and_from, or_left, or_right, not-true, ltb-true, eqb-true}
 use Rattle.std.proofs.lemmas.List.Folds.{list_all-append}
 use Rattle.std.proofs.lemmas.Option.{cond_some}
-use Rattle.px_value.specs.Names.{generated_name}
+use Rattle.px_value.specs.Name.{generated_name}
 use Rattle.px_core.specs.declared.conditions.ConditionKind.{ConditionKind}
 use Rattle.px_core.specs.Plan.{is_same}
-use Rattle.px_lex.specs.Words.{keyword_of}
+use Rattle.px_lex.specs.Keyword.{keyword_of}
 use Rattle.px_form.specs.declared.item.Asked.{Asked}
 use Rattle.px_form.specs.declared.item.Asked.TheVariants as asks
 use Rattle.px_form.specs.declared.item.Item.{Item}

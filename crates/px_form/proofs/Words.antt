@@ -9,8 +9,8 @@ use Rattle.px_core.specs.declared.conditions.ConditionKind.{ConditionKind}
 use Rattle.px_core.specs.declared.conditions.ConditionKind.TheVariants as conditions
 use Rattle.px_core.specs.Plan.{is_same}
 use Rattle.px_lex.specs.declared.keyword.Keyword.{Keyword}
-use Rattle.px_lex.specs.Tables.{row_of}
-use Rattle.px_lex.specs.Words.{keyword_rows, keyword_of}
+use Rattle.px_lex.specs.Table.{row_of}
+use Rattle.px_lex.specs.Keyword.{keyword_rows, keyword_of}
 use Rattle.px_form.specs.FirstForm.{condition_word}
 use Rattle.px_form.specs.Items.{condition_of}
 use Rattle.px_form.specs.Lexing.{is_run}

@@ -1,6 +1,6 @@
 -- The plan that a form stands for.
 use Rattle.std.specs.Prelude.{ℕ, Bool, true, false, List, [], ◌∷◌, None, if◌then◌else◌}
-use Rattle.px_value.specs.Names.{below}
+use Rattle.px_value.specs.Path.{below}
 use Rattle.px_core.specs.contracts.conditions.ConditionKindPartialEq.TheImpl as condition_kinds
 use Rattle.px_core.specs.declared.conditions.ConditionKind.{ConditionKind}
 use Rattle.px_core.specs.declared.conditions.ConditionKind.TheVariants as conditions
@@ -8,9 +8,10 @@ use Rattle.px_core.specs.declared.expr.LookWord.TheVariants as words
 use Rattle.px_core.specs.declared.expr.UnaryOp.TheVariants as unary
 use Rattle.px_core.specs.declared.node.Kind.{Kind}
 use Rattle.px_core.specs.declared.node.Kind.TheVariants as kinds
-use Rattle.px_core.specs.Defaults.{truth, default_conditions}
+use Rattle.px_core.specs.Defaults.{default_conditions}
+use Rattle.px_core.specs.Joined.{truth}
 use Rattle.px_core.specs.Plan.{ConditionTerms, Nothing, Head, Tree, NoNode, Branch}
-use Rattle.px_core.specs.Terms.{Term, NoTerms, Look, Unary}
+use Rattle.px_core.specs.Expr.{Term, NoTerms, Look, Unary}
 use Rattle.px_form.specs.declared.item.Asked.{Asked}
 use Rattle.px_form.specs.declared.item.Asked.TheVariants as asks
 use Rattle.px_form.specs.declared.item.Item.{Item}

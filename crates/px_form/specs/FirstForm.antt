@@ -1,8 +1,9 @@
 -- The first form of plans: blocks in blocks, each with or without a label, and each with some of its conditions.
 use Rattle.std.specs.Prelude.{◌≡◌, ℕ, suc, ◌+◌, ◌≤◌, max, Bool, true, false, not, is_none, ◌&&◌, ◌||◌, ◌==◌, List, [], ◌∷◌, ◌++◌, codes, IsTrue}
 use Rattle.std.specs.List.{list_all, list_any, flat_map}
-use Rattle.px_value.specs.Names.{continues_identifier, is_identifier, is_generated, is_name, generated_name}
-use Rattle.px_lex.specs.Words.{keyword_of, is_real_type}
+use Rattle.px_value.specs.Name.{continues_identifier, is_identifier, is_generated, is_name, generated_name}
+use Rattle.px_lex.specs.Keyword.{keyword_of}
+use Rattle.px_lex.specs.Word.{is_real_type}
 use Rattle.px_core.specs.contracts.conditions.ConditionKindPartialEq.TheImpl as condition_kinds
 use Rattle.px_core.specs.declared.conditions.ConditionKind.{ConditionKind}
 use Rattle.px_core.specs.declared.conditions.ConditionKind.TheVariants as conditions

@@ -2,7 +2,7 @@
 use Rattle.std.specs.Prelude.{◌≡◌, ℕ, Bool, true, false, ◌&&◌, ◌||◌, ◌==◌, ◌<◌, List, [], ◌∷◌, length, Option, Some, None, if◌then◌else◌}
 use Rattle.std.specs.List.{list_all}
 use Rattle.std.specs.Option.{option_map}
-use Rattle.px_value.specs.Names.{continues_identifier}
+use Rattle.px_value.specs.Name.{continues_identifier}
 use Rattle.px_form.specs.FirstForm.{Token, Word, Sign, is_gap}
 
 -- whether the bytes begin inside a word

@@ -2,8 +2,8 @@
 use Rattle.std.specs.Prelude.{ℕ, suc, ◌+◌, nat_lt, Bool, true, false, not, ◌&&◌, ◌==◌, List, [], ◌∷◌, ◌++◌, length, codes, Option, Some, None, if◌then◌else◌}
 use Rattle.std.specs.List.{list_any}
 use Rattle.std.specs.Option.{option_map, option_and_then}
-use Rattle.px_value.specs.Names.{generated_name}
-use Rattle.px_lex.specs.Words.{keyword_of}
+use Rattle.px_value.specs.Name.{generated_name}
+use Rattle.px_lex.specs.Keyword.{keyword_of}
 use Rattle.px_core.specs.declared.conditions.ConditionKind.{ConditionKind}
 use Rattle.px_core.specs.Plan.{is_same}
 use Rattle.px_form.specs.declared.item.Item.{Item}

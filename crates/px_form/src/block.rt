@@ -1,8 +1,8 @@
 // The blocks of a plan as they are written, and the nodes that they stand for.
 ghost use Rattle.std.specs.Prelude.{◌≡◌, ◌+◌, ◌*◌, ◌<◌, ◌≤◌, IfOk, length};
-ghost use Rattle.px_value.specs.Names.{below};
+ghost use Rattle.px_value.specs.Path.{below};
 ghost use Rattle.px_core.specs.Plan.{NoNode, Branch, tree_of_node, condition_terms};
-ghost use Rattle.px_core.specs.Terms.{term_of};
+ghost use Rattle.px_core.specs.Expr.{term_of};
 ghost use Rattle.px_form.specs.Core.{given_or, conditions_of, kind_of, paths_below, head_at, core_under};
 ghost use Rattle.px_form.specs.declared.block.Block.TheViews.{out-Block};
 ghost use Rattle.px_form.specs.Drafts.{form_of, head_of_block, actions_of, trees_of};

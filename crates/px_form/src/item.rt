@@ -1,6 +1,6 @@
 // The items of a block: a condition, and the question that it asks.
 ghost use Rattle.std.specs.Prelude.{◌≡◌, IfOk};
-ghost use Rattle.px_core.specs.Terms.{term_of};
+ghost use Rattle.px_core.specs.Expr.{term_of};
 ghost use Rattle.px_form.specs.Core.{asked_term, question_term};
 
 use px_core::{ConditionKind, Expr, LookWord, UnaryOp};

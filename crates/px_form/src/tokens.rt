@@ -2,7 +2,7 @@
 ghost use Rattle.std.specs.Prelude.{◌≡◌, ◌<◌, ◌≤◌, true, false, take, drop, length, [], IsTrue, None, Some, IfOk, IfSome, IfNone, IsErrOf, MatchOption};
 ghost use Rattle.std.specs.List.{list_all};
 ghost use Rattle.std.specs.Option.{option_map};
-ghost use Rattle.px_value.specs.Names.{continues_identifier};
+ghost use Rattle.px_value.specs.Name.{continues_identifier};
 ghost use Rattle.px_form.specs.FirstForm.{is_gap};
 ghost use Rattle.px_form.specs.Lexing.{lexed, gap_at, goes_on_at, sign_of, IsFirst};
 ghost use Rattle.px_form.specs.Items.{is_sign};

@@ -6,7 +6,7 @@ use Rattle.std.specs.Str.{IsUtf8, IsCharBoundary}
 use Rattle.std.proofs.lemmas.Bool.{and_parts, and_from, ltb-true}
 use Rattle.std.proofs.lemmas.Bool.Decides.{nat_tests}
 use Rattle.std.proofs.lemmas.Str.{IsUtf8-past_char, encode_ascii, IsCharBoundary-at_seam}
-use Rattle.px_value.specs.Names.{continues_identifier}
+use Rattle.px_value.specs.Name.{continues_identifier}
 use Rattle.px_lex.proofs.Spans.{Span, span}
 
 abbrev pub is_ascii : ℕ → Bool

@@ -7,28 +7,27 @@ use Rattle.std.specs.Cmp.Lexicographic.{bytes_decides}
 use Rattle.std.proofs.Math.Seq.{take-append_seam, drop-append_seam}
 use Rattle.std.proofs.lemmas.Bool.{and_parts, and_from, or_parts, or_cases, or_left, cases_Bool, false≢true, lt-ltb, le-ltb, le-leb, lt-leb, eqb-true, not-true, ne_eqb}
 use Rattle.std.proofs.lemmas.Bool.Decides.{nat_tests}
-use Rattle.px_value.specs.Names.{is_digit, begins_identifier, continues_identifier}
+use Rattle.px_value.specs.Name.{is_digit, begins_identifier, continues_identifier}
 use Rattle.px_lex.specs.declared.keyword.Keyword.{Keyword}
 use Rattle.px_lex.specs.declared.sign.Sign.{Sign}
 use Rattle.px_lex.specs.declared.token.TokenKind.{TokenKind}
 use Rattle.px_lex.specs.declared.token.TokenKind.TheVariants as kinds
-use Rattle.px_lex.specs.Gaps.{begins, is_white_space, is_in_line, after_close, IsGap}
-use Rattle.px_lex.specs.Words.{IsWord, keyword_rows, keyword_of, is_real_type}
-use Rattle.px_lex.specs.Numbers.{IsNumber, number_of, is_fraction}
-use Rattle.px_lex.specs.Strings.{is_quote, read_string}
-use Rattle.px_lex.specs.Signs.{sign_rows, sign_of, opens_comment, ends_sign}
-use Rattle.px_lex.specs.Tokens.{IsToken}
-use Rattle.px_lex.specs.Faults.{is_other, IsBad, IsReal, IsTooLong, open_comment, bad_number, bad_string, no_sign, real_word, real_number, long_word, large_number, long_string}
-use Rattle.px_lex.specs.Splits.{Stands}
-use Rattle.px_lex.proofs.SignSteps.{row_of-all, sign_is_short}
+use Rattle.px_lex.specs.Gap.{begins, is_white_space, is_in_line, after_close, IsGap}
+use Rattle.px_lex.specs.Keyword.{keyword_rows, keyword_of}
+use Rattle.px_lex.specs.Word.{IsWord}
+use Rattle.px_lex.specs.Number.{IsNumber, number_of, is_fraction}
+use Rattle.px_lex.specs.String.{is_quote, read_string}
+use Rattle.px_lex.specs.Sign.{sign_rows, sign_of, opens_comment, ends_sign}
+use Rattle.px_lex.specs.Token.{IsToken}
+use Rattle.px_lex.specs.Fault.{FaultKind, Bad, is_other, word_fault, number_fault, string_fault, IsFaulty}
+use Rattle.px_lex.specs.Lexer.{Stands}
+use Rattle.px_lex.proofs.Signs.{row_of-all, sign_is_short}
 
 -- what stands at the front
 pub data Front : Type 0 where
   nothing : Front
   piece : Option TokenKind → List ℕ → Front
-  bad : Front
-  real : Front
-  too_long : Front
+  faulty : FaultKind → Front
 
 -- what the first bytes tell
 pub data Class : Type 0 where
@@ -48,29 +47,39 @@ class_of text =
     else if begins continues_identifier text then a_run
     else an_other
 
+abbrev unless_fault : Option FaultKind → Front → Front
+unless_fault None sound = sound
+unless_fault (Some kind) sound = faulty kind
+
 abbrev comment_front : Option (List ℕ) → Front
-comment_front None = bad
+comment_front None = faulty Bad
 comment_front (Some rest) = piece None rest
 
+abbrev text_front : Option (List ℕ × List ℕ) → Front
+text_front None = nothing
+text_front (Some read) = piece (Some (kinds.Text read.0)) read.1
+
 abbrev string_front : Option (List ℕ × List ℕ) → Front
-string_front None = bad
-string_front (Some read) = if nat_le (length read.0) 1024 then piece (Some (kinds.Text read.0)) read.1 else too_long
+string_front read = unless_fault (string_fault read) (text_front read)
 
 abbrev value_front : List ℕ → Option ℕ → Front
-value_front rest None = bad
-value_front rest (Some value) = if nat_lt value (2 ^ 31) then piece (Some (kinds.Integer (pos value))) rest else too_long
+value_front rest None = nothing
+value_front rest (Some value) = piece (Some (kinds.Integer (pos value))) rest
+
+abbrev number_front : List ℕ → List ℕ → Front
+number_front spelling rest = unless_fault (number_fault spelling rest) (value_front rest (number_of spelling))
 
 abbrev word_front : List ℕ → List ℕ → Option Keyword → Front
 word_front word rest (Some keyword) = piece (Some (kinds.Keyword keyword)) rest
-word_front word rest None = if is_real_type word then real else if nat_le (length word) 64 then piece (Some (kinds.Identifier word)) rest else too_long
+word_front word rest None = unless_fault (word_fault word) (piece (Some (kinds.Identifier word)) rest)
 
 abbrev run_front : List ℕ → List ℕ → Front
 run_front spelling rest =
-    if begins is_digit spelling then (if is_fraction spelling rest then real else value_front rest (number_of spelling))
+    if begins is_digit spelling then number_front spelling rest
     else word_front spelling rest (keyword_of spelling)
 
 abbrev one_front : List ℕ → Option Sign → Front
-one_front text None = bad
+one_front text None = faulty Bad
 one_front text (Some sign) = piece (Some (kinds.Sign sign)) (drop 1 text)
 
 abbrev two_front : List ℕ → Option Sign → Front
@@ -161,7 +170,7 @@ run_is (c ∷ cs) rest first pass stop =
 digit_goes_on : (c : ℕ) → is_digit c ≡ true → continues_identifier c ≡ true
 digit_goes_on c h = grind (arith, nat_tests)
 
-number_is : (spelling rest : List ℕ) → IsNumber spelling rest → front (spelling ++ rest) ≡ (if is_fraction spelling rest then real else value_front rest (number_of spelling))
+number_is : (spelling rest : List ℕ) → IsNumber spelling rest → front (spelling ++ rest) ≡ number_front spelling rest
 number_is [] rest n = absurd (false≢true n.first)
 number_is (c ∷ cs) rest n = run_is (c ∷ cs) rest (digit_goes_on c n.first) n.going_on n.longest ∙ rw n.first
 
@@ -182,24 +191,8 @@ none_unless (Some k) h = absurd (h k refl)
 keyword_is : (p : List ℕ → Bool) → list_all (λ (row : List ℕ × Keyword). p row.0) keyword_rows ≡ true → (word : List ℕ) → p word ≡ false → keyword_of word ≡ None
 keyword_is p each word h = none_unless (keyword_of word) (λ k found. false≢true (sym h ∙ row_of-all p keyword_rows word k each found))
 
-real_is_no_keyword : (word : List ℕ) → is_real_type word ≡ true → keyword_of word ≡ None
-real_is_no_keyword word h = keyword_is (λ w. not (is_real_type w)) refl word (rw h)
-
-long_is_no_keyword : (word : List ℕ) → 64 < length word → keyword_of word ≡ None
-long_is_no_keyword word h = keyword_is (λ w. nat_le (length w) 64) refl word (lt-leb (length word) 64 h)
-
-long_is_not_real : (word : List ℕ) → 64 < length word → is_real_type word ≡ false
-long_is_not_real word h = false_unless (is_real_type word) (λ r. elim (or_cases (bytes_eq word (codes "Real") || bytes_eq word (codes "Date")) (bytes_eq word (codes "Duration")) r) [
-  | inl one ↦ elim (or_cases (bytes_eq word (codes "Real")) (bytes_eq word (codes "Date")) one) [
-    | inl e ↦ omega (arith, h, ap length ((bytes_decides word (codes "Real")).0 e))
-    | inr e ↦ omega (arith, h, ap length ((bytes_decides word (codes "Date")).0 e))
-  ]
-  | inr e ↦ omega (arith, h, ap length ((bytes_decides word (codes "Duration")).0 e))
-])
-  where
-    false_unless : (b : Bool) → (b ≡ true → ⊥) → b ≡ false
-    false_unless true h = absurd (h refl)
-    false_unless false h = refl
+fault_is_no_keyword : (word : List ℕ) (kind : FaultKind) → word_fault word ≡ Some kind → keyword_of word ≡ None
+fault_is_no_keyword word kind h = keyword_is (λ w. is_none (word_fault w)) refl word (rw h)
 
 -- ---- signs
 
@@ -247,7 +240,7 @@ string_is text content rest h = rw (class_quote text (read_quote text (content, 
 
 token_front : (kind : TokenKind) (spelling rest : List ℕ) → IsToken kind spelling rest → front (spelling ++ rest) ≡ piece (Some kind) rest
 token_front (kinds.Identifier name) spelling rest t =
-    word_is spelling rest t.word ∙ rw (t.no_keyword, t.allowed, le-leb (length spelling) 64 t.short, t.same)
+    word_is spelling rest t.word ∙ rw (t.no_keyword, le-ltb 64 (length spelling) t.short, t.allowed, t.same)
 token_front (kinds.Keyword keyword) spelling rest t = word_is spelling rest t.0 ∙ rw t.1
 token_front (kinds.Integer z) spelling rest t =
     number_is spelling rest t.2.number ∙ rw (t.2.whole, t.2.writes, lt-ltb t.0 (2 ^ 31) t.2.small, t.1)
@@ -263,23 +256,18 @@ stands_front (Some kind) spelling rest s = token_front kind spelling rest s
 slash_is_sign : (a : ℕ) → sign_of (a ∷ []) ≡ None → (a == 47) ≡ false
 slash_is_sign a h = ne_eqb a 47 (λ e. let found : sign_of (47 ∷ []) ≡ None = rw e at h in cc)
 
-pub bad_front : (text : List ℕ) → IsBad text → front text ≡ bad
-bad_front text (open_comment tail e h) = rw (e, h)
-bad_front text (bad_number number rest n h) = ap front n.split ∙ number_is number rest n.stands ∙ rw (n.followed, h)
-bad_front text (bad_string quote h) = rw (class_quote text quote, h)
-bad_front [] (no_sign first one two) = cc
-bad_front (a ∷ []) (no_sign first one two) = rw (class_other (a ∷ []) first (opens_two a), one)
-bad_front (a ∷ b ∷ cs) (no_sign first one two) =
+other_front : (text : List ℕ) → begins is_other text ≡ true → sign_of (take 1 text) ≡ None → sign_of (take 2 text) ≡ None
+    → front text ≡ faulty Bad
+other_front [] first one two = cc
+other_front (a ∷ []) first one two = rw (class_other (a ∷ []) first (opens_two a), one)
+other_front (a ∷ b ∷ cs) first one two =
     let closed : opens_comment (a ∷ b ∷ []) ≡ false = rw (slash_is_sign a one) in
     rw (class_other (a ∷ b ∷ cs) first closed, two, one)
 
-pub real_front : (text : List ℕ) → IsReal text → front text ≡ real
-real_front text (real_word word rest w h) = ap front w.split ∙ word_is word rest w.stands ∙ rw (real_is_no_keyword word h, h)
-real_front text (real_number number rest n) = ap front n.split ∙ number_is number rest n.stands ∙ rw n.followed
-
-pub too_long_front : (text : List ℕ) → IsTooLong text → front text ≡ too_long
-too_long_front text (long_word word rest w h) =
-    ap front w.split ∙ word_is word rest w.stands ∙ rw (long_is_no_keyword word h, long_is_not_real word h, lt-leb (length word) 64 h)
-too_long_front text (large_number number rest n value writes h) =
-    ap front n.split ∙ number_is number rest n.stands ∙ rw (n.followed, writes, le-ltb value (2 ^ 31) h)
-too_long_front text (long_string content rest h long) = string_is text content rest h ∙ rw (lt-leb (length content) 1024 long)
+pub fault_front : (kind : FaultKind) (text : List ℕ) → IsFaulty kind text → front text ≡ faulty kind
+fault_front kind text (IsFaulty.comment tail bad e h) = rw (e, h, bad)
+fault_front kind text (IsFaulty.word word rest split stands h) =
+    ap front split ∙ word_is word rest stands ∙ rw (fault_is_no_keyword word kind h, h)
+fault_front kind text (IsFaulty.number number rest split stands h) = ap front split ∙ number_is number rest stands ∙ rw h
+fault_front kind text (IsFaulty.string quote h) = rw (class_quote text quote, h)
+fault_front kind text (IsFaulty.other bad first one two) = other_front text first one two ∙ rw bad

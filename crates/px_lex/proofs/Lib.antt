@@ -1,11 +1,11 @@
 pub mod Cuts
 pub mod Fronts
-pub mod GapSteps
-pub mod NumberSteps
-pub mod PieceSteps
-pub mod SignSteps
+pub mod Gaps
+pub mod Numbers
+pub mod Pieces
+pub mod Signs
 pub mod Spans
 pub mod StringFronts
-pub mod StringSteps
+pub mod Strings
 pub mod Unique
-pub mod WordSteps
+pub mod Words

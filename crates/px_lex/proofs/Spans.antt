@@ -3,7 +3,7 @@ use Rattle.std.proofs.Common.{◌≡◌, ℕ, ◌≤◌, Bool, true, false, List
 use Rattle.std.specs.List.{list_all, prefix_len}
 use Rattle.std.proofs.lemmas.Bool.{cases_Bool, and_from}
 use Rattle.std.proofs.Math.Seq.{take-append_seam, drop-append_seam}
-use Rattle.px_lex.specs.Gaps.{begins}
+use Rattle.px_lex.specs.Gap.{begins}
 
 -- a front that passes, and a rest that begins with no element that passes
 pub record Span (p : ℕ → Bool) (xs : List ℕ) : Type 0 where

@@ -2,11 +2,12 @@
 use Rattle.std.proofs.Common.{◌≡◌, ℕ, ◌≤◌, Bool, true, false, ◌==◌, ◌||◌, List, [], ◌∷◌, ◌++◌, length, drop, Option, Some, None, refl, ap, ◌∙◌, arith, inl, inr}
 use Rattle.std.specs.Str.{IsUtf8, IsCharBoundary}
 use Rattle.std.proofs.lemmas.Bool.{cases_Bool, eqb-true, leb-false}
-use Rattle.px_lex.specs.Gaps.{begins}
-use Rattle.px_lex.specs.Strings.{is_quote, escaped, with_byte, string_from, read_string}
+use Rattle.px_lex.specs.Gap.{begins}
+use Rattle.px_value.specs.Text.{escaped}
+use Rattle.px_lex.specs.String.{is_quote, with_byte, string_from, escape_from, read_string}
 use Rattle.std.specs.Prelude.{nat_le}
-use Rattle.px_lex.specs.Faults.{IsTooLong, long_string}
-use Rattle.px_lex.specs.Splits.{Begins}
+use Rattle.px_lex.specs.Fault.{TooLong, string_fault, IsFaulty}
+use Rattle.px_lex.specs.Lexer.{Begins}
 use Rattle.px_lex.specs.declared.token.TokenKind.TheVariants as kinds
 use Rattle.px_lex.proofs.Cuts.{cut_behind}
 
@@ -23,41 +24,44 @@ inner (Some b) None content rest h = cc
 inner (Some b) (Some (less, behind)) content rest h = let same : behind ≡ rest = ap behind_of h in (less, ap (λ t. Some (less, t)) same)
 
 -- what is read of a string ends where the rest begins
-pub string_front : (escape : Bool) (text content rest : List ℕ) → string_from escape text ≡ Some (content, rest) → (front : List ℕ) × (text ≡ front ++ rest)
-string_front true [] content rest h = cc
-string_front false [] content rest h = cc
-string_front true (c ∷ cs) content rest h =
-    let one : (less : List ℕ) × (string_from false cs ≡ Some (less, rest)) = inner (escaped c) (string_from false cs) content rest h in
-    let found : (front : List ℕ) × (cs ≡ front ++ rest) = string_front false cs one.0 rest one.1 in
-    (c ∷ found.0, ap (λ t. c ∷ t) found.1)
-string_front false (c ∷ cs) content rest h = elim (cases_Bool (c == 34)) [
-  | inl quote ↦ let same : cs ≡ rest = ap behind_of (rw quote at h) in (c ∷ [], ap (λ t. c ∷ t) same)
-  | inr other ↦ elim (cases_Bool (c == 92)) [
-    | inl backslash ↦
-        let found : (front : List ℕ) × (cs ≡ front ++ rest) = string_front true cs content rest (rw (other, backslash) at h) in
-        (c ∷ found.0, ap (λ t. c ∷ t) found.1)
-    | inr plain ↦ elim (cases_Bool ((c == 10) || (c == 13))) [
-      | inl line_end ↦ absurd (nothing (content, rest) (rw (other, plain, line_end) at h))
-      | inr more ↦
-          let one : (less : List ℕ) × (string_from false cs ≡ Some (less, rest)) = inner (Some c) (string_from false cs) content rest (rw (other, plain, more) at h) in
-          let found : (front : List ℕ) × (cs ≡ front ++ rest) = string_front false cs one.0 rest one.1 in
+mutual
+  pub string_front : (text content rest : List ℕ) → string_from text ≡ Some (content, rest) → (front : List ℕ) × (text ≡ front ++ rest)
+  string_front [] content rest h = cc
+  string_front (c ∷ cs) content rest h = elim (cases_Bool (c == 34)) [
+    | inl quote ↦ let same : cs ≡ rest = ap behind_of (rw quote at h) in (c ∷ [], ap (λ t. c ∷ t) same)
+    | inr other ↦ elim (cases_Bool (c == 92)) [
+      | inl backslash ↦
+          let found : (front : List ℕ) × (cs ≡ front ++ rest) = escape_front cs content rest (rw (other, backslash) at h) in
           (c ∷ found.0, ap (λ t. c ∷ t) found.1)
+      | inr plain ↦ elim (cases_Bool ((c == 10) || (c == 13))) [
+        | inl line_end ↦ absurd (nothing (content, rest) (rw (other, plain, line_end) at h))
+        | inr more ↦
+            let one : (less : List ℕ) × (string_from cs ≡ Some (less, rest)) = inner (Some c) (string_from cs) content rest (rw (other, plain, more) at h) in
+            let found : (front : List ℕ) × (cs ≡ front ++ rest) = string_front cs one.0 rest one.1 in
+            (c ∷ found.0, ap (λ t. c ∷ t) found.1)
+      ]
     ]
   ]
-]
+
+  escape_front : (text content rest : List ℕ) → escape_from text ≡ Some (content, rest) → (front : List ℕ) × (text ≡ front ++ rest)
+  escape_front [] content rest h = cc
+  escape_front (c ∷ cs) content rest h =
+      let one : (less : List ℕ) × (string_from cs ≡ Some (less, rest)) = inner (escaped c) (string_from cs) content rest h in
+      let found : (front : List ℕ) × (cs ≡ front ++ rest) = string_front cs one.0 rest one.1 in
+      (c ∷ found.0, ap (λ t. c ∷ t) found.1)
 
 pub quote_cut : (text : List ℕ) → begins is_quote text ≡ true → IsUtf8 text → IsCharBoundary text 1
 quote_cut [] h u = cc
 quote_cut (c ∷ cs) h u = let quote : c ≡ 34 = eqb-true c 34 h in cut_behind (c ∷ cs) (c ∷ []) cs refl (rw quote) u
 
-pub read_is : (text : List ℕ) → begins is_quote text ≡ true → read_string text ≡ string_from false (drop 1 text)
+pub read_is : (text : List ℕ) → begins is_quote text ≡ true → read_string text ≡ string_from (drop 1 text)
 read_is [] h = cc
 read_is (c ∷ cs) h = rw h
 
-pub string_begins : (text content rest : List ℕ) → begins is_quote text ≡ true → string_from false (drop 1 text) ≡ Some (content, rest) → length content ≤ 1024 → Begins (Some (kinds.Text content)) text rest
+pub string_begins : (text content rest : List ℕ) → begins is_quote text ≡ true → string_from (drop 1 text) ≡ Some (content, rest) → length content ≤ 1024 → Begins (Some (kinds.Text content)) text rest
 string_begins [] content rest h r short = cc
 string_begins (c ∷ cs) content rest h r short =
-    let found : (front : List ℕ) × (cs ≡ front ++ rest) = string_front false cs content rest r in
+    let found : (front : List ℕ) × (cs ≡ front ++ rest) = string_front cs content rest r in
     record {
       spelling = c ∷ found.0;
       split = ap (λ t. c ∷ t) found.1;
@@ -65,5 +69,5 @@ string_begins (c ∷ cs) content rest h r short =
       stands = record { read = rw (← found.1, h) r; short = short };
     }
 
-pub long_content : (text content rest : List ℕ) → begins is_quote text ≡ true → string_from false (drop 1 text) ≡ Some (content, rest) → nat_le (length content) 1024 ≡ false → IsTooLong text
-long_content text content rest h r long = long_string content rest (read_is text h ∙ r) (leb-false (length content) 1024 long)
+pub long_content : (text content rest : List ℕ) → begins is_quote text ≡ true → string_from (drop 1 text) ≡ Some (content, rest) → nat_le (length content) 1024 ≡ false → IsFaulty TooLong text
+long_content text content rest h r long = IsFaulty.string h (ap string_fault (read_is text h ∙ r) ∙ rw long)

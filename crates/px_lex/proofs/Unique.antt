@@ -4,8 +4,9 @@ use Rattle.px_lex.specs.declared.fault.LexFault.{LexFault}
 use Rattle.px_lex.specs.declared.fault.LexFault.TheVariants as faults
 use Rattle.px_lex.specs.declared.token.Token.{Token}
 use Rattle.px_lex.specs.declared.token.TokenKind.{TokenKind}
-use Rattle.px_lex.specs.Splits.{Piece, spelled, AllStand, token_at, tokens_from, Splits, IsFault, FirstFault}
-use Rattle.px_lex.proofs.Fronts.{Front, nothing, piece, bad, real, too_long, front, stands_front, bad_front, real_front, too_long_front}
+use Rattle.px_lex.specs.Fault.{FaultKind, Bad, Real, TooLong, IsFaulty}
+use Rattle.px_lex.specs.Lexer.{Piece, spelled, AllStand, token_at, tokens_from, Splits, IsFault, FirstFault, Begins}
+use Rattle.px_lex.proofs.Fronts.{Front, nothing, piece, faulty, front, stands_front, fault_front}
 
 -- neither a gap nor a token stands at the front
 abbrev Stops : List ℕ → Type 0
@@ -45,19 +46,16 @@ agree at (p ∷ ps) (q ∷ qs) r s e sp sq stop_r stop_s =
 end_stops : Stops []
 end_stops = λ kind rest h. cc
 
-fault_stops : (fault : LexFault) (place : ℕ) (rest : List ℕ) → fault ≢ faults.NoMemory → IsFault fault place rest → Stops rest
-fault_stops (faults.Bad at) place rest some f = λ kind behind h. ends_bad (sym (bad_front rest f.1) ∙ h)
+faulty_stops : (kind : FaultKind) (rest : List ℕ) → IsFaulty kind rest → Stops rest
+faulty_stops kind rest f = λ piece_kind behind h. ends (sym (fault_front kind rest f) ∙ h)
   where
-    ends_bad : {kind : Option TokenKind} {behind : List ℕ} → bad ≡ piece kind behind → ⊥
-    ends_bad h = cc
-fault_stops (faults.Real at) place rest some f = λ kind behind h. ends_real (sym (real_front rest f.1) ∙ h)
-  where
-    ends_real : {kind : Option TokenKind} {behind : List ℕ} → real ≡ piece kind behind → ⊥
-    ends_real h = cc
-fault_stops (faults.TooLong at) place rest some f = λ kind behind h. ends_long (sym (too_long_front rest f.1) ∙ h)
-  where
-    ends_long : {kind : Option TokenKind} {behind : List ℕ} → too_long ≡ piece kind behind → ⊥
-    ends_long h = cc
+    ends : {piece_kind : Option TokenKind} {behind : List ℕ} → faulty kind ≡ piece piece_kind behind → ⊥
+    ends h = cc
+
+pub fault_stops : (fault : LexFault) (place : ℕ) (rest : List ℕ) → fault ≢ faults.NoMemory → IsFault fault place rest → Stops rest
+fault_stops (faults.Bad at) place rest some f = faulty_stops Bad rest f.1
+fault_stops (faults.Real at) place rest some f = faulty_stops Real rest f.1
+fault_stops (faults.TooLong at) place rest some f = faulty_stops TooLong rest f.1
 fault_stops faults.NoMemory place rest some f = absurd (some refl)
 
 pub one_way : (text : List ℕ) (a b : List Token) → Splits text a → Splits text b → a ≡ b
@@ -66,10 +64,13 @@ one_way text a b s t =
     s.listed ∙ (agree 0 s.pieces t.pieces [] [] both s.stand t.stand end_stops end_stops).tokens ∙ sym t.listed
 
 -- no fault stands at the end
+not_at_end : (kind : FaultKind) → IsFaulty kind [] → ⊥
+not_at_end kind f = let h : nothing ≡ faulty kind = fault_front kind [] f in cc
+
 no_fault_at_end : (fault : LexFault) (place : ℕ) → fault ≢ faults.NoMemory → IsFault fault place [] → ⊥
-no_fault_at_end (faults.Bad at) place some f = let h : nothing ≡ bad = bad_front [] f.1 in cc
-no_fault_at_end (faults.Real at) place some f = let h : nothing ≡ real = real_front [] f.1 in cc
-no_fault_at_end (faults.TooLong at) place some f = let h : nothing ≡ too_long = too_long_front [] f.1 in cc
+no_fault_at_end (faults.Bad at) place some f = not_at_end Bad f.1
+no_fault_at_end (faults.Real at) place some f = not_at_end Real f.1
+no_fault_at_end (faults.TooLong at) place some f = not_at_end TooLong f.1
 no_fault_at_end faults.NoMemory place some f = some refl
 
 pub no_fault : (text : List ℕ) (tokens : List Token) (fault : LexFault) → Splits text tokens → fault ≢ faults.NoMemory → FirstFault text fault → ⊥
@@ -78,15 +79,19 @@ no_fault text tokens fault s some f =
     let found : Agree 0 s.pieces f.pieces [] f.rest = agree 0 s.pieces f.pieces [] f.rest both s.stand f.stand end_stops (fault_stops fault (length (spelled f.pieces)) f.rest some f.there) in
     no_fault_at_end fault (length (spelled f.pieces)) some (subst (λ r. IsFault fault (length (spelled f.pieces)) r) (sym found.rest) f.there)
 
+-- two faults at one place are of one kind
+same_kind : (f g : FaultKind) (rest : List ℕ) → IsFaulty f rest → IsFaulty g rest → faulty f ≡ faulty g
+same_kind f g rest a b = sym (fault_front f rest a) ∙ fault_front g rest b
+
 same_fault : (f g : LexFault) (place : ℕ) (rest : List ℕ) → f ≢ faults.NoMemory → g ≢ faults.NoMemory → IsFault f place rest → IsFault g place rest → f ≡ g
 same_fault (faults.Bad m) (faults.Bad n) place rest hf hg a b = ap (λ at. faults.Bad at) (a.0 ∙ sym b.0)
-same_fault (faults.Bad m) (faults.Real n) place rest hf hg a b = let h : bad ≡ real = sym (bad_front rest a.1) ∙ real_front rest b.1 in cc
-same_fault (faults.Bad m) (faults.TooLong n) place rest hf hg a b = let h : bad ≡ too_long = sym (bad_front rest a.1) ∙ too_long_front rest b.1 in cc
-same_fault (faults.Real m) (faults.Bad n) place rest hf hg a b = let h : bad ≡ real = sym (bad_front rest b.1) ∙ real_front rest a.1 in cc
+same_fault (faults.Bad m) (faults.Real n) place rest hf hg a b = let h : faulty Bad ≡ faulty Real = same_kind _ _ rest a.1 b.1 in cc
+same_fault (faults.Bad m) (faults.TooLong n) place rest hf hg a b = let h : faulty Bad ≡ faulty TooLong = same_kind _ _ rest a.1 b.1 in cc
+same_fault (faults.Real m) (faults.Bad n) place rest hf hg a b = let h : faulty Real ≡ faulty Bad = same_kind _ _ rest a.1 b.1 in cc
 same_fault (faults.Real m) (faults.Real n) place rest hf hg a b = ap (λ at. faults.Real at) (a.0 ∙ sym b.0)
-same_fault (faults.Real m) (faults.TooLong n) place rest hf hg a b = let h : real ≡ too_long = sym (real_front rest a.1) ∙ too_long_front rest b.1 in cc
-same_fault (faults.TooLong m) (faults.Bad n) place rest hf hg a b = let h : bad ≡ too_long = sym (bad_front rest b.1) ∙ too_long_front rest a.1 in cc
-same_fault (faults.TooLong m) (faults.Real n) place rest hf hg a b = let h : real ≡ too_long = sym (real_front rest b.1) ∙ too_long_front rest a.1 in cc
+same_fault (faults.Real m) (faults.TooLong n) place rest hf hg a b = let h : faulty Real ≡ faulty TooLong = same_kind _ _ rest a.1 b.1 in cc
+same_fault (faults.TooLong m) (faults.Bad n) place rest hf hg a b = let h : faulty TooLong ≡ faulty Bad = same_kind _ _ rest a.1 b.1 in cc
+same_fault (faults.TooLong m) (faults.Real n) place rest hf hg a b = let h : faulty TooLong ≡ faulty Real = same_kind _ _ rest a.1 b.1 in cc
 same_fault (faults.TooLong m) (faults.TooLong n) place rest hf hg a b = ap (λ at. faults.TooLong at) (a.0 ∙ sym b.0)
 same_fault faults.NoMemory g place rest hf hg a b = absurd (hf refl)
 same_fault f faults.NoMemory place rest hf hg a b = absurd (hg refl)
@@ -97,3 +102,9 @@ one_fault text f g hf hg a b =
     let found : Agree 0 a.pieces b.pieces a.rest b.rest = agree 0 a.pieces b.pieces a.rest b.rest both a.stand b.stand (fault_stops f (length (spelled a.pieces)) a.rest hf a.there) (fault_stops g (length (spelled b.pieces)) b.rest hg b.there) in
     let long : length (spelled a.pieces) ≡ length (spelled b.pieces) = omega (arith, ap length both, ap length found.rest, length-append (spelled a.pieces) a.rest, length-append (spelled b.pieces) b.rest) in
     same_fault f g (length (spelled b.pieces)) b.rest hf hg (subst (λ r. IsFault f (length (spelled b.pieces)) r) found.rest (subst (λ n. IsFault f n a.rest) long a.there)) b.there
+
+-- where a fault stands neither a gap nor a token begins
+pub no_piece : (text : List ℕ) (fault : LexFault) (place : ℕ) (kind : Option TokenKind) (rest : List ℕ)
+    → fault ≢ faults.NoMemory → IsFault fault place text → Begins kind text rest → ⊥
+no_piece text fault place kind rest some f b =
+    fault_stops fault place text some f kind rest (ap front b.split ∙ stands_front kind b.spelling rest b.stands)

@@ -2,8 +2,8 @@
 ghost use Rattle.std.specs.Prelude.{◌≡◌, ◌++◌, List, ℕ, codes, IsTrue, IfOk, IfErr};
 ghost use Rattle.std.specs.List.{prefix_len};
 ghost use Rattle.std.specs.Option.{option_copied};
-ghost use Rattle.px_lex.specs.Gaps.{begins, is_white_space, is_in_line, after_close};
-ghost use Rattle.px_lex.specs.Splits.{Begins, IsFault};
+ghost use Rattle.px_lex.specs.Gap.{begins, is_white_space, is_in_line, after_close};
+ghost use Rattle.px_lex.specs.Lexer.{Begins, IsFault};
 
 use crate::fault::LexFault;
 

@@ -1,9 +1,9 @@
 // The lexer: a loop over the pieces of a text, each told by its first bytes.
 ghost use Rattle.std.specs.Prelude.{◌≡◌, ◌<◌, false, length, take, IsTrue, IfOk, IfErr, IfSome, IfNone, OnSome};
-ghost use Rattle.px_lex.specs.Gaps.{begins};
-ghost use Rattle.px_lex.specs.Signs.{sign_of, opens_comment};
-ghost use Rattle.px_lex.specs.Splits.{Begins, IsFault, Splits, FirstFault};
-ghost use Rattle.px_lex.specs.Faults.{is_other};
+ghost use Rattle.px_lex.specs.Gap.{begins};
+ghost use Rattle.px_lex.specs.Sign.{sign_of, opens_comment};
+ghost use Rattle.px_lex.specs.Lexer.{Begins, IsFault, Splits, FirstFault};
+ghost use Rattle.px_lex.specs.Fault.{is_other};
 
 use crate::fault::LexFault;
 use crate::gap::{behind_blank, behind_comment, behind_line};

@@ -1,7 +1,7 @@
 //! Splits a plan's text into tokens, or names the first place where none begins.
 //!
 //! `lexer` goes over the pieces of a text; `gap`, `word`, `number` and `string` read one piece each, and
-//! `keyword` and `sign` are the tables of spellings. `specs/Splits.antt` says what it is to split.
+//! `keyword` and `sign` are the tables of spellings. `specs/Lexer.antt` says what it is to split.
 #![tactic(auto)]
 
 mod fault;

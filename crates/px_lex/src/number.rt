@@ -3,10 +3,10 @@ ghost use Rattle.std.specs.Prelude.{◌≡◌, ◌≤◌, ◌<◌, ◌^◌, pos,
 ghost use Rattle.std.specs.List.{list_all};
 ghost use Rattle.std.specs.Char.{digit_value};
 ghost use Rattle.std.specs.Str.Parse.{digits_value};
-ghost use Rattle.px_value.specs.Names.{is_digit};
-ghost use Rattle.px_lex.specs.Gaps.{begins};
-ghost use Rattle.px_lex.specs.Numbers.{is_numeral, numeral, number_of, is_fraction};
-ghost use Rattle.px_lex.specs.Splits.{Begins, IsFault};
+ghost use Rattle.px_value.specs.Name.{is_digit};
+ghost use Rattle.px_lex.specs.Gap.{begins};
+ghost use Rattle.px_lex.specs.Number.{is_numeral, numeral, number_of, is_fraction};
+ghost use Rattle.px_lex.specs.Lexer.{Begins, IsFault};
 
 use crate::fault::LexFault;
 use crate::token::TokenKind;

@@ -1,6 +1,6 @@
 // The signs, each with its spelling in one row of one table.
 ghost use Rattle.std.specs.Prelude.{◌≡◌};
-ghost use Rattle.px_lex.specs.Signs.{sign_of};
+ghost use Rattle.px_lex.specs.Sign.{sign_of};
 
 use crate::table::row_of;
 

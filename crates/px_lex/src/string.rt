@@ -1,9 +1,10 @@
 // Strings and their escapes.
 ghost use Rattle.std.specs.Prelude.{◌≡◌, false, string_bytes, IsTrue, IfOk, IfErr};
 ghost use Rattle.std.specs.Option.{option_map};
-ghost use Rattle.px_lex.specs.Gaps.{begins};
-ghost use Rattle.px_lex.specs.Splits.{Begins, IsFault};
-ghost use Rattle.px_lex.specs.Strings.{is_quote, escaped, string_from};
+ghost use Rattle.px_value.specs.Text.{escaped};
+ghost use Rattle.px_lex.specs.Gap.{begins};
+ghost use Rattle.px_lex.specs.Lexer.{Begins, IsFault};
+ghost use Rattle.px_lex.specs.String.{is_quote, string_from};
 
 use crate::fault::LexFault;
 use crate::token::TokenKind;
@@ -27,7 +28,7 @@ fn escaped(c: char) -> Option<char>
 /// None where the string isn't closed, or holds what it may not.
 fn string_from<'a>(alloc: Global, text: &'a str) -> Result<Option<(String, &'a str)>, AllocError>
     ensures { IfOk result (λ read.
-        option_map (λ r. (string_bytes r.0, r.1.now)) read ≡ string_from false text.entry.now) }
+        option_map (λ r. (string_bytes r.0, r.1.now)) read ≡ string_from text.entry.now) }
 {
     let mut content = String::new(alloc);
     let mut escape = false;

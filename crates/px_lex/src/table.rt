@@ -1,6 +1,6 @@
 // Tables of spellings.
 ghost use Rattle.std.specs.Prelude.{◌≡◌, map};
-ghost use Rattle.px_lex.specs.Tables.{row_of};
+ghost use Rattle.px_lex.specs.Table.{row_of};
 
 /// What the first row with this spelling stands for.
 pub(crate) fn row_of<K: Copy>(mut table: &[(&[u8], K)], spelling: &[u8]) -> Option<K>

@@ -1,10 +1,11 @@
 // Words: identifiers and keywords.
 ghost use Rattle.std.specs.Prelude.{◌≡◌, ◌++◌, false, IsTrue, IfOk, IfErr};
 ghost use Rattle.std.specs.List.{list_all, prefix_len};
-ghost use Rattle.px_value.specs.Names.{begins_identifier, continues_identifier};
-ghost use Rattle.px_lex.specs.Gaps.{begins};
-ghost use Rattle.px_lex.specs.Splits.{Begins, IsFault};
-ghost use Rattle.px_lex.specs.Words.{keyword_of, is_real_type};
+ghost use Rattle.px_value.specs.Name.{begins_identifier, continues_identifier};
+ghost use Rattle.px_lex.specs.Gap.{begins};
+ghost use Rattle.px_lex.specs.Lexer.{Begins, IsFault};
+ghost use Rattle.px_lex.specs.Keyword.{keyword_of};
+ghost use Rattle.px_lex.specs.Word.{is_real_type};
 
 use crate::fault::LexFault;
 use crate::keyword::{KEYWORDS, Keyword};

@@ -7,7 +7,7 @@ use Rattle.std.proofs.lemmas.Bool.{cases_Bool, false≢true}
 use Rattle.std.proofs.lemmas.Int.{ints, quot-rem}
 use Rattle.std.proofs.Math.Nat.{mod-le}
 use Rattle.px_value.specs.Arithmetic.{fits_32_bits, value_arith, value_add}
-use Rattle.px_value.specs.Values.{is_known}
+use Rattle.px_value.specs.Value.{is_known}
 use Rattle.px_value.specs.declared.arithmetic.ArithOp.TheVariants.{Over, Rest, Times}
 use Rattle.px_value.specs.declared.value.Value.TheVariants as values
 use Rattle.px_value.proofs.Integers.{fits_from}

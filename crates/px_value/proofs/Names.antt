@@ -6,7 +6,7 @@ use Rattle.std.proofs.lemmas.Bool.{and_from, le-leb}
 use Rattle.std.proofs.lemmas.Bool.Decides.{nat_tests}
 use Rattle.std.proofs.lemmas.Fmt.{decimal_by_steps, decimal_nonempty, length-decimal-le}
 use Rattle.std.proofs.lemmas.List.Folds.{list_all-append}
-use Rattle.px_value.specs.Names.{is_letter_or_digit, is_generated, generated_name, is_name}
+use Rattle.px_value.specs.Name.{is_letter_or_digit, is_generated, generated_name, is_name}
 
 digit_passes : (d : ℕ) → d < 10 → is_letter_or_digit (48 + d) ≡ true
 digit_passes d small = grind (arith, nat_tests)

@@ -5,7 +5,8 @@ use Rattle.std.specs.List.{list_all}
 use Rattle.std.proofs.lemmas.Bool.{and_parts, or_cases, cases_Bool, and_from, not-true, false≢true, le-leb}
 use Rattle.std.proofs.lemmas.Bool.Decides.{nat_tests}
 use Rattle.std.proofs.lemmas.List.Folds.{list_all-append}
-use Rattle.px_value.specs.Names.{is_letter_or_digit, begins_identifier, continues_identifier, is_identifier, is_generated, is_name, below, pieces, is_path}
+use Rattle.px_value.specs.Name.{is_letter_or_digit, begins_identifier, continues_identifier, is_identifier, is_generated, is_name}
+use Rattle.px_value.specs.Path.{below, pieces, is_path}
 
 -- none of the bytes is a dot
 abbrev pub is_dotless : List ℕ → Bool

@@ -6,7 +6,7 @@ use Rattle.px_value.specs.declared.value.Value.{Value}
 use Rattle.px_value.specs.declared.value.Value.TheVariants as values
 use Rattle.px_value.specs.declared.arithmetic.ArithOp.{ArithOp}
 use Rattle.px_value.specs.declared.arithmetic.ArithOp.TheVariants.{Minus, Times, Over, Rest, Min, Max}
-use Rattle.px_value.specs.Texts.{is_short_text}
+use Rattle.px_value.specs.Text.{is_short_text}
 
 -- a number that may be missing, as a value
 abbrev pub integer_of : Option ℤ → Value

@@ -1,7 +1,8 @@
-pub mod Names
-pub mod Texts
-pub mod Words
-pub mod Values
+pub mod Name
+pub mod Path
+pub mod Text
+pub mod Enums
+pub mod Value
 pub mod Truth
 pub mod Comparison
 pub mod Arithmetic

@@ -1,6 +1,6 @@
 // Places in an array.
 ghost use Rattle.std.specs.Prelude.{◌≡◌};
-ghost use Rattle.px_value.specs.Values.{value_index};
+ghost use Rattle.px_value.specs.Value.{value_index};
 
 use crate::value::Value;
 

@@ -45,7 +45,7 @@ pub enum Handle {
 }
 
 impl NodeState {
-    ghost use Rattle.px_value.specs.Words.{state_word};
+    ghost use Rattle.px_value.specs.Enums.{state_word};
 
     /// The state's name in plans, traces and scripts.
     pub fn word(self) -> &'static str
@@ -64,7 +64,7 @@ impl NodeState {
 }
 
 impl Outcome {
-    ghost use Rattle.px_value.specs.Words.{outcome_word};
+    ghost use Rattle.px_value.specs.Enums.{outcome_word};
 
     /// The outcome's name in plans, traces and scripts.
     pub fn word(self) -> &'static str
@@ -80,7 +80,7 @@ impl Outcome {
 }
 
 impl Failure {
-    ghost use Rattle.px_value.specs.Words.{failure_word};
+    ghost use Rattle.px_value.specs.Enums.{failure_word};
 
     /// The failure's name in plans, traces and scripts.
     pub fn word(self) -> &'static str
@@ -98,7 +98,7 @@ impl Failure {
 }
 
 impl Handle {
-    ghost use Rattle.px_value.specs.Words.{handle_word};
+    ghost use Rattle.px_value.specs.Enums.{handle_word};
 
     /// The handle's name in plans, traces and scripts.
     pub fn word(self) -> &'static str

@@ -3,7 +3,7 @@ ghost use Rattle.std.specs.Prelude.{◌≡◌, ◌≢◌, pos, true, IsTrue};
 ghost use Rattle.px_value.specs.Arithmetic.{value_arith, value_add};
 ghost use Rattle.px_value.specs.Comparison.{value_compare};
 ghost use Rattle.px_value.specs.Truth.{value_and, value_or, value_xor, value_not};
-ghost use Rattle.px_value.specs.Values.{is_known};
+ghost use Rattle.px_value.specs.Value.{is_known};
 
 use crate::arithmetic::ArithOp;
 use crate::comparison::CompareOp;

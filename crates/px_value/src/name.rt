@@ -6,7 +6,7 @@ ghost use Rattle.std.specs.Cmp.Rules.{hashing};
 ghost use Rattle.std.specs.Hash as fed;
 ghost use Rattle.std.proofs.Common.{rules};
 ghost use Rattle.std.specs.List.{list_all};
-ghost use Rattle.px_value.specs.Names.{is_digit, is_letter, is_letter_or_digit, begins_identifier, continues_identifier, is_identifier, is_generated, generated_name, is_name};
+ghost use Rattle.px_value.specs.Name.{is_digit, is_letter, is_letter_or_digit, begins_identifier, continues_identifier, is_identifier, is_generated, generated_name, is_name};
 ghost use Rattle.px_value.specs.declared.name.NameFault.TheVariants.{NoMemory as OutOfMemory};
 
 use itoa::Buffer;
@@ -44,7 +44,7 @@ pub struct Name {
 
 impl Model for Name {
     ghost use Rattle.std.specs.Prelude.{ℕ, List, IsTrue, string_bytes};
-    ghost use Rattle.px_value.specs.Names.{is_name};
+    ghost use Rattle.px_value.specs.Name.{is_name};
 
     ghost Value = { List ℕ };
 

@@ -6,7 +6,8 @@ ghost use Rattle.std.specs.Cmp.Rules.{hashing};
 ghost use Rattle.std.specs.List.{list_all};
 ghost use Rattle.std.specs.Hash as fed;
 ghost use Rattle.std.proofs.Common.{rules};
-ghost use Rattle.px_value.specs.Names.{is_name, pieces, is_path, below};
+ghost use Rattle.px_value.specs.Name.{is_name};
+ghost use Rattle.px_value.specs.Path.{pieces, is_path, below};
 ghost use Rattle.px_value.specs.declared.path.PathFault.TheVariants.{NoMemory as OutOfMemory};
 
 use crate::name::{Name, is_name};
@@ -44,7 +45,7 @@ pub struct Path {
 
 impl Model for Path {
     ghost use Rattle.std.specs.Prelude.{ℕ, List, IsTrue, string_bytes};
-    ghost use Rattle.px_value.specs.Names.{is_path};
+    ghost use Rattle.px_value.specs.Path.{is_path};
 
     ghost Value = { List ℕ };
 

@@ -5,7 +5,7 @@ ghost use Rattle.std.specs.Cmp.Lexicographic.{pointwise, nat_list_eq_equiv};
 ghost use Rattle.std.specs.Cmp.Rules.{hashing};
 ghost use Rattle.std.specs.Hash as fed;
 ghost use Rattle.std.proofs.Common.{rules};
-ghost use Rattle.px_value.specs.Texts.{is_short_text};
+ghost use Rattle.px_value.specs.Text.{is_short_text};
 ghost use Rattle.px_value.specs.declared.text.TextFault.TheVariants.{NoMemory as OutOfMemory};
 
 use std::alloc::{AllocError, Global};
@@ -42,7 +42,7 @@ pub struct Text {
 
 impl Model for Text {
     ghost use Rattle.std.specs.Prelude.{ℕ, List, IsTrue, string_bytes};
-    ghost use Rattle.px_value.specs.Texts.{is_short_text};
+    ghost use Rattle.px_value.specs.Text.{is_short_text};
 
     ghost Value = { List ℕ };
 

@@ -19,7 +19,7 @@ pub enum Value {
 }
 
 impl Value {
-    ghost use Rattle.px_value.specs.Values.{is_known};
+    ghost use Rattle.px_value.specs.Value.{is_known};
 
     /// Whether the value isn't UNKNOWN.
     pub fn is_known(&self) -> bool

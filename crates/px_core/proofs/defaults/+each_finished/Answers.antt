@@ -1,7 +1,7 @@
 use Rattle.std.proofs.Common.{◌≡◌, ◌∙◌, ◌/◌, ap, sym, length, take, drop}
-use Rattle.px_core.proofs.Halves.{none_finished, one_finished, halves_finished}
+use Rattle.px_core.proofs.Finished.{none_finished, one_finished, halves_finished}
 use Rattle.px_core.specs.Defaults.{each_finished}
-use Rattle.px_core.specs.Terms.{term_of}
+use Rattle.px_core.specs.Expr.{term_of}
 use Rattle.px_core.proofs.defaults.+each_finished.Goals as goal
 
 pub returns-in-empty : goal.returns-in-empty

@@ -1,5 +1,5 @@
 use Rattle.std.proofs.Common.{◌≡◌, ◌∙◌, ap, sym}
-use Rattle.px_core.specs.Terms.{term_of}
+use Rattle.px_core.specs.Expr.{term_of}
 use Rattle.px_form.specs.Core.{given_or, question_term}
 use Rattle.px_form.proofs.Cores.{given_none, given_here, given_later}
 use Rattle.px_form.proofs.block.given_or.Goals as goal

@@ -1,5 +1,5 @@
 use Rattle.std.proofs.Common.{◌≡◌, drop}
-use Rattle.px_core.specs.Terms.{term_of}
+use Rattle.px_core.specs.Expr.{term_of}
 use Rattle.px_form.specs.Core.{given_or}
 use Rattle.px_form.proofs.block.given_or.Given as goal
 

@@ -1,6 +1,6 @@
 use Rattle.std.proofs.Common.{◌≡◌, ◌∙◌, refl, sym, ap, true, rules}
 use Rattle.std.proofs.lemmas.Bool.{both_ways}
-use Rattle.px_value.specs.Names.{is_name}
+use Rattle.px_value.specs.Name.{is_name}
 use Rattle.px_form.specs.FirstForm.{is_label}
 use Rattle.px_form.proofs.Names.{label_utf8, label_name}
 use Rattle.px_form.proofs.labels.label.Goals as goal

@@ -1,5 +1,5 @@
 use Rattle.std.proofs.Common.{◌≡◌, length}
-use Rattle.px_lex.specs.Gaps.{after_close}
+use Rattle.px_lex.specs.Gap.{after_close}
 use Rattle.px_lex.proofs.gap.after_close.Given as goal
 
 abbrev pub invariant-loop-text : goal.invariant-loop-text

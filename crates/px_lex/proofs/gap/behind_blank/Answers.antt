@@ -1,4 +1,4 @@
-use Rattle.px_lex.proofs.GapSteps.{blank_cut, blank_begins}
+use Rattle.px_lex.proofs.Gaps.{blank_cut, blank_begins}
 use Rattle.px_lex.proofs.gap.behind_blank.Goals as goal
 
 pub range_from-requires : goal.range_from-requires

@@ -1,7 +1,7 @@
 use Rattle.std.proofs.Common.{◌≡◌, sym, refl, Some, None}
-use Rattle.px_lex.specs.Gaps.{after_close}
-use Rattle.px_lex.specs.Faults.{open_comment}
-use Rattle.px_lex.proofs.GapSteps.{behind_opening, comment_cut, comment_begins}
+use Rattle.px_lex.specs.Gap.{after_close}
+use Rattle.px_lex.specs.Fault.{IsFaulty}
+use Rattle.px_lex.proofs.Gaps.{behind_opening, comment_cut, comment_begins}
 use Rattle.px_lex.proofs.gap.behind_comment.Goals as goal
 
 pub overflow_sub-text : goal.overflow_sub-text
@@ -22,4 +22,4 @@ returns-in-Some-clause-ok c =
 pub returns-in-None-clause-fault : goal.returns-in-None-clause-fault
 returns-in-None-clause-fault c =
     let unclosed : after_close c.requires.0 ≡ None = sym (rw (c.as_bytes.ensures.value, behind_opening c.args.text.now c.requires.0 c.requires.1) at c.in-None.ensures) in
-    (refl, open_comment c.requires.0 c.requires.1 unclosed)
+    (refl, IsFaulty.comment c.requires.0 refl c.requires.1 unclosed)

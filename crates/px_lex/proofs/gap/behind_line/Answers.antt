@@ -1,4 +1,4 @@
-use Rattle.px_lex.proofs.GapSteps.{line_cut, line_begins}
+use Rattle.px_lex.proofs.Gaps.{line_cut, line_begins}
 use Rattle.px_lex.proofs.gap.behind_line.Goals as goal
 
 pub range_from-requires : goal.range_from-requires

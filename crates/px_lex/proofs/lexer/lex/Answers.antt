@@ -1,6 +1,6 @@
 use Rattle.std.proofs.Common.{◌-◌, length, refl, rules}
 use Rattle.std.proofs.lemmas.Result.{err_from_is_err_and}
-use Rattle.px_lex.proofs.PieceSteps.{step_gap, step_token, fail}
+use Rattle.px_lex.proofs.Pieces.{step_gap, step_token, fail}
 use Rattle.px_lex.proofs.lexer.lex.Goals as goal
 
 pub returns-in_err-kind-clause-fault : goal.returns-in_err-kind-clause-fault

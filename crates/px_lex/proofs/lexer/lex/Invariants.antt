@@ -1,6 +1,6 @@
 use Rattle.std.proofs.Common.{length}
 use Rattle.std.specs.Str.{IsUtf8}
-use Rattle.px_lex.proofs.PieceSteps.{SoFar}
+use Rattle.px_lex.proofs.Pieces.{SoFar}
 use Rattle.px_lex.proofs.lexer.lex.Given as goal
 
 abbrev pub invariant-loop-rest : goal.invariant-loop-rest

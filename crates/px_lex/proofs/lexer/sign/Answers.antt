@@ -1,6 +1,6 @@
 use Rattle.std.proofs.Common.{◌≡◌, refl, sym, Some, None, take}
-use Rattle.px_lex.specs.Signs.{sign_of}
-use Rattle.px_lex.proofs.SignSteps.{some_byte, two_cut, two_begins, one_cut, one_begins, none_begins}
+use Rattle.px_lex.specs.Sign.{sign_of}
+use Rattle.px_lex.proofs.Signs.{some_byte, two_cut, two_begins, one_cut, one_begins, none_begins}
 use Rattle.px_lex.proofs.lexer.sign.Goals as goal
 
 pub range_from-requires : goal.range_from-requires

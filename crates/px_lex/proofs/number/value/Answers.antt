@@ -1,4 +1,4 @@
-use Rattle.px_lex.proofs.NumberSteps.{parsed}
+use Rattle.px_lex.proofs.Numbers.{parsed}
 use Rattle.px_lex.proofs.number.value.Goals as goal
 
 pub returns : goal.returns

@@ -1,8 +1,8 @@
 use Rattle.std.proofs.Common.{◌≡◌, sym, None, ◌++◌, rules}
 use Rattle.std.specs.String.{string_bytes}
 use lib.Utf8.{encode}
-use Rattle.px_lex.specs.Strings.{escaped}
-use Rattle.px_lex.proofs.StringSteps.{no_such_escape, an_escape, the_quote, a_line_end, another, the_end}
+use Rattle.px_value.specs.Text.{escaped}
+use Rattle.px_lex.proofs.Strings.{no_such_escape, an_escape, the_quote, a_line_end, another, the_end}
 use Rattle.px_lex.proofs.string.string_from.Goals as goal
 
 pub returns-in_default-escaped : goal.returns-in_default-escaped

@@ -1,5 +1,5 @@
 use Rattle.std.proofs.Common.{◌≡◌, length, map}
-use Rattle.px_lex.specs.Tables.{row_of}
+use Rattle.px_lex.specs.Table.{row_of}
 use Rattle.px_lex.proofs.table.row_of.Given as goal
 
 abbrev pub invariant-loop-table : goal.invariant-loop-table

@@ -1,4 +1,4 @@
-use Rattle.px_value.specs.Names.{continues_identifier}
+use Rattle.px_value.specs.Name.{continues_identifier}
 use Rattle.px_lex.proofs.Cuts.{cut_run}
 use Rattle.px_lex.proofs.Spans.{taken_pass, left_stops}
 use Rattle.px_lex.proofs.word.split_run.Goals as goal

@@ -1,7 +1,7 @@
 use Rattle.std.proofs.Common.{rules, tests, ◌==◌}
 use Rattle.std.proofs.lemmas.Iterator.Search.{all_from_yields_List}
 use Rattle.std.proofs.lemmas.Iterator.Splits.{YieldsList-from_slice_split}
-use Rattle.px_value.specs.Names.{is_name}
+use Rattle.px_value.specs.Name.{is_name}
 use Rattle.px_value.proofs.path.pieces_are_names.Goals as goal
 
 pub returns : goal.returns

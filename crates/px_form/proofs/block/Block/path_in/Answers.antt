@@ -1,5 +1,5 @@
 use Rattle.std.proofs.Common.{◌∙◌, ◌≤◌, ap, length, arith}
-use Rattle.px_value.specs.Names.{is_name}
+use Rattle.px_value.specs.Name.{is_name}
 use Rattle.px_form.proofs.Cores.{name_limit}
 use Rattle.px_form.proofs.block.Block.path_in.Goals as goal
 

@@ -1,6 +1,6 @@
 use Rattle.std.proofs.Common.{◌≡◌, suc, ◌+◌, ◌≤◌, ◌<◌, true, false, length, nat_lt, lt-ltb, le-ltb, arith, rules}
 use Rattle.px_form.specs.Drafts.{forest}
-use Rattle.px_value.specs.Names.{generated_name}
+use Rattle.px_value.specs.Name.{generated_name}
 use Rattle.px_form.specs.Reading.{size_of}
 use Rattle.px_form.proofs.Forests.{forest_size}
 use Rattle.px_form.proofs.draft.Draft.open_unlabelled.Goals as goal

@@ -1,7 +1,7 @@
 use Rattle.std.proofs.lemmas.Grind.{common_steps}
 use Rattle.std.proofs.Common.{◌≡◌, arith}
 use Rattle.std.specs.String.{string_bytes}
-use Rattle.px_value.specs.Names.{below}
+use Rattle.px_value.specs.Path.{below}
 use Rattle.px_value.proofs.Paths.{child_is_path}
 use Rattle.px_value.proofs.path.Path.child.Goals as goal
 

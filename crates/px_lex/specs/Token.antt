@@ -2,10 +2,11 @@
 use Rattle.std.specs.Prelude.{◌≡◌, ℕ, false, true, ◌≤◌, ◌<◌, ◌^◌, pos, List, ◌++◌, length, Some, None}
 use Rattle.px_lex.specs.declared.token.TokenKind.{TokenKind}
 use Rattle.px_lex.specs.declared.token.TokenKind.TheVariants as kinds
-use Rattle.px_lex.specs.Words.{IsWord, keyword_of, is_real_type}
-use Rattle.px_lex.specs.Numbers.{IsNumber, number_of, is_fraction}
-use Rattle.px_lex.specs.Strings.{read_string}
-use Rattle.px_lex.specs.Signs.{sign_of, ends_sign}
+use Rattle.px_lex.specs.Keyword.{keyword_of}
+use Rattle.px_lex.specs.Word.{IsWord, is_real_type}
+use Rattle.px_lex.specs.Number.{IsNumber, number_of, is_fraction}
+use Rattle.px_lex.specs.String.{read_string}
+use Rattle.px_lex.specs.Sign.{sign_of, ends_sign}
 
 -- a name: a word that is no keyword, of at most 64 bytes
 pub record SpellsIdentifier (name spelling rest : List ℕ) : Type 0 where

@@ -7,8 +7,8 @@ use Rattle.std.proofs.lemmas.Bool.{cases_Bool, and_parts, not-false, eqb-true}
 use Rattle.std.proofs.lemmas.Bool.Decides.{nat_tests}
 use Rattle.std.proofs.lemmas.Str.{IsCharBoundary-end, IsCharBoundary-before_ascii, IsCharBoundary-after_ascii}
 use Rattle.std.proofs.Math.Seq.{take-length, drop-append_seam, get_or-append_seam}
-use Rattle.px_lex.specs.Gaps.{begins, is_white_space, is_in_line, after_close, blank, line_comment, comment}
-use Rattle.px_lex.specs.Splits.{Begins}
+use Rattle.px_lex.specs.Gap.{begins, is_white_space, is_in_line, after_close, blank, line_comment, comment}
+use Rattle.px_lex.specs.Lexer.{Begins}
 use Rattle.px_lex.proofs.Cuts.{is_ascii, cut_behind}
 use Rattle.px_lex.proofs.Spans.{Span, span}
 

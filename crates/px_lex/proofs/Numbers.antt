@@ -1,14 +1,15 @@
 -- What the standard library reads of a numeral.
-use Rattle.std.proofs.Common.{◌≡◌, ℕ, ◌<◌, ◌≤◌, ◌^◌, true, false, List, [], ◌∷◌, length, Some, None, Result, Ok, Err, arith, inl, inr}
+use Rattle.std.proofs.Common.{◌≡◌, ℕ, ◌<◌, ◌≤◌, ◌^◌, true, false, List, [], ◌∷◌, ◌++◌, length, Some, None, Result, Ok, Err, arith, inl, inr}
 use Rattle.std.specs.Prelude.{nat_lt, MatchOption, ℤ, pos, FitsSigned}
 use Rattle.std.specs.Int.{w32}
 use Rattle.std.specs.Result.{result_ok, OkIff}
 use Rattle.std.specs.Char.{digit_value}
 use Rattle.std.specs.List.{list_all}
 use Rattle.std.specs.Str.Parse.{ParsesSigned, AllDigits, digits_value, IsNumeral}
-use Rattle.std.proofs.lemmas.Bool.{and_parts, ltb-true, ne_eqb, cases_lt, false≢true}
+use Rattle.std.proofs.lemmas.Bool.{and_parts, ltb-true, le-ltb, ne_eqb, cases_lt, false≢true}
 use Rattle.std.proofs.lemmas.Bool.Decides.{nat_tests}
-use Rattle.px_lex.specs.Numbers.{is_numeral, numeral}
+use Rattle.px_lex.specs.Number.{IsNumber, is_numeral, numeral, number_of, is_fraction}
+use Rattle.px_lex.specs.Fault.{Bad, Real, TooLong, IsFaulty}
 
 all_digits : (base : ℕ) (ds : List ℕ) → list_all (λ c. nat_lt (digit_value c) base) ds ≡ true → AllDigits base ds
 all_digits base [] h = tt
@@ -42,3 +43,18 @@ numeral_none base ds h = rw h
 
 pub numeral_some : (base : ℕ) (ds : List ℕ) → is_numeral base ds ≡ true → numeral base ds ≡ Some (digits_value base ds)
 numeral_some base ds h = rw h
+
+-- ---- the faults of a number
+
+pub real_number : (text number rest : List ℕ) → text ≡ number ++ rest → IsNumber number rest → is_fraction number rest ≡ true
+    → IsFaulty Real text
+real_number text number rest split stands fraction = IsFaulty.number number rest split stands (rw fraction)
+
+pub bad_number : (text number rest : List ℕ) → text ≡ number ++ rest → IsNumber number rest → is_fraction number rest ≡ false
+    → number_of number ≡ None → IsFaulty Bad text
+bad_number text number rest split stands whole none = IsFaulty.number number rest split stands (rw (whole, none))
+
+pub large_number : (text number rest : List ℕ) (value : ℕ) → text ≡ number ++ rest → IsNumber number rest
+    → is_fraction number rest ≡ false → number_of number ≡ Some value → 2 ^ 31 ≤ value → IsFaulty TooLong text
+large_number text number rest value split stands whole some large =
+    IsFaulty.number number rest split stands (rw (whole, some, le-ltb value (2 ^ 31) large))

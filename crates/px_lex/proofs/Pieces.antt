@@ -3,7 +3,7 @@ use Rattle.std.proofs.Common.{◌≡◌, ℕ, ◌+◌, ◌-◌, List, [], ◌∷
 use Rattle.px_lex.specs.declared.fault.LexFault.{LexFault}
 use Rattle.px_lex.specs.declared.token.Token.{Token}
 use Rattle.px_lex.specs.declared.token.TokenKind.{TokenKind}
-use Rattle.px_lex.specs.Splits.{Piece, Stands, Begins, spelled, AllStand, token_at, tokens_from, Splits, IsFault, FirstFault}
+use Rattle.px_lex.specs.Lexer.{Piece, Stands, Begins, spelled, AllStand, token_at, tokens_from, Splits, IsFault, FirstFault}
 
 -- the text is pieces and a rest, and the tokens are theirs
 pub record SoFar (text rest : List ℕ) (tokens : List Token) : Type 0 where

@@ -8,11 +8,11 @@ use Rattle.std.proofs.lemmas.Bool.{and_parts, cases_Bool, leb-true}
 use Rattle.std.proofs.lemmas.Bool.Decides.{nat_tests}
 use Rattle.px_lex.specs.declared.sign.Sign.{Sign}
 use Rattle.px_lex.specs.declared.token.TokenKind.TheVariants as kinds
-use Rattle.px_lex.specs.Gaps.{begins}
-use Rattle.px_lex.specs.Tables.{row_of}
-use Rattle.px_lex.specs.Faults.{is_other, IsBad, no_sign}
-use Rattle.px_lex.specs.Signs.{sign_rows, sign_of, opens_comment, ends_sign}
-use Rattle.px_lex.specs.Splits.{Begins}
+use Rattle.px_lex.specs.Gap.{begins}
+use Rattle.px_lex.specs.Table.{row_of}
+use Rattle.px_lex.specs.Fault.{Bad, is_other, IsFaulty}
+use Rattle.px_lex.specs.Sign.{sign_rows, sign_of, opens_comment, ends_sign}
+use Rattle.px_lex.specs.Lexer.{Begins}
 use Rattle.px_lex.proofs.Cuts.{is_ascii, cut_behind}
 
 -- what holds of the spelling of each row holds of a spelling that is found
@@ -70,10 +70,10 @@ pub one_begins : (text : List ℕ) (sign : Sign) → 0 < length text → (1 < le
 one_begins [] sign long unsigned no_comment h = absurd (omega arith)
 one_begins (a ∷ cs) sign long unsigned no_comment h = record { spelling = a ∷ []; split = refl; some = omega arith; stands = (h, ends_one a cs unsigned no_comment) }
 
-pub none_begins : (text : List ℕ) → begins is_other text ≡ true → (1 < length text → sign_of (take 2 text) ≡ None) → sign_of (take 1 text) ≡ None → IsBad text
+pub none_begins : (text : List ℕ) → begins is_other text ≡ true → (1 < length text → sign_of (take 2 text) ≡ None) → sign_of (take 1 text) ≡ None → IsFaulty Bad text
 none_begins [] other unsigned h = cc
-none_begins (a ∷ []) other unsigned h = no_sign other h h
-none_begins (a ∷ b ∷ cs) other unsigned h = no_sign other h (unsigned (omega arith))
+none_begins (a ∷ []) other unsigned h = IsFaulty.other refl other h h
+none_begins (a ∷ b ∷ cs) other unsigned h = IsFaulty.other refl other h (unsigned (omega arith))
 
 pub some_byte : (text : List ℕ) → begins is_other text ≡ true → 0 < length text
 some_byte [] h = cc

@@ -2,11 +2,13 @@
 use Rattle.std.proofs.Common.{◌≡◌, ℕ, ◌<◌, ◌≤◌, true, false, ◌||◌, List, [], ◌∷◌, ◌++◌, length, sym, ◌∙◌, arith, le-leb}
 use Rattle.std.specs.Prelude.{nat_le}
 use Rattle.std.specs.List.{list_all}
-use Rattle.std.proofs.lemmas.Bool.{and_parts, and_from, or_left, or_right, false≢true}
-use Rattle.px_value.specs.Names.{begins_identifier, continues_identifier, is_digit, is_identifier, is_generated, is_name}
-use Rattle.px_lex.specs.Gaps.{begins}
-use Rattle.px_lex.specs.Words.{IsWord}
-use Rattle.px_lex.specs.Numbers.{IsNumber}
+use Rattle.std.proofs.lemmas.Bool.{and_parts, and_from, or_left, or_right, false≢true, lt-ltb, le-ltb}
+use Rattle.px_value.specs.Name.{begins_identifier, continues_identifier, is_digit, is_identifier, is_generated, is_name}
+use Rattle.px_lex.specs.Gap.{begins}
+use Rattle.px_lex.specs.Word.{IsWord}
+use Rattle.px_lex.specs.Number.{IsNumber}
+use Rattle.px_lex.specs.Word.{is_real_type}
+use Rattle.px_lex.specs.Fault.{Real, TooLong, IsFaulty}
 
 pub word_of : (text word rest : List ℕ) → begins begins_identifier text ≡ true → text ≡ word ++ rest → list_all continues_identifier word ≡ true → begins continues_identifier rest ≡ false → IsWord word rest
 word_of text [] [] first e pass stop = cc
@@ -28,3 +30,12 @@ word_is_some (c ∷ cs) rest w = omega arith
 pub word_is_name : (word rest : List ℕ) → IsWord word rest → length word ≤ 64 → is_name word ≡ true
 word_is_name word rest w short =
     and_from (is_identifier word || is_generated word) (nat_le (length word) 64) (or_left (is_identifier word) (is_generated word) w.word) (le-leb (length word) 64 short)
+
+-- ---- the faults of a word
+
+pub long_word : (text word rest : List ℕ) → text ≡ word ++ rest → IsWord word rest → 64 < length word → IsFaulty TooLong text
+long_word text word rest split stands long = IsFaulty.word word rest split stands (rw (lt-ltb 64 (length word) long))
+
+pub real_word : (text word rest : List ℕ) → text ≡ word ++ rest → IsWord word rest → length word ≤ 64 → is_real_type word ≡ true
+    → IsFaulty Real text
+real_word text word rest split stands short real = IsFaulty.word word rest split stands (rw (le-ltb 64 (length word) short, real))

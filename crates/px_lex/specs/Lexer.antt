@@ -4,9 +4,9 @@ use Rattle.px_lex.specs.declared.fault.LexFault.{LexFault}
 use Rattle.px_lex.specs.declared.fault.LexFault.TheVariants as faults
 use Rattle.px_lex.specs.declared.token.Token.{Token}
 use Rattle.px_lex.specs.declared.token.TokenKind.{TokenKind}
-use Rattle.px_lex.specs.Gaps.{IsGap}
-use Rattle.px_lex.specs.Tokens.{IsToken}
-use Rattle.px_lex.specs.Faults.{IsBad, IsReal, IsTooLong}
+use Rattle.px_lex.specs.Gap.{IsGap}
+use Rattle.px_lex.specs.Token.{IsToken}
+use Rattle.px_lex.specs.Fault.{Bad, Real, TooLong, IsFaulty}
 
 -- a gap, which has no kind, or the spelling of a token
 pub record Piece : Type 0 where
@@ -56,9 +56,9 @@ pub record Splits (text : List ℕ) (tokens : List Token) : Type 0 where
 
 -- what stands at a place is at fault; want of memory says nothing
 abbrev pub IsFault : LexFault → ℕ → List ℕ → Type 0
-IsFault (faults.Bad at) place rest = (at ≡ place) × IsBad rest
-IsFault (faults.Real at) place rest = (at ≡ place) × IsReal rest
-IsFault (faults.TooLong at) place rest = (at ≡ place) × IsTooLong rest
+IsFault (faults.Bad at) place rest = (at ≡ place) × IsFaulty Bad rest
+IsFault (faults.Real at) place rest = (at ≡ place) × IsFaulty Real rest
+IsFault (faults.TooLong at) place rest = (at ≡ place) × IsFaulty TooLong rest
 IsFault faults.NoMemory place rest = Unit {0}
 
 -- the text is gaps and tokens up to a place where neither begins, and this fault stands there

@@ -3,8 +3,8 @@ use Rattle.std.specs.Prelude.{◌≡◌, ℕ, Bool, true, false, ◌&&◌, ◌==
 use Rattle.std.specs.Char.{digit_value}
 use Rattle.std.specs.List.{list_all}
 use Rattle.std.specs.Str.Parse.{digits_value}
-use Rattle.px_value.specs.Names.{is_digit, continues_identifier}
-use Rattle.px_lex.specs.Gaps.{begins}
+use Rattle.px_value.specs.Name.{is_digit, continues_identifier}
+use Rattle.px_lex.specs.Gap.{begins}
 
 -- a digit and all letters, digits and _ that directly follow it
 pub record IsNumber (spelling rest : List ℕ) : Type 0 where

@@ -1,0 +1,27 @@
+-- What a text value holds, and how it is spelled between quotes.
+use Rattle.std.specs.Prelude.{ℕ, Bool, nat_le, nat_eq, List, [], ◌∷◌, length, Option, Some, None, if◌then◌else◌}
+
+-- a text value has at most 1,024 bytes
+abbrev pub is_short_text : List ℕ → Bool
+is_short_text bytes = nat_le (length bytes) 1024
+
+-- THE ESCAPES: a byte, and the letter that stands for it behind a backslash: the quote, the backslash, the line feed n and
+-- the tab t
+abbrev pub escapes : List (ℕ × ℕ)
+escapes = (34, 34) ∷ (92, 92) ∷ (10, 110) ∷ (9, 116) ∷ []
+
+-- the byte that a letter behind a backslash stands for
+abbrev pub byte_in : List (ℕ × ℕ) → ℕ → Option ℕ
+byte_in [] letter = None
+byte_in (row ∷ rows) letter = if nat_eq letter row.1 then Some row.0 else byte_in rows letter
+
+abbrev pub escaped : ℕ → Option ℕ
+escaped letter = byte_in escapes letter
+
+-- the letter that stands for a byte behind a backslash, where the byte has one
+abbrev pub letter_in : List (ℕ × ℕ) → ℕ → Option ℕ
+letter_in [] byte = None
+letter_in (row ∷ rows) byte = if nat_eq byte row.0 then Some row.1 else letter_in rows byte
+
+abbrev pub escape_letter : ℕ → Option ℕ
+escape_letter byte = letter_in escapes byte
