@@ -7,7 +7,7 @@ use Rattle.px_core.specs.declared.conditions.ConditionKind.{ConditionKind}
 use Rattle.px_core.specs.declared.conditions.ConditionKind.TheVariants as which
 use Rattle.px_core.specs.Plan.{Site, no_site, site_at}
 use Rattle.px_sem.specs.World as world
-use Rattle.px_sem.specs.Guards.{Truth, condition, exits, fails, ends}
+use Rattle.px_sem.specs.Guards.{Truth, condition, exit_asks, invariant_asks, end_asks}
 use Rattle.px_naive.specs.declared.place.Place.{Place}
 use Rattle.px_naive.specs.declared.place.Record.{Record}
 use Rattle.px_naive.specs.declared.asked.Asked.{Asked}
@@ -82,16 +82,16 @@ asked_child places records reports truths laid long same i j p r d h some =
       above = above_in plan parent;
       head = head_in (get_or places i p);
     })) some
-    ∙ ap (λ b. asked_too (own b (fails seen (condition plan now parent which.Invariant))
-    (ends seen (condition plan now parent which.End))) above)
-    (asks_at_number places records reports truths laid long same exits which.Exit (λ t. t.exit) (λ site. refl) j r d
+    ∙ ap (λ b. asked_too (own b (invariant_asks seen (condition plan now parent which.Invariant))
+    (end_asks seen (condition plan now parent which.End))) above)
+    (asks_at_number places records reports truths laid long same exit_asks which.Exit (λ t. t.exit) (λ site. refl) j r d
     within)
-    ∙ ap (λ b. asked_too (own (exits kept (get_or truths j d).exit) b (ends seen (condition plan now parent which.End)))
+    ∙ ap (λ b. asked_too (own (exit_asks kept (get_or truths j d).exit) b (end_asks seen (condition plan now parent which.End)))
     above)
-    (asks_at_number places records reports truths laid long same fails which.Invariant (λ t. t.invariant) (λ site. refl)
+    (asks_at_number places records reports truths laid long same invariant_asks which.Invariant (λ t. t.invariant) (λ site. refl)
     j r d within)
-    ∙ ap (λ b. asked_too (own (exits kept (get_or truths j d).exit) (fails kept (get_or truths j d).invariant) b) above)
-    (asks_at_number places records reports truths laid long same ends which.End (λ t. t.end) (λ site. refl) j r d
+    ∙ ap (λ b. asked_too (own (exit_asks kept (get_or truths j d).exit) (invariant_asks kept (get_or truths j d).invariant) b) above)
+    (asks_at_number places records reports truths laid long same end_asks which.End (λ t. t.end) (λ site. refl) j r d
     within)
   where
     plan : List Site

@@ -9,7 +9,7 @@ use Rattle.px_core.specs.declared.node.Kind.TheVariants as kinds
 use Rattle.px_core.specs.Plan.{Site, no_site}
 use Rattle.px_sem.specs.declared.guards.Arrival.{Arrival}
 use Rattle.px_sem.specs.World as world
-use Rattle.px_sem.specs.Conflicts.{dest, transition}
+use Rattle.px_sem.specs.Conflicts.{destination, transition}
 use Rattle.px_sem.specs.Guards.{guards}
 use Rattle.px_sem.specs.Table
 use Rattle.px_naive.specs.declared.place.Place.{Place}
@@ -63,7 +63,7 @@ guards_of_site plan now site = by site.head.kind
     by kinds.Update = refl
 
 dest_of_site : (plan : List Site) (now : world.World) (site : Site)
-    → dest plan now site ≡ dest_in site.head.kind (world.record_at now site.path) (world.parent_state now site)
+    → destination plan now site ≡ dest_in site.head.kind (world.record_at now site.path) (world.parent_state now site)
     (asked_at plan now site) (children_among plan now site.path) (truths_at plan now site)
 unfolding dest_in
 dest_of_site plan now site =
@@ -72,10 +72,10 @@ dest_of_site plan now site =
 -- a node without a body writes nothing, so it never loses a conflict
 pub way_at_number : (places : List Place) (now : world.World) → IsLaid places → (i : ℕ) (p : Place) → i < length places
     → transition (sites_of places) now (get_or (sites_of places) i no_site)
-    ≡ dest (sites_of places) now (get_or (sites_of places) i no_site)
+    ≡ destination (sites_of places) now (get_or (sites_of places) i no_site)
 way_at_number places now laid i p h =
     ap (transition (sites_of places) now) (site_at_number places laid i no_site p h)
-    ∙ ap (dest (sites_of places) now) (sym (site_at_number places laid i no_site p h))
+    ∙ ap (destination (sites_of places) now) (sym (site_at_number places laid i no_site p h))
 
 -- the state of the parent of the node at a number
 parent_at_number : (places : List Place) (records : List Record) (reports : List (world.LookState × Value))

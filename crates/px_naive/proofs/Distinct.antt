@@ -5,7 +5,7 @@ use Rattle.std.proofs.Common.{append-nil, length-append}
 use Rattle.std.proofs.lemmas.Bool.{and_parts}
 use Rattle.std.specs.List.{list_any}
 use Rattle.std.proofs.lemmas.List.{append_cancel_left}
-use Rattle.px_value.specs.Names.{is_name}
+use Rattle.px_value.specs.Name.{is_name}
 use Rattle.px_value.proofs.Paths.{is_dotless, name_dotless}
 use Rattle.px_core.specs.Plan.{Tree, NoNode, Branch, Site, no_site, is_same, path_under, sites_under}
 use Rattle.px_core.specs.Fit.{names_of, siblings_differ}

@@ -101,7 +101,7 @@ pub state_found : (places : List Place) (records : List Record) (reports : List 
     (path : List ℕ) (i : ℕ) (r : Record)
     → length records ≡ length places
     → number_in (paths_of places) path ≡ Some i → i < length places
-    → Some (get_or records i r).state ≡ world.state_of (world_of places records reports) path
+    → Some (get_or records i r).state ≡ world.known_state (world_of places records reports) path
 state_found places records reports path i r long at h =
     ap (λ r. Some r.state) (sym (get_or-map recorded records i r world.no_record (omega arith)))
     ∙ sym (ap (option_map (λ r. r.state)) (found_in places records path long
@@ -110,7 +110,7 @@ state_found places records reports path i r long at h =
 pub state_missing : (places : List Place) (records : List Record) (reports : List (world.LookState × Value))
     (path : List ℕ)
     → length records ≡ length places
-    → number_in (paths_of places) path ≡ None → None ≡ world.state_of (world_of places records reports) path
+    → number_in (paths_of places) path ≡ None → None ≡ world.known_state (world_of places records reports) path
 state_missing places records reports path long none =
     sym (ap (option_map (λ r. r.state)) (found_in places records path long
     ∙ ap (option_map (λ i. get_or (map recorded records) i world.no_record)) none))

@@ -35,7 +35,7 @@ use Rattle.px_naive.proofs.Bare.{unborn_bare, bare_at_number}
 pub world_before : (places : List Place) (records : List Record) (initial_record : Record) → recorded initial_record ≡ world.no_record
     → length records ≡ length places
     → ((k : ℕ) (d : Record) → k < length places → get_or records k d ≡ initial_record)
-    → world_of places records [] ≡ world.first (sites_of places)
+    → world_of places records [] ≡ world.initial_world (sites_of places)
 world_before places records initial_record is long each =
     ap (λ nodes. let made : world.World = record { nodes = nodes; reports = [] } in made)
     (zip_as_map (sites_of places) (map recorded records) (λ site. world.initial_record site.head)
@@ -50,7 +50,7 @@ replicate_at records n initial_record is k d h = ap (λ rs. get_or rs k d) is �
 
 pub world_of_unborn : (places : List Place) (records : List Record) (n : ℕ) (initial_record : Record)
     → recorded initial_record ≡ world.no_record → n ≡ length places → records ≡ replicate n initial_record
-    → world_of places records [] ≡ world.first (sites_of places)
+    → world_of places records [] ≡ world.initial_world (sites_of places)
 world_of_unborn places records n initial_record so n_is is =
     world_before places records initial_record so (ap length is ∙ length-replicate n initial_record ∙ n_is)
     (λ k d h. replicate_at records n initial_record is k d (omega arith))
@@ -142,12 +142,7 @@ standing_by_world r = of_state r.state
   where
     of_state : NodeState → Standing
     of_state states.Finished = Finished (unwrap_or r.outcome Success) r.failure
-    of_state states.Inactive = Running
-    of_state states.Waiting = Running
-    of_state states.Executing = Running
-    of_state states.Finishing = Running
-    of_state states.IterationEnded = Running
-    of_state states.Failing = Running
+    of_state state = Running
 
 pub standing_so : (places : List Place) (records : List Record) (reports : List (world.LookState × Value))
     → IsLaid places → length records ≡ length places

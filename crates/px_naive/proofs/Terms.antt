@@ -13,8 +13,8 @@ use Rattle.std.proofs.Common.{Global, map}
 use Rattle.px_core.specs.declared.expr.Expr.TheOpen.{Expr-F}
 use Rattle.px_core.specs.declared.expr.Expr.TheFolds.{fold-roll-Expr}
 use Rattle.px_core.specs.declared.expr.Expr.TheVariants as exprs
-use Rattle.px_core.specs.Terms as terms
-use Rattle.px_core.specs.Terms.{Term, term_of, term_step}
+use Rattle.px_core.specs.Expr as terms
+use Rattle.px_core.specs.Expr.{Term, term_of, term_step}
 
 pub literal : (given : Value) → term_of (exprs.Literal given) ≡ terms.Literal given
 literal given = ap term_of (sym (exprs.rolls-Literal given)) ∙ fold-roll-Expr Term term_step (Expr-F.Literal given)

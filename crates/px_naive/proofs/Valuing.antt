@@ -3,7 +3,7 @@ use Rattle.std.proofs.Common.{◌≡◌, ℕ, arith, pos, negsuc, false, List, [
 use Rattle.std.proofs.lemmas.Bool.{le-ltb}
 use Rattle.px_value.specs.declared.value.Value.{Value}
 use Rattle.px_value.specs.declared.value.Value.TheVariants as values
-use Rattle.px_core.specs.Terms.{Term, term_of, in_turn, Var, Cell, HandleOf, Acknowledged}
+use Rattle.px_core.specs.Expr.{Term, term_of, in_turn, Var, Cell, HandleOf, Acknowledged}
 use Rattle.px_sem.specs.World as world
 use Rattle.px_sem.specs.Expressions.{value, value_of_each, element}
 use Rattle.px_naive.specs.declared.place.Place.{Place}

@@ -3,16 +3,16 @@ use Rattle.std.specs.Prelude.{◌||◌, List, map}
 use Rattle.px_core.specs.declared.conditions.ConditionKind.TheVariants as which
 use Rattle.px_core.specs.Plan.{Site}
 use Rattle.px_sem.specs.World as world
-use Rattle.px_sem.specs.Guards.{exits, fails, ends, some_ancestor}
+use Rattle.px_sem.specs.Guards.{exit_asks, invariant_asks, end_asks, some_ancestor}
 use Rattle.px_naive.specs.declared.asked.Asked.{Asked}
 use Rattle.px_naive.specs.declared.truths.Truths.{Truths}
 
 -- of a node
 abbrev pub asked_at : List Site → world.World → Site → Asked
 asked_at plan now site = record {
-  exit = some_ancestor exits which.Exit plan now site;
-  invariant = some_ancestor fails which.Invariant plan now site;
-  end = some_ancestor ends which.End plan now site;
+  exit = some_ancestor exit_asks which.Exit plan now site;
+  invariant = some_ancestor invariant_asks which.Invariant plan now site;
+  end = some_ancestor end_asks which.End plan now site;
 }
 
 -- of each node
@@ -22,9 +22,9 @@ asked_of plan now = map (asked_at plan now) plan
 -- what one node asks
 abbrev pub asks_in : world.NodeRecord → Truths → Asked
 asks_in r truths = record {
-  exit = exits r truths.exit;
-  invariant = fails r truths.invariant;
-  end = ends r truths.end;
+  exit = exit_asks r truths.exit;
+  invariant = invariant_asks r truths.invariant;
+  end = end_asks r truths.end;
 }
 
 -- what either asks

@@ -1,6 +1,7 @@
 -- A plan's nodes laid out in preorder.
 use Rattle.std.specs.Prelude.{◌≡◌, ℕ, ◌<◌, Bool, ◌&&◌, List, length, map, Option, Some, None, slice_index_or, IsTrue}
-use Rattle.px_value.specs.Names.{below, is_name}
+use Rattle.px_value.specs.Name.{is_name}
+use Rattle.px_value.specs.Path.{below}
 use Rattle.px_core.specs.declared.node.CoreNode.{CoreNode}
 use Rattle.px_core.specs.declared.node.CoreNode.TheOpen.{CoreNode-F}
 use Rattle.px_core.specs.declared.node.CoreNode.TheViews.{out-CoreNode}

@@ -14,12 +14,7 @@ standing_by r = of_state r.state
   where
     of_state : NodeState → Standing
     of_state states.Finished = Finished (unwrap_or r.outcome Success) r.failure
-    of_state states.Inactive = Running
-    of_state states.Waiting = Running
-    of_state states.Executing = Running
-    of_state states.Finishing = Running
-    of_state states.IterationEnded = Running
-    of_state states.Failing = Running
+    of_state state = Running
 
 -- the first record is that of the root
 abbrev pub standing_in : List Record → Standing

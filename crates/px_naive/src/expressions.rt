@@ -1,8 +1,8 @@
 // The values of expressions.
 ghost use Rattle.std.specs.Prelude.{◌≡◌, map, length, [], not, IfOk};
 ghost use Rattle.std.specs.List.{list_any};
-ghost use Rattle.px_value.specs.Values.{is_known};
-ghost use Rattle.px_core.specs.Terms.{term_of};
+ghost use Rattle.px_value.specs.Value.{is_known};
+ghost use Rattle.px_core.specs.Expr.{term_of};
 ghost use Rattle.px_sem.specs.Expressions.{value, outcome_value, failure_value, looked_up};
 ghost use Rattle.px_sem.specs.Expressions.{value_length, unary_value, binary_value};
 ghost use Rattle.px_naive.specs.Numbers.{AreNumbers};

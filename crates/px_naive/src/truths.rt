@@ -2,7 +2,7 @@
 ghost use Rattle.std.specs.Prelude.{◌≡◌, length, IfOk, OnOk};
 ghost use Rattle.px_value.specs.Truth.{truth_of};
 ghost use Rattle.px_core.specs.Plan.{condition_terms};
-ghost use Rattle.px_core.specs.Terms.{term_of};
+ghost use Rattle.px_core.specs.Expr.{term_of};
 ghost use Rattle.px_sem.specs.Expressions.{value};
 ghost use Rattle.px_naive.specs.Numbers.{AreNumbers};
 ghost use Rattle.px_naive.specs.Places.{IsLaid, sites_of, world_of};

@@ -1,7 +1,6 @@
 -- How a legal log grows by one post.
-use Rattle.std.proofs.Common.{◌≡◌, ◌≢◌, ℕ, nat_le, Bool, true, false, List, [], ◌∷◌, ◌++◌, length, map, filter, Option, Some, None, refl, ap, sym, ◌∙◌, arith, ◌+◌, ◌≤◌, ◌&&◌, length-append, append_assoc, append-nil, if◌then◌else◌}
+use Rattle.std.proofs.Common.{◌≡◌, ◌≢◌, ℕ, nat_le, Bool, true, false, List, [], ◌∷◌, ◌++◌, length, map, filter, Option, Some, None, IsSome, refl, ap, sym, subst, ◌∙◌, arith, ◌+◌, ◌≤◌, ◌&&◌, length-append, append_assoc, append-nil, if◌then◌else◌}
 use Rattle.std.specs.List.{list_all}
-use Rattle.std.specs.Option.{option_map}
 use Rattle.std.proofs.lemmas.Bool.Decides.{nat_tests}
 use Rattle.std.proofs.lemmas.List.{map-append}
 use Rattle.px_core.specs.Plan.{Site}
@@ -14,9 +13,9 @@ use Rattle.px_sem.specs.declared.log.LogEntry.{LogEntry}
 use Rattle.px_sem.specs.declared.standing.Standing.{Standing}
 use Rattle.px_sem.specs.declared.standing.Standing.TheVariants.{Running, Finished}
 use Rattle.px_sem.specs.World.{World, standing_of}
-use Rattle.px_sem.specs.Run.{posted, started, run_on, run}
-use Rattle.px_sem.specs.Log.{Log, events_of, is_accepted, accepted, answer_by, answer, world_after, AnswersEach}
-use Rattle.px_sem.specs.Stepper.{State, Nothing, at_rest}
+use Rattle.px_sem.specs.Run.{posted, started, settled_world, run_on, run}
+use Rattle.px_sem.specs.Log.{Log, events_of, is_accepted, accepted, answer_by, answer, world_after, AnswersEach, PostsPart, IsLegal}
+use Rattle.px_sem.specs.Stepper.{State, Nothing, settled_state}
 
 pub run_on_none : (plan : List Site) (now : Option World) → run_on plan now [] ≡ now
 unfolding run_on
@@ -26,24 +25,24 @@ run_on_none plan (Some world) = refl
 -- one event more in a run
 run_on_more : (plan : List Site) (now : Option World) (history : List Event) (event : Event) (world : World)
     → run_on plan now history ≡ Some world
-    → run_on plan now (history ++ event ∷ []) ≡ option_map (λ settled. settled.0) (posted plan world event)
+    → run_on plan now (history ++ event ∷ []) ≡ settled_world (posted plan world event)
 unfolding run_on
 run_on_more plan None [] event world is = absurd (cc)
 run_on_more plan None (first ∷ history) event world is = absurd (cc)
 run_on_more plan (Some now) [] event world is =
     let same : now ≡ world = (cc) in
-    run_on_none plan (option_map (λ settled. settled.0) (posted plan now event))
-    ∙ ap (λ w. option_map (λ settled. settled.0) (posted plan w event)) same
+    run_on_none plan (settled_world (posted plan now event))
+    ∙ ap (λ w. settled_world (posted plan w event)) same
 run_on_more plan (Some now) (first ∷ history) event world is =
-    run_on_more plan (option_map (λ settled. settled.0) (posted plan now first)) history event world is
+    run_on_more plan (settled_world (posted plan now first)) history event world is
 
 -- the start alone
 pub run_at_start : (plan : List Site) (world : World) (k : ℕ) → started plan ≡ Some (world, k) → run plan [] ≡ Some world
-run_at_start plan world k is = run_on_none plan (option_map (λ settled. settled.0) (started plan)) ∙ ap (option_map (λ settled. settled.0)) is
+run_at_start plan world k is = run_on_none plan (settled_world (started plan)) ∙ ap settled_world is
 
 pub run_more : (plan : List Site) (history : List Event) (event : Event) (world : World) → run plan history ≡ Some world
-    → run plan (history ++ event ∷ []) ≡ option_map (λ settled. settled.0) (posted plan world event)
-run_more plan history event world is = run_on_more plan (option_map (λ settled. settled.0) (started plan)) history event world is
+    → run plan (history ++ event ∷ []) ≡ settled_world (posted plan world event)
+run_more plan history event world is = run_on_more plan (settled_world (started plan)) history event world is
 
 -- the accepted entries of one post, and of those behind it
 accepted_first : (logged : LogEntry) (log : Log) → accepted (logged ∷ log) ≡ accepted (logged ∷ []) ++ accepted log
@@ -98,7 +97,7 @@ pub record IsPosting (plan : List Site) (limit : ℕ) (entries : List Entry) (lo
   pub answers : AnswersEach plan limit [] log
   pub accepts : history ≡ accepted log
   pub runs : run plan (history_of log) ≡ Some now.world
-  pub rest : now ≡ at_rest plan now.world
+  pub rest : now ≡ settled_state plan now.world
   pub counted : count ≡ length (history_of log)
   pub within : count ≤ limit
 
@@ -114,6 +113,12 @@ posting_at_once plan limit now nodes pending runs = record {
   counted = refl;
   within = omega arith;
 }
+
+-- what was posted so far is a front of all entries
+pub posts_part : (plan : List Site) (limit : ℕ) (entries posted rest : List Entry) (log : Log) (history : List Entry) (now : State) (count : ℕ)
+    → IsPosting plan limit posted log history now count → entries ≡ posted ++ rest → PostsPart plan limit entries now.world
+posts_part plan limit entries posted rest log history now count so_far front =
+    (log, rest, front ∙ ap (λ es. es ++ rest) (sym so_far.each), so_far.answers, so_far.runs)
 
 -- the count and the history after a reply
 abbrev pub counted_after : ℕ → Reply → ℕ
@@ -169,7 +174,7 @@ follows plan limit history world entry (replies.Accepted position) runs is =
     let found = accepted_by (standing_of plan world) (nat_le limit (length history)) (posted plan world entry.event) (length history) position (sym is) in
     record {
       runs = run_more plan history entry.event world runs
-          ∙ ap (option_map (λ settled. settled.0)) found.1
+          ∙ ap settled_world found.1
           ∙ sym (after found.0 found.1);
       counted = found.2 ∙ sym (length-append history (entry.event ∷ []));
     }
@@ -191,6 +196,24 @@ within_after plan limit count world event replies.PlanFinished within is = withi
 within_after plan limit count world event replies.Full within is = within
 within_after plan limit count world event replies.Runaway within is = within
 
+-- a legal log runs on
+legal_run : (plan : List Site) (limit : ℕ) (before : List Event) (log : Log) → IsSome (run plan before)
+    → AnswersEach plan limit before log → IsSome (run plan (before ++ history_of log))
+legal_run plan limit before [] some answers = subst (λ events. IsSome (run plan events)) (sym (append-nil before)) some
+legal_run plan limit before (logged ∷ log) some answers =
+    let now = answers.0 in
+    let step : Follows plan before now.0 logged.entry logged.reply = follows plan limit before now.0 logged.entry logged.reply now.1 now.2 in
+    let next : IsSome (run plan (before ++ history_of (logged ∷ []))) = rw step.runs refl in
+    subst (λ events. IsSome (run plan events))
+    (append_assoc before (history_of (logged ∷ [])) (history_of log) ∙ ap (λ more. before ++ more) (sym (history_first logged log)))
+    (legal_run plan limit (before ++ history_of (logged ∷ [])) log next answers.1)
+
+pub legal_log_runs : (plan : List Site) (history : List Entry) (limit : ℕ) (log : Log) → IsLegal plan history limit log
+    → IsSome (run plan (events_of (history ++ accepted log)))
+legal_log_runs plan history limit log legal =
+    subst (λ events. IsSome (run plan events)) (sym (map-append (λ e. e.event) history (accepted log)))
+    (legal_run plan limit (events_of history) log legal.runs legal.answers)
+
 -- what was accepted is as fit as what was posted
 pub fit_accepted : (log : Log) → list_all is_fit_entry (map (λ logged. logged.entry) log) ≡ true → list_all is_fit_entry (accepted log) ≡ true
 fit_accepted [] fit = refl
@@ -210,14 +233,14 @@ fit_accepted (logged ∷ log) fit =
 pub posting_more : (plan : List Site) (limit : ℕ) (entries : List Entry) (log : Log) (history : List Entry) (now next : State) (count : ℕ) (entry : Entry) (reply : Reply)
     → IsPosting plan limit entries log history now count
     → reply ≡ answer now.nodes limit count now.world entry.event
-    → next ≡ at_rest now.nodes (world_after now.nodes now.world entry.event reply)
+    → next ≡ settled_state now.nodes (world_after now.nodes now.world entry.event reply)
     → IsPosting plan limit (entries ++ entry ∷ []) (log ++ logged_as entry reply ∷ []) (history_after history entry reply) next (counted_after count reply)
 posting_more plan limit entries log history now next count entry reply so_far is moved = record {
   each = map-append (λ l. l.entry) log (logged ∷ []) ∙ ap (λ es. es ++ entry ∷ []) so_far.each;
   answers = answers_more plan limit [] log logged now.world so_far.answers so_far.runs reply_is;
   accepts = history_grows history entry reply ∙ ap (λ h. h ++ accepted (logged ∷ [])) so_far.accepts ∙ sym (accepted_more log logged);
   runs = ap (run plan) (history_more log logged) ∙ after.runs ∙ ap Some (sym world_is);
-  rest = moved ∙ ap (λ nodes. at_rest nodes (world_after now.nodes now.world entry.event reply)) nodes_is ∙ ap (at_rest plan) (sym (ap (λ (s : State). s.world) moved));
+  rest = moved ∙ ap (λ nodes. settled_state nodes (world_after now.nodes now.world entry.event reply)) nodes_is ∙ ap (settled_state plan) (sym (ap (λ (s : State). s.world) moved));
   counted = ap (λ n. counted_after n reply) so_far.counted ∙ after.counted ∙ ap length (sym (history_more log logged));
   within = within_after now.nodes limit count now.world entry.event reply so_far.within is;
 }

@@ -1,14 +1,15 @@
 -- When a world settles, from the worlds on its way.
-use Rattle.std.proofs.Common.{◌≡◌, ℕ, zero, suc, ◌+◌, ◌<◌, ◌≤◌, inl, inr, Bool, true, false, List, Option, Some, None, IsSome, if◌then◌else◌, refl, arith, ap, sym, subst, ◌∙◌, add-one}
+use Rattle.std.proofs.Common.{◌≡◌, ℕ, zero, suc, ◌+◌, ◌<◌, ◌≤◌, inl, inr, Bool, true, false, List, Option, Some, None, IsSome, cond, refl, arith, ap, sym, subst, ◌∙◌, add-one}
+use Rattle.std.specs.List.{find, range_with_len}
 use Rattle.std.specs.Option.{option_map, unwrap_or}
 use Rattle.std.proofs.lemmas.Bool.{cases_lt}
 use Rattle.px_sem.specs.declared.moves.Move.{Move}
 use Rattle.px_core.specs.Plan.{Site}
 use Rattle.px_sem.specs.World.{World}
 use Rattle.px_sem.specs.Conflicts.{is_quiet}
-use Rattle.px_sem.specs.Step.{micro}
+use Rattle.px_sem.specs.Step.{micro, moves}
 use Rattle.px_sem.specs.Stepper.{State, Steps}
-use Rattle.px_sem.specs.Run.{step_limit, after_steps, least, settling_count, settled}
+use Rattle.px_sem.specs.Run.{step_limit, after_steps, least, IsLeast, settling_count, settled}
 
 -- after so many micro steps, none of which began in a quiet world
 pub record IsUnderway (from now : State) (count : ℕ) : Type 0 where
@@ -17,26 +18,101 @@ pub record IsUnderway (from now : State) (count : ℕ) : Type 0 where
   pub reached : now.world ≡ after_steps from.nodes from.world count
   pub busy : (j : ℕ) → j < count → is_quiet from.nodes (after_steps from.nodes from.world j) ≡ false
 
+-- ---- the first number that passes, among n numbers from a on
+
+found_none : (test : ℕ → Bool) (a n : ℕ) → ((j : ℕ) → a ≤ j → j < a + n → test j ≡ false)
+    → find test (range_with_len a n) ≡ None
+found_none test a zero fails = refl
+found_none test a (suc n) fails =
+    rw (fails a (omega arith) (omega arith)) (found_none test (a + 1) n (λ j low high. fails j (omega arith) (omega arith)))
+
+found_at : (test : ℕ → Bool) (a n k : ℕ) → a ≤ k → k < a + n → test k ≡ true
+    → ((j : ℕ) → a ≤ j → j < k → test j ≡ false) → find test (range_with_len a n) ≡ Some k
+found_at test a zero k low high passes fails = absurd (omega arith)
+found_at test a (suc n) k low high passes fails = elim (cases_lt a k) [
+  | inl after ↦
+      rw (fails a (omega arith) after)
+      (found_at test (a + 1) n k (omega arith) (omega arith) passes (λ j at before. fails j (omega arith) before))
+  | inr here ↦
+      let is : a ≡ k = omega arith in
+      let passes_here : test a ≡ true = rw is passes in
+      rw passes_here (ap Some is)
+]
+
+-- so it is among the numbers, and none before it passes
+record IsFirst (test : ℕ → Bool) (a n k : ℕ) : Type 0 where
+  passes : test k ≡ true
+  none_before : (j : ℕ) → a ≤ j → j < k → test j ≡ false
+  low : a ≤ k
+  high : k < a + n
+
+found_is : (test : ℕ → Bool) (a n k : ℕ) → find test (range_with_len a n) ≡ Some k → IsFirst test a n k
+found_is test a zero k is = cc
+found_is test a (suc n) k is = by (found_is test (a + 1) n k) (test a) refl is
+  where
+    later : IsFirst test (a + 1) n k → test a ≡ false → IsFirst test a (suc n) k
+    later found fails = record {
+      passes = found.passes;
+      none_before = λ j low before. elim (cases_lt a j) [
+        | inl after ↦ found.none_before j (omega arith) before
+        | inr here ↦ let same : j ≡ a = omega arith in rw same fails
+      ];
+      low = let h = found.low in omega arith;
+      high = let h = found.high in omega arith;
+    }
+
+    by : (find test (range_with_len (a + 1) n) ≡ Some k → IsFirst test (a + 1) n k) → (passes : Bool) → test a ≡ passes
+        → cond passes (Some a) (find test (range_with_len (a + 1) n)) ≡ Some k → IsFirst test a (suc n) k
+    by rest true at e =
+        let same : k ≡ a = cc in
+        record {
+          passes = rw same at;
+          none_before = λ j low before. absurd (omega arith);
+          low = omega arith;
+          high = omega arith;
+        }
+    by rest false at e = later (rest e) at
+
+none_found : (test : ℕ → Bool) (a n : ℕ) → find test (range_with_len a n) ≡ None
+    → (j : ℕ) → a ≤ j → j < a + n → test j ≡ false
+none_found test a zero none j low high = absurd (omega arith)
+none_found test a (suc n) none j low high = by (none_found test (a + 1) n) (test a) refl none
+  where
+    by : (find test (range_with_len (a + 1) n) ≡ None → (j : ℕ) → a + 1 ≤ j → j < (a + 1) + n → test j ≡ false)
+        → (passes : Bool) → test a ≡ passes → cond passes (Some a) (find test (range_with_len (a + 1) n)) ≡ None → test j ≡ false
+    by rest true at e = cc
+    by rest false at e = elim (cases_lt a j) [
+      | inl after ↦ rest e j (omega arith) (omega arith)
+      | inr here ↦ let same : j ≡ a = omega arith in rw same at
+    ]
+
+-- ---- the least number that passes
+
 pub least_none : (test : ℕ → Bool) (bound : ℕ) → ((j : ℕ) → j ≤ bound → test j ≡ false) → least test bound ≡ None
 unfolding least
-least_none test zero fails = rw (fails 0 (omega arith)) refl
-least_none test (suc bound) fails =
-    rw (least_none test bound (λ j h. fails j (omega arith)), fails (suc bound) (omega arith)) refl
+least_none test bound fails = found_none test 0 (bound + 1) (λ j low high. fails j (omega arith))
 
 pub least_at : (test : ℕ → Bool) (bound k : ℕ) → k ≤ bound → test k ≡ true
     → ((j : ℕ) → j < k → test j ≡ false) → least test bound ≡ Some k
 unfolding least
-least_at test zero k within holds fails =
-    let is : k ≡ 0 = omega arith in
-    let at : test 0 ≡ true = rw is at holds in
-    rw (at, is) refl
-least_at test (suc bound) k within holds fails = elim (cases_lt bound k) [
-  | inl above ↦
-      let is : k ≡ suc bound = omega arith in
-      let at : test (suc bound) ≡ true = rw is at holds in
-      rw (least_none test bound (λ j h. fails j (omega arith)), at, is) refl
-  | inr below ↦ rw (least_at test bound k below holds fails) refl
-]
+least_at test bound k within passes fails =
+    found_at test 0 (bound + 1) k (omega arith) (omega arith) passes (λ j low before. fails j before)
+
+pub least_found : (test : ℕ → Bool) (bound k : ℕ) → least test bound ≡ Some k → IsLeast test bound k
+unfolding least
+least_found test bound k is =
+    let found = found_is test 0 (bound + 1) k is in
+    record {
+      passes = found.passes;
+      none_below = λ j before. found.none_before j (omega arith) before;
+      within = let h = found.high in omega arith;
+    }
+
+pub none_least : (test : ℕ → Bool) (bound : ℕ) → least test bound ≡ None → (j : ℕ) → j ≤ bound → test j ≡ false
+unfolding least
+none_least test bound none j within = none_found test 0 (bound + 1) none j (omega arith) (omega arith)
+
+-- ---- on the way
 
 pub underway_at_once : (from : State) → IsUnderway from from 0
 unfolding after_steps
@@ -70,6 +146,14 @@ underway_after_step from now next count made true u a s =
       | inr at ↦ let is : j ≡ count = omega arith in ap (λ k. is_quiet from.nodes (after_steps from.nodes from.world k)) is ∙ not_quiet
     ]
 
+-- the moves of a step on the way
+pub moves_of_step : (from now next : State) (count : ℕ) (made : List Move) (answer : Bool)
+    → IsUnderway from now count → answer ≡ true → Steps now next made answer
+    → made ≡ moves from.nodes (after_steps from.nodes from.world count)
+moves_of_step from now next count made false u a s = cc
+moves_of_step from now next count made true u a s =
+    s.2 ∙ ap (λ plan. moves plan now.world) u.nodes ∙ ap (moves from.nodes) u.reached
+
 pub quiet_after : (now next : State) (made : List Move) (answer : Bool) → answer ≡ false → Steps now next made answer
     → is_quiet next.nodes next.world ≡ true
 quiet_after now next made true a s = cc
@@ -92,36 +176,19 @@ runs_away from now count u beyond =
     ap (option_map (λ k. (after_steps from.nodes from.world k, k)))
     (least_none _ step_limit (λ j h. u.busy j (omega arith)))
 
--- what the least number that passes a test is
-pub record IsFound (test : ℕ → Bool) (bound k : ℕ) : Type 0 where
-  pub passes : test k ≡ true
-  pub within : k ≤ bound
-
-pub least_found : (test : ℕ → Bool) (bound k : ℕ) → least test bound ≡ Some k → IsFound test bound k
-unfolding least
-least_found test zero k is = at (test 0) refl is
-  where
-    at : (b : Bool) → test 0 ≡ b → (if b then Some 0 else None) ≡ Some k → IsFound test 0 k
-    at true holds e = let same : k ≡ 0 = cc in record { passes = rw same holds; within = omega arith }
-    at false holds e = cc
-least_found test (suc bound) k is = from (least_found test bound) (least test bound) refl is
-  where
-    at : (b : Bool) → test (suc bound) ≡ b → (if b then Some (suc bound) else None) ≡ Some k → IsFound test (suc bound) k
-    at true holds e = let same : k ≡ suc bound = cc in record { passes = rw same holds; within = omega arith }
-    at false holds e = cc
-
-    from : ((j : ℕ) → least test bound ≡ Some j → IsFound test bound j) → (o : Option ℕ) → least test bound ≡ o
-        → (elim o as (λ x. Option ℕ) [ Some j ↦ Some j | None ↦ if test (suc bound) then Some (suc bound) else None ]) ≡ Some k
-        → IsFound test (suc bound) k
-    from below None first e = at (test (suc bound)) refl e
-    from below (Some j) first e =
-        let same : k ≡ j = cc in
-        let found = below j first in
-        record { passes = rw same found.passes; within = let h = found.within in omega arith }
-
 -- how many micro steps a world takes until it is quiet, where it settles
 abbrev pub steps_until_quiet : List Site → World → ℕ
 steps_until_quiet plan from = unwrap_or (settling_count plan from) 0
+
+-- the number of the micro steps of a world that settles
+pub settled_count : (plan : List Site) (from to : World) (count : ℕ) → settled plan from ≡ Some (to, count)
+    → settling_count plan from ≡ Some count
+settled_count plan from to count is = at (settling_count plan from) is
+  where
+    at : (o : Option ℕ) → ◌≡◌ {A = Option (World × ℕ)} (option_map (λ k. (after_steps plan from k, k)) o) (Some (to, count))
+        → o ≡ Some count
+    at None e = cc
+    at (Some k) e = let pair : ◌≡◌ {A = World × ℕ} (after_steps plan from k, k) (to, count) = cc in ap (λ p. Some p.1) pair
 
 pub underway_within : (from now : State) (count : ℕ)
     → IsUnderway from now count → IsSome (settled from.nodes from.world)

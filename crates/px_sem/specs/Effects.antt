@@ -1,21 +1,21 @@
 -- What a move does beside the change of state.
 use Rattle.std.specs.Prelude.{ℕ, ◌-◌, Bool, true, false, ◌&&◌, List, [], ◌∷◌, ◌++◌, length, map, replicate, set, get_or, Option, Some, None, if◌then◌else◌}
-use Rattle.std.specs.Option.{option_map}
+use Rattle.std.specs.Option.{option_map, option_and_then}
 use Rattle.px_value.specs.declared.enums.NodeState.{NodeState}
 use Rattle.px_value.specs.declared.enums.NodeState.TheVariants as states
 use Rattle.px_value.specs.declared.value.Value.{Value}
 use Rattle.px_value.specs.declared.value.Value.TheVariants as values
-use Rattle.px_value.specs.Values.{value_index}
+use Rattle.px_value.specs.Value.{value_index}
 use Rattle.px_core.specs.declared.variable.VarKind.{VarKind}
 use Rattle.px_core.specs.declared.variable.VarKind.TheVariants as kinds
 use Rattle.px_core.specs.Fit.{cells_of}
-use Rattle.px_core.specs.Plan.{Site, BodyData, Nothing, Assign, Command, Update, TargetData, VariableData, is_same, site_at}
-use Rattle.px_core.specs.Terms.{Term}
+use Rattle.px_core.specs.Plan.{Site, BodyData, Nothing, Assign, Command, Update, TargetData, PairData, VariableData, is_same}
+use Rattle.px_core.specs.Expr.{Term}
 use Rattle.px_sem.specs.declared.guards.Arrival.{Arrival}
 use Rattle.px_sem.specs.declared.moves.Effect.{Effect}
 use Rattle.px_sem.specs.declared.moves.Effect.TheVariants as effects
 use Rattle.px_sem.specs.Expressions.{value}
-use Rattle.px_sem.specs.World.{World, Action, NoAction, Assigned, Commanded, Updated, NoAbort, AbortSent, Overwritten, record_at, cells_at, of_variable}
+use Rattle.px_sem.specs.World.{World, NodeRecord, Action, NoAction, Assigned, Commanded, Updated, NoAbort, AbortSent, Place, Whole, Element, Overwritten, record_at, cells_at, variable_at}
 
 -- ---- which move it is
 
@@ -41,18 +41,15 @@ move_kind from to = Other
 
 abbrev pub is_initializing : MoveKind → Bool
 is_initializing Initializes = true
-is_initializing Resets = false
-is_initializing Starts = false
-is_initializing Fails = false
-is_initializing Other = false
+is_initializing move = false
 
 -- ---- writes
 
--- a value to be written to a scalar, or to the element of an array at an index
+-- a value to be written at a place of a variable
 pub record Write : Type 0 where
   pub owner : List ℕ
   pub name : List ℕ
-  pub index : Option ℕ
+  pub place : Place
   pub value : Value
 
 -- a value of another type than the variable's is written as UNKNOWN
@@ -64,109 +61,126 @@ as_kind kind value = values.Unknown
 
 -- a value as the variable of a target takes it
 abbrev pub taken_as : List Site → TargetData → Value → Value
-taken_as plan target given =
-    of_declared (of_variable target.name variables (map (λ variable. variable.kind) variables))
+taken_as plan target given = by (variable_at plan target.owner target.name)
   where
-    variables : List VariableData
-    variables = (site_at plan target.owner).head.variables
+    by : Option VariableData → Value
+    by None = values.Unknown
+    by (Some variable) = as_kind variable.kind given
 
-    of_declared : Option VarKind → Value
-    of_declared None = values.Unknown
-    of_declared (Some kind) = as_kind kind given
+-- the write of a value at a place of a target's variable
+abbrev pub write_at : List Site → TargetData → Value → Place → Write
+write_at plan target given place =
+    record { owner = target.owner; name = target.name; place = place; value = taken_as plan target given }
 
--- Where a target stands: a scalar has no index, and an array one that is within it. None where it isn't.
-abbrev pub place_of : List Site → World → TargetData → Option (Option ℕ)
+-- the place of a target, whose index is taken in this world; none where an array does not have the index
+abbrev pub place_of : List Site → World → TargetData → Option Place
 place_of plan world target = at target.index
   where
-    at : Option Term → Option (Option ℕ)
-    at None = Some None
+    at : Option Term → Option Place
+    at None = Some Whole
     at (Some index) =
-        option_map Some (value_index (cells_at plan world target.owner target.name) (value plan world index))
+        option_map Element (value_index (cells_at plan world target.owner target.name) (value plan world index))
 
--- the value that stands at a place of a variable
-abbrev pub held_at : List Value → Option ℕ → Value
-held_at cells None = get_or cells 0 values.Unknown
-held_at cells (Some index) = get_or cells index values.Unknown
+-- the index of a place in an array
+abbrev pub index_of : Place → Option ℕ
+index_of Whole = None
+index_of (Element index) = Some index
 
-abbrev pub put_at : List Value → Option ℕ → Value → List Value
-put_at cells None value = set cells 0 value
-put_at cells (Some index) value = set cells index value
+-- the number of the cell at a place: a scalar has one cell
+abbrev pub cell_of : Place → ℕ
+cell_of Whole = 0
+cell_of (Element index) = index
 
--- what an assignment writes as it starts, and what it keeps; both none where its place is not within the array
-abbrev pub first_write : List Site → World → TargetData → Term → Option Write
-first_write plan world target right = at (place_of plan world target)
+-- the value at a place of a variable with these cells
+abbrev pub value_at : List Value → Place → Value
+value_at cells place = get_or cells (cell_of place) values.Unknown
+
+abbrev pub told_write : Write → Effect
+told_write write = effects.Wrote write.owner write.name (index_of write.place) write.value
+
+-- ---- effects
+
+-- what a move does: what it writes, what the node has under way after it, and what is told of it
+pub record Effects : Type 0 where
+  pub write : Option Write
+  pub action : Action
+  pub told : Option Effect
+
+-- nothing is written, and nothing is told
+abbrev pub silent : Action → Effects
+silent action = record { write = None; action = action; told = None }
+
+-- a write, which is told
+abbrev pub writing : Action → Write → Effects
+writing action write = record { write = Some write; action = action; told = Some (told_write write) }
+
+-- an assignment writes its right side and keeps the old value (PLEXIL reference manual, "Assignment Nodes"); it writes
+-- nothing where it has no place
+abbrev pub assigns : List Site → World → TargetData → Term → Effects
+assigns plan world target right = at (place_of plan world target)
   where
-    at : Option (Option ℕ) → Option Write
-    at None = None
-    at (Some index) = Some (record {
-      owner = target.owner;
-      name = target.name;
-      index = index;
-      value = taken_as plan target (value plan world right);
-    })
+    kept : Place → Overwritten
+    kept place = record { place = place; old = value_at (cells_at plan world target.owner target.name) place }
 
-abbrev pub overwritten_by : List Site → World → TargetData → Option Overwritten
-overwritten_by plan world target =
-    option_map (λ index. record { index = index; old = held_at (cells_at plan world target.owner target.name) index })
-    (place_of plan world target)
+    at : Option Place → Effects
+    at None = record { write = None; action = Assigned None; told = Some effects.NoWrite }
+    at (Some place) =
+        writing (Assigned (Some (kept place))) (write_at plan target (value plan world right) place)
 
--- what an assignment that fails writes back
-abbrev pub written_back : TargetData → Action → Option Write
-written_back target (Assigned (Some kept)) =
-    Some (record { owner = target.owner; name = target.name; index = kept.index; value = kept.old })
-written_back target (Assigned None) = None
-written_back target NoAction = None
-written_back target (Commanded index handle abort) = None
-written_back target (Updated acknowledged) = None
+-- a command is sent with its arguments, and the index of its result is taken (PLEXIL reference manual, "Commands")
+abbrev pub sends : List Site → World → List ℕ → List Term → Option TargetData → Effects
+sends plan world name args result = record {
+  write = None;
+  action = Commanded (option_and_then index_of (option_and_then (place_of plan world) result)) None NoAbort;
+  told = Some (effects.Sent name (map (value plan world) args));
+}
 
--- what a node writes by its move
-abbrev pub write_of : List Site → World → Site → Arrival → Option Write
-write_of plan world site arrival = by site.head.body (move_kind (record_at world site.path).state arrival.to)
+-- an update is sent (PLEXIL reference manual, "Updates")
+abbrev pub updates : List Site → World → List PairData → Effects
+updates plan world pairs = record {
+  write = None;
+  action = Updated false;
+  told = Some (effects.Updated (map (λ pair. pair.name) pairs) (map (λ pair. value plan world pair.value) pairs));
+}
+
+-- an assignment that fails writes back what it kept, where it wrote
+abbrev pub writes_back : TargetData → Action → Effects
+writes_back target (Assigned (Some kept)) =
+    writing (Assigned (Some kept)) (record { owner = target.owner; name = target.name; place = kept.place; value = kept.old })
+writes_back target action = silent action
+
+-- a command that fails is asked to abort
+abbrev pub aborts : List ℕ → Action → Effects
+aborts name action = record { write = None; action = asked action; told = Some (effects.Aborted name) }
   where
-    by : BodyData → MoveKind → Option Write
-    by (Assign target right) Starts = first_write plan world target right
-    by (Assign target right) Fails = written_back target (record_at world site.path).action
-    by body move = None
+    asked : Action → Action
+    asked (Commanded index handle abort) = Commanded index handle AbortSent
+    asked other = other
 
--- ---- the action after a move
-
-abbrev pub aborted : Action → Action
-aborted (Commanded index handle abort) = Commanded index handle AbortSent
-aborted NoAction = NoAction
-aborted (Assigned kept) = Assigned kept
-aborted (Updated acknowledged) = Updated acknowledged
-
--- the index of a command's result, taken as the command is sent
-abbrev pub result_index : List Site → World → Option TargetData → Option ℕ
-result_index plan world None = None
-result_index plan world (Some target) = of_place (place_of plan world target)
+-- The table of effects, by the move and the body: the first row that fits. A node without a body never has anything under
+-- way. (The initial values, which INACTIVE to WAITING gives too, are those of `variables_after`.)
+abbrev pub effects_of : List Site → World → Site → Arrival → Effects
+effects_of plan world site arrival = row (move_kind old.state arrival.to) site.head.body
   where
-    of_place : Option (Option ℕ) → Option ℕ
-    of_place None = None
-    of_place (Some index) = index
+    old : NodeRecord
+    old = record_at world site.path
 
--- A node without a body never has anything under way.
-abbrev pub action_after : List Site → World → Site → Arrival → Action
-action_after plan world site arrival = by site.head.body (move_kind (record_at world site.path).state arrival.to)
-  where
-    old : Action
-    old = (record_at world site.path).action
-
-    by : BodyData → MoveKind → Action
-    by Nothing move = NoAction
-    by body Initializes = NoAction
-    by body Resets = NoAction
-    by (Assign target right) Starts = Assigned (overwritten_by plan world target)
-    by (Command name args result) Starts = Commanded (result_index plan world result) None NoAbort
-    by (Update pairs) Starts = Updated false
-    by (Command name args result) Fails = aborted old
-    by body move = old
+    row : MoveKind → BodyData → Effects
+    row move Nothing = silent NoAction
+    row Initializes body = silent NoAction
+    row Resets body = silent NoAction
+    row Starts (Assign target right) = assigns plan world target right
+    row Starts (Command name args result) = sends plan world name args result
+    row Starts (Update pairs) = updates plan world pairs
+    row Fails (Assign target right) = writes_back target old.action
+    row Fails (Command name args result) = aborts name old.action
+    row move body = silent old.action
 
 -- ---- the variables after a step
 
 -- the initial values of a variable, UNKNOWN where none is given
-abbrev pub initial : VariableData → List Value
-initial variable = variable.init ++ replicate (cells_of variable - length variable.init) values.Unknown
+abbrev pub initial_values : VariableData → List Value
+initial_values variable = variable.init ++ replicate (cells_of variable - length variable.init) values.Unknown
 
 -- the write, among those of one step, to this variable
 abbrev pub write_to : List ℕ → List ℕ → List (Option Write) → Option Write
@@ -177,25 +191,4 @@ write_to owner name (Some write ∷ writes) =
 
 abbrev pub written : List Value → Option Write → List Value
 written cells None = cells
-written cells (Some write) = put_at cells write.index write.value
-
--- ---- what is told of a move
-
-abbrev pub told_write : Write → Effect
-told_write write = effects.Wrote write.owner write.name write.index write.value
-
-abbrev pub effect_of : List Site → World → Site → Arrival → Option Effect
-effect_of plan world site arrival = by site.head.body (move_kind (record_at world site.path).state arrival.to)
-  where
-    told : Option Write → Option Effect
-    told None = Some effects.NoWrite
-    told (Some write) = Some (told_write write)
-
-    by : BodyData → MoveKind → Option Effect
-    by (Assign target right) Starts = told (first_write plan world target right)
-    by (Assign target right) Fails = option_map told_write (written_back target (record_at world site.path).action)
-    by (Command name args result) Starts = Some (effects.Sent name (map (value plan world) args))
-    by (Command name args result) Fails = Some (effects.Aborted name)
-    by (Update pairs) Starts =
-        Some (effects.Updated (map (λ pair. pair.name) pairs) (map (λ pair. value plan world pair.value) pairs))
-    by body move = None
+written cells (Some write) = set cells (cell_of write.place) write.value

@@ -1,15 +1,17 @@
--- What an event does to a quiet world.
-use Rattle.std.specs.Prelude.{ℕ, true, ◌||◌, List, [], ◌∷◌, map, Option, Some, None, if◌then◌else◌}
+-- What an event does to a quiet world, before any micro step.
+use Rattle.std.specs.Prelude.{ℕ, Bool, true, false, ◌&&◌, ◌||◌, List, [], ◌∷◌, map, Option, Some, None, if◌then◌else◌}
 use Rattle.std.specs.List.{zip}
+use Rattle.std.specs.Option.{option_map}
 use Rattle.px_value.specs.declared.enums.Handle.{Handle}
 use Rattle.px_value.specs.declared.value.Value.{Value}
 use Rattle.px_core.specs.Plan.{Site, BodyData, Command, Update, TargetData, VariableData, is_same, site_at}
-use Rattle.px_core.specs.Terms.{Term}
+use Rattle.px_core.specs.Expr.{Term}
 use Rattle.px_event.specs.declared.event.Event.{Event}
 use Rattle.px_event.specs.declared.event.Event.TheVariants as events
-use Rattle.px_sem.specs.World.{World, NodeRecord, Action, NoAction, Assigned, Commanded, Updated, AbortDone, LookState, is_same_state, record_at, state_at}
+use Rattle.px_sem.specs.World.{World, NodeRecord, Action, Commanded, Updated, AbortDone, Place, Whole, Element, LookState, is_same_state, record_at, state_at}
+use Rattle.px_sem.specs.Conflicts.{target_of}
 use Rattle.px_sem.specs.Guards.{is_active, is_executing, is_failing, is_finishing}
-use Rattle.px_sem.specs.Effects.{Write, taken_as, written}
+use Rattle.px_sem.specs.Effects.{Write, write_at, written}
 
 -- a report in the place of the last one of its state, or after all others
 abbrev pub reported : LookState → Value → List (LookState × Value) → List (LookState × Value)
@@ -27,9 +29,11 @@ with_record world path r = record world {
 abbrev pub with_action : World → List ℕ → Action → World
 with_action world path action = with_record world path (record (record_at world path) { action = action })
 
--- the world with one variable written
-abbrev pub with_write : List Site → World → Write → World
-with_write plan world write = with_record world write.owner (record r { variables = map one (zip variables r.variables) })
+-- the world with one variable written, where there is a write
+abbrev pub with_write : List Site → World → Option Write → World
+with_write plan world None = world
+with_write plan world (Some write) =
+    with_record world write.owner (record r { variables = map one (zip variables r.variables) })
   where
     r : NodeRecord
     r = record_at world write.owner
@@ -43,67 +47,68 @@ with_write plan world write = with_record world write.owner (record r { variable
 -- what is said of a command
 abbrev pub with_handle : Handle → Action → Action
 with_handle handle (Commanded index old abort) = Commanded index (Some handle) abort
-with_handle handle NoAction = NoAction
-with_handle handle (Assigned kept) = Assigned kept
-with_handle handle (Updated acknowledged) = Updated acknowledged
+with_handle handle action = action
 
 abbrev pub with_abort_done : Action → Action
 with_abort_done (Commanded index handle abort) = Commanded index handle AbortDone
-with_abort_done NoAction = NoAction
-with_abort_done (Assigned kept) = Assigned kept
-with_abort_done (Updated acknowledged) = Updated acknowledged
+with_abort_done action = action
 
--- what a command returned, for its result: to a scalar, or to an array at the index taken as the command was sent
-abbrev pub returned : List Site → TargetData → Action → Value → Option Write
-returned plan target (Commanded index handle abort) given = at target.index index
+-- the place of a command's result: a scalar as a whole, and of an array the element whose index was taken as the
+-- command was sent; none where the array did not have it
+abbrev pub result_place : TargetData → Action → Option Place
+result_place target (Commanded index handle abort) = at target.index
   where
-    at : Option Term → Option ℕ → Option Write
-    at (Some term) None = None
-    at element index = Some (record {
-      owner = target.owner;
-      name = target.name;
-      index = index;
-      value = taken_as plan target given;
-    })
-returned plan target NoAction given = None
-returned plan target (Assigned kept) given = None
-returned plan target (Updated acknowledged) given = None
+    at : Option Term → Option Place
+    at None = Some Whole
+    at (Some term) = option_map Element index
+result_place target action = None
 
-abbrev pub with_return : List Site → World → Option Write → World
-with_return plan world None = world
-with_return plan world (Some write) = with_write plan world write
+-- what a command returned, as a write to its result
+abbrev pub returned : List Site → Option TargetData → Action → Value → Option Write
+returned plan None action given = None
+returned plan (Some target) action given = option_map (write_at plan target given) (result_place target action)
 
--- An event for a node that the plan does not have, and one that does not count, changes nothing.
-abbrev pub take : List Site → World → Event → World
-take plan world (events.Report name args given) =
+-- ---- the table of events
+
+abbrev pub body_at : List Site → List ℕ → BodyData
+body_at plan path = (site_at plan path).head.body
+
+abbrev pub action_at : World → List ℕ → Action
+action_at world path = (record_at world path).action
+
+-- what a body is
+abbrev pub is_command : BodyData → Bool
+is_command (Command name args result) = true
+is_command body = false
+
+abbrev pub has_result : BodyData → Bool
+has_result (Command name args (Some target)) = true
+has_result body = false
+
+abbrev pub is_update : BodyData → Bool
+is_update (Update pairs) = true
+is_update body = false
+
+-- where an event counts: never for a node that the plan does not have
+abbrev pub counts : List Site → World → Event → Bool
+counts plan world (events.Report name args given) = true
+counts plan world (events.Handle node handle) = is_command (body_at plan node) && is_active (state_at world node)
+counts plan world (events.Return node given) =
+    has_result (body_at plan node) && (is_executing (state_at world node) || is_finishing (state_at world node))
+counts plan world (events.AbortDone node) = is_command (body_at plan node) && is_failing (state_at world node)
+counts plan world (events.Acknowledged node) =
+    is_update (body_at plan node) && (is_executing (state_at world node) || is_failing (state_at world node))
+
+-- what an event that counts changes
+abbrev pub changed : List Site → World → Event → World
+changed plan world (events.Report name args given) =
     record world { reports = reported (record { name = name; args = args }) given world.reports }
-take plan world (events.Handle node handle) = by (site_at plan node).head.body
-  where
-    by : BodyData → World
-    by (Command name args result) =
-        if is_active (state_at world node) then with_action world node (with_handle handle (record_at world node).action)
-        else world
-    by body = world
-take plan world (events.Return node given) = by (site_at plan node).head.body
-  where
-    by : BodyData → World
-    by (Command name args (Some target)) =
-        if is_executing (state_at world node) || is_finishing (state_at world node)
-        then with_return plan world (returned plan target (record_at world node).action given)
-        else world
-    by body = world
-take plan world (events.AbortDone node) = by (site_at plan node).head.body
-  where
-    by : BodyData → World
-    by (Command name args result) =
-        if is_failing (state_at world node) then with_action world node (with_abort_done (record_at world node).action)
-        else world
-    by body = world
-take plan world (events.Acknowledged node) = by (site_at plan node).head.body
-  where
-    by : BodyData → World
-    by (Update pairs) =
-        if is_executing (state_at world node) || is_failing (state_at world node)
-        then with_action world node (Updated true)
-        else world
-    by body = world
+changed plan world (events.Handle node handle) = with_action world node (with_handle handle (action_at world node))
+changed plan world (events.Return node given) =
+    with_write plan world (returned plan (target_of (body_at plan node)) (action_at world node) given)
+changed plan world (events.AbortDone node) = with_action world node (with_abort_done (action_at world node))
+changed plan world (events.Acknowledged node) = with_action world node (Updated true)
+
+-- the world after an event: one that does not count changes nothing
+abbrev pub take : List Site → World → Event → World
+take plan world event = if counts plan world event then changed plan world event else world

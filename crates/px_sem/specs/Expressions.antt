@@ -11,14 +11,14 @@ use Rattle.px_value.specs.declared.value.Value.TheVariants as values
 use Rattle.px_value.specs.Arithmetic.{value_arith, value_add}
 use Rattle.px_value.specs.Comparison.{value_compare}
 use Rattle.px_value.specs.Truth.{value_and, value_or, value_xor, value_not}
-use Rattle.px_value.specs.Values.{is_known, value_index}
+use Rattle.px_value.specs.Value.{is_known, value_index}
 use Rattle.px_core.specs.declared.expr.UnaryOp.{UnaryOp}
 use Rattle.px_core.specs.declared.expr.UnaryOp.TheVariants as unary
 use Rattle.px_core.specs.declared.expr.BinaryOp.{BinaryOp}
 use Rattle.px_core.specs.declared.expr.BinaryOp.TheVariants as binary
 use Rattle.px_core.specs.Plan.{Site}
-use Rattle.px_core.specs.Terms.{Term, Terms, Literal, Var, Cell, StateOf, OutcomeOf, FailureOf, HandleOf, Acknowledged, Look, Unary, Binary, NoTerms, More}
-use Rattle.px_sem.specs.World.{World, Action, NoAction, Assigned, Commanded, Updated, record_at, state_at, cells_at, last_report}
+use Rattle.px_core.specs.Expr.{Term, Terms, Literal, Var, Cell, StateOf, OutcomeOf, FailureOf, HandleOf, Acknowledged, Look, Unary, Binary, NoTerms, More}
+use Rattle.px_sem.specs.World.{World, Action, Commanded, Updated, record_at, state_at, cells_at, last_report}
 
 -- what there may be none of, as a value
 abbrev pub outcome_value : Option Outcome → Value
@@ -36,16 +36,12 @@ handle_value (Some handle) = values.Handle handle
 -- what was said of the command of an action
 abbrev pub handle_of : Action → Option Handle
 handle_of (Commanded index handle abort) = handle
-handle_of NoAction = None
-handle_of (Assigned kept) = None
-handle_of (Updated acknowledged) = None
+handle_of action = None
 
 -- whether the update of an action was acknowledged
 abbrev pub is_acknowledged : Action → Bool
 is_acknowledged (Updated acknowledged) = acknowledged
-is_acknowledged NoAction = false
-is_acknowledged (Assigned kept) = false
-is_acknowledged (Commanded index handle abort) = false
+is_acknowledged action = false
 
 -- the element of an array at an index, UNKNOWN where there is none
 abbrev pub element : List Value → Value → Value
@@ -55,8 +51,8 @@ element cells at = there (value_index cells at)
     there None = values.Unknown
     there (Some place) = get_or cells place values.Unknown
 
--- The last report of the state that a name and arguments make. A state that was never reported, and an argument that is
--- UNKNOWN, give UNKNOWN.
+-- The last report of the state that a name and arguments make (PLEXIL reference manual, "Lookups"). A state that was never
+-- reported, and an argument that is UNKNOWN, give UNKNOWN.
 abbrev pub looked_up : World → List ℕ → List Value → Value
 looked_up world name args =
     if list_any (λ arg. not (is_known arg)) args then values.Unknown
@@ -86,7 +82,7 @@ binary_value (binary.Compare op) a b = value_compare op a b
 binary_value binary.Add a b = value_add a b
 binary_value (binary.Arith op) a b = value_arith op a b
 
--- the value of an expression, and of each of a lookup's arguments
+-- the value of an expression, and of each of a lookup's arguments (PLEXIL reference manual, "Expressions")
 abbrev mutual
   pub value : List Site → World → Term → Value
   value plan world (Literal given) = given

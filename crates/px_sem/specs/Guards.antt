@@ -1,5 +1,5 @@
 -- What holds of a node in a world: its conditions, what its ancestors ask of it, and so the guards of its rows.
-use Rattle.std.specs.Prelude.{ℕ, Bool, true, false, not, ◌&&◌, ◌||◌, List, Option, Some, None, is_some}
+use Rattle.std.specs.Prelude.{ℕ, Bool, true, false, not, ◌&&◌, ◌||◌, List, Option, Some, is_some}
 use Rattle.std.specs.List.{list_all, list_any}
 use Rattle.px_value.specs.declared.enums.NodeState.{NodeState}
 use Rattle.px_value.specs.declared.enums.NodeState.TheVariants as states
@@ -15,86 +15,53 @@ use Rattle.px_core.specs.declared.node.Kind.TheVariants as kinds
 use Rattle.px_core.specs.Plan.{Site, site_at, is_child_of, condition_of}
 use Rattle.px_sem.specs.declared.guards.Guards.{Guards}
 use Rattle.px_sem.specs.Expressions.{value, handle_of, is_acknowledged}
-use Rattle.px_sem.specs.World.{World, NodeRecord, Action, NoAction, Assigned, Commanded, Updated, NoAbort, AbortSent, AbortDone, record_at, state_at, parent_state}
+use Rattle.px_sem.specs.World.{World, NodeRecord, Action, Commanded, AbortDone, record_at, state_at, parent_state}
 
--- a truth value of Kleene's logic, where none is UNKNOWN
+-- a truth value of Kleene's three-valued logic, where none is UNKNOWN
 abbrev pub Truth : Type 0
 Truth = Option Bool
 
 abbrev pub is_true : Truth → Bool
 is_true (Some true) = true
-is_true (Some false) = false
-is_true None = false
+is_true truth = false
 
 abbrev pub is_false : Truth → Bool
-is_false (Some true) = false
 is_false (Some false) = true
-is_false None = false
+is_false truth = false
 
 abbrev pub is_finished : NodeState → Bool
 is_finished states.Finished = true
-is_finished states.Inactive = false
-is_finished states.Waiting = false
-is_finished states.Executing = false
-is_finished states.Finishing = false
-is_finished states.IterationEnded = false
-is_finished states.Failing = false
+is_finished state = false
 
 abbrev pub is_waiting : NodeState → Bool
 is_waiting states.Waiting = true
-is_waiting states.Finished = false
-is_waiting states.Inactive = false
-is_waiting states.Executing = false
-is_waiting states.Finishing = false
-is_waiting states.IterationEnded = false
-is_waiting states.Failing = false
+is_waiting state = false
 
 abbrev pub is_executing : NodeState → Bool
 is_executing states.Executing = true
-is_executing states.Finished = false
-is_executing states.Inactive = false
-is_executing states.Waiting = false
-is_executing states.Finishing = false
-is_executing states.IterationEnded = false
-is_executing states.Failing = false
+is_executing state = false
 
 abbrev pub is_failing : NodeState → Bool
 is_failing states.Failing = true
-is_failing states.Finished = false
-is_failing states.Inactive = false
-is_failing states.Waiting = false
-is_failing states.Executing = false
-is_failing states.Finishing = false
-is_failing states.IterationEnded = false
+is_failing state = false
 
 abbrev pub is_finishing : NodeState → Bool
 is_finishing states.Finishing = true
-is_finishing states.Finished = false
-is_finishing states.Inactive = false
-is_finishing states.Waiting = false
-is_finishing states.Executing = false
-is_finishing states.IterationEnded = false
-is_finishing states.Failing = false
+is_finishing state = false
 
 -- EXECUTING, FINISHING or FAILING
 abbrev pub is_active : NodeState → Bool
 is_active states.Executing = true
 is_active states.Finishing = true
 is_active states.Failing = true
-is_active states.Inactive = false
-is_active states.Waiting = false
-is_active states.IterationEnded = false
-is_active states.Finished = false
+is_active state = false
 
 -- FINISHING, ITERATION_ENDED or FINISHED
 abbrev pub is_past_end : NodeState → Bool
 is_past_end states.Finishing = true
 is_past_end states.IterationEnded = true
 is_past_end states.Finished = true
-is_past_end states.Inactive = false
-is_past_end states.Waiting = false
-is_past_end states.Executing = false
-is_past_end states.Failing = false
+is_past_end state = false
 
 -- WAITING or FINISHED
 abbrev pub is_at_rest : NodeState → Bool
@@ -105,7 +72,7 @@ abbrev pub each_child : (NodeState → Bool) → List Site → World → List �
 each_child test plan world path =
     list_all (λ site. not (is_child_of path site) || test (state_at world site.path)) plan
 
--- the truth of a condition of a node
+-- the truth of a condition of a node (PLEXIL reference manual, "Node Conditions")
 abbrev pub condition : List Site → World → Site → ConditionKind → Truth
 condition plan world site which = truth_of (value plan world (condition_of site.head.conditions which))
 
@@ -113,56 +80,42 @@ condition plan world site which = truth_of (value plan world (condition_of site.
 abbrev pub is_exit_failure : Option Failure → Bool
 is_exit_failure (Some failures.Exited) = true
 is_exit_failure (Some failures.ParentExited) = true
-is_exit_failure (Some failures.PreConditionFailed) = false
-is_exit_failure (Some failures.PostConditionFailed) = false
-is_exit_failure (Some failures.InvariantConditionFailed) = false
-is_exit_failure (Some failures.ParentFailed) = false
-is_exit_failure None = false
+is_exit_failure failure = false
 
 abbrev pub is_invariant_failure : Option Failure → Bool
 is_invariant_failure (Some failures.InvariantConditionFailed) = true
 is_invariant_failure (Some failures.ParentFailed) = true
-is_invariant_failure (Some failures.PreConditionFailed) = false
-is_invariant_failure (Some failures.PostConditionFailed) = false
-is_invariant_failure (Some failures.Exited) = false
-is_invariant_failure (Some failures.ParentExited) = false
-is_invariant_failure None = false
+is_invariant_failure failure = false
 
--- whether an ancestor with this record and this value of its Exit asks all below it to leave; so by its Invariant, its End
-abbrev pub exits : NodeRecord → Truth → Bool
-exits r exit =
+-- whether an ancestor with this record asks all below it to leave: by this truth of its Exit, its Invariant, its End
+abbrev pub exit_asks : NodeRecord → Truth → Bool
+exit_asks r exit =
     (is_active r.state && is_true exit) || (is_failing r.state && is_exit_failure r.failure)
 
-abbrev pub fails : NodeRecord → Truth → Bool
-fails r invariant =
+abbrev pub invariant_asks : NodeRecord → Truth → Bool
+invariant_asks r invariant =
     (is_active r.state && is_false invariant) || (is_failing r.state && is_invariant_failure r.failure)
 
-abbrev pub ends : NodeRecord → Truth → Bool
-ends r end = (is_executing r.state && is_true end) || is_past_end r.state
+abbrev pub end_asks : NodeRecord → Truth → Bool
+end_asks r end = (is_executing r.state && is_true end) || is_past_end r.state
 
 -- some proper ancestor asks a node to leave: by its Exit, its Invariant, its End
 abbrev pub some_ancestor : (NodeRecord → Truth → Bool) → ConditionKind → List Site → World → Site → Bool
 some_ancestor asks kind plan world site =
     list_any (λ path. asks (record_at world path) (condition plan world (site_at plan path) kind)) site.above
 
--- the outside is done with a command
+-- the outside is done with a command (PLEXIL reference manual, "Command Handles")
 abbrev pub is_final_handle : Option Handle → Bool
 is_final_handle (Some handles.CommandSuccess) = true
 is_final_handle (Some handles.CommandFailed) = true
 is_final_handle (Some handles.CommandDenied) = true
-is_final_handle (Some handles.CommandSentToSystem) = false
-is_final_handle (Some handles.CommandAccepted) = false
-is_final_handle (Some handles.CommandRcvdBySystem) = false
-is_final_handle None = false
+is_final_handle handle = false
 
 -- its abort is done, or its handle is a last one
 abbrev pub command_is_over : Action → Bool
 command_is_over (Commanded index handle AbortDone) = true
-command_is_over (Commanded index handle AbortSent) = is_final_handle handle
-command_is_over (Commanded index handle NoAbort) = is_final_handle handle
-command_is_over NoAction = false
-command_is_over (Assigned kept) = false
-command_is_over (Updated acknowledged) = false
+command_is_over (Commanded index handle abort) = is_final_handle handle
+command_is_over action = false
 
 -- whether a failing node may leave FAILING
 abbrev pub is_ready : List Site → World → Site → Bool
@@ -183,9 +136,9 @@ guards plan world site = record {
   parent_waiting = is_waiting (parent_state world site);
   parent_executing = is_executing (parent_state world site);
   parent_finished = is_finished (parent_state world site);
-  ancestor_exit = some_ancestor exits which.Exit plan world site;
-  ancestor_invariant = some_ancestor fails which.Invariant plan world site;
-  ancestor_end = some_ancestor ends which.End plan world site;
+  ancestor_exit = some_ancestor exit_asks which.Exit plan world site;
+  ancestor_invariant = some_ancestor invariant_asks which.Invariant plan world site;
+  ancestor_end = some_ancestor end_asks which.End plan world site;
   exit_true = is_true (condition plan world site which.Exit);
   skip_true = is_true (condition plan world site which.Skip);
   start_true = is_true (condition plan world site which.Start);

@@ -19,13 +19,14 @@ Log = List LogEntry
 abbrev pub events_of : List Entry → List Event
 events_of entries = map (λ entry. entry.event) entries
 
--- the entries that were accepted
+-- whether a reply is that the event was accepted
 abbrev pub is_accepted : Reply → Bool
 is_accepted (replies.Accepted position) = true
 is_accepted replies.PlanFinished = false
 is_accepted replies.Full = false
 is_accepted replies.Runaway = false
 
+-- the entries that were accepted
 abbrev pub accepted : Log → List Entry
 accepted log = map (λ logged. logged.entry) (filter (λ logged. is_accepted logged.reply) log)
 
@@ -52,13 +53,20 @@ world_after plan world event replies.PlanFinished = world
 world_after plan world event replies.Full = world
 world_after plan world event replies.Runaway = world
 
--- each reply is the answer over the history of its moment: this history, and the entries accepted since
+-- each reply is the answer over the history then: this history, and the entries accepted since
 abbrev pub AnswersEach : List Site → ℕ → List Event → Log → Type 0
 AnswersEach plan limit history [] = Unit {0}
 AnswersEach plan limit history (logged ∷ log) =
     ((world : World) × (run plan history ≡ Some world)
     × (logged.reply ≡ answer plan limit (length history) world logged.entry.event))
     × AnswersEach plan limit (history ++ events_of (accepted (logged ∷ []))) log
+
+-- a front of the entries was posted from the start on, each answered as it is to be, and the world is the run over the
+-- accepted ones
+abbrev pub PostsPart : List Site → ℕ → List Entry → World → Type 0
+PostsPart plan limit entries world =
+    (log : Log) × (rest : List Entry) × (entries ≡ map (λ logged. logged.entry) log ++ rest)
+    × AnswersEach plan limit [] log × (run plan (events_of (accepted log)) ≡ Some world)
 
 -- a log that goes on from a history, which may grow up to the limit
 pub record IsLegal (plan : List Site) (history : List Entry) (limit : ℕ) (log : Log) : Type 0 where

@@ -1,8 +1,9 @@
 -- Runs: micro steps until the world is quiet.
-use Rattle.std.specs.Prelude.{ℕ, zero, suc, Bool, List, [], ◌∷◌, Option, Some, None, if◌then◌else◌}
+use Rattle.std.specs.Prelude.{◌≡◌, ℕ, zero, suc, ◌+◌, ◌<◌, ◌≤◌, Bool, true, false, List, [], ◌∷◌, Option, Some, None}
+use Rattle.std.specs.List.{find, range_with_len}
 use Rattle.std.specs.Option.{option_map}
 use Rattle.px_core.specs.Plan.{Site}
-use Rattle.px_sem.specs.World.{World, first}
+use Rattle.px_sem.specs.World.{World, initial_world}
 use Rattle.px_event.specs.declared.event.Event.{Event}
 use Rattle.px_sem.specs.Conflicts.{is_quiet}
 use Rattle.px_sem.specs.Events.{take}
@@ -17,38 +18,48 @@ unfoldable pub after_steps : List Site → World → ℕ → World
 after_steps plan world zero = world
 after_steps plan world (suc k) = micro plan (after_steps plan world k)
 
--- the least number up to a bound that passes the test
+-- whether the world after k micro steps is quiet
+abbrev pub is_quiet_after : List Site → World → ℕ → Bool
+is_quiet_after plan world k = is_quiet plan (after_steps plan world k)
+
+-- the first of the numbers from 0 to a bound that passes a test
 unfoldable pub least : (ℕ → Bool) → ℕ → Option ℕ
-least test zero = if test zero then Some zero else None
-least test (suc bound) = or_at (least test bound)
-  where
-    or_at : Option ℕ → Option ℕ
-    or_at (Some k) = Some k
-    or_at None = if test (suc bound) then Some (suc bound) else None
+least test bound = find test (range_with_len 0 (bound + 1))
 
--- how many micro steps a world takes until it is quiet: the least number up to the limit, or none
+-- what such a number is
+pub record IsLeast (test : ℕ → Bool) (bound k : ℕ) : Type 0 where
+  pub passes : test k ≡ true
+  pub none_below : (j : ℕ) → j < k → test j ≡ false
+  pub within : k ≤ bound
+
+-- how many micro steps a world takes until it is quiet, within the limit; none where it runs away
 abbrev pub settling_count : List Site → World → Option ℕ
-settling_count plan world = least (λ k. is_quiet plan (after_steps plan world k)) step_limit
+settling_count plan world = least (is_quiet_after plan world) step_limit
 
--- the quiet world that a world settles into, and the number of its micro steps
+-- the quiet world that a world settles into, and the number of its micro steps: the quiescence relation of the small-step
+-- semantics
 abbrev pub settled : List Site → World → Option (World × ℕ)
 settled plan world = option_map (λ k. (after_steps plan world k, k)) (settling_count plan world)
 
--- event 0, the start: the first world, settled
+-- event 0, the start: the world before it, settled
 abbrev pub started : List Site → Option (World × ℕ)
-started plan = settled plan (first plan)
+started plan = settled plan (initial_world plan)
 
--- an event taken in a world, settled
+-- an event taken in a world, settled: the macro relation of the small-step semantics
 abbrev pub posted : List Site → World → Event → Option (World × ℕ)
 posted plan world event = settled plan (take plan world event)
+
+-- the world alone
+abbrev pub settled_world : Option (World × ℕ) → Option World
+settled_world settled = option_map (λ found. found.0) settled
 
 -- the world after more events, if each settles
 unfoldable pub run_on : List Site → Option World → List Event → Option World
 run_on plan None history = None
 run_on plan (Some world) [] = Some world
-run_on plan (Some world) (event ∷ history) =
-    run_on plan (option_map (λ settled. settled.0) (posted plan world event)) history
+run_on plan (Some world) (event ∷ history) = run_on plan (settled_world (posted plan world event)) history
 
--- the run over a history: the start, and then each event in order; none where one of them does not settle
+-- the run over a history: the start, and then each event in order; none where one of them does not settle. It is the
+-- execution relation of the small-step semantics.
 abbrev pub run : List Site → List Event → Option World
-run plan history = run_on plan (option_map (λ settled. settled.0) (started plan)) history
+run plan history = run_on plan (settled_world (started plan)) history

@@ -8,11 +8,12 @@ use Rattle.px_sem.specs.declared.guards.Arrival.{Arrival}
 use Rattle.px_sem.specs.declared.moves.Move.{Move}
 use Rattle.px_sem.specs.World.{World, NodeRecord, record_at}
 use Rattle.px_sem.specs.Conflicts.{transition}
-use Rattle.px_sem.specs.Effects.{move_kind, is_initializing, Write, write_of, action_after, effect_of, initial, write_to, written}
+use Rattle.px_sem.specs.Effects.{move_kind, is_initializing, Write, effects_of, initial_values, write_to, written}
 
 -- what each node writes, in preorder
-abbrev pub writes : List Site → World → List (Option Write)
-writes plan world = map (λ site. option_and_then (write_of plan world site) (transition plan world site)) plan
+abbrev pub step_writes : List Site → World → List (Option Write)
+step_writes plan world =
+    map (λ site. option_and_then (λ arrival. (effects_of plan world site arrival).write) (transition plan world site)) plan
 
 -- whether a node goes from INACTIVE to WAITING
 abbrev pub initializes : NodeRecord → Option Arrival → Bool
@@ -23,8 +24,8 @@ initializes r (Some arrival) = is_initializing (move_kind r.state arrival.to)
 -- most one node that goes writes a variable.
 abbrev pub variables_after : List Site → World → Site → Option Arrival → List (List Value)
 variables_after plan world site arrival =
-    if initializes (record_at world site.path) arrival then map initial site.head.variables
-    else map (λ variable. written variable.1 (write_to site.path variable.0.name (writes plan world)))
+    if initializes (record_at world site.path) arrival then map initial_values site.head.variables
+    else map (λ variable. written variable.1 (write_to site.path variable.0.name (step_writes plan world)))
     (zip site.head.variables (record_at world site.path).variables)
 
 -- the record of a node after one step
@@ -41,17 +42,17 @@ record_after plan world site (Some arrival) = record {
   outcome = arrival.outcome;
   failure = arrival.failure;
   variables = variables_after plan world site (Some arrival);
-  action = action_after plan world site arrival;
+  action = (effects_of plan world site arrival).action;
 }
 
--- the world after one step, node by node
+-- the world after one step, node by node: the micro relation of the small-step semantics
 abbrev pub micro : List Site → World → World
 micro plan world = record {
   nodes = map (λ site. (site.path, record_after plan world site (transition plan world site))) plan;
   reports = world.reports;
 }
 
--- what a node's step looks like
+-- a node's part of a step, as it is told: the atomic relation of the small-step semantics
 abbrev pub move_of : List Site → World → Site → Arrival → Move
 move_of plan world site arrival = record {
   node = site.path;
@@ -59,7 +60,7 @@ move_of plan world site arrival = record {
   to = arrival.to;
   outcome = arrival.outcome;
   failure = arrival.failure;
-  effect = effect_of plan world site arrival;
+  effect = (effects_of plan world site arrival).told;
 }
 
 -- the moves of one step, in preorder

@@ -1,11 +1,12 @@
 -- What a stepper stands for, and what its calls do.
-use Rattle.std.specs.Prelude.{◌≡◌, Bool, true, false, List, []}
+use Rattle.std.specs.Prelude.{◌≡◌, ◌⊎◌, ℕ, Bool, true, false, List, []}
 use Rattle.px_core.specs.Plan.{Site}
 use Rattle.px_event.specs.declared.event.Event.{Event as Posted}
 use Rattle.px_sem.specs.declared.moves.Move.{Move}
-use Rattle.px_sem.specs.World.{World, first}
+use Rattle.px_sem.specs.World.{World, initial_world}
 use Rattle.px_sem.specs.Conflicts.{is_quiet}
 use Rattle.px_sem.specs.Events.{take}
+use Rattle.px_sem.specs.Run.{after_steps}
 use Rattle.px_sem.specs.Step.{micro, moves}
 
 -- what is begun: nothing, event 0, or an event, with the settled world before it
@@ -32,11 +33,11 @@ pub record State : Type 0 where
 
 -- no node has begun, and event 0 is
 abbrev pub fresh : List Site → State
-fresh plan = record { nodes = plan; world = first plan; pending = Start }
+fresh plan = record { nodes = plan; world = initial_world plan; pending = Start }
 
 -- a settled world, in which nothing is begun
-abbrev pub at_rest : List Site → World → State
-at_rest plan world = record { nodes = plan; world = world; pending = Nothing }
+abbrev pub settled_state : List Site → World → State
+settled_state plan world = record { nodes = plan; world = world; pending = Nothing }
 
 -- an event is taken
 abbrev pub with_event : State → Posted → State
@@ -53,10 +54,15 @@ given_up s = back s.pending
     back : Pending → State
     back Nothing = s
     back Start = s
-    back (Event settled) = at_rest s.nodes settled
+    back (Event settled) = settled_state s.nodes settled
 
 -- Where it answers true, the world was not quiet, and took one micro step with these moves; else nothing changed.
 abbrev pub Steps : State → State → List Move → Bool → Type 0
 Steps old new made true =
     (is_quiet old.nodes old.world ≡ false) × (new ≡ stepped old) × (made ≡ moves old.nodes old.world)
 Steps old new made false = (is_quiet old.nodes old.world ≡ true) × (new ≡ old) × (made ≡ [])
+
+-- moves that are those of before, or of one of the micro steps from a state on
+abbrev pub AreOnTheWay : State → List Move → List Move → Type 0
+AreOnTheWay from before now =
+    (now ≡ before) ⊎ ((k : ℕ) × (now ≡ moves from.nodes (after_steps from.nodes from.world k)))

@@ -1,4 +1,5 @@
--- The transition table: for each state the rows in order, of which the first whose guard holds decides.
+-- The transition table, after the transition diagrams of the PLEXIL reference manual: for each state the rows in order, of
+-- which the first whose guard holds decides.
 use Rattle.std.specs.Prelude.{Bool, true, false, not, ◌&&◌, ◌++◌, List, [], ◌∷◌, Option, Some, None, if◌then◌else◌}
 use Rattle.px_value.specs.declared.enums.NodeState.{NodeState}
 use Rattle.px_value.specs.declared.enums.NodeState.TheVariants.{Inactive, Waiting, Executing, Finishing, IterationEnded, Failing, Finished}
@@ -43,11 +44,7 @@ skipped = ended Finished outcomes.Skipped
 abbrev pub is_from_above : Option Failure → Bool
 is_from_above (Some failures.ParentFailed) = true
 is_from_above (Some failures.ParentExited) = true
-is_from_above (Some failures.PreConditionFailed) = false
-is_from_above (Some failures.PostConditionFailed) = false
-is_from_above (Some failures.InvariantConditionFailed) = false
-is_from_above (Some failures.Exited) = false
-is_from_above None = false
+is_from_above failure = false
 
 abbrev pub inactive_rows : Guards → List Row
 inactive_rows g =
@@ -93,10 +90,7 @@ end_row kinds.Assignment g = (g.end_true, by_post IterationEnded g)
 
 abbrev pub stop_rows_of : Kind → Guards → List Row
 stop_rows_of kinds.Empty g = empty_stop_rows g
-stop_rows_of kinds.List g = stop_rows g
-stop_rows_of kinds.Command g = stop_rows g
-stop_rows_of kinds.Update g = stop_rows g
-stop_rows_of kinds.Assignment g = stop_rows g
+stop_rows_of kind g = stop_rows g
 
 abbrev pub executing_rows : Kind → Guards → List Row
 executing_rows kind g = stop_rows_of kind g ++ end_row kind g ∷ []
@@ -105,9 +99,7 @@ executing_rows kind g = stop_rows_of kind g ++ end_row kind g ∷ []
 abbrev pub settle_rows : Kind → Guards → List Row
 settle_rows kinds.List g = (g.children_rest, both_kept IterationEnded g) ∷ []
 settle_rows kinds.Command g = (g.handle_known, by_post IterationEnded g) ∷ []
-settle_rows kinds.Empty g = []
-settle_rows kinds.Update g = []
-settle_rows kinds.Assignment g = []
+settle_rows kind g = []
 
 abbrev pub finishing_rows : Kind → Guards → List Row
 finishing_rows kind g = stop_rows g ++ settle_rows kind g

@@ -6,7 +6,7 @@ use Rattle.px_value.specs.declared.enums.Outcome.{Outcome}
 use Rattle.px_value.specs.declared.enums.Failure.{Failure}
 use Rattle.px_value.specs.declared.value.Value.{Value}
 use Rattle.px_value.specs.declared.value.Value.TheVariants as values
-use Rattle.px_value.specs.Words.{state_word, outcome_word, failure_word, handle_word}
+use Rattle.px_value.specs.Enums.{state_word, outcome_word, failure_word, handle_word}
 use Rattle.px_core.specs.Plan.{Site}
 use Rattle.px_event.specs.declared.entry.Entry.{Entry}
 use Rattle.px_event.specs.declared.event.Event.{Event}
@@ -17,11 +17,11 @@ use Rattle.px_sem.specs.declared.moves.Move.{Move}
 use Rattle.px_sem.specs.declared.moves.Effect.{Effect}
 use Rattle.px_sem.specs.declared.moves.Effect.TheVariants as effects
 use Rattle.px_sem.specs.declared.standing.Standing.{Standing}
-use Rattle.px_sem.specs.declared.standing.Standing.TheVariants.{Running, Finished as Ended}
-use Rattle.px_sem.specs.World.{World, first, standing_of}
+use Rattle.px_sem.specs.declared.standing.Standing.TheVariants.{Running, Finished}
+use Rattle.px_sem.specs.World.{World, initial_world, standing_of}
 use Rattle.px_sem.specs.Events.{take}
-use Rattle.px_sem.specs.Log.{Log, accepted}
-use Rattle.px_sem.specs.Run.{after_steps, settled}
+use Rattle.px_sem.specs.Log.{Log, events_of, accepted}
+use Rattle.px_sem.specs.Run.{after_steps, settling_count, started, posted, settled_world, run}
 use Rattle.px_sem.specs.Step.{moves}
 
 -- a line
@@ -107,9 +107,13 @@ steps_text plan world (suc k) = steps_text plan world k ++ step_text (suc k) (mo
 abbrev pub quiet_text : ℕ → List ℕ
 quiet_text count = line (codes "quiet " ++ decimal count)
 
--- the micro steps of a world up to the quiet one, which is the k-th
-abbrev pub settling_text : List Site → World → ℕ → List ℕ
-settling_text plan world k = steps_text plan world k ++ quiet_text k
+-- the micro steps of a world up to the quiet one, and their number; nothing where no world is quiet in time
+abbrev pub settled_text : List Site → World → List ℕ
+settled_text plan world = up_to (settling_count plan world)
+  where
+    up_to : Option ℕ → List ℕ
+    up_to None = []
+    up_to (Some count) = steps_text plan world count ++ quiet_text count
 
 -- ---- events
 
@@ -140,26 +144,22 @@ heading_text position entry =
 
 -- ---- the trace
 
--- the text of a world up to the one that it settles into, and what follows there
-abbrev pub settling_into : List Site → World → Option (World × ℕ) → (World → List ℕ) → List ℕ
-settling_into plan world None next = []
-settling_into plan world (Some found) next = settling_text plan world found.1 ++ next found.0
-
-abbrev pub settling_then : List Site → World → (World → List ℕ) → List ℕ
-settling_then plan world next = settling_into plan world (settled plan world) next
-
--- the events of a history in a world, the first of which has this position
-abbrev pub events_trace : List Site → ℕ → List Entry → World → List ℕ
-events_trace plan position [] world = []
-events_trace plan position (entry ∷ history) world =
+-- The events of a history behind a world, the first of which has this position: for each its heading, and the text of
+-- the world that it makes; nothing behind a world that is not there.
+abbrev pub events_trace : List Site → ℕ → Option World → List Entry → List ℕ
+events_trace plan position None history = []
+events_trace plan position (Some world) [] = []
+events_trace plan position (Some world) (entry ∷ history) =
     heading_text position entry
-    ++ settling_then plan (take plan world entry.event) (events_trace plan (suc position) history)
+    ++ (settled_text plan (take plan world entry.event)
+    ++ events_trace plan (suc position) (settled_world (posted plan world entry.event)) history)
 
--- the trace of a history whose run exists
+-- the trace of a history: the start, and then each event in order
 abbrev pub trace : List Site → List Entry → List ℕ
-trace plan history = start_text ++ settling_then plan (first plan) (events_trace plan 1 history)
+trace plan history =
+    start_text ++ (settled_text plan (initial_world plan) ++ events_trace plan 1 (settled_world (started plan)) history)
 
--- ---- the report
+-- ---- the replies
 
 abbrev pub reply_text : Reply → List ℕ
 reply_text (replies.Accepted position) = codes "accepted " ++ decimal position
@@ -177,10 +177,15 @@ log_lines log = flat_map (λ logged. reply_line logged.entry.thread logged.entry
 -- the last line
 abbrev pub standing_text : Standing → List ℕ
 standing_text Running = line (codes "plan running")
-standing_text (Ended outcome failure) =
+standing_text (Finished outcome failure) =
     line (codes "plan finished " ++ outcome_word outcome ++ failure_text failure)
 
--- the text of a log that goes on from a history, after which the world stands so
-abbrev pub text_of : List Site → List Entry → Log → World → List ℕ
-text_of plan history log world =
-    trace plan (history ++ accepted log) ++ (log_lines log ++ standing_text (standing_of plan world))
+-- the text of a log that goes on from a history: the trace of the whole history, the replies, and how the plan stands
+-- after it; nothing where there is no run
+abbrev pub text_of : List Site → List Entry → Log → List ℕ
+text_of plan history log = of_run (run plan (events_of (history ++ accepted log)))
+  where
+    of_run : Option World → List ℕ
+    of_run None = []
+    of_run (Some world) =
+        trace plan (history ++ accepted log) ++ (log_lines log ++ standing_text (standing_of plan world))

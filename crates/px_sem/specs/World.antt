@@ -18,15 +18,20 @@ use Rattle.px_event.specs.Values.{value_eq}
 use Rattle.px_sem.specs.declared.standing.Standing.{Standing}
 use Rattle.px_sem.specs.declared.standing.Standing.TheVariants.{Running, Finished}
 
--- how far the abort of a command has come
+-- how far the abort of a command has come (PLEXIL reference manual, "Commands")
 pub data Abort : Type 0 where
   NoAbort : Abort
   AbortSent : Abort
   AbortDone : Abort
 
--- what an assignment wrote over: the element of an array, or none for a scalar, and the value before
+-- a place of a variable: a scalar as a whole, or the element of an array at an index
+pub data Place : Type 0 where
+  Whole : Place
+  Element : (index : ℕ) → Place
+
+-- what an assignment wrote over: the place, and the value before
 pub record Overwritten : Type 0 where
-  pub index : Option ℕ
+  pub place : Place
   pub old : Value
 
 -- What a node has under way: nothing; an assignment, which keeps what it wrote over, or wrote nothing; a command, with
@@ -37,7 +42,8 @@ pub data Action : Type 0 where
   Commanded : (index : Option ℕ) (handle : Option Handle) (abort : Abort) → Action
   Updated : (acknowledged : Bool) → Action
 
--- what is so of one node; the values of each of its variables, in order
+-- what is so of one node (PLEXIL reference manual, "Node States", "Node Outcomes", "Failure Types"); the values of each of
+-- its variables, in order
 pub record NodeRecord : Type 0 where
   pub state : NodeState
   pub outcome : Option Outcome
@@ -45,7 +51,7 @@ pub record NodeRecord : Type 0 where
   pub variables : List (List Value)
   pub action : Action
 
--- a state of the outside that plans look up
+-- a state of the outside that plans look up (PLEXIL reference manual, "Lookups")
 pub record LookState : Type 0 where
   pub name : List ℕ
   pub args : List Value
@@ -67,8 +73,8 @@ initial_record head = record {
 }
 
 -- the world before the start
-abbrev pub first : List Site → World
-first plan = record {
+abbrev pub initial_world : List Site → World
+initial_world plan = record {
   nodes = map (λ site. (site.path, initial_record site.head)) plan;
   reports = [];
 }
@@ -81,12 +87,13 @@ no_record = record { state = states.Inactive; outcome = None; failure = None; va
 abbrev pub record_at : World → List ℕ → NodeRecord
 record_at world path = unwrap_or (lookup (λ key. is_same key path) world.nodes) no_record
 
+-- the state of the node at a path, which the plan has
 abbrev pub state_at : World → List ℕ → NodeState
 state_at world path = (record_at world path).state
 
 -- the state of the node at a path, or none where there is no such node
-abbrev pub state_of : World → List ℕ → Option NodeState
-state_of world path = option_map (λ r. r.state) (lookup (λ key. is_same key path) world.nodes)
+abbrev pub known_state : World → List ℕ → Option NodeState
+known_state world path = option_map (λ r. r.state) (lookup (λ key. is_same key path) world.nodes)
 
 -- The state of a node's parent. The root has a virtual parent, which is always EXECUTING.
 abbrev pub parent_state : World → Site → NodeState
@@ -95,6 +102,10 @@ parent_state world site = of_first site.above
     of_first : List (List ℕ) → NodeState
     of_first [] = states.Executing
     of_first (parent ∷ above) = state_at world parent
+
+-- the variable of this name that a node declares
+abbrev pub variable_at : List Site → List ℕ → List ℕ → Option VariableData
+variable_at plan owner name = find (λ variable. is_same variable.name name) (site_at plan owner).head.variables
 
 -- what belongs to the variable of this name, among the variables and as many things in their order
 abbrev pub of_variable : {A : Type 0} → List ℕ → List VariableData → List A → Option A
@@ -108,7 +119,7 @@ cells_at plan world owner name =
 
 -- the Integer that a scalar variable holds
 abbrev pub integer_at : List Site → World → List ℕ → List ℕ → Option ℤ
-integer_at plan world owner name = of_declared (find (λ variable. is_same variable.name name) (site_at plan owner).head.variables)
+integer_at plan world owner name = of_declared (variable_at plan owner name)
   where
     held : Option ℕ → List Value → Option ℤ
     held None (Integer number ∷ cells) = Some number
@@ -135,9 +146,4 @@ standing_of plan world = of_state (state_at world (root_of plan).path)
 
     of_state : NodeState → Standing
     of_state states.Finished = Finished (unwrap_or root.outcome Success) root.failure
-    of_state states.Inactive = Running
-    of_state states.Waiting = Running
-    of_state states.Executing = Running
-    of_state states.Finishing = Running
-    of_state states.IterationEnded = Running
-    of_state states.Failing = Running
+    of_state state = Running

@@ -2,11 +2,12 @@
 //!
 //! `specs/` has the definitions: `World` and `Expressions`, the value of an expression; `Guards` and `Table`, where a
 //! node goes; `Conflicts` and `Effects`, which nodes go and what they do; `Step`, the micro step; `Events`, `Run` and
-//! `Log`; and `Text`. A `Stepper` is what runs a plan by them, `start` brings one up, and `post` and `post_each` post events
-//! to it.
+//! `Log`; and `Text`. `laws` has what some of them mean. A `Stepper` is what runs a plan by them, `start` brings one
+//! up, and `post` and `post_each` post events to it.
 #![tactic(auto)]
 
 mod guards;
+pub mod laws;
 mod log;
 mod moves;
 mod names;

@@ -2,9 +2,9 @@
 ghost use Rattle.std.specs.Prelude.{◌≡◌, ◌≤◌, Some, [], length, map, IsTrue, IfOk, OnErr};
 ghost use Rattle.std.specs.List.{list_all};
 ghost use Rattle.px_event.specs.Fit.{is_fit_event, is_fit_entry};
-ghost use Rattle.px_sem.specs.Log.{events_of, accepted, answer, world_after, AnswersEach};
+ghost use Rattle.px_sem.specs.Log.{events_of, accepted, answer, world_after, AnswersEach, PostsPart};
 ghost use Rattle.px_sem.specs.Run.{run};
-ghost use Rattle.px_sem.specs.Stepper.{Pending, at_rest};
+ghost use Rattle.px_sem.specs.Stepper.{Pending, settled_state};
 
 use crate::settling::StepFault;
 use crate::{LogEntry, Standing, Stepper};
@@ -35,7 +35,7 @@ pub fn post<S: Stepper>(
     ensures reply { IfOk result (λ reply. reply
         ≡ answer (S.state stepper.old).nodes limit count (S.state stepper.old).world event.now) }
     ensures state { IfOk result (λ reply. S.state stepper.new
-        ≡ at_rest (S.state stepper.old).nodes
+        ≡ settled_state (S.state stepper.old).nodes
         (world_after (S.state stepper.old).nodes (S.state stepper.old).world event.now reply)) }
     ensures err { OnErr result (S.state stepper.new ≡ S.state stepper.old) }
 {
@@ -59,7 +59,7 @@ pub fn post<S: Stepper>(
 
 /// Posts entries one after another to a stepper that has taken no event since the start. The log is legal for a
 /// history of at most `limit` events, and the world is the run over the accepted ones. After `NoMemory` the stepper is
-/// settled still, after as many of the entries as were posted.
+/// settled still, and its world is the run over the accepted ones of a front of the entries.
 pub fn post_each<S: Stepper>(
     stepper: &mut S,
     alloc: Global,
@@ -76,7 +76,9 @@ pub fn post_each<S: Stepper>(
     ensures runs { IfOk result (λ session.
         run (S.state stepper.old).nodes (events_of session.history.items) ≡ Some (S.state stepper.new).world) }
     ensures rest { S.state stepper.new
-        ≡ at_rest (S.state stepper.old).nodes (S.state stepper.new).world }
+        ≡ settled_state (S.state stepper.old).nodes (S.state stepper.new).world }
+    ensures part { OnErr result
+        (PostsPart (S.state stepper.old).nodes limit entries.items (S.state stepper.new).world) }
 {
     let mut history = Vec::new(alloc);
     let mut log = Vec::with_capacity(alloc, entries.len())?;

@@ -6,7 +6,7 @@ ghost use Rattle.px_core.specs.Simple.{IsSimple};
 ghost use Rattle.px_sem.specs.declared.settling.StepFault.TheVariants.{NoMemory as OutOfMemory};
 ghost use Rattle.px_sem.specs.Conflicts.{is_quiet};
 ghost use Rattle.px_sem.specs.Run.{started, settled};
-ghost use Rattle.px_sem.specs.Stepper.{is_pending, at_rest};
+ghost use Rattle.px_sem.specs.Stepper.{is_pending, settled_state};
 
 use crate::Stepper;
 use px_core::Plan;
@@ -40,7 +40,7 @@ pub fn start<S: Stepper>(alloc: Global, plan: &Plan) -> Result<S, StepFault>
     requires simple { IsSimple (sites (tree_of plan.now)) }
     ensures settled { IfOk result (λ s.
         ((k : ℕ) × (started (sites (tree_of plan.now)) ≡ Some ((S.state s).world, k)))) }
-    ensures rest { IfOk result (λ s. S.state s ≡ at_rest (sites (tree_of plan.now)) (S.state s).world) }
+    ensures rest { IfOk result (λ s. S.state s ≡ settled_state (sites (tree_of plan.now)) (S.state s).world) }
     ensures runaway { IsErrOf result StepFault.Runaway →
         started (sites (tree_of plan.now)) ≡ None }
 {

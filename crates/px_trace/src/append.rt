@@ -19,7 +19,7 @@ pub(crate) fn push_all(out: &mut Vec<u8>, parts: &[&str]) -> Result<(), NoMemory
 }
 
 /// Cuts the text to its length before the push, where the push has failed.
-pub(crate) fn whole_or_nothing(
+pub(crate) fn keep_or_truncate(
     pushed: Result<(), NoMemory>,
     before: usize,
     out: &mut Vec<u8>,

@@ -3,7 +3,7 @@ ghost use Rattle.std.specs.Prelude.{◌≡◌, ◌++◌, OnOk, OnErr};
 ghost use Rattle.px_sem.specs.Text.{start_text, heading_text};
 ghost use Rattle.px_trace.specs.Appending.{Keeps};
 
-use crate::append::{push_all, whole_or_nothing};
+use crate::append::{keep_or_truncate, push_all};
 use crate::events::{push_event, push_source};
 use itoa::Buffer;
 use px_event::Entry;
@@ -35,7 +35,7 @@ pub fn push_heading(
 {
     let before = out.len();
     let pushed = push_numbered(position, entry, out);
-    whole_or_nothing(pushed, before, out)
+    keep_or_truncate(pushed, before, out)
 }
 
 fn push_numbered(position: u32, entry: &Entry, out: &mut Vec<u8>) -> Result<(), NoMemory>

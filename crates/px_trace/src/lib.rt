@@ -1,4 +1,4 @@
-//! The lines that are printed of a run: its trace, the report of what was posted, and how the plan stands.
+//! The lines that are printed of a run: its trace, the replies to what was posted, and how the plan stands.
 //!
 //! The text of each is a definition of px_sem (`Text`). Each call appends whole lines; where memory runs out, it leaves
 //! the text as it was.

@@ -1,16 +1,16 @@
-// The lines of the report: what each post was answered.
+// The lines of the replies: what each post was answered.
 ghost use Rattle.std.specs.Prelude.{◌≡◌, ◌++◌, OnOk, OnErr};
 ghost use Rattle.px_sem.specs.Text.{reply_text, reply_line};
 ghost use Rattle.px_trace.specs.Appending.{Keeps};
 
-use crate::append::{push_all, whole_or_nothing};
+use crate::append::{keep_or_truncate, push_all};
 use crate::events::push_source;
 use itoa::Buffer;
 use px_event::Reply;
 use px_value::NoMemory;
 use std::alloc::Global;
 
-/// A post as the report tells of it: the thread and the line that it comes from, and what it was answered.
+/// A post as its line tells of it: the thread and the line that it comes from, and what it was answered.
 #[derive(Clone, Copy, Debug, PartialEq, Eq)]
 pub struct LoggedLine {
     pub thread: u8,
@@ -18,7 +18,7 @@ pub struct LoggedLine {
     pub reply: Reply,
 }
 
-/// Appends the report's line of a post.
+/// Appends the line of a post.
 ///
 /// After `NoMemory` the text is as before.
 pub fn push_reply(_alloc: Global, entry: &LoggedLine, out: &mut Vec<u8>) -> Result<(), NoMemory>
@@ -28,7 +28,7 @@ pub fn push_reply(_alloc: Global, entry: &LoggedLine, out: &mut Vec<u8>) -> Resu
 {
     let before = out.len();
     let pushed = push_line(entry, out);
-    whole_or_nothing(pushed, before, out)
+    keep_or_truncate(pushed, before, out)
 }
 
 fn push_line(entry: &LoggedLine, out: &mut Vec<u8>) -> Result<(), NoMemory>
@@ -62,7 +62,7 @@ mod tests {
     use std::test::Fail;
 
     #[test]
-    fn a_line_of_the_report_has_its_post_and_the_reply(rt: HostRuntime) -> Result<(), Fail> {
+    fn a_line_has_its_post_and_the_reply(rt: HostRuntime) -> Result<(), Fail> {
         for (thread, line, reply, text) in [
             (1, 1, Reply::Runaway, "thread 1 line 1: refused runaway\n"),
             (

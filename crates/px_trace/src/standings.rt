@@ -3,7 +3,7 @@ ghost use Rattle.std.specs.Prelude.{◌≡◌, ◌++◌, OnOk, OnErr};
 ghost use Rattle.px_sem.specs.Text.{standing_text};
 ghost use Rattle.px_trace.specs.Appending.{Keeps};
 
-use crate::append::{push_all, whole_or_nothing};
+use crate::append::{keep_or_truncate, push_all};
 use crate::steps::push_failure;
 use px_sem::Standing;
 use px_value::{Failure, NoMemory, Outcome};
@@ -21,7 +21,7 @@ pub fn push_standing(_alloc: Global, standing: &Standing, out: &mut Vec<u8>) -> 
         Standing::Running => push_all(out, &["plan running\n"]),
         Standing::Finished { outcome, failure } => push_finished(*outcome, *failure, out),
     };
-    whole_or_nothing(pushed, before, out)
+    keep_or_truncate(pushed, before, out)
 }
 
 fn push_finished(

@@ -3,7 +3,7 @@ ghost use Rattle.std.specs.Prelude.{◌≡◌, ◌++◌, OnOk, OnErr};
 ghost use Rattle.px_sem.specs.Text.{outcome_text, failure_text, change_line, effect_line, step_text, quiet_text};
 ghost use Rattle.px_trace.specs.Appending.{Keeps};
 
-use crate::append::{push_all, whole_or_nothing};
+use crate::append::{keep_or_truncate, push_all};
 use crate::effects::push_effect;
 use itoa::Buffer;
 use px_sem::{Effect, Move};
@@ -24,7 +24,7 @@ pub fn push_step(
 {
     let before = out.len();
     let pushed = push_moves(number, moves, out);
-    whole_or_nothing(pushed, before, out)
+    keep_or_truncate(pushed, before, out)
 }
 
 /// Appends the end of a run of so many micro steps.

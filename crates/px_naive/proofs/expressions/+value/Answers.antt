@@ -1,7 +1,7 @@
 use Rattle.std.proofs.Common.{◌≡◌, rules, ap, sym, ◌∙◌, List, map, inl, inr}
 use Rattle.px_value.specs.declared.value.Value.TheVariants as values
 use Rattle.px_core.specs.Plan.{Site}
-use Rattle.px_core.specs.Terms.{term_of}
+use Rattle.px_core.specs.Expr.{term_of}
 use Rattle.px_sem.specs.Expressions.{value, outcome_value, failure_value, looked_up, unary_value, binary_value}
 use Rattle.px_sem.specs.World.{World}
 use Rattle.px_naive.specs.Places.{sites_of, world_of}

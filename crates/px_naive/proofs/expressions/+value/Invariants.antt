@@ -1,5 +1,5 @@
 use Rattle.std.proofs.Common.{◌≡◌, take, map}
-use Rattle.px_core.specs.Terms.{term_of}
+use Rattle.px_core.specs.Expr.{term_of}
 use Rattle.px_sem.specs.Expressions.{value}
 use Rattle.px_naive.specs.Places.{sites_of, world_of}
 use Rattle.px_naive.specs.Reports.{listed}

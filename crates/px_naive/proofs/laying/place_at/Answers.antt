@@ -1,5 +1,5 @@
 use Rattle.std.proofs.Common.{◌≡◌, IsTrue, refl, ap, ◌∙◌, List, ℕ, [], rules}
-use Rattle.px_value.specs.Names.{is_name}
+use Rattle.px_value.specs.Name.{is_name}
 use Rattle.px_core.specs.declared.node.CoreNode.TheViews.{out-CoreNode}
 use Rattle.px_core.specs.Plan.{Head, ConditionTerms, Nothing, condition_terms, head_of}
 use Rattle.px_naive.proofs.Heads.{bare_head}

@@ -1,5 +1,5 @@
 use Rattle.std.proofs.Common.{◌+◌, ◌<◌, ap, sym, ◌∙◌, subst, length, Some, IfOk}
-use Rattle.px_value.specs.Names.{below}
+use Rattle.px_value.specs.Path.{below}
 use Rattle.px_core.specs.Plan.{no_site}
 use Rattle.px_core.specs.declared.node.CoreNode.TheViews.{out-CoreNode}
 use Rattle.px_naive.specs.Laying.{IsPlaceOf}

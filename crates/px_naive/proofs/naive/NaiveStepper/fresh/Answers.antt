@@ -6,8 +6,8 @@ use Rattle.px_naive.specs.Places.{sites_of, world_of}
 use Rattle.px_naive.proofs.Stepping.{world_of_unborn}
 use Rattle.px_naive.proofs.naive.NaiveStepper.fresh.Goals as goal
 
-pub returns : goal.returns
-returns c =
+pub returns-clause-fresh : goal.returns-clause-fresh
+returns-clause-fresh c =
     let places = c.in_ok-places.places.items in
     let records = c.in_ok-vec.field-0.items in
     let state : List Site → World → stepper.State =
