@@ -1,3 +1,5 @@
 pub mod Values
 pub mod Fit
+pub mod Bytes
+pub mod Reading
 pub mod Equality

@@ -8,12 +8,12 @@ use std::alloc::Global;
 /// The greatest number of a thread; the least is 1.
 pub const THREAD_LIMIT: u8 = 8;
 
-/// An event, the thread that posts it, and the line of that thread's script.
+/// An event, the thread that posts it, and the line of the script that says so.
 #[derive(Debug, Drop, PartialEq, Eq)]
 pub struct Entry {
     /// From 1 to 8.
     pub thread: u8,
-    /// At least 1.
+    /// Of the whole file, at least 1.
     pub line: u32,
     pub event: Event,
 }

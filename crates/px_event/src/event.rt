@@ -1,10 +1,15 @@
 // What a thread posts.
-ghost use Rattle.std.specs.Prelude.{◌≡◌, IfOk};
+ghost use Rattle.std.specs.Prelude.{◌≡◌, ◌&&◌, IfOk, length, nat_le};
 ghost use Rattle.std.specs.List.{list_all};
+ghost use Rattle.px_value.specs.Arithmetic.{fits_32_bits};
+ghost use Rattle.px_value.specs.Name.{is_identifier};
+ghost use Rattle.px_value.specs.Path.{is_path};
 ghost use Rattle.px_event.specs.Values.{is_plain, is_plain_or_unknown};
 
 use crate::values::Values;
-use px_value::{Handle, Name, NoMemory, Path, Value, is_identifier};
+use px_value::{
+    Handle, NAME_LIMIT, Name, NoMemory, PATH_LIMIT, Path, TEXT_LIMIT, Value, is_identifier,
+};
 use std::alloc::Global;
 
 /// The most arguments that a report has.
@@ -49,13 +54,14 @@ impl Event {
     {
         match self {
             Event::Report { name, args, value } => {
-                is_identifier(name.as_str().as_bytes())
+                is_report_name(name)
                     && args.as_slice().len() <= ARGUMENT_LIMIT
                     && are_plain(args.as_slice())
                     && is_plain_or_unknown(value)
             }
-            Event::Return { value, .. } => is_plain_or_unknown(value),
-            Event::Handle { .. } | Event::AbortDone { .. } | Event::Acknowledged { .. } => true,
+            Event::Return { node, value } => is_path(node) && is_plain_or_unknown(value),
+            Event::Handle { node, .. } | Event::AbortDone { node } | Event::Acknowledged { node } =>
+                is_path(node),
         }
     }
 
@@ -87,6 +93,19 @@ impl Event {
     }
 }
 
+/// Whether the name is an identifier. That it has at most 64 bytes goes without saying.
+fn is_report_name(name: &Name) -> bool
+    ensures { result ≡ (is_identifier name.now && nat_le (length name.now) 64) }
+{
+    is_identifier(name.as_str().as_bytes()) && name.as_str().len() <= NAME_LIMIT
+}
+
+fn is_path(node: &Path) -> bool
+    ensures { result ≡ is_path node.now }
+{
+    node.as_str().len() <= PATH_LIMIT
+}
+
 fn are_plain(values: &[Value]) -> bool
     ensures { result ≡ list_all is_plain values.now }
 {
@@ -97,10 +116,18 @@ fn are_plain(values: &[Value]) -> bool
 fn is_plain(value: &Value) -> bool
     ensures { result ≡ is_plain value.now }
 {
-    matches!(
-        value,
-        Value::Boolean(_) | Value::Integer(_) | Value::Text(_)
-    )
+    match value {
+        Value::Boolean(_) => true,
+        Value::Integer(number) => is_any_integer(*number),
+        Value::Text(text) => text.as_str().len() <= TEXT_LIMIT,
+        _ => false,
+    }
+}
+
+fn is_any_integer(number: i32) -> bool
+    ensures { result ≡ fits_32_bits number }
+{
+    true
 }
 
 fn is_plain_or_unknown(value: &Value) -> bool

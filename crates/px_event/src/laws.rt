@@ -1,6 +1,9 @@
-// What `==` means: laws that hold of it, each a clause of a function that does nothing.
-ghost use Rattle.std.specs.Prelude.{◌≡◌, ◌↔◌, IsTrue};
+// What `==` and the bytes of an entry mean: laws that hold of them, each a clause of a function that does nothing.
+ghost use Rattle.std.specs.Prelude.{◌≡◌, ◌≤◌, ◌↔◌, IsTrue, length};
+ghost use Rattle.px_event.specs.Bytes.{entry_bytes};
 ghost use Rattle.px_event.specs.Equality.{event_eq, entry_eq};
+ghost use Rattle.px_event.specs.Fit.{is_fit_entry};
+ghost use Rattle.px_event.specs.declared.entry.Entry.{Entry as AnyEntry};
 
 use crate::entry::Entry;
 use crate::event::Event;
@@ -13,4 +16,11 @@ pub fn event_equality(a: &Event, b: &Event)
 /// `==` of two entries answers whether they are equal.
 pub fn entry_equality(a: &Entry, b: &Entry)
     ensures { IsTrue (entry_eq a.now b.now) ↔ (a.now ≡ b.now) }
+{}
+
+/// No bytes are those of two entries, and a fit entry has at most 9,316 of them.
+pub fn one_spelling()
+    ensures one { (a b : AnyEntry) → IsTrue (is_fit_entry a) → IsTrue (is_fit_entry b)
+        → entry_bytes a ≡ entry_bytes b → a ≡ b }
+    ensures short { (entry : AnyEntry) → IsTrue (is_fit_entry entry) → length (entry_bytes entry) ≤ 9316 }
 {}

@@ -1,18 +1,23 @@
-//! What comes to a running plan from outside, and what the outside is told of it.
+//! What comes to a running plan from outside, and what is answered to it.
 //!
 //! An `Entry` is an `Event` with the thread and the line that it comes from, and `Values` are the arguments of a
-//! report; a `Reply` answers the post of an entry, and a `Cond` is what a script waits for. `laws` says what `==` means.
+//! report; a `Reply` answers the post of an entry, and a `Cond` is what a script waits for. `encode` and `decode` lead to
+//! the bytes of an entry and back. `laws` says what `==` means, and that no bytes are those of two fit entries.
 #![tactic(auto)]
 
+mod bytes;
 mod cond;
 mod entry;
 mod event;
+mod fault;
 pub mod laws;
 mod reply;
 mod values;
 
+pub use bytes::{ENTRY_LIMIT, decode, encode};
 pub use cond::Cond;
 pub use entry::{Entry, THREAD_LIMIT};
 pub use event::{ARGUMENT_LIMIT, Event};
+pub use fault::DecodeFault;
 pub use reply::Reply;
 pub use values::Values;

@@ -9,6 +9,6 @@ pub enum Reply {
     PlanFinished,
     /// The history had as many events as it may have.
     Full,
-    /// The plan would not have come to rest after the event.
+    /// The plan would not have settled after the event.
     Runaway,
 }

@@ -1,2 +1,4 @@
 pub mod Files
 pub mod Failures
+pub mod Replays
+pub mod Elapsing

@@ -48,13 +48,13 @@ pub record EmitsFront (bytes : List ℕ) (old new : Option (List ℕ))
   pub front : IfOk result (λ count. Emits old new (take count bytes))
   pub nothing : OnErr result (new ≡ old)
 
--- an emit fails only where the count rose, and never for want of memory
+-- an emit fails only where the count rose or stands at its last value, and never for want of memory
 pub record CountsWrites (before now : ℕ) (result : Result ℕ HostFault) : Type 0 where
   pub later : before ≤ now
   pub failed : IsErrOf result Failed → Rose before now
   pub memory : ¬ IsErrOf result NoMemory
 
--- the count rises exactly where the answer is 0
+-- the count rises, or stands at its last value, where the answer is 0, and is as before where it isn't
 pub record CountsIdle (before now : ℕ) (result : Result ℕ HostFault) : Type 0 where
   pub later : before ≤ now
   pub none : IfOk result (λ count. count ≡ 0 → Rose before now)

@@ -3,3 +3,10 @@ pub mod Host
 pub mod MemFile
 pub mod MemHost
 pub mod MemHostView
+pub mod Moment
+pub mod Disk
+pub mod Replay
+pub mod ReplayLaws
+pub mod Calls
+pub mod Contents
+pub mod MemDisk

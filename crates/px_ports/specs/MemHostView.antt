@@ -1,6 +1,4 @@
 -- What the fields of a host in memory stand for.
-use Rattle.std.specs.Prelude.{map}
-use Rattle.std.specs.String.{string_bytes}
 use Rattle.std.specs.Vec.{vec_capacity}
 use Rattle.px_ports.specs.MemFile.{files_of}
 use Rattle.px_ports.specs.MemHost.{MemHostState}

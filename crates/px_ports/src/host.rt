@@ -40,7 +40,8 @@ impl<T: Drop> From<AllocFailed<T>> for HostFault {
 }
 
 /// Files that are read whole, and one sink for text. A count of faults never falls, and a fault is
-/// answered only where its count rose, so that no code above can make one up.
+/// answered only where its count rose, or for an emit stands at its last value, so that no code above can make
+/// one up.
 pub trait Host {
     /// The files, each with its name and content; none where the host doesn't tell.
     ghost files: { Self → Option Files };

@@ -1,12 +1,12 @@
 // A host in memory, for tests: it tells all that it holds, and fails where it is asked to.
-ghost use Rattle.std.specs.Prelude.{◌≡◌, ◌==◌, Some, IfOk, find};
+ghost use Rattle.std.specs.Prelude.{◌≡◌, Some, IfOk, find};
 ghost use Rattle.std.specs.Option.{option_copied};
-ghost use Rattle.std.specs.List.{list_any};
 ghost use Rattle.px_ports.specs.Host.{file_at, Fetches, CountsReads, CountsWrites, CountsIdle};
 ghost use Rattle.px_ports.specs.MemHost.{unused, FetchesNext, EmitsNext};
 ghost use Rattle.px_ports.specs.FailedFetches.{failures_in};
 ghost use Rattle.px_ports.specs.MemFile.{files_of, is_named};
 
+use crate::calls::is_listed;
 use crate::{FailedFetches, Fetched, Host, HostFault};
 use px_value::NoMemory;
 use std::alloc::Global;
@@ -80,12 +80,6 @@ impl MemHost {
     {
         &self.text
     }
-}
-
-fn is_listed(failing: &[u32], number: u64) -> bool
-    ensures { result ≡ list_any (λ listed. listed == number) failing.now }
-{
-    failing.iter().any(|listed| u64::from(*listed) == number)
 }
 
 fn first_of<'a>(files: &'a [MemFile], name: &str) -> Option<&'a MemFile>

@@ -1,0 +1,105 @@
+// The bytes of values: a tag, and what it says.
+ghost use Rattle.std.specs.Prelude.{◌≡◌, ◌++◌, OnOk, Some, None, if◌then◌else◌};
+ghost use Rattle.std.specs.List.{flat_map};
+ghost use Rattle.px_value.specs.Text.{is_short_text};
+ghost use Rattle.px_event.specs.Bytes.{value_bytes};
+ghost use Rattle.px_event.specs.Reading.{Gives, Reads, value_at, argument_at, arguments_at};
+
+use crate::bytes::fields::{Reader, push_text, push_u32};
+use crate::fault::DecodeFault;
+use px_value::{NoMemory, Text, TextFault, Value};
+use std::alloc::Global;
+
+const UNKNOWN: u8 = 0;
+
+const FALSE: u8 = 1;
+
+const TRUE: u8 = 2;
+
+const INTEGER: u8 = 3;
+
+const TEXT: u8 = 4;
+
+/// Appends the bytes of a value. What is never told, as a state, has none.
+pub fn push_value(out: &mut Vec<u8>, value: &Value) -> Result<(), NoMemory>
+    ensures { OnOk result (out.new.items ≡ out.old.items ++ value_bytes value.now) }
+{
+    match value {
+        Value::Unknown => out.push(UNKNOWN)?,
+        Value::Boolean(false) => out.push(FALSE)?,
+        Value::Boolean(true) => out.push(TRUE)?,
+        Value::Integer(number) => {
+            out.push(INTEGER)?;
+            push_u32(out, number.cast_unsigned())?;
+        }
+        Value::Text(text) => {
+            out.push(TEXT)?;
+            push_text(out, text.as_str())?;
+        }
+        Value::State(_) | Value::Outcome(_) | Value::Failure(_) | Value::Handle(_) => {}
+    }
+    Ok(())
+}
+
+/// Appends the bytes of values, one after another.
+pub fn push_values(out: &mut Vec<u8>, values: &[Value]) -> Result<(), NoMemory>
+    ensures { OnOk result (out.new.items ≡ out.old.items ++ flat_map value_bytes values.now) }
+{
+    for value in values {
+        push_value(out, value)?;
+    }
+    Ok(())
+}
+
+/// The next value: UNKNOWN, a Boolean, an Integer, or a Text of at most 1,024 bytes.
+#[tactic(auto, unfolding(crate::specs::Reading::value_at, crate::specs::Reading::value_behind))]
+pub fn value_of(alloc: Global, reader: &mut Reader<'_>) -> Result<Value, DecodeFault>
+    ensures { Reads (λ value. value) (value_at reader.old) result reader.new }
+{
+    match reader.byte()? {
+        UNKNOWN => Ok(Value::Unknown),
+        FALSE => Ok(Value::Boolean(false)),
+        TRUE => Ok(Value::Boolean(true)),
+        INTEGER => Ok(Value::Integer(reader.u32()?.cast_signed())),
+        TEXT => Ok(Value::Text(short_text(alloc, reader.text()?)?)),
+        _ => Err(DecodeFault::Bad),
+    }
+}
+
+fn short_text(alloc: Global, text: &str) -> Result<Text, DecodeFault>
+    ensures { Gives (λ short. short) (if is_short_text text.now then Some text.now else None) result }
+{
+    match Text::new(alloc, text) {
+        Ok(text) => Ok(text),
+        Err(TextFault::TooLong) => Err(DecodeFault::Bad),
+        Err(TextFault::NoMemory) => Err(DecodeFault::NoMemory),
+    }
+}
+
+/// The next value, if it isn't UNKNOWN.
+#[tactic(auto, unfolding(crate::specs::Reading::argument_at))]
+fn argument_of(alloc: Global, reader: &mut Reader<'_>) -> Result<Value, DecodeFault>
+    ensures { Reads (λ value. value) (argument_at reader.old) result reader.new }
+{
+    let value = value_of(alloc, reader)?;
+    if !value.is_known() {
+        return Err(DecodeFault::Bad);
+    }
+    Ok(value)
+}
+
+/// The next `count` values, of which none is UNKNOWN.
+pub fn arguments_of(
+    alloc: Global,
+    count: u8,
+    reader: &mut Reader<'_>,
+) -> Result<Vec<Value>, DecodeFault>
+    ensures { Reads (λ values. values.items) (arguments_at count reader.old) result reader.new }
+{
+    let mut values = Vec::new(alloc);
+    for _ in 0..count {
+        let argument = argument_of(alloc, reader)?;
+        values.push(argument)?;
+    }
+    Ok(values)
+}
