@@ -6,7 +6,7 @@ use Rattle.std.proofs.lemmas.Bool.Decides.{nat_tests}
 use Rattle.std.proofs.lemmas.Str.{IsUtf8-from_ascii}
 use Rattle.std.proofs.lemmas.Str.Ascii.{IsAscii-nil, IsAscii-cons}
 use Rattle.std.specs.Str.{IsAscii, IsUtf8}
-use Rattle.px_value.specs.Names.{begins_identifier, continues_identifier, is_identifier}
+use Rattle.px_value.specs.Name.{begins_identifier, continues_identifier, is_identifier}
 
 first_ascii : (c : ℕ) → begins_identifier c ≡ true → c < 128
 first_ascii c h = grind (arith, nat_tests)

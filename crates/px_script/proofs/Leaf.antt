@@ -3,9 +3,9 @@ use Rattle.std.proofs.Common.{◌≡◌, ℕ, ◌≤◌, true, List, [], length,
 use Rattle.std.specs.Prelude.{decimal}
 use Rattle.std.proofs.lemmas.Bool.{le-leb}
 use Rattle.std.proofs.lemmas.Fmt.{length-decimal-le}
-use Rattle.px_value.specs.Names.{generated_name}
+use Rattle.px_value.specs.Name.{generated_name}
 use Rattle.px_value.specs.declared.value.Value.TheVariants as values
-use Rattle.px_core.specs.Terms.{Term, Literal}
+use Rattle.px_core.specs.Expr.{Term, Literal}
 use Rattle.px_core.specs.Fit.{IsFit}
 use Rattle.px_core.specs.Plan.{Head, Nothing, Tree, NoNode, Branch, head_of, branch, tree_of_node}
 use Rattle.px_core.specs.declared.node.CoreNode.{CoreNode}

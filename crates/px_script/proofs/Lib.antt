@@ -1,5 +1,5 @@
-pub mod Cuts
-pub mod Entries
+pub mod Texts
+pub mod Orders
 pub mod Equality
 pub mod Fitness
 pub mod Identifiers

@@ -11,6 +11,9 @@ use Rattle.px_script.specs.declared.line.Line.{Line}
 use Rattle.px_script.specs.declared.line.What.TheVariants as whats
 use Rattle.px_script.specs.declared.parsed_line.ParsedLine.{ParsedLine}
 use Rattle.px_script.specs.declared.parsed_line.ParsedLine.TheVariants.{Nothing, Posts, Faulty}
+use Rattle.px_script.specs.declared.fault.FaultKind.{FaultKind}
+use Rattle.px_script.specs.declared.fault.FaultKind.TheVariants.{TooManyLines}
+use Rattle.px_script.specs.Fault.{number_of}
 use Rattle.px_script.specs.Script.{Reading, Threads, Fault, posts, post_of, posts_before, fault_in, by_faults, reading, threads_of}
 
 abbrev pub post_line : ℕ → Event → Line
@@ -20,8 +23,8 @@ abbrev pub read_on : List Line → ℕ → List ParsedLine → Reading
 read_on kept number [] = Threads (threads_of kept)
 read_on kept number (Nothing ∷ more) = read_on kept (number + 1) more
 read_on kept number (Posts event ∷ more) =
-    if nat_le 100000 (length kept) then Fault number 5 else read_on (kept ++ post_line number event ∷ []) (number + 1) more
-read_on kept number (Faulty kind ∷ more) = Fault number kind
+    if nat_le 100000 (length kept) then Fault number (number_of TooManyLines) else read_on (kept ++ post_line number event ∷ []) (number + 1) more
+read_on kept number (Faulty kind ∷ more) = Fault number (number_of kind)
 
 abbrev pub AllBelow : ℕ → List Line → Type 0
 AllBelow number [] = Unit {0}
@@ -68,8 +71,8 @@ pass all before line none sound =
     ∙ ap (λ fault. cons_option fault []) sound
 
 -- a line with a fault behind lines without one
-stop : (all before after : List (ℕ × ParsedLine)) (line : ℕ × ParsedLine) (fault : ℕ × ℕ) → all ≡ before ++ line ∷ after
-    → filter_map (fault_in all) before ≡ [] → fault_in all line ≡ Some fault → Fault fault.0 fault.1 ≡ reading all
+stop : (all before after : List (ℕ × ParsedLine)) (line : ℕ × ParsedLine) (fault : ℕ × FaultKind) → all ≡ before ++ line ∷ after
+    → filter_map (fault_in all) before ≡ [] → fault_in all line ≡ Some fault → Fault fault.0 (number_of fault.1) ≡ reading all
 stop all before after line fault whole none at =
     let cut : filter_map (fault_in all) all ≡ fault ∷ filter_map (fault_in all) after
     = ap (filter_map (fault_in all)) whole ∙ filter_map-append (fault_in all) before (line ∷ after)
@@ -100,7 +103,7 @@ reads all before number kept (Posts event ∷ more) whole is below none =
     let count : posts_before number all ≡ length kept
     = count_is all before number (Posts event ∷ more) whole (subst (AllBelow number) is below) ∙ sym (ap length is) in
     elim (cases_Bool (nat_le 100000 (length kept))) [
-      | inl full ↦ rw full (stop all before (enumerate_from (number + 1) more) line (number, 5) whole none (rw (count, full)))
+      | inl full ↦ rw full (stop all before (enumerate_from (number + 1) more) line (number, TooManyLines) whole none (rw (count, full)))
       | inr room ↦ rw room
           (reads all (before ++ line ∷ []) (number + 1) (kept ++ post_line number event ∷ []) more
           (whole ∙ sym (append_assoc before (line ∷ []) (enumerate_from (number + 1) more)))

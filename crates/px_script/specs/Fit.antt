@@ -1,5 +1,5 @@
 -- What makes a script fit.
-use Rattle.std.specs.Prelude.{ℕ, Bool, true, ◌&&◌, nat_le, nat_lt, List, [], ◌∷◌, length, map, IsTrue}
+use Rattle.std.specs.Prelude.{ℕ, Bool, true, ◌&&◌, ◌^◌, nat_le, nat_lt, List, [], ◌∷◌, length, map, IsTrue}
 use Rattle.std.specs.List.{list_all}
 use Rattle.px_event.specs.Fit.{is_fit_event}
 use Rattle.px_script.specs.declared.line.Line.{Line}
@@ -12,9 +12,9 @@ abbrev pub rise_above : ℕ → List ℕ → Bool
 rise_above low [] = true
 rise_above low (number ∷ numbers) = nat_lt low number && rise_above number numbers
 
--- what a line posts is fit
+-- the number is below 2^32, and what the line posts is fit
 abbrev pub is_fit_line : Line → Bool
-is_fit_line line = is_fit_what line.what
+is_fit_line line = nat_lt line.number (2 ^ 32) && is_fit_what line.what
   where
     is_fit_what : What → Bool
     is_fit_what (whats.Post event) = is_fit_event event

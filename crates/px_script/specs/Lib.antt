@@ -1,4 +1,5 @@
 pub mod Equality
+pub mod Fault
 pub mod Fit
 pub mod LineEquality
 pub mod Order

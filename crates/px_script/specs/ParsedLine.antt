@@ -1,15 +1,16 @@
 -- What a line of a script says. Every shape of a line is ASCII, so bytes that are no UTF-8 have none.
-use Rattle.std.specs.Prelude.{ℕ, Bool, true, false, ◌&&◌, ◌==◌, nat_le, List, [], ◌∷◌, length, Option, Some, None, codes, if◌then◌else◌}
+use Rattle.std.specs.Prelude.{ℕ, Bool, true, false, ◌==◌, List, [], ◌∷◌, Option, Some, None, codes, if◌then◌else◌}
 use Rattle.std.specs.List.{before_first, after_first}
 use Rattle.std.specs.Option.{option_map, unwrap_or}
-use Rattle.px_value.specs.Names.{is_identifier}
 use Rattle.px_value.specs.declared.value.Value.{Value}
 use Rattle.px_value.specs.declared.value.Value.TheVariants as values
 use Rattle.px_core.specs.Plan.{is_same}
+use Rattle.px_event.specs.Fit.{is_report_name}
 use Rattle.px_event.specs.declared.event.Event.{Event}
 use Rattle.px_event.specs.declared.event.Event.TheVariants as events
 use Rattle.px_script.specs.declared.parsed_line.ParsedLine.{ParsedLine}
 use Rattle.px_script.specs.declared.parsed_line.ParsedLine.TheVariants.{Nothing, Posts, Faulty}
+use Rattle.px_script.specs.declared.fault.FaultKind.TheVariants.{BadLine}
 use Rattle.px_script.specs.Text.{trim, content, first_word, behind_word}
 
 -- the value that a word spells
@@ -19,10 +20,6 @@ value_of word =
     else (if is_same word (codes "false") then Some (values.Boolean false)
     else (if is_same word (codes "UNKNOWN") then Some values.Unknown
     else None))
-
--- a reported name is an identifier of at most 64 bytes
-abbrev pub is_report_name : List ℕ → Bool
-is_report_name name = is_identifier name && nat_le (length name) 64
 
 -- the report of a name and a value, without arguments
 abbrev pub report : List ℕ → Option Value → Option Event
@@ -45,6 +42,6 @@ abbrev pub is_silent : List ℕ → Bool
 is_silent [] = true
 is_silent (c ∷ cs) = c == 35
 
--- what a line says by the shape that it has; a line of no shape is at fault, of kind 1
+-- what a line says by the shape that it has; a line of no shape is at fault
 abbrev pub parsed_line : List ℕ → ParsedLine
-parsed_line line = if is_silent (content line) then Nothing else unwrap_or (set_line (content line)) (Faulty 1)
+parsed_line line = if is_silent (content line) then Nothing else unwrap_or (set_line (content line)) (Faulty BadLine)

@@ -1,6 +1,8 @@
 -- The script that bytes spell.
 use Rattle.std.specs.Prelude.{◌≡◌, ℕ, nat_le, nat_lt, List, [], ◌∷◌, map, Option, Some, None, if◌then◌else◌}
 use Rattle.std.specs.List.{filter_map, count_by, enumerate_from}
+use Rattle.px_script.specs.declared.fault.FaultKind.{FaultKind}
+use Rattle.px_script.specs.declared.fault.FaultKind.TheVariants.{TooManyLines}
 use Rattle.px_script.specs.declared.fault.ScriptFault.{ScriptFault}
 use Rattle.px_script.specs.declared.fault.ScriptFault.TheVariants as faults
 use Rattle.px_script.specs.declared.line.Line.{Line}
@@ -9,9 +11,10 @@ use Rattle.px_script.specs.declared.todo.Todo.{Todo}
 use Rattle.px_script.specs.Text.{lines_of}
 use Rattle.px_script.specs.declared.parsed_line.ParsedLine.{ParsedLine}
 use Rattle.px_script.specs.declared.parsed_line.ParsedLine.TheVariants.{Nothing, Posts, Faulty}
+use Rattle.px_script.specs.Fault.{number_of}
 use Rattle.px_script.specs.ParsedLine.{parsed_line}
 
--- a script's threads, or its first faulty line with the kind of the fault
+-- a script's threads, or its first faulty line with the number of its fault
 pub data Reading : Type 0 where
   Threads : (threads : List Todo) → Reading
   Fault : (line kind : ℕ) → Reading
@@ -34,10 +37,10 @@ posts lines = filter_map post_of lines
 abbrev pub posts_before : ℕ → List (ℕ × ParsedLine) → ℕ
 posts_before number lines = count_by (λ post. nat_lt post.number number) (posts lines)
 
--- the fault of one of the lines, if it has one: its own, or of kind 5 where it posts after 100,000 others
-abbrev pub fault_in : List (ℕ × ParsedLine) → ℕ × ParsedLine → Option (ℕ × ℕ)
+-- the fault of one of the lines, if it has one: its own, or that it posts after 100,000 others
+abbrev pub fault_in : List (ℕ × ParsedLine) → ℕ × ParsedLine → Option (ℕ × FaultKind)
 fault_in lines (number, Nothing) = None
-fault_in lines (number, Posts event) = if nat_le 100000 (posts_before number lines) then Some (number, 5) else None
+fault_in lines (number, Posts event) = if nat_le 100000 (posts_before number lines) then Some (number, TooManyLines) else None
 fault_in lines (number, Faulty kind) = Some (number, kind)
 
 -- all lines belong to thread 1, and a script without a post has no thread
@@ -46,9 +49,9 @@ threads_of [] = []
 threads_of (line ∷ lines) = record { thread = 1; lines = line ∷ lines } ∷ []
 
 -- the first fault decides; where there is none, the posts are the script
-abbrev pub by_faults : List (ℕ × ℕ) → List Line → Reading
+abbrev pub by_faults : List (ℕ × FaultKind) → List Line → Reading
 by_faults [] lines = Threads (threads_of lines)
-by_faults ((line, kind) ∷ later) lines = Fault line kind
+by_faults ((line, kind) ∷ later) lines = Fault line (number_of kind)
 
 -- what lines are read as
 abbrev pub reading : List (ℕ × ParsedLine) → Reading

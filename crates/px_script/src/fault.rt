@@ -6,17 +6,35 @@ use px_value::NoMemory;
 use std::alloc::AllocFailed;
 use thiserror::Error;
 
-/// The kind of a line of no shape that a script has.
-pub(crate) const BAD_LINE: u8 = 1;
+/// What is wrong with a line. Each kind has the number that is told of it.
+#[derive(Clone, Copy, Debug)]
+pub(crate) enum FaultKind {
+    /// It has none of the shapes of a line.
+    BadLine = 1,
+    /// It comes after as many lines of its thread as there may be.
+    TooManyLines = 5,
+}
 
-/// The kind of a post line that comes after as many of its thread as there may be.
-pub(crate) const TOO_MANY_LINES: u8 = 5;
+impl FaultKind {
+    ghost use Rattle.px_script.specs.Fault.{number_of};
+    ghost use Rattle.px_script.specs.declared.fault.ScriptFault.TheVariants.{Fault};
+
+    /// The fault of a line, counted from 1.
+    pub(crate) fn at(self, line: u32) -> ScriptFault
+        ensures { result ≡ Fault line (number_of self) }
+    {
+        ScriptFault::Fault {
+            line,
+            kind: self as u8,
+        }
+    }
+}
 
 /// Why bytes were not read as a script.
 #[derive(Debug, Drop, PartialEq, Eq, Error)]
 pub enum ScriptFault {
     /// The first faulty line, counted from 1, and what is wrong with it: 1, it has none of the shapes of a line; 5, it
-    /// is the 100,001st post or wait line of its thread.
+    /// is the 100,001st post of its thread.
     #[error("line {line}: fault of kind {kind}")]
     Fault { line: u32, kind: u8 },
     #[error("out of memory")]

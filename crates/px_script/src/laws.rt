@@ -1,13 +1,14 @@
 // What the definition of a script means: laws that hold of it, each a clause of a function that does nothing.
-ghost use Rattle.std.specs.Prelude.{◌≡◌, ◌↔◌, IsTrue};
+ghost use Rattle.std.specs.Prelude.{◌≡◌, ◌≤◌, ◌↔◌, IsTrue, length};
 ghost use Rattle.px_script.specs.Equality.{script_eq};
 ghost use Rattle.px_script.specs.Fit.{IsFitScript};
 ghost use Rattle.px_script.specs.Script.{Threads, script};
 
 use crate::script::Script;
 
-/// A script that bytes spell is fit.
+/// A script that bytes spell, at most 16,777,216 of them, is fit.
 pub fn fitness(bytes: &[u8], spelled: &Script)
+    requires { length bytes.now ≤ 16777216 }
     ensures { script bytes.now ≡ Threads spelled.now.threads → IsFitScript spelled.now }
 {}
 

@@ -1,9 +1,10 @@
 // What a line of a script says.
 ghost use Rattle.std.specs.Prelude.{◌≡◌, IfOk, if◌then◌else◌};
 ghost use Rattle.std.specs.Option.{option_map};
-ghost use Rattle.px_script.specs.ParsedLine.{value_of, is_report_name, report_of, set_line, is_silent, parsed_line};
+ghost use Rattle.px_event.specs.Fit.{is_report_name};
+ghost use Rattle.px_script.specs.ParsedLine.{value_of, report_of, set_line, is_silent, parsed_line};
 
-use crate::fault::BAD_LINE;
+use crate::fault::FaultKind;
 use crate::text::{content, is_word, split_at, split_word, trim};
 use px_event::{Event, Values};
 use px_value::{Name, NameFault, NoMemory, Value, is_identifier};
@@ -16,8 +17,8 @@ pub(crate) enum ParsedLine {
     Nothing,
     /// The thread posts the event.
     Posts(Event),
-    /// The line is at fault, with a kind of `ScriptFault`.
-    Faulty { kind: u8 },
+    /// The line is at fault.
+    Faulty(FaultKind),
 }
 
 /// Reads one line.
@@ -30,7 +31,7 @@ pub(crate) fn read_line(alloc: Global, line: &[u8]) -> Result<ParsedLine, NoMemo
     }
     match set_line(alloc, text)? {
         Some(event) => Ok(ParsedLine::Posts(event)),
-        None => Ok(ParsedLine::Faulty { kind: BAD_LINE }),
+        None => Ok(ParsedLine::Faulty(FaultKind::BadLine)),
     }
 }
 

@@ -5,7 +5,7 @@ ghost use Rattle.px_core.specs.Plan.{tree_of};
 ghost use Rattle.px_script.specs.Fit.{IsFitScript};
 ghost use Rattle.px_script.specs.Script.{Threads, threads_of, script, IsFaultOf};
 
-use crate::fault::{ScriptFault, TOO_MANY_LINES};
+use crate::fault::{FaultKind, ScriptFault};
 use crate::line::{Line, What};
 use crate::parsed_line::{ParsedLine, read_line};
 use crate::script::Script;
@@ -18,7 +18,7 @@ use std::alloc::Global;
 /// The most bytes that a script has.
 pub const SCRIPT_LIMIT: usize = 16_777_216;
 
-/// The most post and wait lines that a thread has.
+/// The most lines that a thread has.
 pub const LINE_LIMIT: usize = 100_000;
 
 /// The thread that each line belongs to.
@@ -64,15 +64,12 @@ fn read_lines(alloc: Global, bytes: &[u8]) -> Result<Vec<Line>, ScriptFault>
             ParsedLine::Nothing => {}
             ParsedLine::Posts(event) => {
                 if lines.len() >= LINE_LIMIT {
-                    return Err(ScriptFault::Fault {
-                        line: number,
-                        kind: TOO_MANY_LINES,
-                    });
+                    return Err(FaultKind::TooManyLines.at(number));
                 }
                 let what = What::Post(event);
                 lines.push(Line { number, what })?;
             }
-            ParsedLine::Faulty { kind } => return Err(ScriptFault::Fault { line: number, kind }),
+            ParsedLine::Faulty(kind) => return Err(kind.at(number)),
         }
         left = behind;
     }

@@ -2,10 +2,10 @@
 ghost use Rattle.std.specs.Prelude.{◌≡◌, IsTrue, IfOk};
 ghost use Rattle.px_core.specs.Fit.{IsFit};
 ghost use Rattle.px_core.specs.Plan.{tree_of};
-ghost use Rattle.px_core.specs.Terms.{Literal, term_of};
+ghost use Rattle.px_core.specs.Expr.{Literal, term_of};
 ghost use Rattle.px_event.specs.Fit.{is_fit_event};
 ghost use Rattle.px_script.specs.Fit.{is_fit_line, IsFitScript};
-ghost use Rattle.px_value.specs.Names.{is_identifier};
+ghost use Rattle.px_value.specs.Name.{is_identifier};
 
 use super::*;
 use px_core::{Body, Conditions, CoreNode, Expr, Kind, Plan};

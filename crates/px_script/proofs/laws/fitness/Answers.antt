@@ -2,4 +2,4 @@ use Rattle.px_script.proofs.Fitness.{script_fit}
 use Rattle.px_script.proofs.laws.fitness.Goals as goal
 
 pub returns : goal.returns
-returns c = script_fit c.args.bytes.now c.args.spelled.now
+returns c = script_fit c.args.bytes.now c.args.spelled.now c.requires

@@ -1,5 +1,5 @@
 use Rattle.std.proofs.Common.{◌≡◌, true, rules}
-use Rattle.px_value.specs.Names.{is_identifier}
+use Rattle.px_value.specs.Name.{is_identifier}
 use Rattle.px_script.proofs.Identifiers.{identifier_text}
 use Rattle.px_script.proofs.parsed_line.report_name.Goals as goal
 

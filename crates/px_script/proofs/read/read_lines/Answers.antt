@@ -1,7 +1,7 @@
 use Rattle.std.proofs.Common.{arith, map}
 use Rattle.px_script.specs.ParsedLine.{parsed_line}
 use Rattle.px_script.specs.Text.{lines_of}
-use Rattle.px_script.proofs.Cuts.{few_lines}
+use Rattle.px_script.proofs.Texts.{few_lines}
 use Rattle.px_script.proofs.Reading.{script_reads}
 use Rattle.px_script.proofs.read.read_lines.Goals as goal
 

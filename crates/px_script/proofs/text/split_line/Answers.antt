@@ -1,5 +1,5 @@
 use Rattle.std.proofs.Common.{arith}
-use Rattle.px_script.proofs.Cuts.{first_line, last_line}
+use Rattle.px_script.proofs.Texts.{first_line, last_line}
 use Rattle.px_script.proofs.text.split_line.Goals as goal
 
 pub returns-then-end-text : goal.returns-then-end-text

@@ -2,7 +2,7 @@ use Rattle.std.proofs.Common.{rules}
 use Rattle.std.proofs.lemmas.List.Sorted.{IsNonDecreasingBy-from_sort_by_key}
 use Rattle.std.specs.List.Sorted.{IsPermutation}
 use Rattle.px_script.specs.Order.{all_entries}
-use Rattle.px_script.proofs.Entries.{entries_fit}
+use Rattle.px_script.proofs.Orders.{entries_fit}
 use Rattle.px_script.proofs.script.Script.into_entries.Goals as goal
 
 pub returns : goal.returns

@@ -1,5 +1,5 @@
 -- What a fit script posts is fit.
-use Rattle.std.proofs.Common.{◌≡◌, ℕ, ◌<◌, ◌≤◌, true, List, [], ◌∷◌, length, map, refl, ◌∙◌, arith}
+use Rattle.std.proofs.Common.{◌≡◌, ℕ, ◌^◌, ◌<◌, ◌≤◌, true, List, [], ◌∷◌, length, map, refl, ◌∙◌, arith}
 use Rattle.std.specs.Prelude.{nat_le, nat_lt, ◌&&◌}
 use Rattle.std.specs.List.{list_all, filter_map, cons_option}
 use Rattle.std.specs.List.Sorted.{IsPermutation}
@@ -7,7 +7,7 @@ use Rattle.std.proofs.lemmas.List.Folds.{list_all-append}
 use Rattle.std.proofs.lemmas.List.Sorted.{All-permutation}
 use Rattle.std.proofs.lemmas.List.Sums.{AllPass-from_list_all, list_all-from_AllPass}
 use Rattle.std.proofs.lemmas.Bool.{le-leb, leb-true, ltb-true, and_parts}
-use Rattle.px_event.specs.Fit.{is_fit_entry}
+use Rattle.px_event.specs.Fit.{is_fit_event, is_fit_entry}
 use Rattle.px_event.specs.declared.entry.Entry.{Entry}
 use Rattle.px_script.specs.Fit.{rise_above, is_fit_line, are_fit_lines, IsFitScript}
 use Rattle.px_script.specs.Order.{entry_of, thread_entries, all_entries}
@@ -25,7 +25,8 @@ line_at number what = record { number = number; what = what }
 post_fit : (thread number : ℕ) (what : What) (entries : List Entry) → 0 < thread → thread ≤ 8 → 0 < number → is_fit_line (line_at number what) ≡ true
     → list_all is_fit_entry entries ≡ true → list_all is_fit_entry (cons_option (entry_of thread (line_at number what)) entries) ≡ true
 post_fit thread number (whats.Post event) entries above within numbered fit others =
-    rw (le-leb 1 thread (omega arith), le-leb thread 8 within, le-leb 1 number (omega arith), fit, others)
+    let parts = and_parts (nat_lt number (2 ^ 32)) (is_fit_event event) fit in
+    rw (le-leb 1 thread (omega arith), le-leb thread 8 within, le-leb 1 number (omega arith), parts.0, parts.1, others)
 post_fit thread number (whats.Wait cond) entries above within numbered fit others = others
 
 -- what lines post
