@@ -3,12 +3,12 @@
 #![tactic(auto)]
 
 #[cfg(test)]
-mod dry_runs;
+mod dry_run_tests;
 mod host;
 #[cfg(test)]
 mod hosts;
 #[cfg(test)]
-mod rows;
+mod trace_start_tests;
 
 use host::StdHost;
 use px_run::plexil;

@@ -1,9 +1,9 @@
-pub mod Carrying
-pub mod CausesOf
-pub mod Emitting
+pub mod Causing
+pub mod Delivering
 pub mod Logging
 pub mod Operating
-pub mod Outcomes
+pub mod Performing
+pub mod Printed
 pub mod Sending
 pub mod Telling
 pub mod Tracing

@@ -1,48 +1,27 @@
--- The trace of a history and the report of a log on their way to the sink.
-use Rattle.std.proofs.Common.{◌≡◌, ℕ, suc, ◌+◌, ◌<◌, ◌≤◌, List, [], ◌∷◌, ◌++◌, Option, Some, None, IsSome, Result, Err, IsErrAnd, take, drop, get_or, length, refl, ap, subst, ◌∙◌, sym, add-one, append-nil, append_assoc}
-use Rattle.std.specs.Option.{option_map}
+-- The trace of a history, and the line of each post, on their way to the sink.
+use Rattle.std.proofs.Common.{◌≡◌, ℕ, suc, ◌+◌, ◌<◌, ◌≤◌, List, [], ◌∷◌, ◌++◌, Option, Some, None, IsSome, take, drop, get_or, length, refl, ap, subst, ◌∙◌, sym, add-one, append-nil, append_assoc}
 use Rattle.std.proofs.lemmas.Grind.{flat_map-append}
-use Rattle.std.proofs.lemmas.List.{take-append-drop, drop_all}
+use Rattle.std.proofs.lemmas.List.{take-append-drop, take_more, drop_all}
 use Rattle.std.proofs.Math.Seq.{drop-cons}
 use Rattle.px_core.specs.Plan.{Site}
 use Rattle.px_event.specs.declared.entry.Entry.{Entry}
 use Rattle.px_event.specs.declared.event.Event.{Event}
 use Rattle.px_sem.specs.declared.log.LogEntry.{LogEntry}
-use Rattle.px_sem.specs.World.{World, first}
+use Rattle.px_sem.specs.World.{World, initial_world}
 use Rattle.px_sem.specs.Events.{take as taken}
 use Rattle.px_sem.specs.Log.{Log, events_of}
-use Rattle.px_sem.specs.Run.{settled, started, posted, run_on, run}
-use Rattle.px_sem.specs.Stepper.{State, fresh, at_rest, with_event}
-use Rattle.px_sem.specs.Text.{start_text, quiet_text, heading_text, settling_text, settling_into, settling_then, events_trace, trace, reply_line, log_lines}
+use Rattle.px_sem.specs.Run.{settled, started, posted, settled_world, run_on, run}
+use Rattle.px_sem.specs.Stepper.{State, fresh, settled_state, with_event}
+use Rattle.px_sem.specs.Text.{start_text, heading_text, settled_text, events_trace, trace, reply_line, log_lines}
 use Rattle.px_sem.proofs.Logs.{run_on_none}
-use Rattle.px_run.specs.Outcome.{View}
-use Rattle.px_run.specs.declared.sink.PrintFault.{PrintFault}
-use Rattle.px_run.specs.declared.sink.PrintFault.TheVariants.{NoMemory as OutOfMemory}
-use Rattle.px_run.specs.Printing.{OnlyPrints, Leaves, PrintsUpTo}
-use Rattle.px_run.specs.Stops.{run_text, whole_settling}
-use Rattle.px_run.proofs.Emitting.{IsOnItsWay, leaves_all, leaves_appended, prints_behind, breaks_off_at, breaks_off_behind, only_same, only_more}
-use Rattle.px_run.proofs.Tracing.{settled_count}
+use Rattle.px_run.specs.Printing.{Leaves}
+use Rattle.px_run.specs.View.{View, OnlyPrints}
+use Rattle.px_run.proofs.Printed.{leaves_none, goes_on, only_same, only_more}
 
--- ---- one run of micro steps
+-- ---- a run that exists has settled before
 
--- the steps, and then their number
-pub settling_is : (plan : List Site) (world to : World) (count : ℕ) → settled plan world ≡ Some (to, count)
-    → whole_settling plan world ≡ run_text plan world ++ quiet_text count
-settling_is plan world to count is =
-    ap (λ k. run_text plan world ++ quiet_text k) (settled_count plan world to count is)
-
--- what follows a run of micro steps
-settling_goes_on : (plan : List Site) (world to : World) (count : ℕ) (next : World → List ℕ) → settled plan world ≡ Some (to, count)
-    → settling_then plan world next ≡ whole_settling plan world ++ next to
-settling_goes_on plan world to count next is =
-    ap (λ o. settling_into plan world o next) is
-    ∙ ap (λ k. settling_text plan world k ++ next to) (sym (settled_count plan world to count is))
-
--- ---- a history
-
--- a run that exists has settled before
 run_settles : (plan : List Site) (o : Option (World × ℕ)) (events : List Event)
-    → IsSome (run_on plan (option_map (λ s. s.0) o) events) → IsSome o
+    → IsSome (run_on plan (settled_world o) events) → IsSome o
 unfolding run_on
 run_settles plan None events some = some
 run_settles plan (Some found) events some = refl
@@ -50,43 +29,48 @@ run_settles plan (Some found) events some = refl
 pub run_starts : (plan : List Site) (events : List Event) → IsSome (run plan events) → IsSome (started plan)
 run_starts plan events some = run_settles plan (started plan) events some
 
--- So many events of a history are told, but for what the buffer holds, and the rest of the whole text is still to come.
-pub record IsTold (plan : List Site) (history : List Entry) (whole : List ℕ) (position : ℕ) (now : State) (old new : View) (buffer : List ℕ) : Type 0 where
+event_settles : (plan : List Site) (world : World) (event : Event) (events : List Event)
+    → IsSome (run_on plan (Some world) (event ∷ events)) → IsSome (posted plan world event)
+unfolding run_on
+event_settles plan world event events some = run_settles plan (posted plan world event) events some
+
+run_on_event : (plan : List Site) (world to : World) (count : ℕ) (event : Event) (events : List Event) → posted plan world event ≡ Some (to, count)
+    → run_on plan (Some world) (event ∷ events) ≡ run_on plan (Some to) events
+unfolding run_on
+run_on_event plan world to count event events is = ap (λ o. run_on plan (settled_world o) events) is
+
+-- ---- a history
+
+-- So many events of a history are told of its trace, and in which world the stepper is then.
+pub record IsTold (plan : List Site) (history : List Entry) (position : ℕ) (now : State) (old : View) (p : List ℕ) (new : View) (q : List ℕ) : Type 0 where
   pub told : List ℕ
-  pub way : IsOnItsWay old new buffer told
-  pub left : whole ≡ told ++ events_trace plan (position + 1) (drop position history) now.world
+  pub leaves : Leaves old p new q told
+  pub only : OnlyPrints old new
+  pub left : trace plan history ≡ told ++ events_trace plan (position + 1) (Some now.world) (drop position history)
   pub runs : run_on plan (Some now.world) (events_of (drop position history)) ≡ run plan (events_of history)
-  pub rest : now ≡ at_rest plan now.world
+  pub rest : now ≡ settled_state plan now.world
 
--- the whole text behind the heading of the start, where that settles
-pub start_is : (plan : List Site) (history : List Entry) (before : List ℕ) (to : World) (count : ℕ) → started plan ≡ Some (to, count)
-    → before ++ trace plan history ≡ ((before ++ start_text) ++ whole_settling plan (first plan)) ++ events_trace plan 1 history to
-start_is plan history before to count is =
-    ap (λ more. before ++ (start_text ++ more)) (settling_goes_on plan (first plan) to count (events_trace plan 1 history) is)
-    ∙ sym (append_assoc before start_text (whole_settling plan (first plan) ++ events_trace plan 1 history to))
-    ∙ sym (append_assoc (before ++ start_text) (whole_settling plan (first plan)) (events_trace plan 1 history to))
+-- the trace: the start, and then its events
+pub start_is : (plan : List Site) (history : List Entry)
+    → trace plan history ≡ start_text ++ (settled_text plan (initial_world plan) ++ events_trace plan 1 (settled_world (started plan)) history)
+start_is plan history = refl
 
--- where the steps of the start stand in the whole
-pub start_within : (plan : List Site) (history : List Entry) (before : List ℕ) → IsSome (run plan (events_of history))
-    → (later : List ℕ) × (before ++ trace plan history ≡ ((before ++ start_text) ++ whole_settling plan (first plan)) ++ later)
-start_within plan history before some = at (started plan) refl (run_starts plan (events_of history) some)
-  where
-    at : (o : Option (World × ℕ)) → started plan ≡ o → IsSome o
-        → (later : List ℕ) × (before ++ trace plan history ≡ ((before ++ start_text) ++ whole_settling plan (first plan)) ++ later)
-    at None is some = cc
-    at (Some found) is some = (events_trace plan 1 history found.0, start_is plan history before found.0 found.1 is)
+-- the stepper has settled in a world
+abbrev pub Settles : State → State → Type 0
+Settles from now = ((count : ℕ) × (settled from.nodes from.world ≡ Some (now.world, count))) × (now ≡ settled_state from.nodes now.world)
 
 -- after the start
-pub told_at_start : (plan : List Site) (history : List Entry) (before buffer buffer' : List ℕ) (from now : State) (old new : View)
-    → from ≡ fresh plan → buffer ≡ before ++ start_text → (count : ℕ) × (settled from.nodes from.world ≡ Some (now.world, count))
-    → now ≡ at_rest from.nodes now.world → Leaves old new buffer' (buffer ++ whole_settling from.nodes from.world) → OnlyPrints old new
-    → IsTold plan history (before ++ trace plan history) 0 now old new buffer'
-told_at_start plan history before buffer buffer' from now old new f b (count, s) r leaves only = record {
-  told = (before ++ start_text) ++ whole_settling plan (first plan);
-  way = record { leaves = rw (f, b) at leaves; only = only };
-  left = start_is plan history before now.world count start;
-  runs = sym (ap (λ o. run_on plan (option_map (λ s. s.0) o) (events_of history)) start);
-  rest = rw f at r;
+pub told_at_start : (plan : List Site) (history : List Entry) (from now : State) (old mid new : View) (p q r : List ℕ)
+    → from ≡ fresh plan → Leaves old p mid q start_text → OnlyPrints old mid → Settles from now
+    → Leaves mid q new r (settled_text from.nodes from.world) → OnlyPrints mid new → IsTold plan history 0 now old p new r
+told_at_start plan history from now old mid new p q r f heads one ((count, s), rests) leaves two = record {
+  told = start_text ++ settled_text plan (initial_world plan);
+  leaves = goes_on old mid new p q r start_text (settled_text plan (initial_world plan)) heads (rw f at leaves);
+  only = only_more old mid new one two;
+  left = sym (append_assoc start_text (settled_text plan (initial_world plan)) (events_trace plan 1 (settled_world (started plan)) history))
+      ∙ ap (λ o. (start_text ++ settled_text plan (initial_world plan)) ++ events_trace plan 1 (settled_world o) history) start;
+  runs = sym (ap (λ o. run_on plan (settled_world o) (events_of history)) start);
+  rest = rw f at rests;
 }
   where
     start : started plan ≡ Some (now.world, count)
@@ -96,207 +80,137 @@ pub drop_item : {X : Type 0} (xs : List X) (k : ℕ) (x : X) → k < length xs �
 drop_item xs k x within is =
     drop-cons xs k x within ∙ ap (λ y. y ∷ drop (suc k) xs) (sym is) ∙ ap (λ n. x ∷ drop n xs) (sym (add-one k))
 
--- an event is the next of the history, and was begun
+-- an entry is the next of the history, and its event was begun
 pub record IsNext (plan : List Site) (history : List Entry) (position : ℕ) (now begun : State) (entry : Entry) : Type 0 where
   pub behind : drop position history ≡ entry ∷ drop (position + 1) history
+  pub rest : now ≡ settled_state plan now.world
   pub begins : begun ≡ with_event now entry.event
 
--- an event of a run that exists settles
-event_settles : (plan : List Site) (world : World) (event : Event) (events : List Event)
-    → IsSome (run_on plan (Some world) (event ∷ events)) → IsSome (posted plan world event)
-unfolding run_on
-event_settles plan world event events some = run_settles plan (posted plan world event) events some
+begun_nodes : (plan : List Site) (history : List Entry) (position : ℕ) (now begun : State) (entry : Entry) → IsNext plan history position now begun entry
+    → begun.nodes ≡ plan
+begun_nodes plan history position now begun entry n = ap (λ (s : State). s.nodes) n.begins ∙ ap (λ (s : State). s.nodes) n.rest
 
-pub next_settles : (plan : List Site) (history : List Entry) (whole : List ℕ) (position : ℕ) (now begun : State) (old new : View)
-    (buffer : List ℕ) (entry : Entry) → IsTold plan history whole position now old new buffer → IsNext plan history position now begun entry
+begun_world : (plan : List Site) (history : List Entry) (position : ℕ) (now begun : State) (entry : Entry) → IsNext plan history position now begun entry
+    → begun.world ≡ taken plan now.world entry.event
+begun_world plan history position now begun entry n =
+    ap (λ (s : State). s.world) n.begins ∙ ap (λ (s : State). taken s.nodes now.world entry.event) n.rest
+
+-- the event settles as it is posted
+posted_is : (plan : List Site) (history : List Entry) (position : ℕ) (now begun : State) (entry : Entry) → IsNext plan history position now begun entry
+    → settled begun.nodes begun.world ≡ posted plan now.world entry.event
+posted_is plan history position now begun entry n =
+    ap (λ nodes. settled nodes begun.world) (begun_nodes plan history position now begun entry n)
+    ∙ ap (settled plan) (begun_world plan history position now begun entry n)
+
+text_is : (plan : List Site) (history : List Entry) (position : ℕ) (now begun : State) (entry : Entry) → IsNext plan history position now begun entry
+    → settled_text begun.nodes begun.world ≡ settled_text plan (taken plan now.world entry.event)
+text_is plan history position now begun entry n =
+    ap (λ nodes. settled_text nodes begun.world) (begun_nodes plan history position now begun entry n)
+    ∙ ap (settled_text plan) (begun_world plan history position now begun entry n)
+
+pub next_settles : (plan : List Site) (history : List Entry) (position : ℕ) (now begun : State) (old new : View) (p q : List ℕ) (entry : Entry)
+    → IsTold plan history position now old p new q → IsNext plan history position now begun entry
     → IsSome (run plan (events_of history)) → IsSome (settled begun.nodes begun.world)
-next_settles plan history whole position now begun old new buffer entry t n some =
+next_settles plan history position now begun old new p q entry t n some =
     let here : IsSome (run_on plan (Some now.world) (events_of (drop position history))) = subst (λ o. IsSome o) (sym t.runs) some in
     let first_one : IsSome (run_on plan (Some now.world) (entry.event ∷ events_of (drop (position + 1) history))) =
     subst (λ entries. IsSome (run_on plan (Some now.world) (events_of entries))) n.behind here in
-    let settles = event_settles plan now.world entry.event (events_of (drop (position + 1) history)) first_one in
-    subst (λ (x : State). IsSome (settled x.nodes x.world)) (sym (begun_is plan now begun entry.event t.rest n.begins)) settles
-  where
-    begun_is : (plan : List Site) (now begun : State) (event : Event) → now ≡ at_rest plan now.world → begun ≡ with_event now event
-        → begun ≡ with_event (at_rest plan now.world) event
-    begun_is plan now begun event rest begins = begins ∙ ap (λ s. with_event s event) rest
+    subst (λ o. IsSome o) (sym (posted_is plan history position now begun entry n))
+    (event_settles plan now.world entry.event (events_of (drop (position + 1) history)) first_one)
 
-begun_nodes : (plan : List Site) (now begun : State) (event : Event) → now ≡ at_rest plan now.world → begun ≡ with_event now event
-    → begun.nodes ≡ plan
-begun_nodes plan now begun event rest begins = ap (λ (s : State). s.nodes) begins ∙ ap (λ (s : State). s.nodes) rest
+-- what of the trace is behind what was told: the heading of the next event, its steps, and the events after it
+pub event_left : (plan : List Site) (history : List Entry) (position : ℕ) (now begun : State) (old new : View) (p q : List ℕ) (entry : Entry)
+    (t : IsTold plan history position now old p new q) → IsNext plan history position now begun entry
+    → trace plan history
+    ≡ t.told ++ (heading_text (position + 1) entry ++ (settled_text begun.nodes begun.world
+    ++ events_trace plan (position + 1 + 1) (settled_world (posted plan now.world entry.event)) (drop (position + 1) history)))
+event_left plan history position now begun old new p q entry t n =
+    t.left
+    ∙ ap (λ entries. t.told ++ events_trace plan (position + 1) (Some now.world) entries) n.behind
+    ∙ ap (λ k. t.told ++ (heading_text (position + 1) entry ++ (settled_text plan (taken plan now.world entry.event)
+    ++ events_trace plan k (settled_world (posted plan now.world entry.event)) (drop (position + 1) history)))) (sym (add-one (position + 1)))
+    ∙ ap (λ text. t.told ++ (heading_text (position + 1) entry ++ (text
+    ++ events_trace plan (position + 1 + 1) (settled_world (posted plan now.world entry.event)) (drop (position + 1) history))))
+    (sym (text_is plan history position now begun entry n))
 
-begun_world : (plan : List Site) (now begun : State) (event : Event) → now ≡ at_rest plan now.world → begun ≡ with_event now event
-    → begun.world ≡ taken plan now.world event
-begun_world plan now begun event rest begins =
-    ap (λ (s : State). s.world) begins ∙ ap (λ (s : State). taken s.nodes now.world event) rest
-
--- an event behind what was told: its heading, its steps, and what follows it
-event_is : (plan : List Site) (position : ℕ) (entry : Entry) (behind : List Entry) (world to : World) (count : ℕ)
-    → posted plan world entry.event ≡ Some (to, count)
-    → events_trace plan (position + 1) (entry ∷ behind) world
-    ≡ (heading_text (position + 1) entry ++ whole_settling plan (taken plan world entry.event)) ++ events_trace plan (position + 1 + 1) behind to
-event_is plan position entry behind world to count is =
-    ap (λ more. heading_text (position + 1) entry ++ more)
-    (settling_goes_on plan (taken plan world entry.event) to count (events_trace plan (suc (position + 1)) behind) is)
-    ∙ sym (append_assoc (heading_text (position + 1) entry) (whole_settling plan (taken plan world entry.event)) (events_trace plan (suc (position + 1)) behind to))
-    ∙ ap (λ n. (heading_text (position + 1) entry ++ whole_settling plan (taken plan world entry.event)) ++ events_trace plan n behind to)
-    (sym (add-one (position + 1)))
-
--- what is known of an event that settles: where the whole text goes on, and the run
-record Settling (plan : List Site) (history : List Entry) (whole told : List ℕ) (position : ℕ) (now begun : State) (entry : Entry) (to : World) : Type 0 where
-  text : whole ≡ ((told ++ heading_text (position + 1) entry) ++ whole_settling begun.nodes begun.world)
-      ++ events_trace plan (position + 1 + 1) (drop (position + 1) history) to
-  runs : run_on plan (Some to) (events_of (drop (position + 1) history)) ≡ run plan (events_of history)
-
-run_on_event : (plan : List Site) (world to : World) (count : ℕ) (event : Event) (events : List Event) → posted plan world event ≡ Some (to, count)
-    → run_on plan (Some world) (event ∷ events) ≡ run_on plan (Some to) events
-unfolding run_on
-run_on_event plan world to count event events is = ap (λ o. run_on plan (option_map (λ s. s.0) o) events) is
-
-settling : (plan : List Site) (history : List Entry) (whole : List ℕ) (position : ℕ) (now begun : State) (old new : View) (buffer : List ℕ)
-    (entry : Entry) (t : IsTold plan history whole position now old new buffer) → IsNext plan history position now begun entry
-    → (to : World) (count : ℕ) → settled begun.nodes begun.world ≡ Some (to, count)
-    → Settling plan history whole t.told position now begun entry to
-settling plan history whole position now begun old new buffer entry t n to count is = record {
-  text = t.left
-      ∙ ap (λ text. t.told ++ text) (ap (λ entries. events_trace plan (position + 1) entries now.world) n.behind
-      ∙ event_is plan position entry behind now.world to count at)
-      ∙ sym (append_assoc t.told (heading ++ whole_settling plan (taken plan now.world entry.event)) later)
-      ∙ ap (λ text. text ++ later) (sym (append_assoc t.told heading (whole_settling plan (taken plan now.world entry.event))))
-      ∙ ap (λ text. ((t.told ++ heading) ++ text) ++ later) (sym (ap (λ nodes. whole_settling nodes begun.world) nodes ∙ ap (whole_settling plan) world));
-  runs = sym (run_on_event plan now.world to count entry.event (events_of behind) at)
+-- after one event more
+pub told_more : (plan : List Site) (history : List Entry) (position : ℕ) (now begun next : State) (old mid headed new : View) (p q r s : List ℕ) (entry : Entry)
+    → IsTold plan history position now old p mid q → IsNext plan history position now begun entry
+    → Leaves mid q headed r (heading_text (position + 1) entry) → OnlyPrints mid headed → Settles begun next
+    → Leaves headed r new s (settled_text begun.nodes begun.world) → OnlyPrints headed new
+    → IsTold plan history (position + 1) next old p new s
+told_more plan history position now begun next old mid headed new p q r s entry t n heads one ((count, is), rests) leaves two = record {
+  told = t.told ++ (heading ++ steps);
+  leaves = goes_on old mid new p q s t.told (heading ++ steps) t.leaves (goes_on mid headed new q r s heading steps heads leaves);
+  only = only_more old mid new t.only (only_more mid headed new one two);
+  left = event_left plan history position now begun old mid p q entry t n
+      ∙ ap (λ o. t.told ++ (heading ++ (steps ++ events_trace plan (position + 1 + 1) (settled_world o) behind))) at
+      ∙ ap (λ text. t.told ++ text) (sym (append_assoc heading steps later))
+      ∙ sym (append_assoc t.told (heading ++ steps) later);
+  runs = sym (run_on_event plan now.world next.world count entry.event (events_of behind) at)
       ∙ sym (ap (λ entries. run_on plan (Some now.world) (events_of entries)) n.behind)
       ∙ t.runs;
+  rest = rests ∙ ap (λ nodes. settled_state nodes next.world) (begun_nodes plan history position now begun entry n);
 }
   where
-    behind : List Entry
-    behind = drop (position + 1) history
-
     heading : List ℕ
     heading = heading_text (position + 1) entry
 
+    steps : List ℕ
+    steps = settled_text begun.nodes begun.world
+
+    behind : List Entry
+    behind = drop (position + 1) history
+
     later : List ℕ
-    later = events_trace plan (position + 1 + 1) behind to
+    later = events_trace plan (position + 1 + 1) (Some next.world) behind
 
-    nodes : begun.nodes ≡ plan
-    nodes = begun_nodes plan now begun entry.event t.rest n.begins
-
-    world : begun.world ≡ taken plan now.world entry.event
-    world = begun_world plan now begun entry.event t.rest n.begins
-
-    at : posted plan now.world entry.event ≡ Some (to, count)
-    at = sym (ap (settled plan) world) ∙ sym (ap (λ nodes. settled nodes begun.world) nodes) ∙ is
-
--- with the heading of the next event in the buffer
-pub told_heading : (plan : List Site) (history : List Entry) (whole : List ℕ) (position : ℕ) (now : State) (old new : View)
-    (buffer headed : List ℕ) (entry : Entry) (t : IsTold plan history whole position now old new buffer)
-    → headed ≡ buffer ++ heading_text (position + 1) entry → Leaves old new headed (t.told ++ heading_text (position + 1) entry)
-told_heading plan history whole position now old new buffer headed entry t h =
-    rw h (leaves_appended old new buffer t.told (heading_text (position + 1) entry) t.way.leaves)
-
--- after one event more
-pub told_more : (plan : List Site) (history : List Entry) (whole : List ℕ) (position : ℕ) (now begun next : State) (old mid new : View)
-    (buffer headed buffer' : List ℕ) (entry : Entry)
-    → IsTold plan history whole position now old mid buffer → IsNext plan history position now begun entry
-    → headed ≡ buffer ++ heading_text (position + 1) entry → (count : ℕ) × (settled begun.nodes begun.world ≡ Some (next.world, count))
-    → next ≡ at_rest begun.nodes next.world → Leaves mid new buffer' (headed ++ whole_settling begun.nodes begun.world) → OnlyPrints mid new
-    → IsTold plan history whole (position + 1) next old new buffer'
-told_more plan history whole position now begun next old mid new buffer headed buffer' entry t n h (count, is) r leaves only = record {
-  told = (t.told ++ heading_text (position + 1) entry) ++ whole_settling begun.nodes begun.world;
-  way = record {
-    leaves = prints_behind old mid new headed buffer' (t.told ++ heading_text (position + 1) entry) (whole_settling begun.nodes begun.world)
-        (told_heading plan history whole position now old mid buffer headed entry t h) leaves;
-    only = only_more old mid new t.way.only only;
-  };
-  left = found.text;
-  runs = found.runs;
-  rest = r ∙ ap (λ nodes. at_rest nodes next.world) (begun_nodes plan now begun entry.event t.rest n.begins);
-}
-  where
-    found : Settling plan history whole t.told position now begun entry next.world
-    found = settling plan history whole position now begun old mid buffer entry t n next.world count is
-
--- where the text of the next event stands in the whole
-pub event_within : (plan : List Site) (history : List Entry) (whole : List ℕ) (position : ℕ) (now begun : State) (old new : View)
-    (buffer : List ℕ) (entry : Entry) (t : IsTold plan history whole position now old new buffer) → IsNext plan history position now begun entry
-    → IsSome (run plan (events_of history))
-    → (later : List ℕ) × (whole ≡ ((t.told ++ heading_text (position + 1) entry) ++ whole_settling begun.nodes begun.world) ++ later)
-event_within plan history whole position now begun old new buffer entry t n some =
-    at (settled begun.nodes begun.world) refl (next_settles plan history whole position now begun old new buffer entry t n some)
-  where
-    at : (o : Option (World × ℕ)) → settled begun.nodes begun.world ≡ o → IsSome o
-        → (later : List ℕ) × (whole ≡ ((t.told ++ heading_text (position + 1) entry) ++ whole_settling begun.nodes begun.world) ++ later)
-    at None is some = cc
-    at (Some found) is some = (
-      events_trace plan (position + 1 + 1) (drop (position + 1) history) found.0,
-      (settling plan history whole position now begun old new buffer entry t n found.0 found.1 is).text,
-    )
+    at : posted plan now.world entry.event ≡ Some (next.world, count)
+    at = sym (posted_is plan history position now begun entry n) ∙ is
 
 -- the end of the history
-pub told_to_end : (plan : List Site) (history : List Entry) (whole : List ℕ) (position : ℕ) (now : State) (old new : View) (buffer : List ℕ)
-    → IsTold plan history whole position now old new buffer → length history ≤ position
-    → (run plan (events_of history) ≡ Some now.world) × Leaves old new buffer whole
-told_to_end plan history whole position now old new buffer t end =
+pub told_to_end : (plan : List Site) (history : List Entry) (position : ℕ) (now : State) (old new : View) (p q : List ℕ)
+    → IsTold plan history position now old p new q → length history ≤ position
+    → (run plan (events_of history) ≡ Some now.world) × Leaves old p new q (trace plan history)
+told_to_end plan history position now old new p q t end =
     let none : drop position history ≡ [] = drop_all position history end in (
       sym t.runs ∙ ap (λ entries. run_on plan (Some now.world) (events_of entries)) none ∙ run_on_none plan (Some now.world),
-      rw (t.left ∙ ap (λ entries. t.told ++ events_trace plan (position + 1) entries now.world) none ∙ append-nil t.told) t.way.leaves,
+      rw (t.left ∙ ap (λ entries. t.told ++ events_trace plan (position + 1) (Some now.world) entries) none ∙ append-nil t.told) t.leaves,
     )
 
--- ---- a report
+-- ---- the line of each post
 
--- so many lines of the report are told, but for what the buffer holds
-pub record IsReported (log : Log) (before : List ℕ) (count : ℕ) (old new : View) (buffer : List ℕ) : Type 0 where
-  pub way : IsOnItsWay old new buffer (before ++ log_lines (take count log))
+abbrev pub line_of : LogEntry → List ℕ
+line_of logged = reply_line logged.entry.thread logged.entry.line logged.reply
 
-pub reported_none : (log : Log) (before : List ℕ) (v : View) → IsReported log before 0 v v before
-reported_none log before v = record { way = record { leaves = rw append-nil (leaves_all v before); only = only_same v } }
+-- so many lines of a log are told
+pub record IsReplied (log : Log) (count : ℕ) (old : View) (p : List ℕ) (new : View) (q : List ℕ) : Type 0 where
+  pub leaves : Leaves old p new q (log_lines (take count log))
+  pub only : OnlyPrints old new
 
-pub report_more : (log : Log) (before : List ℕ) (count : ℕ) (logged : LogEntry) → take (count + 1) log ≡ take count log ++ logged ∷ []
-    → before ++ log_lines (take (count + 1) log) ≡ (before ++ log_lines (take count log)) ++ reply_line logged.entry.thread logged.entry.line logged.reply
-report_more log before count logged is =
-    let one : List ℕ = reply_line logged.entry.thread logged.entry.line logged.reply in
-    ap (λ entries. before ++ log_lines entries) is
-    ∙ ap (λ text. before ++ text) (flat_map-append (λ l. reply_line l.entry.thread l.entry.line l.reply) (take count log) (logged ∷ []))
-    ∙ ap (λ text. before ++ (log_lines (take count log) ++ text)) (append-nil one)
-    ∙ sym (append_assoc before (log_lines (take count log)) one)
+pub replied_none : (log : Log) (v : View) (p : List ℕ) → IsReplied log 0 v p v p
+replied_none log v p = record { leaves = leaves_none v p; only = only_same v }
+
+lines_more : (log : Log) (count : ℕ) (logged : LogEntry) → count < length log → logged ≡ get_or log count logged
+    → log_lines (take (count + 1) log) ≡ log_lines (take count log) ++ line_of logged
+lines_more log count logged within is =
+    ap log_lines (take_more log count logged within ∙ ap (λ l. take count log ++ l ∷ []) (sym is))
+    ∙ flat_map-append line_of (take count log) (logged ∷ [])
+    ∙ ap (λ text. log_lines (take count log) ++ text) (append-nil (line_of logged))
 
 -- one line more
-pub reported_more : (log : Log) (before : List ℕ) (count : ℕ) (logged : LogEntry) (old mid new : View) (buffer appended buffer' : List ℕ)
-    → IsReported log before count old mid buffer → take (count + 1) log ≡ take count log ++ logged ∷ []
-    → appended ≡ buffer ++ reply_line logged.entry.thread logged.entry.line logged.reply → Leaves mid new buffer' appended → OnlyPrints mid new
-    → IsReported log before (count + 1) old new buffer'
-reported_more log before count logged old mid new buffer appended buffer' r next is leaves only = record {
-  way = record {
-    leaves = rw (report_more log before count logged next)
-        (prints_behind old mid new buffer buffer' (before ++ log_lines (take count log)) (reply_line logged.entry.thread logged.entry.line logged.reply)
-        r.way.leaves (rw is at leaves));
-    only = only_more old mid new r.way.only only;
-  };
+pub replied_more : (log : Log) (count : ℕ) (logged : LogEntry) (old mid new : View) (p q r : List ℕ)
+    → IsReplied log count old p mid q → count < length log → logged ≡ get_or log count logged
+    → Leaves mid q new r (line_of logged) → OnlyPrints mid new → IsReplied log (count + 1) old p new r
+replied_more log count logged old mid new p q r t within is leaves only = record {
+  leaves = rw (lines_more log count logged within is) (goes_on old mid new p q r (log_lines (take count log)) (line_of logged) t.leaves leaves);
+  only = only_more old mid new t.only only;
 }
 
--- what of the report is still to come
-pub report_left : (log : Log) (before : List ℕ) (count : ℕ)
-    → before ++ log_lines log ≡ (before ++ log_lines (take count log)) ++ log_lines (drop count log)
-report_left log before count =
-    ap (λ entries. before ++ log_lines entries) (sym (take-append-drop count log))
-    ∙ ap (λ text. before ++ text) (flat_map-append (λ l. reply_line l.entry.thread l.entry.line l.reply) (take count log) (drop count log))
-    ∙ sym (append_assoc before (log_lines (take count log)) (log_lines (drop count log)))
-
--- the report breaks off, in the buffer or on its way to the sink
-pub report_breaks_off_at : (log : Log) (before : List ℕ) (count : ℕ) (old mid : View) (buffer rest' : List ℕ) (r : Result Unit PrintFault)
-    → IsReported log before count old mid buffer → IsErrAnd r (λ e. e ≡ OutOfMemory) → PrintsUpTo old mid rest' (before ++ log_lines log) r
-report_breaks_off_at log before count old mid buffer rest' r t is =
-    breaks_off_at old mid buffer (before ++ log_lines (take count log)) (log_lines (drop count log)) (before ++ log_lines log) rest' r is
-    t.way.leaves (report_left log before count)
-
-pub report_breaks_off : (log : Log) (before : List ℕ) (count : ℕ) (logged : LogEntry) (old mid new : View)
-    (buffer appended rest' rest'' : List ℕ) (fault : PrintFault) (r : Result Unit PrintFault)
-    → IsReported log before count old mid buffer → take (count + 1) log ≡ take count log ++ logged ∷ []
-    → appended ≡ buffer ++ reply_line logged.entry.thread logged.entry.line logged.reply
-    → IsErrAnd r (λ e. e ≡ fault) → PrintsUpTo {T = Unit} mid new rest' appended (Err fault)
-    → PrintsUpTo old new rest'' (before ++ log_lines log) r
-report_breaks_off log before count logged old mid new buffer appended rest' rest'' fault r t next appends is p =
-    breaks_off_behind Unit old mid new buffer (before ++ log_lines (take count log)) (reply_line logged.entry.thread logged.entry.line logged.reply)
-    (log_lines (drop (count + 1) log)) (before ++ log_lines log) rest' rest'' fault r is t.way.leaves t.way.only
-    (subst (λ text. PrintsUpTo {T = Unit} mid new rest' text (Err fault)) appends p)
-    (report_left log before (count + 1) ∙ ap (λ text. text ++ log_lines (drop (count + 1) log)) (report_more log before count logged next))
+-- the next line, and those behind it
+pub lines_left : (log : Log) (count : ℕ) (logged : LogEntry) → count < length log → logged ≡ get_or log count logged
+    → log_lines log ≡ log_lines (take count log) ++ (line_of logged ++ log_lines (drop (count + 1) log))
+lines_left log count logged within is =
+    ap log_lines (sym (take-append-drop count log))
+    ∙ flat_map-append line_of (take count log) (drop count log)
+    ∙ ap (λ entries. log_lines (take count log) ++ log_lines entries) (drop_item log count logged within is)

@@ -2,13 +2,11 @@
 use Rattle.std.specs.Prelude.{◌≡◌, ℕ, List, [], ◌++◌, map, Option, Some, None, codes, decimal}
 use Rattle.px_core.specs.Plan.{Site, Tree, sites}
 use Rattle.px_sem.specs.World.{World}
-use Rattle.px_sem.specs.Log.{Log, IsLegal, events_of, accepted}
-use Rattle.px_sem.specs.Run.{started, run}
+use Rattle.px_sem.specs.Log.{Log, IsLegal}
+use Rattle.px_sem.specs.Run.{started}
 use Rattle.px_sem.specs.Text.{line, text_of}
-use Rattle.px_form.specs.FirstForm.{InFirstForm}
 use Rattle.px_script.specs.declared.todo.Todo.{Todo}
 use Rattle.px_script.specs.Order.{InFileOrder}
-use Rattle.px_script.specs.Script.{Threads, Fault, script}
 
 -- a status and a text
 pub record Ending : Type 0 where
@@ -42,45 +40,16 @@ runaway_at_start = refusal 6 (codes "runaway at start")
 abbrev pub read_fault : Ending
 read_fault = refusal 7 (codes "read fault")
 
--- what a file is to the program: its content, more than the program takes, or nothing that can be read
-pub data Seen : Type 0 where
-  Content : (bytes : List ℕ) → Seen
-  Longer : Seen
-  Unreadable : Seen
-
--- ---- plans and scripts, by what their files are
-
-abbrev pub RefusesPlan : Seen → Ending → Type 0
-RefusesPlan Unreadable ending = ending ≡ read_fault
-RefusesPlan Longer ending = ending ≡ plan_too_long
-RefusesPlan (Content bytes) ending = ((tree : Tree) → ¬ InFirstForm bytes tree) × (ending ≡ plan_not_in_form)
-
-abbrev pub SpellsPlan : Seen → Tree → Type 0
-SpellsPlan Unreadable tree = ⊥
-SpellsPlan Longer tree = ⊥
-SpellsPlan (Content bytes) tree = InFirstForm bytes tree
-
-abbrev pub RefusesScript : Seen → Ending → Type 0
-RefusesScript Unreadable ending = ending ≡ read_fault
-RefusesScript Longer ending = ending ≡ script_too_long
-RefusesScript (Content bytes) ending =
-    (number kind : ℕ) × (script bytes ≡ Fault number kind) × (ending ≡ script_at_fault number kind)
-
-abbrev pub SpellsScript : Seen → List Todo → Type 0
-SpellsScript Unreadable threads = ⊥
-SpellsScript Longer threads = ⊥
-SpellsScript (Content bytes) threads = script bytes ≡ Threads threads
-
 -- ---- runs
 
--- the text of a log from the start, after which the world is this one
-abbrev pub log_ending : List Site → Log → World → Ending
-log_ending plan log world = record { status = 0; text = text_of plan [] log world }
+-- the text of a log from the start
+abbrev pub log_ending : List Site → Log → Ending
+log_ending plan log = record { status = 0; text = text_of plan [] log }
 
 -- the text of the start alone, or the refusal of one that does not settle
 abbrev pub of_start : List Site → Option (World × ℕ) → Ending
 of_start plan None = runaway_at_start
-of_start plan (Some settled) = log_ending plan [] settled.0
+of_start plan (Some settled) = log_ending plan []
 
 abbrev pub start_ending : Tree → Ending
 start_ending tree = of_start (sites tree) (started (sites tree))
@@ -89,18 +58,17 @@ start_ending tree = of_start (sites tree) (started (sites tree))
 abbrev pub event_limit : ℕ
 event_limit = 100000
 
--- A log of all posts of a script by rising line number, each answered as it is to be, and the world after it.
-pub record IsDryRun (plan : List Site) (threads : List Todo) (log : Log) (world : World) : Type 0 where
+-- a log of all posts of a script by rising line number, each answered as it is to be
+pub record IsDryRun (plan : List Site) (threads : List Todo) (log : Log) : Type 0 where
   pub order : InFileOrder threads (map (λ logged. logged.entry) log)
   pub legal : IsLegal plan [] event_limit log
-  pub runs : run plan (events_of (accepted log)) ≡ Some world
 
 -- how `dry-run` ends over a plan and a script, by what the start settles into: by the text of such a log, or as a start
 -- that does not settle
 abbrev pub DryRunEndsBy : List Site → List Todo → Ending → Option (World × ℕ) → Type 0
 DryRunEndsBy plan threads ending None = ending ≡ runaway_at_start
 DryRunEndsBy plan threads ending (Some settled) =
-    (log : Log) × (world : World) × IsDryRun plan threads log world × (ending ≡ log_ending plan log world)
+    (log : Log) × IsDryRun plan threads log × (ending ≡ log_ending plan log)
 
 abbrev pub DryRunEnds : Tree → List Todo → Ending → Type 0
 DryRunEnds tree threads ending = DryRunEndsBy (sites tree) threads ending (started (sites tree))

@@ -1,7 +1,10 @@
+pub mod Words
 pub mod Asked
-pub mod Causes
+pub mod View
 pub mod Ending
-pub mod Outcome
+pub mod File
+pub mod Kinds
 pub mod Printing
 pub mod Stops
-pub mod Words
+pub mod Headline
+pub mod Causes

@@ -1,10 +1,15 @@
 // The command `dry-run`: reads a plan and a script, posts all lines in their order, and prints the text of the log.
-ghost use Rattle.std.specs.Prelude.{◌≡◌};
+ghost use Rattle.std.specs.Prelude.{Some};
 ghost use Rattle.px_core.specs.Fit.{IsFit};
 ghost use Rattle.px_core.specs.Plan.{tree_of, sites};
 ghost use Rattle.px_core.specs.Simple.{IsSimple};
-ghost use Rattle.px_run.specs.Outcome.{view};
-ghost use Rattle.px_run.specs.Stops.{KeepsFiles, CallsForDryRun, CallsForScript, Carried};
+ghost use Rattle.px_run.specs.Ending.{DryRunEnds};
+ghost use Rattle.px_run.specs.File.{After};
+ghost use Rattle.px_run.specs.Headline.{CommandCallsFor};
+ghost use Rattle.px_run.specs.Kinds.{script_file};
+ghost use Rattle.px_run.specs.Stops.{Performs};
+ghost use Rattle.px_run.specs.View.{view, KeepsFiles};
+ghost use Rattle.px_run.specs.Words.{DryRun as Asked};
 
 use crate::ending::Stop;
 use crate::log::print_log;
@@ -25,8 +30,8 @@ pub fn dry_run<H: Host, S: Stepper>(
     script: &str,
     host: &mut H,
 ) -> Result<(), Stop>
-    ensures carried { Carried (view H.Host host.old) (view H.Host host.new)
-        (CallsForDryRun (view H.Host host.old) (view H.Host host.new) plan.now script.now) result }
+    ensures performs { Performs (view H.Host host.old) (view H.Host host.new)
+        (CommandCallsFor (Some (Asked plan.now script.now)) (view H.Host host.old) (view H.Host host.new)) result }
     ensures keeps { KeepsFiles (view H.Host host.old) (view H.Host host.new) }
 {
     let plan = fetch_plan(alloc, plan, host)?;
@@ -41,8 +46,8 @@ fn dry_run_plan<H: Host, S: Stepper>(
 ) -> Result<(), Stop>
     requires fit { IsFit (tree_of plan.now) }
     requires simple { IsSimple (sites (tree_of plan.now)) }
-    ensures carried { Carried (view H.Host host.old) (view H.Host host.new)
-        (CallsForScript (view H.Host host.old) (view H.Host host.new) script.now (tree_of plan.now))
+    ensures performs { Performs (view H.Host host.old) (view H.Host host.new)
+        (After script_file (view H.Host host.old) (view H.Host host.new) script.now (DryRunEnds (tree_of plan.now)))
         result }
     ensures keeps { KeepsFiles (view H.Host host.old) (view H.Host host.new) }
 {

@@ -4,7 +4,7 @@ ghost use Rattle.std.specs.String.{string_bytes};
 ghost use Rattle.px_run.specs.declared.ending.Stop.TheVariants.{NoMemory as OutOfMemory};
 ghost use Rattle.px_run.specs.Ending.{script_at_fault};
 
-use crate::sink::PrintFault;
+use crate::printer::PrintFault;
 use px_sem::StepFault;
 use px_value::NoMemory;
 use std::alloc::Global;

@@ -1,11 +1,15 @@
 //! The program: its command words, what each command does, and what it prints.
+//!
+//! `top` is the one entry, and each command has a module: `trace_start`, `dry_run`. `words` reads the command words and
+//! `reading` the files; `log` prints a log through a `printer`; `ending` has the statuses and the texts of refusals.
+//! `specs/Headline.antt` says what a call emits and which status it answers, `specs/Causes.antt` what each status tells.
 #![tactic(auto)]
 
 mod dry_run;
 mod ending;
 mod log;
+mod printer;
 mod reading;
-mod sink;
 mod top;
 mod trace_start;
 mod words;

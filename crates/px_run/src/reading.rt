@@ -5,9 +5,10 @@ ghost use Rattle.px_core.specs.Fit.{IsFit};
 ghost use Rattle.px_core.specs.Plan.{tree_of, sites};
 ghost use Rattle.px_core.specs.Simple.{IsSimple};
 ghost use Rattle.px_script.specs.Fit.{IsFitScript};
-ghost use Rattle.px_run.specs.Ending.{Content};
-ghost use Rattle.px_run.specs.Outcome.{view, Shows};
-ghost use Rattle.px_run.specs.Stops.{OnlyReads, StopsFetching, ReadsPlan, StopsPlan, ReadsScript, StopsScript};
+ghost use Rattle.px_run.specs.File.{Content, Shows, Reads};
+ghost use Rattle.px_run.specs.Kinds.{plan_file, script_file};
+ghost use Rattle.px_run.specs.Stops.{StopsFetching, StopsReading};
+ghost use Rattle.px_run.specs.View.{view, OnlyReads};
 
 use crate::ending::{Refusal, Stop};
 use px_core::Plan;
@@ -22,11 +23,11 @@ const PLAN_LIMIT: usize = 1_048_576;
 /// Reads the plan in the file of this name.
 pub fn fetch_plan<H: Host>(alloc: Global, name: &str, host: &mut H) -> Result<Plan, Stop>
     ensures ok { IfOk result (λ plan.
-        ReadsPlan (view H.Host host.old) (view H.Host host.new) name.now (tree_of plan)) }
+        Reads plan_file (view H.Host host.old) (view H.Host host.new) name.now (tree_of plan)) }
     ensures fit { IfOk result (λ plan. IsFit (tree_of plan)) }
     ensures simple { IfOk result (λ plan. IsSimple (sites (tree_of plan))) }
     ensures err { IfErr result
-        (StopsPlan (view H.Host host.old) (view H.Host host.new) name.now) }
+        (StopsReading plan_file (view H.Host host.old) (view H.Host host.new) name.now) }
     ensures only { OnlyReads (view H.Host host.old) (view H.Host host.new) }
 {
     let bytes = fetch_bytes(alloc, name, PLAN_LIMIT, Refusal::PlanTooLong, host)?;
@@ -46,10 +47,10 @@ pub fn fetch_script<H: Host>(
 ) -> Result<Script, Stop>
     requires { IsFit (tree_of plan.now) }
     ensures ok { IfOk result (λ script.
-        ReadsScript (view H.Host host.old) (view H.Host host.new) name.now script.threads) }
+        Reads script_file (view H.Host host.old) (view H.Host host.new) name.now script.threads) }
     ensures fit { IfOk result (λ script. IsFitScript script) }
     ensures err { IfErr result
-        (StopsScript (view H.Host host.old) (view H.Host host.new) name.now) }
+        (StopsReading script_file (view H.Host host.old) (view H.Host host.new) name.now) }
     ensures only { OnlyReads (view H.Host host.old) (view H.Host host.new) }
 {
     let bytes = fetch_bytes(alloc, name, SCRIPT_LIMIT, Refusal::ScriptTooLong, host)?;

@@ -1,14 +1,14 @@
 // The program as a whole: from the words to the status.
 ghost use Rattle.std.specs.Prelude.{◌≡◌, map};
 ghost use Rattle.std.specs.String.{string_bytes};
-ghost use Rattle.px_run.specs.Causes.{Causes, IsComplete, IsRefused};
-ghost use Rattle.px_run.specs.Outcome.{Outcome, CallsFor, Ends, view};
-ghost use Rattle.px_run.specs.Printing.{OnlyPrints};
-ghost use Rattle.px_run.specs.Stops.{Carried, KeepsFiles, number_of, ending_of};
+ghost use Rattle.px_run.specs.Causes.{Cause, IsComplete, IsRefused};
+ghost use Rattle.px_run.specs.Headline.{Headline, CallsFor, Delivers};
+ghost use Rattle.px_run.specs.Stops.{Performs, number_of, ending_of};
+ghost use Rattle.px_run.specs.View.{view, OnlyPrints, KeepsFiles};
 
 use crate::dry_run::dry_run;
 use crate::ending::{Refusal, Status, Stop};
-use crate::sink::{PrintFault, emit_all};
+use crate::printer::{PrintFault, emit_all};
 use crate::trace_start::trace_start;
 use crate::words::Command;
 use px_naive::Naive;
@@ -31,12 +31,12 @@ use std::alloc::Global;
 /// | 10 | memory ran out |
 pub fn plexil<H: Host>(alloc: Global, words: &[String], host: &mut H) -> u8
     // What was emitted is the text that the words and the files call for, or a front of it.
-    ensures headline { Outcome (map string_bytes words.now)
+    ensures headline { Headline (map string_bytes words.now)
         (view H.Host host.old) (view H.Host host.new) result }
     ensures files { H.files host.new ≡ H.files host.old }
 
     // What each status tells, when the command is carried out, and when its files are refused.
-    ensures causes { Causes (map string_bytes words.now)
+    ensures causes { Cause (map string_bytes words.now)
         (view H.Host host.old) (view H.Host host.new) result }
     ensures complete { IsComplete (map string_bytes words.now)
         (view H.Host host.old) (view H.Host host.new) result }
@@ -48,12 +48,12 @@ pub fn plexil<H: Host>(alloc: Global, words: &[String], host: &mut H) -> u8
 
 // The same over any stepper.
 fn plexil_with<H: Host, S: Stepper>(alloc: Global, words: &[String], host: &mut H) -> u8
-    ensures headline { Outcome (map string_bytes words.now)
+    ensures headline { Headline (map string_bytes words.now)
         (view H.Host host.old) (view H.Host host.new) result }
     ensures files { H.files host.new ≡ H.files host.old }
 
     // What each status tells, when the command is carried out, and when its files are refused.
-    ensures causes { Causes (map string_bytes words.now)
+    ensures causes { Cause (map string_bytes words.now)
         (view H.Host host.old) (view H.Host host.new) result }
     ensures complete { IsComplete (map string_bytes words.now)
         (view H.Host host.old) (view H.Host host.new) result }
@@ -64,7 +64,7 @@ fn plexil_with<H: Host, S: Stepper>(alloc: Global, words: &[String], host: &mut 
 }
 
 fn ended<H: Host, S: Stepper>(alloc: Global, words: &[String], host: &mut H) -> Status
-    ensures headline { Outcome (map string_bytes words.now)
+    ensures headline { Headline (map string_bytes words.now)
         (view H.Host host.old) (view H.Host host.new) (number_of result) }
     ensures files { H.files host.new ≡ H.files host.old }
 {
@@ -77,7 +77,7 @@ fn ended<H: Host, S: Stepper>(alloc: Global, words: &[String], host: &mut H) -> 
 }
 
 fn carry_out<H: Host, S: Stepper>(alloc: Global, words: &[String], host: &mut H) -> Result<(), Stop>
-    ensures carried { Carried (view H.Host host.old) (view H.Host host.new)
+    ensures performs { Performs (view H.Host host.old) (view H.Host host.new)
         (CallsFor (map string_bytes words.now) (view H.Host host.old) (view H.Host host.new))
         result }
     ensures keeps { KeepsFiles (view H.Host host.old) (view H.Host host.new) }
@@ -91,7 +91,7 @@ fn carry_out<H: Host, S: Stepper>(alloc: Global, words: &[String], host: &mut H)
 
 // Prints the reason, and answers the status: that of the refusal, or of the sink where it fails.
 fn refuse<H: Host>(alloc: Global, refusal: Refusal, host: &mut H) -> Status
-    ensures ends { Ends (view H.Host host.old) (view H.Host host.new)
+    ensures delivers { Delivers (view H.Host host.old) (view H.Host host.new)
         (ending_of refusal) (number_of result) }
     ensures only { OnlyPrints (view H.Host host.old) (view H.Host host.new) }
 {

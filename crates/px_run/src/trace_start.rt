@@ -1,6 +1,9 @@
 // The command `trace-start`: reads a plan, and prints the run of its start.
-ghost use Rattle.px_run.specs.Outcome.{view};
-ghost use Rattle.px_run.specs.Stops.{KeepsFiles, CallsForStart, Carried};
+ghost use Rattle.std.specs.Prelude.{Some};
+ghost use Rattle.px_run.specs.Headline.{CommandCallsFor};
+ghost use Rattle.px_run.specs.Stops.{Performs};
+ghost use Rattle.px_run.specs.View.{view, KeepsFiles};
+ghost use Rattle.px_run.specs.Words.{TraceStart as Asked};
 
 use crate::ending::Stop;
 use crate::log::print_log;
@@ -12,8 +15,8 @@ use std::alloc::Global;
 /// Prints the trace of the start of the plan in this file. A start that does not settle is refused
 /// before any text.
 pub fn trace_start<H: Host, S: Stepper>(alloc: Global, plan: &str, host: &mut H) -> Result<(), Stop>
-    ensures carried { Carried (view H.Host host.old) (view H.Host host.new)
-        (CallsForStart (view H.Host host.old) (view H.Host host.new) plan.now) result }
+    ensures performs { Performs (view H.Host host.old) (view H.Host host.new)
+        (CommandCallsFor (Some (Asked plan.now)) (view H.Host host.old) (view H.Host host.new)) result }
     ensures keeps { KeepsFiles (view H.Host host.old) (view H.Host host.new) }
 {
     let plan = fetch_plan(alloc, plan, host)?;

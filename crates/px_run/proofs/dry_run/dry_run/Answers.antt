@@ -1,10 +1,21 @@
-use Rattle.px_core.specs.Plan.{tree_of}
-use Rattle.px_run.specs.Outcome.{view}
-use Rattle.px_run.proofs.Carrying.{dry_run_carried}
+use Rattle.px_core.specs.Plan.{Tree, tree_of}
+use Rattle.px_run.specs.Ending.{DryRunEnds}
+use Rattle.px_run.specs.File.{After}
+use Rattle.px_run.specs.Kinds.{plan_file, script_file}
+use Rattle.px_run.specs.View.{view}
+use Rattle.px_run.proofs.Performing.{performs_since, after_since, after_read}
 use Rattle.px_run.proofs.dry_run.dry_run.Goals as goal
 
-pub returns-clause-carried : goal.returns-clause-carried
-returns-clause-carried g c =
-    dry_run_carried (view g.H.Host c.args.host.now) (view g.H.Host c.fetch_plan.new.host) (view g.H.Host c.dry_run_plan.new.host)
-    c.args.plan.now c.args.script.now (tree_of c.in_ok-plan.plan) c.dry_run_plan.result c.in_ok-plan.ensures.ok c.in_ok-plan.ensures.only
-    c.dry_run_plan.ensures.keeps c.dry_run_plan.ensures.carried
+pub returns-clause-performs : goal.returns-clause-performs
+returns-clause-performs g c =
+    let old = view g.H.Host c.args.host.now in
+    let mid = view g.H.Host c.fetch_plan.new.host in
+    let new = view g.H.Host c.dry_run_plan.new.host in
+    let tree = tree_of c.in_ok-plan.plan in
+    let script = c.args.script.now in
+    performs_since old mid new (After script_file mid new script (DryRunEnds tree))
+    (After plan_file old new c.args.plan.now (λ tree. After script_file old new script (DryRunEnds tree))) c.dry_run_plan.result c.in_ok-plan.ensures.only
+    (λ ending is. after_read Tree plan_file old mid new c.args.plan.now tree (λ tree. After script_file old new script (DryRunEnds tree)) ending
+    c.in_ok-plan.ensures.ok c.dry_run_plan.ensures.keeps.read_faults
+    (after_since _ script_file old mid new script (DryRunEnds tree) ending c.in_ok-plan.ensures.only is))
+    c.dry_run_plan.ensures.performs

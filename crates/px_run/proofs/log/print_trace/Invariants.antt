@@ -1,12 +1,11 @@
-use Rattle.std.proofs.Common.{◌≡◌, ◌++◌}
-use Rattle.px_sem.specs.Text.{trace}
-use Rattle.px_run.specs.Outcome.{view}
+use Rattle.std.proofs.Common.{◌≡◌}
+use Rattle.px_run.specs.View.{view}
 use Rattle.px_run.proofs.Telling.{IsTold}
 use Rattle.px_run.proofs.log.print_trace.Given as goal
 
 abbrev pub invariant-loop-entry : goal.invariant-loop-entry
 invariant-loop-entry g l = record {
-  told : IsTold (g.S.Stepper.state l.fn.stepper).nodes l.history (l.fn.text.items ++ trace (g.S.Stepper.state l.fn.stepper).nodes l.history)
-      l.entry-index (g.S.Stepper.state l.stepper) (view g.H.Host l.fn.host) (view g.H.Host l.host) l.text.items;
+  told : IsTold (g.S.Stepper.state l.fn.stepper).nodes l.history l.entry-index (g.S.Stepper.state l.stepper)
+      (view g.H.Host l.fn.host) l.fn.printer (view g.H.Host l.host) l.printer;
   counted : l.position ≡ l.entry-index;
 }

@@ -1,7 +1,7 @@
 use Rattle.std.proofs.Common.{refl, sym}
 use Rattle.px_core.specs.Plan.{Tree}
 use Rattle.px_form.specs.FirstForm.{InFirstForm}
-use Rattle.px_run.specs.Ending.{Content}
+use Rattle.px_run.specs.File.{Content}
 use Rattle.px_run.proofs.reading.fetch_plan.Goals as goal
 
 pub returns-in-Ok-clause-ok : goal.returns-in-Ok-clause-ok

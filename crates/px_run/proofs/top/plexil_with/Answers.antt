@@ -1,7 +1,7 @@
 use Rattle.std.proofs.Common.{map}
 use Rattle.std.specs.String.{string_bytes}
-use Rattle.px_run.specs.Outcome.{view}
-use Rattle.px_run.proofs.CausesOf.{causes, complete, refused}
+use Rattle.px_run.specs.View.{view}
+use Rattle.px_run.proofs.Causing.{causes, complete, refused}
 use Rattle.px_run.proofs.top.plexil_with.Goals as goal
 
 pub returns-clause-causes : goal.returns-clause-causes

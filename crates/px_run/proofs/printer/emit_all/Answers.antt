@@ -1,10 +1,13 @@
 use Rattle.std.proofs.Common.{refl}
-use Rattle.px_run.proofs.Emitting.{on_its_way_from}
-use Rattle.px_run.proofs.sink.emit_all.Goals as goal
+use Rattle.px_run.proofs.Printed.{emitting_at_once, emitting_more}
+use Rattle.px_run.proofs.printer.emit_all.Goals as goal
+
+pub loop-rest-init : goal.loop-rest-init
+loop-rest-init g c = emitting_at_once _ _
 
 pub loop-rest-preserved : goal.loop-rest-preserved
 loop-rest-preserved g c =
-    on_its_way_from _ _ _ c.loop-rest.rest.now _ c.in-Ok.count _ c.loop-rest.invariant
+    emitting_more _ _ _ _ c.loop-rest.rest.now c.in-Ok.count _ c.loop-rest.invariant
     (record {
       emitted = c.in-Ok.ensures.emitted;
       writes = c.in-Ok.ensures.cause;

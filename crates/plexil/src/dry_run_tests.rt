@@ -1,6 +1,6 @@
 // What `dry-run` prints, and the status that it ends with, over a host in memory: worked out by hand.
 use crate::hosts::{file, host_with, outcome};
-use crate::rows::USAGE;
+use crate::trace_start_tests::USAGE;
 use px_ports::MemHost;
 use std::alloc::Global;
 use std::test::Fail;
