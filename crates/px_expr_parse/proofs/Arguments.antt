@@ -1,0 +1,394 @@
+-- Arguments, one after another, and the parentheses that may be left out.
+use Rattle.std.proofs.Common.{◌≡◌, ℕ, ◌+◌, ◌≤◌, ◌<◌, inl, inr, refl, sym, ap, subst, ◌∙◌, List, [], ◌∷◌, ◌++◌, length, map, Some, None, arith}
+use Rattle.px_lex.specs.declared.sign.Sign.TheVariants as signs
+use Rattle.px_lex.specs.declared.token.Token.{Token}
+use Rattle.px_lex.specs.declared.token.TokenKind.TheVariants as kinds
+use Rattle.px_syntax.specs.declared.fault.ParseFault.{ParseFault}
+use Rattle.px_syntax.specs.declared.fault.ParseFault.TheVariants as faults
+use Rattle.std.specs.Option.{option_map, option_and_then}
+use Rattle.px_syntax.specs.Expr.{Term, Terms, NoTerms, More, in_turn}
+use Rattle.px_syntax.specs.ExprGrammar.{expression, arguments}
+use Rattle.px_syntax.specs.Operator.{unary_of}
+use Rattle.px_expr_parse.specs.declared.opening.Opening.{Opening}
+use Rattle.px_expr_parse.specs.declared.opening.Opening.TheVariants as openings
+use Rattle.px_expr_parse.specs.Opening.{opening_of, Begins}
+use Rattle.px_expr_parse.specs.Tail.{closed_arguments, look_arguments}
+use Rattle.px_expr_parse.specs.Verdict.{Agree, GoesOn, IsLongest, IsRead, IsRefused, IsFound, IsMissing, HasSign, LacksSign}
+use Rattle.px_expr_parse.proofs.Chains.{spine}
+use Rattle.px_expr_parse.proofs.Closed.{closer_ends, paren_closes, comma_closes}
+use Rattle.px_expr_parse.proofs.Openings.{rest_of}
+use Rattle.px_expr_parse.proofs.Parts.{agree_before, behind_sign}
+
+-- arguments in front of others
+abbrev pub in_front : List Term → Terms → Terms
+in_front [] rest = rest
+in_front (term ∷ terms) rest = More term (in_front terms rest)
+
+pub in_front_push :
+    (terms : List Term) (term : Term) (rest : Terms)
+    → in_front (terms ++ term ∷ []) rest ≡ in_front terms (More term rest)
+in_front_push [] term rest = refl
+in_front_push (first ∷ terms) term rest = ap (λ (x : Terms). More first x) (in_front_push terms term rest)
+
+pub in_turn_push :
+    (terms : List Term) (term : Term) → in_turn (terms ++ term ∷ []) ≡ in_front terms (More term NoTerms)
+in_turn_push [] term = refl
+in_turn_push (first ∷ terms) term = ap (λ (x : Terms). More first x) (in_turn_push terms term)
+
+-- the trees of one more expression
+pub map_push : {A B : Type 0} (f : A → B) (xs : List A) (x : A) → map f (xs ++ x ∷ []) ≡ map f xs ++ f x ∷ []
+map_push f [] x = refl
+map_push f (y ∷ xs) x = ap (λ (rest : List _). f y ∷ rest) (map_push f xs x)
+
+-- two signs don't stand at one place
+pub paren_or_comma :
+    (tokens : List Token) (place : ℕ) → HasSign tokens place signs.CloseParen → HasSign tokens place signs.Comma → ⊥
+paren_or_comma tokens place a b =
+    let e : Some (kinds.Sign signs.CloseParen) ≡ Some (kinds.Sign signs.Comma) = sym a ∙ b in cc
+
+open_or_close :
+    (tokens : List Token) (place : ℕ) → HasSign tokens place signs.OpenParen → HasSign tokens place signs.CloseParen → ⊥
+open_or_close tokens place a b =
+    let e : Some (kinds.Sign signs.OpenParen) ≡ Some (kinds.Sign signs.CloseParen) = sym a ∙ b in cc
+
+-- what stands behind an argument: the parenthesis, or a comma and more
+abbrev pub NextArgument : List Token → ℕ → Terms → ℕ → Type 0
+NextArgument tokens place NoTerms end = HasSign tokens place signs.CloseParen × (end ≡ place + 1)
+NextArgument tokens place (More first rest) end =
+    HasSign tokens place signs.Comma × closed_arguments (More first rest) tokens (place + 1) end
+
+-- the first of arguments is an expression, and this stands behind it
+pub first_argument :
+    (tokens : List Token) (at : ℕ) (first : Term) (rest : Terms) (end : ℕ)
+    → closed_arguments (More first rest) tokens at end
+    → (middle : ℕ) × expression first tokens at middle × NextArgument tokens middle rest end
+first_argument tokens at first NoTerms end o =
+    let is : o.0 ≡ o.1.0 = o.1.2 in
+    (o.1.0, o.1.1, (subst (λ (place : ℕ). HasSign tokens place signs.CloseParen) is o.2.0, omega (arith, is, o.2.1)))
+first_argument tokens at first (More second rest) end o =
+    let further = o.1.2 in (
+      o.1.0,
+      o.1.1,
+      (
+        further.1.0,
+        (
+          o.0,
+          subst (λ (place : ℕ). arguments (More second rest) tokens place o.0) further.1.1 (further.2.0, further.2.1, further.2.2),
+          o.2,
+        ),
+      ),
+    )
+
+pub with_first_argument :
+    (tokens : List Token) (at : ℕ) (first : Term) (rest : Terms) (middle end : ℕ)
+    → expression first tokens at middle → NextArgument tokens middle rest end
+    → closed_arguments (More first rest) tokens at end
+with_first_argument tokens at first NoTerms middle end o next = (middle, (middle, o, refl), next)
+with_first_argument tokens at first (More second rest) middle end o next =
+    let more = next.1 in
+    (more.0, (middle, o, (middle + 1, (next.0, refl), (more.1.0, more.1.1, more.1.2))), more.2)
+
+-- no expression goes on with what stands behind an argument
+ends_argument :
+    (tokens : List Token) (place : ℕ) (rest : Terms) (end : ℕ) → NextArgument tokens place rest end
+    → GoesOn 0 tokens place → ⊥
+ends_argument tokens place NoTerms end next = closer_ends tokens place signs.CloseParen paren_closes next.0
+ends_argument tokens place (More first rest) end next = closer_ends tokens place signs.Comma comma_closes next.0
+
+-- so where the first is read, it is that one
+pub is_first_argument :
+    (tokens : List Token) (at : ℕ) (tree : Term) (to : ℕ) → IsLongest 0 tokens at tree to
+    → (first : Term) (rest : Terms) (end : ℕ) → closed_arguments (More first rest) tokens at end
+    → (first ≡ tree) × NextArgument tokens to rest end
+is_first_argument tokens at tree to longest first rest end o =
+    let f = first_argument tokens at first rest end o in
+    elim (longest.only first f.0 f.1) [
+      | inl same ↦ (same.0, subst (λ (place : ℕ). NextArgument tokens place rest end) same.1 f.2)
+      | inr ends ↦ absurd (ends_argument tokens f.0 rest end f.2 ends.1)
+    ]
+
+-- Arguments so far, behind each of which a comma stands: all arguments are these and at least one more.
+pub record IsSoFar (tokens : List Token) (from : ℕ) (so_far : List Term) (at : ℕ) : Type 0 where
+  pub spells :
+      (first : Term) (rest : Terms) (end : ℕ) → closed_arguments (More first rest) tokens at end
+      → closed_arguments (in_front so_far (More first rest)) tokens from end
+  pub only :
+      (other : Terms) (end : ℕ) → closed_arguments other tokens from end
+      → (first : Term) × (rest : Terms) × (other ≡ in_front so_far (More first rest))
+      × closed_arguments (More first rest) tokens at end
+
+pub record HasArguments (tokens : List Token) (from : ℕ) (so_far : List Term) (at : ℕ) : Type 0 where
+  pub advances : from ≤ at
+  pub within : at ≤ length tokens
+  pub each : (others : List Token) → Agree tokens others at → IsSoFar others from so_far at
+
+pub no_arguments :
+    (tokens : List Token) (from : ℕ) → from ≤ length tokens → (HasSign tokens from signs.CloseParen → ⊥)
+    → HasArguments tokens from [] from
+no_arguments tokens from within lacks =
+    record {
+      advances = omega arith;
+      within = within;
+      each = λ others agree. record {
+        spells = λ first rest end o. o;
+        only = only others agree;
+      };
+    }
+  where
+    only :
+        (others : List Token) → Agree tokens others from → (other : Terms) (end : ℕ) → closed_arguments other others from end
+        → (first : Term) × (rest : Terms) × (other ≡ More first rest) × closed_arguments (More first rest) others from end
+    only others agree NoTerms end o =
+        absurd (lacks (sym (agree from (omega arith))
+        ∙ subst (λ (place : ℕ). HasSign others place signs.CloseParen) o.1 o.2.0))
+    only others agree (More first rest) end o = (first, rest, refl, o)
+
+module _ (tokens : List Token) (from : ℕ) (so_far : List Term) (at : ℕ) (begun : HasArguments tokens from so_far at) where
+  pub refuse_argument :
+      (fault : ParseFault) → IsRefused 0 tokens at fault → IsMissing closed_arguments tokens from fault
+  refuse_argument (faults.SyntaxFault token) g = (
+    omega (arith, begun.advances, g.0),
+    g.1,
+    λ others agree other end o.
+        let s = (begun.each others (agree_before tokens others at token g.0 agree)).only other end o in
+        let f = first_argument others at s.0 s.1 end s.3 in
+        ends_argument others f.0 s.1 end f.2 (g.2 others agree s.0 f.0 f.1).1,
+  )
+  refuse_argument (faults.Deep token) g = g
+  refuse_argument faults.NoMemory g = g
+
+  module _ (tree : Term) (to : ℕ) (read : IsRead 0 tokens at tree to) where
+    -- what all arguments are, where this is the next one
+    nexts :
+        (others : List Token) → Agree tokens others to → (other : Terms) (end : ℕ) → closed_arguments other others from end
+        → (rest : Terms) × (other ≡ in_front so_far (More tree rest)) × NextArgument others to rest end
+    nexts others agree other end o =
+        let s = (begun.each others (agree_before tokens others at to (omega (arith, read.advances)) agree)).only other end o in
+        let is = is_first_argument others at tree to (read.longest others agree) s.0 s.1 end s.3 in
+        (s.1, s.2 ∙ ap (λ (first : Term). in_front so_far (More first s.1)) is.0, is.1)
+
+    -- a comma: there are more
+    pub one_more_argument :
+        to < length tokens → HasSign tokens to signs.Comma
+        → HasArguments tokens from (so_far ++ tree ∷ []) (to + 1)
+    one_more_argument inside comma =
+        record {
+          advances = omega (arith, begun.advances, read.advances);
+          within = omega (arith, inside);
+          each = λ others agree.
+              let agree_to = agree_before tokens others to (to + 1) (omega arith) agree in
+              let there : HasSign others to signs.Comma = agree_to to (omega arith) ∙ comma in
+              record {
+                spells = λ first rest end o.
+                    subst (λ (all : Terms). closed_arguments all others from end)
+                    (sym (in_front_push so_far tree (More first rest)))
+                    ((begun.each others (agree_before tokens others at to (omega (arith, read.advances)) agree_to)).spells tree (More first rest) end
+                    (with_first_argument others at tree (More first rest) to end (read.longest others agree_to).spelled (there, o)));
+                only = λ other end o. more others there other end (nexts others agree_to other end o);
+              };
+        }
+      where
+        more :
+            (others : List Token) → HasSign others to signs.Comma → (other : Terms) (end : ℕ)
+            → (rest : Terms) × (other ≡ in_front so_far (More tree rest)) × NextArgument others to rest end
+            → (first : Term) × (rest : Terms) × (other ≡ in_front (so_far ++ tree ∷ []) (More first rest))
+            × closed_arguments (More first rest) others (to + 1) end
+        more others there other end (NoTerms, is, next) = absurd (paren_or_comma others to next.0 there)
+        more others there other end (More first rest, is, next) =
+            (first, rest, is ∙ sym (in_front_push so_far tree (More first rest)), next.1)
+
+    -- the parenthesis: that was all
+    pub last_argument :
+        to < length tokens → HasSign tokens to signs.CloseParen
+        → IsFound closed_arguments tokens from (in_turn (so_far ++ tree ∷ [])) (to + 1)
+    last_argument inside paren =
+        record {
+          advances = omega (arith, begun.advances, read.advances);
+          within = omega (arith, inside);
+          only = λ others agree.
+              let agree_to = agree_before tokens others to (to + 1) (omega arith) agree in
+              let there : HasSign others to signs.CloseParen = agree_to to (omega arith) ∙ paren in
+              record {
+                spelled =
+                    subst (λ (all : Terms). closed_arguments all others from (to + 1)) (sym (in_turn_push so_far tree))
+                    ((begun.each others (agree_before tokens others at to (omega (arith, read.advances)) agree_to)).spells tree NoTerms (to + 1)
+                    (with_first_argument others at tree NoTerms to (to + 1) (read.longest others agree_to).spelled (there, refl)));
+                only = λ other end o. all others there other end (nexts others agree_to other end o);
+              };
+        }
+      where
+        all :
+            (others : List Token) → HasSign others to signs.CloseParen → (other : Terms) (end : ℕ)
+            → (rest : Terms) × (other ≡ in_front so_far (More tree rest)) × NextArgument others to rest end
+            → (other ≡ in_turn (so_far ++ tree ∷ [])) × (end ≡ to + 1)
+        all others there other end (NoTerms, is, next) = (is ∙ sym (in_turn_push so_far tree), next.1)
+        all others there other end (More first rest, is, next) = absurd (paren_or_comma others to there next.0)
+
+    -- neither
+    pub missing_last :
+        (fault : ParseFault) → (HasSign tokens to signs.Comma → ⊥) → LacksSign tokens to signs.CloseParen fault
+        → IsMissing closed_arguments tokens from fault
+    missing_last fault no_comma lacks =
+        subst (λ (g : ParseFault). IsMissing closed_arguments tokens from g) (sym lacks.0) (
+          omega (arith, begun.advances, read.advances),
+          read.within,
+          λ others agree other end o.
+              none others agree other end (nexts others agree other end o),
+        )
+      where
+        none :
+            (others : List Token) → Agree tokens others to → (other : Terms) (end : ℕ)
+            → (rest : Terms) × (other ≡ in_front so_far (More tree rest)) × NextArgument others to rest end → ⊥
+        none others agree other end (NoTerms, is, next) = lacks.1 (sym (agree to (omega arith)) ∙ next.0)
+        none others agree other end (More first rest, is, next) = no_comma (sym (agree to (omega arith)) ∙ next.0)
+
+closing_opens_nothing : opening_of (kinds.Sign signs.CloseParen) ≡ openings.Nothing
+unfolding opening_of
+closing_opens_nothing = refl
+
+closing_is_no_operator : unary_of (kinds.Sign signs.CloseParen) ≡ None
+unfolding unary_of
+closing_is_no_operator = refl
+
+-- no expression begins with a closing parenthesis
+no_expression :
+    (tokens : List Token) (from : ℕ) → HasSign tokens from signs.CloseParen → (tree : Term) (end : ℕ)
+    → expression tree tokens from end → ⊥
+no_expression tokens from there tree end o =
+    let begins : Begins tokens from openings.Nothing =
+    record {
+      opens = ap (option_map opening_of) there ∙ ap (λ (which : Opening). Some which) closing_opens_nothing;
+      no_operator = ap (option_and_then unary_of) there ∙ closing_is_no_operator;
+    } in
+    let s = spine from tree 0 end o in
+    rest_of tokens from openings.Nothing begins s.first s.middle s.stands
+
+-- nothing but the parenthesis
+pub found_none :
+    (tokens : List Token) (from : ℕ) → from < length tokens → HasSign tokens from signs.CloseParen
+    → IsFound closed_arguments tokens from NoTerms (from + 1)
+found_none tokens from inside paren =
+    record {
+      advances = omega arith;
+      within = omega (arith, inside);
+      only = λ others agree.
+          let there : HasSign others from signs.CloseParen = agree from (omega arith) ∙ paren in
+          record { spelled = (from, refl, (there, refl)); only = only others there };
+    }
+  where
+    only :
+        (others : List Token) → HasSign others from signs.CloseParen → (other : Terms) (end : ℕ)
+        → closed_arguments other others from end → (other ≡ NoTerms) × (end ≡ from + 1)
+    only others there NoTerms end o = (refl, omega (arith, o.1, o.2.1))
+    only others there (More first rest) end o =
+        let f = first_argument others from first rest end o in
+        absurd (no_expression others from there first f.0 f.1)
+
+-- ---- the arguments of a lookup
+
+-- in parentheses, or left out where there are none
+pub data LookArguments (tokens : List Token) (from : ℕ) : Terms → ℕ → Type 0 where
+  left_out : {end : ℕ} → HasSign tokens from signs.CloseParen → end ≡ from + 1 → LookArguments tokens from NoTerms end
+  given :
+      {args : Terms} {end : ℕ} (middle : ℕ) → behind_sign signs.OpenParen closed_arguments args tokens from middle
+      → HasSign tokens middle signs.CloseParen → end ≡ middle + 1 → LookArguments tokens from args end
+
+look_view : (tokens : List Token) (from : ℕ) (args : Terms) (end : ℕ) → look_arguments args tokens from end → LookArguments tokens from args end
+look_view tokens from NoTerms end (middle, inl is, close) =
+    left_out (subst (λ (place : ℕ). HasSign tokens place signs.CloseParen) is close.0) (omega (arith, is, close.1))
+look_view tokens from NoTerms end (middle, inr o, close) = given middle o close.0 close.1
+look_view tokens from (More first rest) end (middle, o, close) = given middle o close.0 close.1
+
+look_back : (tokens : List Token) (from : ℕ) (args : Terms) (middle : ℕ) → behind_sign signs.OpenParen closed_arguments args tokens from middle
+    → HasSign tokens middle signs.CloseParen → look_arguments args tokens from (middle + 1)
+look_back tokens from NoTerms middle o close = (middle, inr o, (close, refl))
+look_back tokens from (More first rest) middle o close = (middle, o, (close, refl))
+
+module _ (tokens : List Token) (from : ℕ) where
+  -- left out
+  pub found_left_out :
+      from < length tokens → HasSign tokens from signs.CloseParen → IsFound look_arguments tokens from NoTerms (from + 1)
+  found_left_out inside paren =
+      record {
+        advances = omega arith;
+        within = omega (arith, inside);
+        only = λ others agree.
+            let there : HasSign others from signs.CloseParen = agree from (omega arith) ∙ paren in
+            record {
+              spelled = (from, inl refl, (there, refl));
+              only = λ other end o. only others there (look_view others from other end o);
+            };
+      }
+    where
+      only :
+          (others : List Token) → HasSign others from signs.CloseParen → {other : Terms} {end : ℕ}
+          → LookArguments others from other end → (other ≡ NoTerms) × (end ≡ from + 1)
+      only others there (left_out close is) = (refl, is)
+      only others there (given middle o close is) = absurd (open_or_close others from o.1.0 there)
+
+  -- neither given nor left out
+  pub missing_look :
+      (fault : ParseFault) → from ≤ length tokens → (HasSign tokens from signs.OpenParen → ⊥)
+      → LacksSign tokens from signs.CloseParen fault → IsMissing look_arguments tokens from fault
+  missing_look fault within no_open lacks =
+      subst (λ (g : ParseFault). IsMissing look_arguments tokens from g) (sym lacks.0)
+      (omega arith, within, λ others agree other end o. none others agree (look_view others from other end o))
+    where
+      none : (others : List Token) → Agree tokens others from → {other : Terms} {end : ℕ} → LookArguments others from other end → ⊥
+      none others agree (left_out close is) = lacks.1 (sym (agree from (omega arith)) ∙ close)
+      none others agree (given middle o close is) = no_open (sym (agree from (omega arith)) ∙ o.1.0)
+
+  module _ (opening : HasSign tokens from signs.OpenParen) where
+    there : (others : List Token) (last : ℕ) → from ≤ last → Agree tokens others last → HasSign others from signs.OpenParen
+    there others last le agree = agree from le ∙ opening
+
+    pub missing_given :
+        (fault : ParseFault) → IsMissing closed_arguments tokens (from + 1) fault → IsMissing look_arguments tokens from fault
+    missing_given (faults.SyntaxFault token) g =
+        (omega (arith, g.0), g.1, λ others agree other end o. none others agree (look_view others from other end o))
+      where
+        none : (others : List Token) → Agree tokens others token → {other : Terms} {end : ℕ} → LookArguments others from other end → ⊥
+        none others agree (left_out close is) = open_or_close others from (there others token (omega (arith, g.0)) agree) close
+        none others agree (given {args = args} middle o close is) =
+            g.2 others agree args middle (subst (λ (place : ℕ). closed_arguments args others place middle) o.1.1 o.2)
+    missing_given (faults.Deep token) g = g
+    missing_given faults.NoMemory g = g
+
+    module _ (args : Terms) (to : ℕ) (found : IsFound closed_arguments tokens (from + 1) args to) where
+      given_is :
+          (others : List Token) → Agree tokens others to → {other : Terms} {end : ℕ} → LookArguments others from other end
+          → (other ≡ args) × HasSign others to signs.CloseParen × (end ≡ to + 1)
+      given_is others agree (left_out close is) =
+          absurd (open_or_close others from (there others to (omega (arith, found.advances)) agree) close)
+      given_is others agree (given {args = other} middle o close is) =
+          let one = (found.only others agree).only other middle
+          (subst (λ (place : ℕ). closed_arguments other others place middle) o.1.1 o.2) in
+          (one.0, subst (λ (place : ℕ). HasSign others place signs.CloseParen) one.1 close, omega (arith, is, one.1))
+
+      pub found_given :
+          to < length tokens → HasSign tokens to signs.CloseParen → IsFound look_arguments tokens from args (to + 1)
+      found_given inside close =
+          record {
+            advances = omega (arith, found.advances);
+            within = omega (arith, inside);
+            only = λ others agree.
+                let agree_to = agree_before tokens others to (to + 1) (omega arith) agree in
+                record {
+                  spelled =
+                      look_back others from args to
+                      (from + 1, (there others to (omega (arith, found.advances)) agree_to, refl), (found.only others agree_to).spelled)
+                      (agree to (omega arith) ∙ close);
+                  only = λ other end o.
+                      let is = given_is others agree_to (look_view others from other end o) in (is.0, is.2);
+                };
+          }
+
+      pub missing_given_close :
+          (fault : ParseFault) → LacksSign tokens to signs.CloseParen fault → IsMissing look_arguments tokens from fault
+      missing_given_close fault lacks =
+          subst (λ (g : ParseFault). IsMissing look_arguments tokens from g) (sym lacks.0) (
+            omega (arith, found.advances),
+            found.within,
+            λ others agree other end o.
+                lacks.1 (sym (agree to (omega arith)) ∙ (given_is others agree (look_view others from other end o)).1),
+          )

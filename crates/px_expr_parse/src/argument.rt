@@ -1,0 +1,79 @@
+// What stands in parentheses or brackets.
+ghost use Rattle.std.specs.Prelude.{◌≡◌, ◌+◌, ◌≤◌, ◌<◌, length, map, true, IfOk, IfErr};
+ghost use Rattle.px_syntax.specs.Expr.{in_turn, term_of};
+ghost use Rattle.px_expr_parse.specs.Tail.{closed, closed_arguments, is_closer, look_arguments};
+ghost use Rattle.px_expr_parse.specs.Verdict.{IsFound, IsMissing};
+
+use crate::operation::operation;
+use crate::token::{expect, is_sign};
+use px_lex::{Sign, Token};
+use px_syntax::{ParseFault, SurfaceExpr};
+use std::alloc::Global;
+
+/// expression close
+#[cycle(expression)]
+pub(crate) fn closed(
+    alloc: Global,
+    tokens: &[Token],
+    from: usize,
+    close: Sign,
+) -> Result<(SurfaceExpr, usize), ParseFault>
+    requires place { from ≤ length tokens.now }
+    requires closer { is_closer close ≡ true }
+    ensures ok { IfOk result
+        (λ read. IsFound (closed close) tokens.now from (term_of read.0) read.1) }
+    ensures fault { IfErr result (λ fault. IsMissing (closed close) tokens.now from fault) }
+{
+    let (tree, end) = operation(alloc, tokens, from, 0)?;
+    expect(tokens, end, close)?;
+    Ok((tree, end + 1))
+}
+
+/// [ expression { "," expression } ] ")"
+#[cycle(expression)]
+pub(crate) fn arguments(
+    alloc: Global,
+    tokens: &[Token],
+    from: usize,
+) -> Result<(Vec<SurfaceExpr>, usize), ParseFault>
+    requires { from ≤ length tokens.now }
+    ensures ok { IfOk result (λ read.
+        IsFound closed_arguments tokens.now from (in_turn (map term_of read.0.items)) read.1) }
+    ensures fault { IfErr result (λ fault. IsMissing closed_arguments tokens.now from fault) }
+{
+    let mut args = Vec::new(alloc);
+    if is_sign(tokens, from, Sign::CloseParen) {
+        return Ok((args, from + 1));
+    }
+    let mut at = from;
+    loop {
+        let (arg, end) = operation(alloc, tokens, at, 0)?;
+        args.push(arg)?;
+        if !is_sign(tokens, end, Sign::Comma) {
+            expect(tokens, end, Sign::CloseParen)?;
+            return Ok((args, end + 1));
+        }
+        at = end + 1;
+    }
+}
+
+/// [ "(" [ expression { "," expression } ] ")" ] ")"
+#[cycle(expression)]
+pub(crate) fn look_arguments(
+    alloc: Global,
+    tokens: &[Token],
+    from: usize,
+) -> Result<(Vec<SurfaceExpr>, usize), ParseFault>
+    requires { from ≤ length tokens.now }
+    ensures ok { IfOk result (λ read.
+        IsFound look_arguments tokens.now from (in_turn (map term_of read.0.items)) read.1) }
+    ensures fault { IfErr result (λ fault. IsMissing look_arguments tokens.now from fault) }
+{
+    if !is_sign(tokens, from, Sign::OpenParen) {
+        expect(tokens, from, Sign::CloseParen)?;
+        return Ok((Vec::new(alloc), from + 1));
+    }
+    let (args, end) = arguments(alloc, tokens, from + 1)?;
+    expect(tokens, end, Sign::CloseParen)?;
+    Ok((args, end + 1))
+}

@@ -1,0 +1,18 @@
+//! Reads the expression that the tokens of a plan spell from a place on.
+//!
+//! `operation` reads operands and the operators between them, `primary` what is no operation, by what `opening` says
+//! that a token begins, and `argument` what stands in parentheses; `node` and `token` read single tokens, and `build`
+//! makes trees of trees. `specs/Verdict.antt` says what is promised.
+#![tactic(auto)]
+
+mod argument;
+mod build;
+mod node;
+mod opening;
+mod operation;
+mod primary;
+#[cfg(test)]
+mod tests;
+mod token;
+
+pub use operation::parse_expr;

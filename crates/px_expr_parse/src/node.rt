@@ -1,0 +1,55 @@
+// Attributes of nodes.
+ghost use Rattle.std.specs.Prelude.{◌≡◌, ◌+◌, ◌≤◌, length, IfOk, IfErr, MatchOption};
+ghost use Rattle.px_syntax.specs.declared.expr.Attribute.{Attribute as AttributeWord};
+ghost use Rattle.px_syntax.specs.ExprGrammar.{attribute_word};
+ghost use Rattle.px_expr_parse.specs.Tail.{attribute, named};
+ghost use Rattle.px_expr_parse.specs.Verdict.{IsFound, IsMissing};
+
+use crate::token::{expect, kind_at, name_at};
+use px_lex::{Sign, Token, TokenKind};
+use px_syntax::{Attribute, Identifier, ParseFault};
+use std::alloc::Global;
+
+/// The attribute that a name is.
+fn attribute_of(name: &str) -> Option<Attribute>
+    ensures { MatchOption result ((which : AttributeWord) → name.now ≡ attribute_word which → ⊥)
+        (λ which. name.now ≡ attribute_word which) }
+{
+    match name.as_bytes() {
+        b"state" => Some(Attribute::State),
+        b"outcome" => Some(Attribute::Outcome),
+        b"failure" => Some(Attribute::Failure),
+        b"command_handle" => Some(Attribute::CommandHandle),
+        _ => None,
+    }
+}
+
+/// A dot and an attribute: two tokens.
+pub(crate) fn attribute_at(tokens: &[Token], at: usize) -> Result<Attribute, ParseFault>
+    requires { at ≤ length tokens.now }
+    ensures ok { IfOk result (λ which. IsFound attribute tokens.now at which (at + 2)) }
+    ensures fault { IfErr result (λ fault. IsMissing attribute tokens.now at fault) }
+{
+    expect(tokens, at, Sign::Dot)?;
+    let fault = ParseFault::SyntaxFault { token: at + 1 };
+    match kind_at(tokens, at + 1) {
+        Some(TokenKind::Identifier(name)) => attribute_of(name.as_str()).ok_or(fault),
+        _ => Err(fault),
+    }
+}
+
+/// "(" ID ")": three tokens.
+pub(crate) fn name_in_parens(
+    alloc: Global,
+    tokens: &[Token],
+    at: usize,
+) -> Result<Identifier, ParseFault>
+    requires { at ≤ length tokens.now }
+    ensures ok { IfOk result (λ name. IsFound named tokens.now at name (at + 3)) }
+    ensures fault { IfErr result (λ fault. IsMissing named tokens.now at fault) }
+{
+    expect(tokens, at, Sign::OpenParen)?;
+    let name = name_at(alloc, tokens, at + 1)?;
+    expect(tokens, at + 2, Sign::CloseParen)?;
+    Ok(name)
+}

@@ -1,0 +1,9 @@
+pub mod Operator
+pub mod Form
+pub mod Expr
+pub mod ExprGrammar
+pub mod Block
+pub mod BlockGrammar
+pub mod Plan
+pub mod PlanGrammar
+pub mod Depth
