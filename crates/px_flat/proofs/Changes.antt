@@ -1,0 +1,110 @@
+-- A change of one node's cells or of what it has under way is a change of its record alone.
+use Rattle.std.proofs.Common.{◌≡◌, ◌≢◌, ℕ, zero, suc, ◌+◌, ◌*◌, ◌-◌, ◌<◌, ◌≤◌, Bool, true, false, List, [], ◌∷◌, length, get_or, set, map, sum, take, drop, refl, ap, sym, ◌∙◌, subst, arith, inl, inr, if◌then◌else◌}
+use Rattle.std.specs.List.{enumerate_from}
+use Rattle.std.proofs.lemmas.Bool.{cases_eq}
+use Rattle.std.proofs.lemmas.List.{get_or-set_same, get_or-set_other, take-set-le, drop-set-add}
+use Rattle.std.proofs.lemmas.List.Sums.{sum_by-cons}
+use Rattle.px_value.specs.declared.value.Value.{Value}
+use Rattle.px_core.specs.Fit.{cells_of, cells_of_site}
+use Rattle.px_core.specs.Plan.{Site, VariableData, no_site, is_same}
+use Rattle.px_sem.specs.Events.{with_record}
+use Rattle.px_sem.specs.World.{World, NodeRecord, LookState}
+use Rattle.px_flat.specs.declared.act.Act.{Act}
+use Rattle.px_flat.specs.Layout.{variable_cells, first_cell, node_cell}
+use Rattle.px_flat.specs.Parts.{values_in, record_in, world_of}
+use Rattle.px_flat.specs.Row.{site_in}
+use Rattle.px_flat.proofs.Paths.{AreDistinct, same-self, same-other}
+use Rattle.px_flat.proofs.Sums.{sum_more, sum_front}
+
+-- ---- the records of all nodes but one stay
+
+-- the entries of nodes from a number on, with this record of each
+abbrev entries : (ℕ → NodeRecord) → ℕ → List Site → List (List ℕ × NodeRecord)
+entries f first plan = map (λ entry. (entry.1.path, f entry.0)) (enumerate_from first plan)
+
+-- with another record of the node at a path
+abbrev with_entry : List ℕ → NodeRecord → List (List ℕ × NodeRecord) → List (List ℕ × NodeRecord)
+with_entry path r nodes = map (λ entry. (entry.0, if is_same entry.0 path then r else entry.1)) nodes
+
+-- none of these nodes is at the path
+untouched : (plan : List Site) (f g : ℕ → NodeRecord) (first : ℕ) (path : List ℕ) (r : NodeRecord)
+    → ((k : ℕ) → k < length plan → (site_in plan k).path ≢ path)
+    → ((k : ℕ) → k < length plan → g (first + k) ≡ f (first + k))
+    → entries g first plan ≡ with_entry path r (entries f first plan)
+untouched [] f g first path r others same = refl
+untouched (site ∷ plan) f g first path r others same =
+    let here : first + 0 ≡ first = omega arith in
+    let head : g first ≡ f first = ap g (sym here) ∙ same 0 (omega arith) ∙ ap f here in
+    let next : (k : ℕ) → k < length plan → g (first + 1 + k) ≡ f (first + 1 + k) = λ k within.
+    let there : first + 1 + k ≡ first + suc k = omega arith in
+    ap g there ∙ same (suc k) (omega arith) ∙ ap f (sym there) in
+    ap (λ r. (site.path, r) ∷ entries g (first + 1) plan) head
+    ∙ ap (λ b. (site.path, if b then r else f first) ∷ entries g (first + 1) plan) (sym (same-other site.path path (others 0 (omega arith))))
+    ∙ ap (λ rest. (site.path, if is_same site.path path then r else f first) ∷ rest)
+    (untouched plan f g (first + 1) path r (λ k within. others (suc k) (omega arith)) next)
+
+one_changed : (plan : List Site) (f g : ℕ → NodeRecord) (first node : ℕ) → AreDistinct plan → node < length plan
+    → ((k : ℕ) → k < length plan → k ≢ node → g (first + k) ≡ f (first + k))
+    → entries g first plan ≡ with_entry (site_in plan node).path (g (first + node)) (entries f first plan)
+one_changed [] f g first node distinct within same = absurd (omega arith)
+one_changed (site ∷ plan) f g first zero distinct within same =
+    let here : first + 0 ≡ first = omega arith in
+    ap (λ r. (site.path, r) ∷ entries g (first + 1) plan) (ap g (sym here))
+    ∙ ap (λ b. (site.path, if b then g (first + 0) else f first) ∷ entries g (first + 1) plan) (sym (same-self site.path))
+    ∙ ap (λ rest. (site.path, if is_same site.path site.path then g (first + 0) else f first) ∷ rest)
+    (untouched plan f g (first + 1) site.path (g (first + 0))
+    (λ k within is. let e : suc k ≡ 0 = distinct (suc k) 0 (omega arith) (omega arith) is in absurd (omega arith))
+    (λ k within.
+    let there : first + 1 + k ≡ first + suc k = omega arith in
+    ap g there ∙ same (suc k) (omega arith) (λ is. absurd (omega arith)) ∙ ap f (sym there)))
+one_changed (site ∷ plan) f g first (suc node) distinct within same =
+    let own : List ℕ = (site_in plan node).path in
+    let here : first + 0 ≡ first = omega arith in
+    let head : g first ≡ f first = ap g (sym here) ∙ same 0 (omega arith) (λ is. absurd (omega arith)) ∙ ap f here in
+    let behind : AreDistinct plan = λ j k hj hk is.
+    let e : suc j ≡ suc k = distinct (suc j) (suc k) (omega arith) (omega arith) is in omega arith in
+    let other : site.path ≢ own = λ is.
+    let e : 0 ≡ suc node = distinct 0 (suc node) (omega arith) (omega arith) is in absurd (omega arith) in
+    let there : first + 1 + node ≡ first + suc node = omega arith in
+    let r : NodeRecord = g (first + suc node) in
+    ap (λ r. (site.path, r) ∷ entries g (first + 1) plan) head
+    ∙ ap (λ b. (site.path, if b then r else f first) ∷ entries g (first + 1) plan) (sym (same-other site.path own other))
+    ∙ ap (λ rest. (site.path, if is_same site.path own then r else f first) ∷ rest)
+    (one_changed plan f g (first + 1) node behind (omega arith) (λ k within apart.
+    let at : first + 1 + k ≡ first + suc k = omega arith in
+    ap g at ∙ same (suc k) (omega arith) (λ is. apart (omega arith)) ∙ ap f (sym at))
+    ∙ ap (λ n. with_entry own (g n) (entries f (first + 1) plan)) there)
+
+-- Where cells and acts change, and the records of all other nodes stay, the world changes by the record of one node.
+pub world_of-changed : (plan : List Site) (cells new_cells : List Value) (reports : List (LookState × Value))
+    (acts new_acts : List Act) (node : ℕ) → AreDistinct plan → node < length plan
+    → ((other : ℕ) → other < length plan → other ≢ node
+    → record_in plan new_cells new_acts other ≡ record_in plan cells acts other)
+    → world_of plan new_cells reports new_acts
+    ≡ with_record (world_of plan cells reports acts) (site_in plan node).path (record_in plan new_cells new_acts node)
+world_of-changed plan cells new_cells reports acts new_acts node distinct within same =
+    let from : (k : ℕ) → 0 + k ≡ k = λ k. omega arith in
+    ap (λ nodes. let made : World = record { nodes = nodes; reports = reports } in made)
+    (one_changed plan (record_in plan cells acts) (record_in plan new_cells new_acts) 0 node distinct within
+    (λ k inside apart. ap (record_in plan new_cells new_acts) (from k) ∙ same k inside apart
+    ∙ ap (record_in plan cells acts) (sym (from k)))
+    ∙ ap (λ n. with_entry (site_in plan node).path (record_in plan new_cells new_acts n) (entries (record_in plan cells acts) 0 plan)) (from node))
+
+-- ---- the variables don't see a write behind them
+
+pub values_in-behind : (variables : List VariableData) (cells : List Value) (cell : ℕ) (value : Value)
+    → sum (map cells_of variables) ≤ cell → values_in variables (set cells cell value) ≡ values_in variables cells
+values_in-behind [] cells cell value behind = refl
+values_in-behind (variable ∷ variables) cells cell value behind =
+    let total : sum (map cells_of (variable ∷ variables)) ≡ cells_of variable + sum (map cells_of variables) =
+    sum_by-cons (λ n. n) (cells_of variable) (map cells_of variables) in
+    let far : cell ≡ cells_of variable + (cell - cells_of variable) = omega arith in
+    let rest : drop (cells_of variable) (set cells cell value)
+    ≡ set (drop (cells_of variable) cells) (cell - cells_of variable) value =
+    ap (λ n. drop (cells_of variable) (set cells n value)) far
+    ∙ drop-set-add (cells_of variable) cells (cell - cells_of variable) value in
+    ap (λ front. front ∷ values_in variables (drop (cells_of variable) (set cells cell value)))
+    (take-set-le (cells_of variable) cells cell value (omega arith))
+    ∙ ap (λ behind. take (cells_of variable) cells ∷ values_in variables behind) rest
+    ∙ ap (λ more. take (cells_of variable) cells ∷ more)
+    (values_in-behind variables (drop (cells_of variable) cells) (cell - cells_of variable) value (omega arith))

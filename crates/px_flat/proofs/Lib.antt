@@ -1,0 +1,13 @@
+pub mod Changes
+pub mod Descendants
+pub mod Extending
+pub mod NodeChanges
+pub mod NodeValues
+pub mod NumberedValues
+pub mod Numbers
+pub mod Paths
+pub mod Sites
+pub mod Sums
+pub mod Trees
+pub mod VariableValues
+pub mod Worlds

@@ -1,0 +1,198 @@
+-- A write of one of a node's cells is a change of one field of its record.
+use Rattle.std.proofs.Common.{◌≡◌, ◌≢◌, ℕ, ◌+◌, ◌*◌, ◌-◌, ◌<◌, ◌≤◌, List, length, get_or, set, map, sum, drop, refl, ap, sym, ◌∙◌, arith}
+use Rattle.std.proofs.lemmas.List.{get_or-set_same, get_or-set_other, drop-set-add}
+use Rattle.px_value.specs.declared.value.Value.{Value}
+use Rattle.px_value.specs.declared.value.Value.TheVariants as values
+use Rattle.px_core.specs.Fit.{cells_of, cells_of_site}
+use Rattle.px_core.specs.Plan.{Site, no_site}
+use Rattle.px_sem.specs.Events.{with_record}
+use Rattle.px_sem.specs.World.{NodeRecord, LookState, record_at}
+use Rattle.px_flat.specs.declared.act.Act.{Act}
+use Rattle.px_flat.specs.declared.act.Act.TheVariants as under_way
+use Rattle.px_flat.specs.Layout.{variable_cells, first_cell, node_cell, state_cell, outcome_cell, failure_cell, handle_cell, acknowledgement_cell, all_cells}
+use Rattle.px_flat.specs.Numbered.{held}
+use Rattle.px_flat.specs.Parts.{values_in, record_in, world_of, action_in, act_of, state_in, outcome_in, failure_in}
+use Rattle.px_flat.specs.Row.{site_in}
+use Rattle.px_flat.proofs.Changes.{values_in-behind, world_of-changed}
+use Rattle.px_flat.proofs.Paths.{AreDistinct}
+use Rattle.px_flat.proofs.Sums.{sum_more, sum_front}
+use Rattle.px_flat.proofs.Worlds.{record_at-world_of}
+
+-- a write behind the variables leaves those of each node
+variables_stay : (plan : List Site) (cells : List Value) (cell : ℕ) (value : Value) (node : ℕ) → node < length plan
+    → variable_cells plan ≤ cell
+    → values_in (site_in plan node).head.variables (drop (first_cell plan node) (set cells cell value))
+    ≡ values_in (site_in plan node).head.variables (drop (first_cell plan node) cells)
+variables_stay plan cells cell value node within behind =
+    let first : ℕ = first_cell plan node in
+    let room : first + cells_of_site (site_in plan node) ≤ variable_cells plan =
+    omega (arith, sum_more cells_of_site plan node no_site within, sum_front cells_of_site plan (node + 1)) in
+    let far : cell ≡ first + (cell - first) = omega arith in
+    ap (λ n. values_in (site_in plan node).head.variables (drop first (set cells n value))) far
+    ∙ ap (values_in (site_in plan node).head.variables) (drop-set-add first cells (cell - first) value)
+    ∙ values_in-behind (site_in plan node).head.variables (drop first cells) (cell - first) value (omega arith)
+
+-- a write of a cell of one node leaves the record of every other
+others_stay : (plan : List Site) (cells : List Value) (acts : List Act) (node part : ℕ) (value : Value) → part < 5
+    → (other : ℕ) → other < length plan → other ≢ node
+    → record_in plan (set cells (node_cell plan node + part) value) acts other ≡ record_in plan cells acts other
+others_stay plan cells acts node part value small other within apart =
+    let cell : ℕ = node_cell plan node + part in
+    let kept : (at : ℕ) → at < 5
+    → held (set cells cell value) (node_cell plan other + at) ≡ held cells (node_cell plan other + at) =
+    λ at few. get_or-set_other cells cell (node_cell plan other + at) value values.Unknown (omega arith) in
+    let first_kept : held (set cells cell value) (state_cell plan other) ≡ held cells (state_cell plan other) =
+    get_or-set_other cells cell (state_cell plan other) value values.Unknown (omega arith) in
+    λ i. record {
+      state = state_in (first_kept i);
+      outcome = outcome_in (kept 1 (omega arith) i);
+      failure = failure_in (kept 2 (omega arith) i);
+      variables = variables_stay plan cells cell value other within (omega arith) i;
+      action = action_in (act_of acts other) (kept 3 (omega arith) i) (kept 4 (omega arith) i);
+    }
+
+-- where the record of a node changes so by a write of one of its cells, the world does
+written_field : (plan : List Site) (cells : List Value) (reports : List (LookState × Value)) (acts : List Act)
+    (node part : ℕ) (value : Value) (change : NodeRecord → NodeRecord) → AreDistinct plan → node < length plan → part < 5
+    → record_in plan (set cells (node_cell plan node + part) value) acts node ≡ change (record_in plan cells acts node)
+    → world_of plan (set cells (node_cell plan node + part) value) reports acts
+    ≡ with_record (world_of plan cells reports acts) (site_in plan node).path
+    (change (record_at (world_of plan cells reports acts) (site_in plan node).path))
+written_field plan cells reports acts node part value change distinct within small made =
+    let path : List ℕ = (site_in plan node).path in
+    world_of-changed plan cells (set cells (node_cell plan node + part) value) reports acts acts node distinct within
+    (others_stay plan cells acts node part value small)
+    ∙ ap (with_record (world_of plan cells reports acts) path) made
+    ∙ ap (λ (r : NodeRecord). with_record (world_of plan cells reports acts) path (change r))
+    (sym (record_at-world_of plan cells reports acts node distinct within))
+
+-- what else a node has in its cells
+kept : (plan : List Site) (cells : List Value) (node part at : ℕ) (value : Value) → at ≢ part
+    → held (set cells (node_cell plan node + part) value) (node_cell plan node + at) ≡ held cells (node_cell plan node + at)
+kept plan cells node part at value apart =
+    get_or-set_other cells (node_cell plan node + part) (node_cell plan node + at) value values.Unknown (λ is. apart (omega arith))
+
+state_kept : (plan : List Site) (cells : List Value) (node part : ℕ) (value : Value) → 0 < part
+    → held (set cells (node_cell plan node + part) value) (state_cell plan node) ≡ held cells (state_cell plan node)
+state_kept plan cells node part value some =
+    get_or-set_other cells (node_cell plan node + part) (state_cell plan node) value values.Unknown (λ is. absurd (omega arith))
+
+written_there : (plan : List Site) (cells : List Value) (node part : ℕ) (value : Value) → node < length plan → part < 5
+    → length cells ≡ all_cells plan
+    → held (set cells (node_cell plan node + part) value) (node_cell plan node + part) ≡ value
+written_there plan cells node part value within small all =
+    get_or-set_same cells (node_cell plan node + part) value values.Unknown (omega arith)
+
+-- the state
+pub state_written : (plan : List Site) (cells : List Value) (reports : List (LookState × Value)) (acts : List Act)
+    (node : ℕ) (value : Value) → AreDistinct plan → node < length plan → length cells ≡ all_cells plan
+    → world_of plan (set cells (state_cell plan node) value) reports acts
+    ≡ with_record (world_of plan cells reports acts) (site_in plan node).path
+    (record (record_at (world_of plan cells reports acts) (site_in plan node).path) { state = state_in value })
+state_written plan cells reports acts node value distinct within all =
+    let here : node_cell plan node + 0 ≡ state_cell plan node = omega arith in
+    let new : List Value = set cells (node_cell plan node + 0) value in
+    ap (λ n. world_of plan (set cells n value) reports acts) (sym here)
+    ∙ written_field plan cells reports acts node 0 value (λ (r : NodeRecord). record r { state = state_in value })
+    distinct within (omega arith) (λ i. record {
+      state = state_in ((ap (held new) (sym here) ∙ written_there plan cells node 0 value within (omega arith) all) i);
+      outcome = outcome_in (kept plan cells node 0 1 value (λ is. absurd (omega arith)) i);
+      failure = failure_in (kept plan cells node 0 2 value (λ is. absurd (omega arith)) i);
+      variables = variables_stay plan cells (node_cell plan node + 0) value node within (omega arith) i;
+      action = action_in (act_of acts node) (kept plan cells node 0 3 value (λ is. absurd (omega arith)) i)
+          (kept plan cells node 0 4 value (λ is. absurd (omega arith)) i);
+    })
+
+-- the outcome
+pub outcome_written : (plan : List Site) (cells : List Value) (reports : List (LookState × Value)) (acts : List Act)
+    (node : ℕ) (value : Value) → AreDistinct plan → node < length plan → length cells ≡ all_cells plan
+    → world_of plan (set cells (outcome_cell plan node) value) reports acts
+    ≡ with_record (world_of plan cells reports acts) (site_in plan node).path
+    (record (record_at (world_of plan cells reports acts) (site_in plan node).path) { outcome = outcome_in value })
+outcome_written plan cells reports acts node value distinct within all =
+    written_field plan cells reports acts node 1 value (λ (r : NodeRecord). record r { outcome = outcome_in value })
+    distinct within (omega arith) (λ i. record {
+      state = state_in (state_kept plan cells node 1 value (omega arith) i);
+      outcome = outcome_in (written_there plan cells node 1 value within (omega arith) all i);
+      failure = failure_in (kept plan cells node 1 2 value (λ is. absurd (omega arith)) i);
+      variables = variables_stay plan cells (node_cell plan node + 1) value node within (omega arith) i;
+      action = action_in (act_of acts node) (kept plan cells node 1 3 value (λ is. absurd (omega arith)) i)
+          (kept plan cells node 1 4 value (λ is. absurd (omega arith)) i);
+    })
+
+-- the failure
+pub failure_written : (plan : List Site) (cells : List Value) (reports : List (LookState × Value)) (acts : List Act)
+    (node : ℕ) (value : Value) → AreDistinct plan → node < length plan → length cells ≡ all_cells plan
+    → world_of plan (set cells (failure_cell plan node) value) reports acts
+    ≡ with_record (world_of plan cells reports acts) (site_in plan node).path
+    (record (record_at (world_of plan cells reports acts) (site_in plan node).path) { failure = failure_in value })
+failure_written plan cells reports acts node value distinct within all =
+    written_field plan cells reports acts node 2 value (λ (r : NodeRecord). record r { failure = failure_in value })
+    distinct within (omega arith) (λ i. record {
+      state = state_in (state_kept plan cells node 2 value (omega arith) i);
+      outcome = outcome_in (kept plan cells node 2 1 value (λ is. absurd (omega arith)) i);
+      failure = failure_in (written_there plan cells node 2 value within (omega arith) all i);
+      variables = variables_stay plan cells (node_cell plan node + 2) value node within (omega arith) i;
+      action = action_in (act_of acts node) (kept plan cells node 2 3 value (λ is. absurd (omega arith)) i)
+          (kept plan cells node 2 4 value (λ is. absurd (omega arith)) i);
+    })
+
+-- the handle, which is in the action
+pub handle_written : (plan : List Site) (cells : List Value) (reports : List (LookState × Value)) (acts : List Act)
+    (node : ℕ) (value : Value) → AreDistinct plan → node < length plan → length cells ≡ all_cells plan
+    → world_of plan (set cells (handle_cell plan node) value) reports acts
+    ≡ with_record (world_of plan cells reports acts) (site_in plan node).path
+    (record (record_at (world_of plan cells reports acts) (site_in plan node).path)
+    { action = action_in (act_of acts node) value (held cells (acknowledgement_cell plan node)) })
+handle_written plan cells reports acts node value distinct within all =
+    written_field plan cells reports acts node 3 value
+    (λ (r : NodeRecord). record r { action = action_in (act_of acts node) value (held cells (acknowledgement_cell plan node)) })
+    distinct within (omega arith) (λ i. record {
+      state = state_in (state_kept plan cells node 3 value (omega arith) i);
+      outcome = outcome_in (kept plan cells node 3 1 value (λ is. absurd (omega arith)) i);
+      failure = failure_in (kept plan cells node 3 2 value (λ is. absurd (omega arith)) i);
+      variables = variables_stay plan cells (node_cell plan node + 3) value node within (omega arith) i;
+      action = action_in (act_of acts node) (written_there plan cells node 3 value within (omega arith) all i)
+          (kept plan cells node 3 4 value (λ is. absurd (omega arith)) i);
+    })
+
+-- the acknowledgement, which is in the action
+pub acknowledgement_written : (plan : List Site) (cells : List Value) (reports : List (LookState × Value))
+    (acts : List Act) (node : ℕ) (value : Value) → AreDistinct plan → node < length plan → length cells ≡ all_cells plan
+    → world_of plan (set cells (acknowledgement_cell plan node) value) reports acts
+    ≡ with_record (world_of plan cells reports acts) (site_in plan node).path
+    (record (record_at (world_of plan cells reports acts) (site_in plan node).path)
+    { action = action_in (act_of acts node) (held cells (handle_cell plan node)) value })
+acknowledgement_written plan cells reports acts node value distinct within all =
+    written_field plan cells reports acts node 4 value
+    (λ (r : NodeRecord). record r { action = action_in (act_of acts node) (held cells (handle_cell plan node)) value })
+    distinct within (omega arith) (λ i. record {
+      state = state_in (state_kept plan cells node 4 value (omega arith) i);
+      outcome = outcome_in (kept plan cells node 4 1 value (λ is. absurd (omega arith)) i);
+      failure = failure_in (kept plan cells node 4 2 value (λ is. absurd (omega arith)) i);
+      variables = variables_stay plan cells (node_cell plan node + 4) value node within (omega arith) i;
+      action = action_in (act_of acts node) (kept plan cells node 4 3 value (λ is. absurd (omega arith)) i)
+          (written_there plan cells node 4 value within (omega arith) all i);
+    })
+
+-- what is under way
+pub act_put : (plan : List Site) (cells : List Value) (reports : List (LookState × Value)) (acts : List Act)
+    (node : ℕ) (act : Act) → AreDistinct plan → node < length plan → length acts ≡ length plan
+    → world_of plan cells reports (set acts node act)
+    ≡ with_record (world_of plan cells reports acts) (site_in plan node).path
+    (record (record_at (world_of plan cells reports acts) (site_in plan node).path)
+    { action = action_in act (held cells (handle_cell plan node)) (held cells (acknowledgement_cell plan node)) })
+act_put plan cells reports acts node act distinct within all =
+    let path : List ℕ = (site_in plan node).path in
+    let change : NodeRecord → NodeRecord = λ (r : NodeRecord). record r
+    { action = action_in act (held cells (handle_cell plan node)) (held cells (acknowledgement_cell plan node)) } in
+    let there : node < length acts = omega arith in
+    world_of-changed plan cells cells reports acts (set acts node act) node distinct within
+    (λ other inside apart. ap (λ (act : Act). record (record_in plan cells acts other)
+    { action = action_in act (held cells (handle_cell plan other)) (held cells (acknowledgement_cell plan other)) })
+    (get_or-set_other acts node other act under_way.Idle apart))
+    ∙ ap (λ (act : Act). with_record (world_of plan cells reports acts) path (record (record_in plan cells acts node)
+    { action = action_in act (held cells (handle_cell plan node)) (held cells (acknowledgement_cell plan node)) }))
+    (get_or-set_same acts node act under_way.Idle there)
+    ∙ ap (λ (r : NodeRecord). with_record (world_of plan cells reports acts) path (change r))
+    (sym (record_at-world_of plan cells reports acts node distinct within))

@@ -1,0 +1,412 @@
+-- Nodes laid out one after another, each with all that is below it.
+use Rattle.std.proofs.Common.{◌≡◌, ℕ, zero, suc, ◌+◌, ◌<◌, ◌≤◌, true, false, List, [], ◌∷◌, ◌++◌, length}
+use Rattle.std.proofs.Common.{get_or, nat_eq, ◌≢◌, refl, ap, sym, ◌∙◌, subst, arith, Some, None, take, ◌⊎◌, inl, inr}
+use Rattle.std.proofs.Common.{append_assoc, append-nil, length-append}
+use Rattle.std.proofs.lemmas.Bool.{and_parts}
+use Rattle.std.specs.Prelude.{nat_le}
+use Rattle.std.specs.List.{list_all}
+use Rattle.std.proofs.lemmas.Bool.{leb-true}
+use Rattle.std.proofs.lemmas.Bool.Decides.{eqb_tells}
+use Rattle.std.proofs.lemmas.List.{get_or_append_left, take_more}
+use Rattle.std.proofs.lemmas.List.Folds.{list_all-append}
+use Rattle.std.proofs.Math.Seq.{get_or-append_seam}
+use Rattle.px_value.specs.Name.{is_name}
+use Rattle.px_value.specs.Path.{below}
+use Rattle.px_core.specs.declared.node.CoreNode.{CoreNode}
+use Rattle.px_core.specs.declared.node.CoreNode.TheViews.{out-CoreNode}
+use Rattle.px_core.specs.declared.node.CoreNode.TheFolds.{fold-CoreNode, fold_out-CoreNode}
+use Rattle.px_core.specs.Plan.{Tree, Branch, NoNode, Head, count_of, Site, no_site, branch, head_of, path_under}
+use Rattle.px_core.specs.Plan.{site_under, sites_under, sites}
+use Rattle.px_core.specs.Fit.{siblings_differ, has_short_path}
+use Rattle.px_flat.specs.declared.row.Row.{Row}
+use Rattle.px_flat.specs.Row.{head_data}
+use Rattle.px_flat.specs.Rows.{above_in, site_of, sites_of, path_at, IsBefore, IsLaid, IsLinked, IsNamed}
+use Rattle.px_flat.specs.Laying.{trees, below_it, ends_from, IsRowUnder, IsRootRow}
+use Rattle.px_flat.proofs.Paths.{AreDistinct, Each, each_from, are_distinct, differ_tree}
+use Rattle.px_flat.proofs.Sites.{length-sites_of, site_at_linked, grown-push}
+
+-- a node's head
+abbrev pub node_head : CoreNode → Head
+node_head node = head_of (out-CoreNode node)
+
+pub node_tree : (node : CoreNode) (rest : Tree)
+    → fold-CoreNode (Tree → Tree) branch node rest ≡ Branch (node_head node) (below_it node) rest
+node_tree node rest = ap (λ (f : Tree → Tree). f rest) (fold_out-CoreNode (Tree → Tree) branch node)
+
+-- the sites of nodes side by side are those of the first ones and those of the rest
+pub sites_of_more : (above : List (List ℕ)) (nodes more : List CoreNode)
+    → sites_under above (trees (nodes ++ more)) ≡ sites_under above (trees nodes) ++ sites_under above (trees more)
+sites_of_more above [] more = refl
+sites_of_more above (node ∷ nodes) more =
+    ap (sites_under above) (node_tree node (trees (nodes ++ more)))
+    ∙ ap (λ rest. site ∷ (inner ++ rest)) (sites_of_more above nodes more)
+    ∙ ap (λ all. site ∷ all) (sym (append_assoc inner (sites_under above (trees nodes))
+    (sites_under above (trees more))))
+    ∙ ap (λ tree. sites_under above tree ++ sites_under above (trees more)) (sym (node_tree node (trees nodes)))
+  where
+    site : Site
+    site = site_under above (node_head node)
+
+    inner : List Site
+    inner = sites_under (path_under above (node_head node).name ∷ above) (below_it node)
+
+-- one node: its own site, and those below it
+pub sites_of_one : (above : List (List ℕ)) (node : CoreNode)
+    → sites_under above (trees (node ∷ []))
+    ≡ site_under above (node_head node) ∷ sites_under (path_under above (node_head node).name ∷ above) (below_it node)
+sites_of_one above node =
+    ap (sites_under above) (node_tree node NoNode)
+    ∙ ap (λ all. site_under above (node_head node) ∷ all)
+    (append-nil (sites_under (path_under above (node_head node).name ∷ above) (below_it node)))
+
+-- the first nodes are laid
+pub record LaidSoFar (old rows : List Row) (parent : ℕ) (done : List CoreNode) : Type 0 where
+  pub sites : sites_of rows ≡ sites_of old ++ sites_under (above_in (sites_of old) (Some parent)) (trees done)
+  pub linked : IsLinked rows
+  pub named : IsNamed rows
+
+-- the parent is where it was
+parent_stays : (old rows : List Row) (parent : ℕ) (done : List CoreNode) → parent < length old
+    → LaidSoFar old rows parent done
+    → get_or (sites_of rows) parent no_site ≡ get_or (sites_of old) parent no_site
+parent_stays old rows parent done h so_far =
+    ap (λ all. get_or all parent no_site) so_far.sites
+    ∙ get_or_append_left (sites_of old) _ no_site parent (omega (arith, length-sites_of old))
+
+pub long_enough : (old rows : List Row) (parent : ℕ) (done : List CoreNode) → parent < length old
+    → LaidSoFar old rows parent done → parent < length rows
+long_enough old rows parent done h so_far =
+    let e : length (sites_of rows) ≡ length (sites_of old) + length (sites_under (above_in (sites_of old) (Some parent)) (trees done))
+    = ap length so_far.sites ∙ length-append (sites_of old)
+    (sites_under (above_in (sites_of old) (Some parent)) (trees done)) in
+    omega (arith, length-sites_of rows, length-sites_of old)
+
+-- the path of the parent, which the next node's path goes on from
+pub parent_path : (old rows : List Row) (parent : ℕ) (done : List CoreNode) → parent < length old
+    → LaidSoFar old rows parent done
+    → path_at rows parent ≡ (get_or (sites_of old) parent no_site).path
+parent_path old rows parent done h so_far = ap (λ site. site.path) (parent_stays old rows parent done h so_far)
+
+-- the next node's row is its site
+pub row_is_site : (old rows : List Row) (parent : ℕ) (done : List CoreNode) (node : CoreNode) (row : Row)
+    → parent < length old → LaidSoFar old rows parent done
+    → IsRowUnder rows parent node row
+    → site_of (sites_of rows) row ≡ site_under (above_in (sites_of old) (Some parent)) (node_head node)
+row_is_site old rows parent done node row h so_far is =
+    ap (λ path. at path (above_in (sites_of rows) row.parent) (head_data row.head))
+    (is.path_is ∙ ap (λ path. below path (node_head node).name) (parent_path old rows parent done h so_far))
+    ∙ ap (λ parent. at own (above_in (sites_of rows) parent) (head_data row.head)) is.parent_is
+    ∙ ap (λ head. at own (above_in (sites_of rows) (Some parent)) head) is.head_is
+    ∙ ap (λ parent. at own (parent.path ∷ parent.above) (node_head node)) (parent_stays old rows parent done h so_far)
+  where
+    own : List ℕ
+    own = below (get_or (sites_of old) parent no_site).path (node_head node).name
+
+    at : List ℕ → List (List ℕ) → Head → Site
+    at path above head = record { path = path; above = above; head = head }
+
+-- all can be laid: the next node, and those below it
+pub record NextIsShort (above : List (List ℕ)) (node : CoreNode) : Type 0 where
+  pub own : has_short_path (site_under above (node_head node)) ≡ true
+  pub inner : list_all has_short_path (sites_under (path_under above (node_head node).name ∷ above) (below_it node)) ≡ true
+
+-- the first node's part, and that of the nodes behind it
+short_parts : (above : List (List ℕ)) (node : CoreNode) (nodes : List CoreNode)
+    → list_all has_short_path (sites_under above (trees (node ∷ nodes))) ≡ true
+    → NextIsShort above node × (list_all has_short_path (sites_under above (trees nodes)) ≡ true)
+short_parts above node nodes short = (record { own = parts.0; inner = inner.0 }, inner.1)
+  where
+    rest : List Site
+    rest = sites_under above (trees nodes)
+
+    parts : (has_short_path (site_under above (node_head node)) ≡ true)
+        × (list_all has_short_path (sites_under (path_under above (node_head node).name ∷ above) (below_it
+        node) ++ rest) ≡ true)
+    parts = and_parts _ _ (sym (ap (λ tree. list_all has_short_path (sites_under above tree))
+        (node_tree node (trees nodes))) ∙ short)
+
+    inner : (list_all has_short_path (sites_under (path_under above (node_head node).name ∷ above)
+        (below_it node)) ≡ true) × (list_all has_short_path rest ≡ true)
+    inner = and_parts _ _ (sym (list_all-append has_short_path
+        (sites_under (path_under above (node_head node).name ∷ above) (below_it node)) rest) ∙ parts.1)
+
+pub next_is_short : (above : List (List ℕ)) (nodes : List CoreNode) (i : ℕ) (d : CoreNode) → i < length nodes
+    → list_all has_short_path (sites_under above (trees nodes)) ≡ true → NextIsShort above (get_or nodes i d)
+next_is_short above [] i d h short = absurd (omega arith)
+next_is_short above (node ∷ nodes) zero d h short = (short_parts above node nodes short).0
+next_is_short above (node ∷ nodes) (suc i) d h short =
+    next_is_short above nodes i d (omega arith) (short_parts above node nodes short).1
+
+-- after the next node is put in its row
+pub record IsPut (old rows put : List Row) (parent : ℕ) (node : CoreNode) : Type 0 where
+  pub sites : sites_of put ≡ sites_of rows ++ site_under (above_in (sites_of old) (Some parent)) (node_head node) ∷ []
+  pub linked : IsLinked put
+  pub named : IsNamed put
+  pub above : above_in (sites_of put) (Some (length rows))
+      ≡ path_under (above_in (sites_of old) (Some parent)) (node_head node).name ∷ above_in (sites_of old) (Some parent)
+  pub long : length put ≡ length rows + 1
+
+-- what holds of each row by its number holds with one more
+each_put : (P : ℕ → Row → Type 0) (rows : List Row) (row : Row)
+    → ((i : ℕ) (d : Row) → i < length rows → P i (get_or rows i d))
+    → P (length rows) row → (i : ℕ) (d : Row) → i < length (rows ++ row ∷ [])
+    → P i (get_or (rows ++ row ∷ []) i d)
+each_put P rows row each here i d h = by (eqb_tells i (length rows))
+  where
+    by : ((nat_eq i (length rows) ≡ true) × (i ≡ length rows)) ⊎
+        ((nat_eq i (length rows) ≡ false) × (i ≢ length rows))
+        → P i (get_or (rows ++ row ∷ []) i d)
+    by (inl same) = subst (λ n. P n (get_or (rows ++ row ∷ []) n d)) (sym same.1)
+        (subst (λ p. P (length rows) p) (sym (get_or-append_seam rows row [] d)) here)
+    by (inr other) =
+        let differ : i ≢ length rows = other.1 in
+        let lt : i < length rows = omega (arith, length-append rows (row ∷ [])) in
+        subst (λ p. P i p) (sym (get_or_append_left rows (row ∷ []) d i lt)) (each i d lt)
+
+pub put_next : (old rows : List Row) (parent : ℕ) (done : List CoreNode) (node : CoreNode) → parent < length old
+    → LaidSoFar old rows parent done
+    → (row : Row) → IsRowUnder rows parent node row → IsPut old rows (rows ++ row ∷ []) parent node
+put_next old rows parent done node h so_far row is = record {
+  sites = put_sites;
+  linked = each_put IsBefore rows row so_far.linked (λ j e.
+      let same : Some parent ≡ Some j = sym is.parent_is ∙ e in
+      let number : parent ≡ j = (cc) in
+      subst (λ n. n < length rows) number (long_enough old rows parent done h so_far));
+  named = each_put (λ i p. is_name p.head.name ≡ true) rows row so_far.named
+      (ap (λ (head : Head). is_name head.name) is.head_is ∙ is.named);
+  above = ap (λ site. site.path ∷ site.above)
+      (ap (λ all. get_or all (length rows) no_site) put_sites
+      ∙ ap (λ n. get_or (sites_of rows ++ site_under (above_in (sites_of old) (Some parent)) (node_head node) ∷ []) n
+      no_site) (sym (length-sites_of rows))
+      ∙ get_or-append_seam (sites_of rows) (site_under (above_in (sites_of old) (Some parent)) (node_head node)) []
+      no_site);
+  long = length-append rows (row ∷ []);
+}
+  where
+    put_sites : sites_of (rows ++ row ∷ [])
+        ≡ sites_of rows ++ site_under (above_in (sites_of old) (Some parent)) (node_head node) ∷ []
+    put_sites = grown-push [] rows row
+        ∙ ap (λ site. sites_of rows ++ site ∷ []) (row_is_site old rows parent done node row h so_far is)
+
+-- after those below it are laid too
+pub laid_next : (old rows put rows' : List Row) (parent : ℕ) (done : List CoreNode) (node : CoreNode)
+    → LaidSoFar old rows parent done → IsPut old rows put parent node
+    → sites_of rows' ≡ sites_of put ++ sites_under (above_in (sites_of put) (Some (length rows))) (below_it node)
+    → IsLinked rows' → IsNamed rows' → LaidSoFar old rows' parent (done ++ node ∷ [])
+laid_next old rows put rows' parent done node so_far is_put inner linked named = record {
+  sites = inner
+      ∙ ap (λ above. sites_of put ++ sites_under above (below_it node)) is_put.above
+      ∙ ap (λ all. all ++ below) is_put.sites
+      ∙ ap (λ all. (all ++ site ∷ []) ++ below) so_far.sites
+      ∙ append_assoc (sites_of old ++ before) (site ∷ []) below
+      ∙ append_assoc (sites_of old) before (site ∷ below)
+      ∙ ap (λ all. sites_of old ++ all) (sym (sites_of_more above done (node ∷ []) ∙ ap (λ all. before ++ all)
+      (sites_of_one above node)));
+  linked = linked;
+  named = named;
+}
+  where
+    above : List (List ℕ)
+    above = above_in (sites_of old) (Some parent)
+
+    before : List Site
+    before = sites_under above (trees done)
+
+    site : Site
+    site = site_under above (node_head node)
+
+    below : List Site
+    below = sites_under (path_under above (node_head node).name ∷ above) (below_it node)
+
+-- the loop's step
+pub laid_more : (old rows : List Row) (parent : ℕ) (nodes : List CoreNode) (i : ℕ) (d : CoreNode) → i < length nodes
+    → LaidSoFar old rows parent (take i nodes ++ get_or nodes i d ∷ [])
+    → LaidSoFar old rows parent (take (i + 1) nodes)
+laid_more old rows parent nodes i d h so_far =
+    subst (LaidSoFar old rows parent) (sym (take_more nodes i d h)) so_far
+
+pub laid_none : (rows : List Row) (parent : ℕ) → IsLinked rows → IsNamed rows
+    → LaidSoFar rows rows parent []
+laid_none rows parent linked named =
+    record { sites = sym (append-nil (sites_of rows)); linked = linked; named = named }
+
+-- room for the next name
+pub short_room : (path name : List ℕ) → nat_le (length (below path name)) 5000 ≡ true → length path + length name < 5000
+short_room path name h = let le : length (below path name) ≤ 5000 = leb-true (length (below path name)) 5000 h in
+    omega (arith, length-append path (46 ∷ name))
+
+pub next_room : (old rows : List Row) (parent : ℕ) (done : List CoreNode) (node : CoreNode) → parent < length old
+    → LaidSoFar old rows parent done
+    → NextIsShort (above_in (sites_of old) (Some parent)) node
+    → length (path_at rows parent) + length (node_head node).name < 5000
+next_room old rows parent done node h so_far is_short =
+    subst (λ path. length path + length (node_head node).name < 5000)
+    (sym (parent_path old rows parent done h so_far))
+    (short_room (get_or (sites_of old) parent no_site).path (node_head node).name is_short.own)
+
+-- a child has fewer nodes below it than its parent
+pub child_smaller : (nodes : List CoreNode) (i : ℕ) (d : CoreNode) → i < length nodes
+    → count_of (below_it (get_or nodes i d)) < count_of (trees nodes)
+child_smaller [] i d h = absurd (omega arith)
+child_smaller (node ∷ nodes) zero d h = omega (arith, ap count_of (node_tree node (trees nodes)))
+child_smaller (node ∷ nodes) (suc i) d h =
+    omega (arith, ap count_of (node_tree node (trees nodes)), child_smaller nodes i d (omega arith))
+
+-- ---- how many they are
+
+pub length-sites_under : (above : List (List ℕ)) (tree : Tree) → length (sites_under above tree) ≡ count_of tree
+length-sites_under above NoNode = refl
+length-sites_under above (Branch head children rest) =
+    let inner : List Site = sites_under (path_under above head.name ∷ above) children in
+    omega (
+      arith,
+      length-append inner (sites_under above rest),
+      length-sites_under (path_under above head.name ∷ above) children,
+      length-sites_under above rest,
+    )
+
+-- the first nodes, the next one and those below it are no more than all
+pub count_next : (nodes : List CoreNode) (i : ℕ) (d : CoreNode) → i < length nodes
+    → count_of (trees (take i nodes)) + (1 + count_of (below_it (get_or nodes i d))) ≤ count_of (trees nodes)
+count_next [] i d h = absurd (omega arith)
+count_next (node ∷ nodes) zero d h = omega (arith, ap count_of (node_tree node (trees nodes)))
+count_next (node ∷ nodes) (suc i) d h =
+    omega (
+      arith,
+      ap count_of (node_tree node (trees nodes)),
+      ap count_of (node_tree node (trees (take i nodes))),
+      count_next nodes i d (omega arith),
+    )
+
+-- how many rows are laid
+pub laid_count : (old rows : List Row) (parent : ℕ) (done : List CoreNode) → LaidSoFar old rows parent done
+    → length rows ≡ length old + count_of (trees done)
+laid_count old rows parent done so_far =
+    let above : List (List ℕ) = above_in (sites_of old) (Some parent) in
+    omega (
+      arith,
+      ap length so_far.sites,
+      length-append (sites_of old) (sites_under above (trees done)),
+      length-sites_under above (trees done),
+      length-sites_of rows,
+      length-sites_of old,
+    )
+
+-- ---- the ends
+
+pub ends_of_more : (number : ℕ) (nodes more : List CoreNode)
+    → ends_from number (trees (nodes ++ more))
+    ≡ ends_from number (trees nodes) ++ ends_from (number + count_of (trees nodes)) (trees more)
+ends_of_more number [] more = ap (λ n. ends_from n (trees more)) (omega arith)
+ends_of_more number (node ∷ nodes) more =
+    let inner : List ℕ = ends_from (number + 1) (below_it node) in
+    let after : ℕ = number + 1 + count_of (below_it node) in
+    let same : after + count_of (trees nodes) ≡ number + count_of (trees (node ∷ nodes)) =
+    omega (arith, ap count_of (node_tree node (trees nodes))) in
+    ap (ends_from number) (node_tree node (trees (nodes ++ more)))
+    ∙ ap (λ rest. after ∷ (inner ++ rest)) (ends_of_more after nodes more)
+    ∙ ap (λ all. after ∷ all) (sym (append_assoc inner (ends_from after (trees nodes))
+    (ends_from (after + count_of (trees nodes)) (trees more))))
+    ∙ ap (λ n. (after ∷ (inner ++ ends_from after (trees nodes))) ++ ends_from n (trees more)) same
+    ∙ ap (λ tree. ends_from number tree ++ ends_from (number + count_of (trees (node ∷ nodes))) (trees more))
+    (sym (node_tree node (trees nodes)))
+
+pub ends_of_one : (number : ℕ) (node : CoreNode)
+    → ends_from number (trees (node ∷ []))
+    ≡ (number + 1 + count_of (below_it node)) ∷ ends_from (number + 1) (below_it node)
+ends_of_one number node =
+    ap (ends_from number) (node_tree node NoNode)
+    ∙ ap (λ all. (number + 1 + count_of (below_it node)) ∷ all) (append-nil (ends_from (number + 1) (below_it node)))
+
+pub count_of_one : (node : CoreNode) → count_of (trees (node ∷ [])) ≡ 1 + count_of (below_it node)
+count_of_one node = omega (arith, ap count_of (node_tree node NoNode))
+
+pub length-ends_from : (number : ℕ) (tree : Tree) → length (ends_from number tree) ≡ count_of tree
+length-ends_from number NoNode = refl
+length-ends_from number (Branch head children rest) =
+    let inner : List ℕ = ends_from (number + 1) children in
+    let outer : List ℕ = ends_from (number + 1 + count_of children) rest in
+    omega (
+      arith,
+      length-append inner outer,
+      length-ends_from (number + 1) children,
+      length-ends_from (number + 1 + count_of children) rest,
+    )
+
+-- ---- a whole plan
+
+-- a root and what is below it, before anything is laid below it
+pub record IsRooted (rows : List Row) (root : CoreNode) : Type 0 where
+  pub sites : sites_of rows ≡ site_under [] (node_head root) ∷ []
+  pub linked : IsLinked rows
+  pub named : IsNamed rows
+  pub long : length rows ≡ 1
+
+pub rooted : (front rows : List Row) (root : CoreNode) (row : Row) → front ≡ [] → rows ≡ front ++ row ∷ []
+    → IsRootRow root row
+    → IsRooted rows root
+rooted front rows root row none is root_is = subst (λ ps. IsRooted ps root)
+    (sym (is ∙ ap (λ ps. ps ++ row ∷ []) none)) (record {
+      sites = ap (λ site. site ∷ [])
+          (ap (λ path. at path (above_in [] row.parent) (head_data row.head)) root_is.path_is
+          ∙ ap (λ parent. at (node_head root).name (above_in [] parent) (head_data row.head)) root_is.parent_is
+          ∙ ap (λ head. at (node_head root).name [] head) root_is.head_is);
+      linked = each_put IsBefore [] row (λ i d h. absurd (omega arith)) (λ j e.
+          let none : None ≡ Some j = sym root_is.parent_is ∙ e in absurd (cc));
+      named = each_put (λ i p. is_name p.head.name ≡ true) [] row (λ i d h. absurd (omega arith))
+          (ap (λ (head : Head). is_name head.name) root_is.head_is ∙ root_is.named);
+      long = refl;
+    })
+  where
+    at : List ℕ → List (List ℕ) → Head → Site
+    at path above head = record { path = path; above = above; head = head }
+
+-- the sites of a tree of one root
+pub sites_of_root : (root : CoreNode)
+    → sites (fold-CoreNode (Tree → Tree) branch root NoNode)
+    ≡ site_under [] (node_head root) ∷ sites_under ((node_head root).name ∷ []) (below_it root)
+sites_of_root root =
+    ap sites (node_tree root NoNode)
+    ∙ ap (λ all. site_under [] (node_head root) ∷ all)
+    (append-nil (sites_under ((node_head root).name ∷ []) (below_it root)))
+
+pub above_root : (rows : List Row) (root : CoreNode) → IsRooted rows root
+    → above_in (sites_of rows) (Some 0) ≡ (node_head root).name ∷ []
+above_root rows root is = ap (λ all. (get_or all 0 no_site).path ∷ (get_or all 0 no_site).above) is.sites
+
+pub short_below : (root : CoreNode)
+    → list_all has_short_path (sites (fold-CoreNode (Tree → Tree) branch root NoNode)) ≡ true
+    → list_all has_short_path (sites_under ((node_head root).name ∷ []) (below_it root)) ≡ true
+short_below root short =
+    (and_parts (has_short_path (site_under [] (node_head root)))
+    (list_all has_short_path (sites_under ((node_head root).name ∷ []) (below_it root)))
+    (sym (ap (list_all has_short_path) (sites_of_root root)) ∙ short)).1
+
+-- all is laid
+pub all_laid : (rows rows' : List Row) (root : CoreNode) → IsRooted rows root
+    → sites_of rows' ≡ sites_of rows ++ sites_under (above_in (sites_of rows) (Some 0)) (below_it root)
+    → sites_of rows' ≡ sites (fold-CoreNode (Tree → Tree) branch root NoNode)
+all_laid rows rows' root is inner =
+    inner
+    ∙ ap (λ at. sites_of rows ++ sites_under at (below_it root)) (above_root rows root is)
+    ∙ ap (λ all. all ++ sites_under ((node_head root).name ∷ []) (below_it root)) is.sites
+    ∙ sym (sites_of_root root)
+
+pub laid : (rows : List Row) (tree : Tree) (spare : Row) → sites_of rows ≡ sites tree
+    → siblings_differ tree ≡ true → IsLinked rows → IsNamed rows → IsLaid rows
+laid rows tree spare same siblings linked named = record {
+  linked = linked;
+  distinct =
+      λ i j hi hj is. distinct i j (omega (arith, length-sites_of rows)) (omega (arith, length-sites_of rows)) is;
+}
+  where
+    each_named : Each (λ site. is_name site.head.name ≡ true) (sites_of rows)
+    each_named = each_from (λ site. is_name site.head.name ≡ true) (sites_of rows) no_site (λ i h.
+        let within : i < length rows = omega (arith, length-sites_of rows) in
+        subst (λ site. is_name site.head.name ≡ true) (sym (site_at_linked rows linked i no_site spare within))
+        (named i spare within))
+
+    distinct : AreDistinct (sites_of rows)
+    distinct = subst AreDistinct (sym same)
+        (are_distinct (sites tree) (differ_tree [] tree siblings
+        (subst (Each (λ site. is_name site.head.name ≡ true)) same each_named)))

@@ -1,0 +1,167 @@
+-- What a numbered expression has of a variable and of a lookup name.
+use Rattle.std.proofs.Common.{◌≡◌, ℕ, suc, ◌+◌, ◌<◌, ◌≤◌, Bool, true, false, not, ◌&&◌, ◌⊎◌, cond, nat_le, List, [], ◌∷◌, length, get_or, take, drop, position, refl, ap, sym, ◌∙◌, subst, arith, inl, inr, Option, Some, None, if◌then◌else◌}
+use Rattle.std.specs.List.{list_all, list_any, position_or_len}
+use Rattle.std.specs.Option.{option_and_then, unwrap_or}
+use Rattle.std.specs.Cmp.Lexicographic.{same_text}
+use Rattle.std.proofs.lemmas.Bool.{and_parts, or_cases, leb-true, lt-ltb}
+use Rattle.std.proofs.lemmas.List.{get_or-take, get_or-drop}
+use Rattle.px_value.specs.declared.value.Value.{Value}
+use Rattle.px_value.specs.declared.value.Value.TheVariants.{Unknown}
+use Rattle.px_core.specs.Fit.{cells_of, has_right_cells, has_right_size}
+use Rattle.px_core.specs.Plan.{Site, VariableData, is_same}
+use Rattle.px_sem.specs.World.{LookState, NodeRecord, record_at, cells_at, of_variable}
+use Rattle.px_flat.specs.declared.act.Act.{Act}
+use Rattle.px_flat.specs.Layout.{Place, place_from, first_cell}
+use Rattle.px_flat.specs.Numbered.{place_of, held}
+use Rattle.px_flat.specs.Parts.{world_of}
+use Rattle.px_flat.specs.Row.{site_in}
+use Rattle.px_flat.proofs.Numbers.{number_is}
+use Rattle.px_flat.proofs.Paths.{AreDistinct}
+use Rattle.px_flat.proofs.Sites.{found_site}
+use Rattle.px_flat.proofs.Worlds.{record_at-world_of, of_variable-values_in}
+
+-- ---- places
+
+-- a variable of this name has a place, of one cell or more
+pub record HasPlace (cell : ℕ) (variables : List VariableData) (name : List ℕ) : Type 0 where
+  pub place : Place
+  pub is : place_from cell variables name ≡ Some place
+  pub some_cells : 0 < place.size
+
+right_size : (variable : VariableData) → has_right_cells variable ≡ true → 0 < cells_of variable
+right_size variable right = by variable.size refl
+  where
+    by : (size : Option ℕ) → variable.size ≡ size → 0 < cells_of variable
+    by None is = rw is (omega arith)
+    by (Some size) is =
+        let sized = (and_parts (has_right_size variable.size) (nat_le (length variable.init) (cells_of variable)) right).0 in
+        let ok : has_right_size (Some size) ≡ true = sym (ap has_right_size is) ∙ sized in
+        let least : 1 ≤ size = leb-true 1 size (and_parts (nat_le 1 size) (nat_le size 256) ok).0 in
+        rw is (omega (arith, least))
+
+pub has_place : (test : VariableData → Bool) (cell : ℕ) (variables : List VariableData) (name : List ℕ)
+    → list_all has_right_cells variables ≡ true
+    → list_any (λ variable. is_same variable.name name && test variable) variables ≡ true
+    → HasPlace cell variables name
+has_place test cell [] name right there = absurd (cc)
+has_place test cell (variable ∷ variables) name right there =
+    by (is_same variable.name name) refl
+    (or_cases (is_same variable.name name && test variable)
+    (list_any (λ variable. is_same variable.name name && test variable) variables) there)
+    (has_place test (cell + cells_of variable) variables name both.1)
+  where
+    both : (has_right_cells variable ≡ true) × (list_all has_right_cells variables ≡ true)
+    both = and_parts (has_right_cells variable) (list_all has_right_cells variables) right
+
+    by : (same : Bool) → is_same variable.name name ≡ same
+        → ((is_same variable.name name && test variable) ≡ true)
+        ⊎ (list_any (λ variable. is_same variable.name name && test variable) variables ≡ true)
+        → (list_any (λ variable. is_same variable.name name && test variable) variables ≡ true
+        → HasPlace (cell + cells_of variable) variables name)
+        → HasPlace cell (variable ∷ variables) name
+    by true is either rest = record {
+      place = record { first = cell; size = cells_of variable };
+      is = ap (λ b. if b then Some (record { first = cell; size = cells_of variable })
+          else place_from (cell + cells_of variable) variables name) is;
+      some_cells = right_size variable both.0;
+    }
+    by false is (inl here) rest = absurd (cc (sym here ∙ ap (λ b. b && test variable) is))
+    by false is (inr behind) rest =
+        let found = rest behind in
+        record {
+          place = found.place;
+          is = ap (λ b. if b then Some (record { first = cell; size = cells_of variable })
+              else place_from (cell + cells_of variable) variables name) is ∙ found.is;
+          some_cells = found.some_cells;
+        }
+
+-- what stands at the place of a variable
+pub record IsPlaced (plan : List Site) (cells : List Value) (reports : List (LookState × Value)) (acts : List Act)
+    (owner name : List ℕ) : Type 0 where
+  pub values_are : cells_at plan (world_of plan cells reports acts) owner name
+      ≡ take (place_of plan owner name).size (drop (place_of plan owner name).first cells)
+  pub first_is : held cells (place_of plan owner name).first
+      ≡ get_or (cells_at plan (world_of plan cells reports acts) owner name) 0 Unknown
+
+pub placed : (plan : List Site) (cells : List Value) (reports : List (LookState × Value)) (acts : List Act)
+    (owner name : List ℕ) (node : ℕ) → AreDistinct plan → node < length plan → (site_in plan node).path ≡ owner
+    → HasPlace (first_cell plan node) (site_in plan node).head.variables name
+    → IsPlaced plan cells reports acts owner name
+placed plan cells reports acts owner name node distinct within path_is has =
+    record { values_are = values_are; first_is = first_is }
+  where
+    own : List ℕ
+    own = (site_in plan node).path
+
+    place_is : place_of plan owner name ≡ has.place
+    place_is =
+        ap (λ path. place_of plan path name) (sym path_is)
+        ∙ ap (λ number. unwrap_or (option_and_then (λ node. place_from (first_cell plan node)
+        (site_in plan node).head.variables name) number) (record { first = 0; size = 0 }))
+        (number_is plan node distinct within)
+        ∙ ap (λ place. unwrap_or place (record { first = 0; size = 0 })) has.is
+
+    at_own : cells_at plan (world_of plan cells reports acts) own name
+        ≡ take has.place.size (drop has.place.first cells)
+    at_own =
+        ap (λ site. unwrap_or (of_variable name site.head.variables
+        (record_at (world_of plan cells reports acts) own).variables) []) (found_site plan node distinct within)
+        ∙ ap (λ (r : NodeRecord). unwrap_or (of_variable name (site_in plan node).head.variables r.variables) [])
+        (record_at-world_of plan cells reports acts node distinct within)
+        ∙ ap (λ found. unwrap_or found [])
+        (of_variable-values_in (site_in plan node).head.variables cells (first_cell plan node) name has.place has.is)
+
+    values_are : cells_at plan (world_of plan cells reports acts) owner name
+        ≡ take (place_of plan owner name).size (drop (place_of plan owner name).first cells)
+    values_are =
+        ap (λ path. cells_at plan (world_of plan cells reports acts) path name) (sym path_is) ∙ at_own
+        ∙ ap (λ (place : Place). take place.size (drop place.first cells)) (sym place_is)
+
+    first_is : held cells (place_of plan owner name).first
+        ≡ get_or (cells_at plan (world_of plan cells reports acts) owner name) 0 Unknown
+    first_is =
+        ap (λ (place : Place). held cells place.first) place_is
+        ∙ ap (λ n. get_or cells n Unknown) (omega arith)
+        ∙ sym (get_or-drop has.place.first cells 0 Unknown)
+        ∙ sym (get_or-take has.place.size (drop has.place.first cells) 0 Unknown has.some_cells)
+        ∙ ap (λ (place : Place). get_or (take place.size (drop place.first cells)) 0 Unknown) (sym place_is)
+        ∙ ap (λ cells. get_or cells 0 Unknown) (sym values_are)
+
+-- ---- lookup names
+
+first_name : (names : List (List ℕ)) (name : List ℕ) → list_any (is_same name) names ≡ true
+    → (position_or_len (is_same name) names < length names)
+    × (get_or names (position_or_len (is_same name) names) [] ≡ name)
+first_name [] name there = absurd (cc)
+first_name (first ∷ names) name there =
+    by (is_same name first) refl (or_cases (is_same name first) (list_any (is_same name) names) there)
+    (first_name names name)
+  where
+    Found : ℕ → Type 0
+    Found place = (place < suc (length names)) × (get_or (first ∷ names) place [] ≡ name)
+
+    by : (same : Bool) → is_same name first ≡ same
+        → (is_same name first ≡ true) ⊎ (list_any (is_same name) names ≡ true)
+        → (list_any (is_same name) names ≡ true
+        → (position_or_len (is_same name) names < length names)
+        × (get_or names (position_or_len (is_same name) names) [] ≡ name))
+        → Found (cond (not (is_same name first)) (1 + position_or_len (is_same name) names) 0)
+    by true is either rest =
+        subst (λ b. Found (cond (not b) (1 + position_or_len (is_same name) names) 0)) (sym is)
+        (omega arith, sym (same_text name first (sym is)))
+    by false is (inl here) rest = absurd (cc (sym here ∙ is))
+    by false is (inr behind) rest =
+        let found = rest behind in
+        let lt : position_or_len (is_same name) names < length names = found.0 in
+        let next : 1 + position_or_len (is_same name) names ≡ suc (position_or_len (is_same name) names) = omega arith in
+        subst (λ b. Found (cond (not b) (1 + position_or_len (is_same name) names) 0)) (sym is)
+        (subst Found (sym next) (omega arith, found.1))
+
+-- the name that stands at the number of a name
+pub name_at : (names : List (List ℕ)) (name : List ℕ) → list_any (is_same name) names ≡ true
+    → get_or names (unwrap_or (position (is_same name) names) 0) [] ≡ name
+name_at names name there =
+    let found = first_name names name there in
+    ap (λ b. get_or names (unwrap_or (cond b (Some (position_or_len (is_same name) names)) None) 0) [])
+    (lt-ltb (position_or_len (is_same name) names) (length names) found.0)
+    ∙ found.1

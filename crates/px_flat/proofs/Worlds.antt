@@ -1,0 +1,150 @@
+-- The world that parts stand for, node by node.
+use Rattle.std.proofs.Common.{◌≡◌, ◌≢◌, ℕ, zero, suc, ◌+◌, ◌<◌, Bool, true, false, ◌&&◌, cond, List, [], ◌∷◌, length, map, take, drop, refl, ap, sym, ◌∙◌, arith, inl, inr, Some, if◌then◌else◌}
+use Rattle.std.specs.List.{enumerate_from}
+use Rattle.std.specs.Map.{lookup}
+use Rattle.std.specs.Option.{unwrap_or}
+use Rattle.std.specs.Cmp.Lexicographic.{same_text}
+use Rattle.std.proofs.lemmas.Bool.{and_parts, or_cases}
+use Rattle.std.proofs.lemmas.List.{drop-drop}
+use Rattle.px_value.specs.declared.value.Value.{Value}
+use Rattle.px_value.specs.declared.value.Value.TheVariants as values
+use Rattle.px_core.specs.Fit.{cells_of, has_site}
+use Rattle.px_core.specs.Plan.{Site, VariableData, is_same}
+use Rattle.px_sem.specs.Expressions.{outcome_value, failure_value, handle_value, handle_of, is_acknowledged}
+use Rattle.px_sem.specs.World.{NodeRecord, LookState, no_record, record_at, of_variable}
+use Rattle.px_flat.specs.declared.act.Act.{Act}
+use Rattle.px_flat.specs.declared.act.Act.TheVariants as under_way
+use Rattle.px_flat.specs.Layout.{Place, place_from}
+use Rattle.px_flat.specs.Parts.{state_in, outcome_in, failure_in, action_in, values_in, record_in, world_of, is_state, is_outcome, is_failure, is_handle_of, is_acknowledgement_of}
+use Rattle.px_flat.specs.Row.{site_in}
+use Rattle.px_flat.specs.Numbered.{node_of}
+use Rattle.px_flat.proofs.Numbers.{number_is}
+use Rattle.px_flat.proofs.Paths.{AreDistinct, same-self, same-other}
+
+-- ---- the record of a node
+
+found_among : (plan : List Site) (f : ℕ → NodeRecord) (first i : ℕ) → AreDistinct plan → i < length plan
+    → lookup (λ key. is_same key (site_in plan i).path) (map (λ entry. (entry.1.path, f entry.0)) (enumerate_from first plan))
+    ≡ Some (f (first + i))
+found_among [] f first i distinct within = absurd (omega arith)
+found_among (site ∷ plan) f first zero distinct within =
+    let here : first ≡ first + 0 = omega arith in
+    ap (λ b. cond b (Some (f first))
+    (lookup (λ key. is_same key site.path) (map (λ entry. (entry.1.path, f entry.0)) (enumerate_from (first + 1) plan))))
+    (same-self site.path)
+    ∙ ap (λ n. Some (f n)) here
+found_among (site ∷ plan) f first (suc i) distinct within =
+    let own : List ℕ = (site_in plan i).path in
+    let other : site.path ≢ own = λ same.
+    let e : 0 ≡ suc i = distinct 0 (suc i) (omega arith) (omega arith) same in absurd (omega arith) in
+    let behind : AreDistinct plan = λ j k hj hk same.
+    let e : suc j ≡ suc k = distinct (suc j) (suc k) (omega arith) (omega arith) same in omega arith in
+    let there : first + 1 + i ≡ first + suc i = omega arith in
+    ap (λ b. cond b (Some (f first))
+    (lookup (λ key. is_same key own) (map (λ entry. (entry.1.path, f entry.0)) (enumerate_from (first + 1) plan))))
+    (same-other site.path own other)
+    ∙ found_among plan f (first + 1) i behind (omega arith)
+    ∙ ap (λ n. Some (f n)) there
+
+-- the record of the node with a number
+pub record_at-world_of : (plan : List Site) (cells : List Value) (reports : List (LookState × Value)) (acts : List Act)
+    (node : ℕ) → AreDistinct plan → node < length plan
+    → record_at (world_of plan cells reports acts) (site_in plan node).path ≡ record_in plan cells acts node
+record_at-world_of plan cells reports acts node distinct within =
+    ap (λ found. unwrap_or found no_record) (found_among plan (record_in plan cells acts) 0 node distinct within)
+    ∙ ap (record_in plan cells acts) (omega arith)
+
+-- ---- what a cell says of a node, as a value
+
+pub state_value-state_in : (value : Value) → is_state value ≡ true → values.State (state_in value) ≡ value
+state_value-state_in (values.State state) is = refl
+state_value-state_in value is = absurd (cc)
+
+pub outcome_value-outcome_in : (value : Value) → is_outcome value ≡ true → outcome_value (outcome_in value) ≡ value
+outcome_value-outcome_in values.Unknown is = refl
+outcome_value-outcome_in (values.Outcome outcome) is = refl
+outcome_value-outcome_in value is = absurd (cc)
+
+pub failure_value-failure_in : (value : Value) → is_failure value ≡ true → failure_value (failure_in value) ≡ value
+failure_value-failure_in values.Unknown is = refl
+failure_value-failure_in (values.Failure failure) is = refl
+failure_value-failure_in value is = absurd (cc)
+
+-- of a command: its handle, and UNKNOWN where none is under way
+pub handle_value-action_in : (act : Act) (handle acknowledgement : Value) → is_handle_of act handle ≡ true
+    → handle_value (handle_of (action_in act handle acknowledgement)) ≡ handle
+handle_value-action_in under_way.Idle values.Unknown acknowledgement is = refl
+handle_value-action_in under_way.Unwritten values.Unknown acknowledgement is = refl
+handle_value-action_in (under_way.Scalar old) values.Unknown acknowledgement is = refl
+handle_value-action_in (under_way.Element index old) values.Unknown acknowledgement is = refl
+handle_value-action_in (under_way.Sent index abort) values.Unknown acknowledgement is = refl
+handle_value-action_in under_way.Updated values.Unknown acknowledgement is = refl
+handle_value-action_in (under_way.Sent index abort) (values.Handle handle) acknowledgement is = refl
+handle_value-action_in act handle acknowledgement is = absurd (cc)
+
+-- of an update: whether it was acknowledged, and false where none is under way
+pub is_acknowledged-action_in : (act : Act) (handle acknowledgement : Value)
+    → is_acknowledgement_of act acknowledgement ≡ true
+    → values.Boolean (is_acknowledged (action_in act handle acknowledgement)) ≡ acknowledgement
+is_acknowledged-action_in under_way.Idle handle (values.Boolean false) is = refl
+is_acknowledged-action_in under_way.Unwritten handle (values.Boolean false) is = refl
+is_acknowledged-action_in (under_way.Scalar old) handle (values.Boolean false) is = refl
+is_acknowledged-action_in (under_way.Element index old) handle (values.Boolean false) is = refl
+is_acknowledged-action_in (under_way.Sent index abort) handle (values.Boolean false) is = refl
+is_acknowledged-action_in under_way.Updated handle (values.Boolean false) is = refl
+is_acknowledged-action_in under_way.Updated handle (values.Boolean true) is = refl
+is_acknowledged-action_in act handle acknowledgement is = absurd (cc)
+
+-- ---- variables
+
+-- the values of a variable stand at its place
+pub of_variable-values_in : (variables : List VariableData) (cells : List Value) (cell : ℕ) (name : List ℕ) (place : Place)
+    → place_from cell variables name ≡ Some place
+    → of_variable name variables (values_in variables (drop cell cells)) ≡ Some (take place.size (drop place.first cells))
+of_variable-values_in [] cells cell name place at = absurd (cc)
+of_variable-values_in (variable ∷ variables) cells cell name place at =
+    by (is_same variable.name name) refl at (of_variable-values_in variables cells (cell + cells_of variable) name place)
+  where
+    by : (same : Bool) → is_same variable.name name ≡ same
+        → (if same then Some (record { first = cell; size = cells_of variable })
+        else place_from (cell + cells_of variable) variables name) ≡ Some place
+        → (place_from (cell + cells_of variable) variables name ≡ Some place
+        → of_variable name variables (values_in variables (drop (cell + cells_of variable) cells))
+        ≡ Some (take place.size (drop place.first cells)))
+        → (if same then Some (take (cells_of variable) (drop cell cells))
+        else of_variable name variables (values_in variables (drop (cells_of variable) (drop cell cells))))
+        ≡ Some (take place.size (drop place.first cells))
+    by true is at rest =
+        let own : Place = record { first = cell; size = cells_of variable } in
+        let same : own ≡ place = (cc) in
+        ap (λ (place : Place). Some (take place.size (drop place.first cells))) same
+    by false is at rest =
+        ap (λ cells. of_variable name variables (values_in variables cells)) (drop-drop (cells_of variable) cell cells)
+        ∙ rest at
+
+-- ---- what is there
+
+-- a node at this path, which is as asked
+pub record IsThere (plan : List Site) (path : List ℕ) (holds : Site → Bool) : Type 0 where
+  pub node : ℕ
+  pub within : node < length plan
+  pub path_is : (site_in plan node).path ≡ path
+  pub is : holds (site_in plan node) ≡ true
+
+pub site_there : (holds : Site → Bool) (path : List ℕ) (plan : List Site) → has_site holds path plan ≡ true
+    → IsThere plan path holds
+site_there holds path [] there = absurd (cc)
+site_there holds path (site ∷ plan) there =
+    elim (or_cases (is_same site.path path && holds site) (has_site holds path plan) there) [
+      | inl here ↦
+          let both = and_parts (is_same site.path path) (holds site) here in
+          record { node = 0; within = omega arith; path_is = same_text site.path path (sym both.0); is = both.1 }
+      | inr behind ↦
+          let found = site_there holds path plan behind in
+          record { node = suc found.node; within = omega (arith, found.within); path_is = found.path_is; is = found.is }
+    ]
+
+-- the number of a node by its path
+pub node_of-path : (plan : List Site) (node : ℕ) → AreDistinct plan → node < length plan
+    → node_of plan (site_in plan node).path ≡ node
+node_of-path plan node distinct within = ap (λ number. unwrap_or number 0) (number_is plan node distinct within)

@@ -1,0 +1,62 @@
+use Rattle.std.proofs.Common.{◌<◌, [], length, get_or, ap, sym, ◌∙◌, subst, arith}
+use Rattle.px_core.specs.Plan.{Tree, tree_of, count_of}
+use Rattle.px_flat.specs.Row.{after_last, paths_of}
+use Rattle.px_flat.specs.Extents.{AreExtents}
+use Rattle.px_flat.specs.FitPlan.{IsFitPlan}
+use Rattle.px_flat.specs.Rows.{sites_of}
+use Rattle.px_flat.proofs.Descendants.{end_is}
+use Rattle.px_flat.proofs.Sites.{length-sites_of}
+use Rattle.px_flat.proofs.Trees.{length-sites_under, length-ends_from}
+use Rattle.px_flat.proofs.flat.Flat.of.Goals as goal
+
+pub extents-requires-clause-long : goal.extents-requires-clause-long
+extents-requires-clause-long c =
+    let tree : Tree = tree_of c.args.plan.now in
+    omega (
+      arith,
+      ap length c.deref.ensures.value,
+      ap length c.deref-2.ensures.value,
+      ap length c.in_ok-ends.ensures,
+      length-ends_from 0 tree,
+      ap length c.in_ok-rows.ensures.sites,
+      length-sites_under [] tree,
+      length-sites_of c.in_ok-rows.rows.items,
+    )
+
+pub extents-requires-clause-ends : goal.extents-requires-clause-ends
+extents-requires-clause-ends c = λ i within.
+    let tree : Tree = tree_of c.args.plan.now in
+    let rows = c.in_ok-rows.rows.items in
+    let inside : i < count_of tree =
+    omega (
+      arith,
+      ap length c.deref.ensures.value,
+      ap length c.in_ok-rows.ensures.sites,
+      length-sites_under [] tree,
+      length-sites_of rows,
+    ) in
+    ap (λ ends. get_or ends i 0) (c.deref-2.ensures.value ∙ c.in_ok-ends.ensures)
+    ∙ end_is tree i inside
+    ∙ ap (λ plan. after_last plan i) (sym c.in_ok-rows.ensures.sites ∙ ap sites_of (sym c.deref.ensures.value))
+
+pub invariant_of-result : goal.invariant_of-result
+invariant_of-result c =
+    let tree : Tree = tree_of c.args.plan.now in
+    let rows = c.in_ok-rows.rows.items in
+    record {
+      laid = c.in_ok-rows.ensures.laid;
+      fit = subst IsFitPlan (sym c.in_ok-rows.ensures.sites) (record {
+        count = omega (arith, length-sites_under [] tree, c.requires.count);
+        paths = c.requires.paths;
+        cells = c.requires.cells;
+        variables = c.requires.variables;
+        bodies = c.requires.bodies;
+        arrays = c.requires.arrays;
+        spoken = c.requires.spoken;
+        declared = c.requires.declared;
+        targets = c.requires.targets;
+      });
+      extended = subst (λ rows. AreExtents (sites_of rows) c.in_ok-extents.extents.items) c.deref.ensures.value
+          c.in_ok-extents.ensures;
+      found = c.in_ok-paths.ensures ∙ ap (λ rows. paths_of (sites_of rows)) c.deref-3.ensures.value;
+    }

@@ -1,0 +1,9 @@
+pub mod Extents
+pub mod FitPlan
+pub mod Flat
+pub mod Laying
+pub mod Layout
+pub mod Numbered
+pub mod Parts
+pub mod Row
+pub mod Rows

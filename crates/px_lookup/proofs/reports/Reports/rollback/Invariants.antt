@@ -1,0 +1,10 @@
+use Rattle.std.proofs.Common.{◌≡◌, Some, length}
+use Rattle.px_lookup.specs.Undoing.{undone_each}
+use Rattle.px_lookup.proofs.reports.Reports.rollback.Given as goal
+
+abbrev pub invariant-loop-change : goal.invariant-loop-change
+invariant-loop-change l =
+    Some (undone_each l.self-inside.changes.items l.self-inside.values.entries) ≡ l.fn.self.marked
+
+abbrev pub decreases-loop-change : goal.decreases-loop-change
+decreases-loop-change l = length l.self-inside.changes.items

@@ -1,0 +1,13 @@
+//! Reports: the last value that the outside reported of each state, with an undo log.
+//!
+//! `look_state` is what is reported of, `reports` keeps the last values and goes back to a mark. `specs/Reports.antt` says what
+//! reports are to contracts and what an event does to them, and `specs/Undoing.antt` how they keep the mark.
+#![tactic(auto)]
+
+mod look_state;
+mod reports;
+#[cfg(test)]
+mod tests;
+
+pub use look_state::LookState;
+pub use reports::Reports;

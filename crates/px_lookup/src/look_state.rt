@@ -1,0 +1,32 @@
+// A state of the outside.
+ghost use Rattle.std.specs.Prelude.{◌≡◌};
+
+use px_event::Values;
+use px_value::Name;
+use std::marker::Model;
+
+/// A state of the outside that plans look up: a name and arguments.
+#[derive(Debug, Drop, PartialEq, Eq, Hash)]
+pub struct LookState {
+    name: Name,
+    args: Values,
+}
+
+impl Model for LookState {
+    ghost use Rattle.px_sem.specs.World.{LookState as State};
+
+    ghost Value = { State };
+
+    ghost view = { λ state. record { name = state.name; args = state.args } };
+
+    ghost inverse = { λ state. record { name = state.name; args = state.args } };
+}
+
+impl LookState {
+    /// The state of this name and these arguments.
+    pub fn new(name: Name, args: Values) -> LookState
+        ensures { result ≡ record { name = name; args = args } }
+    {
+        LookState { name, args }
+    }
+}
