@@ -61,11 +61,11 @@ result_place target (Commanded index handle abort) = at target.index
     at : Option Term → Option Place
     at None = Some Whole
     at (Some term) = option_map Element index
-result_place target action = None
+result_place target _ = None
 
 -- what a command returned, as a write to its result
 abbrev pub returned : List Site → Option TargetData → Action → Value → Option Write
-returned plan None action given = None
+returned plan None _ given = None
 returned plan (Some target) action given = option_map (write_at plan target given) (result_place target action)
 
 -- ---- the table of events

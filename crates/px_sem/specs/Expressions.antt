@@ -36,12 +36,12 @@ handle_value (Some handle) = values.Handle handle
 -- what was said of the command of an action
 abbrev pub handle_of : Action → Option Handle
 handle_of (Commanded index handle abort) = handle
-handle_of action = None
+handle_of _ = None
 
 -- whether the update of an action was acknowledged
 abbrev pub is_acknowledged : Action → Bool
 is_acknowledged (Updated acknowledged) = acknowledged
-is_acknowledged action = false
+is_acknowledged _ = false
 
 -- the element of an array at an index, UNKNOWN where there is none
 abbrev pub element : List Value → Value → Value

@@ -115,7 +115,7 @@ is_final_handle handle = false
 abbrev pub command_is_over : Action → Bool
 command_is_over (Commanded index handle AbortDone) = true
 command_is_over (Commanded index handle abort) = is_final_handle handle
-command_is_over action = false
+command_is_over _ = false
 
 -- whether a failing node may leave FAILING
 abbrev pub is_ready : List Site → World → Site → Bool
