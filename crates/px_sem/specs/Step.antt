@@ -21,7 +21,7 @@ initializes r None = false
 initializes r (Some arrival) = is_initializing (move_kind r.state arrival.to)
 
 -- The values of a node's variables: the initial ones where the node begins to wait, else as the step writes them. At
--- most one node that goes writes a variable.
+-- most one node that goes writes a variable in a world that a run reaches; elsewhere the first in preorder counts.
 abbrev pub variables_after : List Site → World → Site → Option Arrival → List (List Value)
 variables_after plan world site arrival =
     if initializes (record_at world site.path) arrival then map initial_values site.head.variables

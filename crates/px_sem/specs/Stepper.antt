@@ -1,12 +1,12 @@
 -- What a stepper stands for, and what its calls do.
-use Rattle.std.specs.Prelude.{◌≡◌, ◌⊎◌, ℕ, Bool, true, false, List, []}
+use Rattle.std.specs.Prelude.{◌≡◌, ◌⊎◌, ℕ, ◌≤◌, Bool, true, false, List, []}
 use Rattle.px_core.specs.Plan.{Site}
 use Rattle.px_event.specs.declared.event.Event.{Event as Posted}
 use Rattle.px_sem.specs.declared.moves.Move.{Move}
 use Rattle.px_sem.specs.World.{World, initial_world}
 use Rattle.px_sem.specs.Conflicts.{is_quiet}
 use Rattle.px_sem.specs.Events.{take}
-use Rattle.px_sem.specs.Run.{after_steps}
+use Rattle.px_sem.specs.Run.{after_steps, step_limit}
 use Rattle.px_sem.specs.Step.{micro, moves}
 
 -- what is begun: nothing, event 0, or an event, with the settled world before it
@@ -62,7 +62,7 @@ Steps old new made true =
     (is_quiet old.nodes old.world ≡ false) × (new ≡ stepped old) × (made ≡ moves old.nodes old.world)
 Steps old new made false = (is_quiet old.nodes old.world ≡ true) × (new ≡ old) × (made ≡ [])
 
--- moves that are those of before, or of one of the micro steps from a state on
+-- moves that are those of before, or of one of the micro steps from a state on, of which so many are tried
 abbrev pub AreOnTheWay : State → List Move → List Move → Type 0
 AreOnTheWay from before now =
-    (now ≡ before) ⊎ ((k : ℕ) × (now ≡ moves from.nodes (after_steps from.nodes from.world k)))
+    (now ≡ before) ⊎ ((k : ℕ) × (k ≤ step_limit) × (now ≡ moves from.nodes (after_steps from.nodes from.world k)))

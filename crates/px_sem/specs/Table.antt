@@ -1,5 +1,5 @@
--- The transition table, after the transition diagrams of the PLEXIL reference manual: for each state the rows in order, of
--- which the first whose guard holds decides.
+-- The transition table in this project's own profile, after the transition diagrams of the PLEXIL reference manual: for each
+-- state the rows in order, of which the first whose guard holds decides.
 use Rattle.std.specs.Prelude.{Bool, true, false, not, ◌&&◌, ◌++◌, List, [], ◌∷◌, Option, Some, None, if◌then◌else◌}
 use Rattle.px_value.specs.declared.enums.NodeState.{NodeState}
 use Rattle.px_value.specs.declared.enums.NodeState.TheVariants.{Inactive, Waiting, Executing, Finishing, IterationEnded, Failing, Finished}

@@ -22,6 +22,7 @@ use Rattle.px_sem.specs.World.{World, initial_world, standing_of}
 use Rattle.px_sem.specs.Events.{take}
 use Rattle.px_sem.specs.Log.{Log, events_of, accepted}
 use Rattle.px_sem.specs.Run.{after_steps, settling_count, started, posted, settled_world, run}
+use Rattle.px_value.specs.Text.{escape_letter}
 use Rattle.px_sem.specs.Step.{moves}
 
 -- a line
@@ -30,11 +31,13 @@ line text = text ++ codes "\n"
 
 -- ---- values
 
--- a byte of a string between quotes: the quote, the backslash, the line feed and the tab are escaped
+-- a byte of a string between quotes: its escape, where it has one
 abbrev pub escaped : ℕ → List ℕ
-escaped c =
-    if c == 34 then codes "\\\""
-    else (if c == 92 then codes "\\\\" else (if c == 10 then codes "\\n" else (if c == 9 then codes "\\t" else c ∷ [])))
+escaped byte = of (escape_letter byte)
+  where
+    of : Option ℕ → List ℕ
+    of None = byte ∷ []
+    of (Some letter) = codes "\\" ++ letter ∷ []
 
 abbrev pub value_text : Value → List ℕ
 value_text values.Unknown = codes "UNKNOWN"

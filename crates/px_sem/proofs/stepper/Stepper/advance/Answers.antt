@@ -19,7 +19,7 @@ pub loop-taken-preserved : goal.loop-taken-preserved
 loop-taken-preserved g c =
     record {
       underway = underway_after_step _ _ _ _ _ _ c.loop-taken.invariant.underway c.in-Ok-true.field-0-test c.in-Ok-true.ensures.ok;
-      moves = inr (c.loop-taken.taken, moves_of_step _ _ _ _ _ _ c.loop-taken.invariant.underway c.in-Ok-true.field-0-test c.in-Ok-true.ensures.ok);
+      moves = inr (c.loop-taken.taken, omega arith, moves_of_step _ _ _ _ _ _ c.loop-taken.invariant.underway c.in-Ok-true.field-0-test c.in-Ok-true.ensures.ok);
     }
 
 pub returns-clause-runaway : goal.returns-clause-runaway
