@@ -8,7 +8,7 @@ use Rattle.px_sem.specs.Run.{started}
 use Rattle.px_form.proofs.Readings.{one_reading}
 use Rattle.px_script.specs.declared.todo.Todo.{Todo}
 use Rattle.px_script.specs.Script.{Threads, Fault, script}
-use Rattle.px_run.specs.Causes.{HasPlan, HasScript, OperandIsRefused, ReadsScript, FailsToRead, Cause, IsComplete, IsRefused}
+use Rattle.px_run.specs.Causes.{HasPlan, HasScript, ReadsPlan, OperandIsRefused, ReadsScript, FailsToRead, Cause, IsComplete, IsRefused}
 use Rattle.px_run.specs.Ending.{Ending, DryRunEndsBy, DryRunEnds, of_start, start_ending}
 use Rattle.px_run.specs.File.{FileKind, Seen, Content, Longer, Unreadable, Shows, Refuses, Reads, After, Holds, HoldsNone}
 use Rattle.px_run.specs.Headline.{CommandCallsFor, CallsFor, Delivers, Headline}
@@ -63,20 +63,20 @@ refused_plan : (words : List (List ℕ)) (old new : View) (plan : List ℕ) (see
     → Shows plan_file.limit old new plan seen → Refuses plan_file seen ending → Cause words old new ending.status
 refused_plan words old new plan seen ending has shows refuses =
     refused_file Tree plan_file 3 HasPlan words old new plan seen ending plan_kind has
-    (λ r. Cause.plan_refused r) (λ rose. Cause.read_fault (plan, inl has, rose)) shows refuses
+    (λ r. Cause.plan_refused r) (λ rose. Cause.read_fault (inl (plan, has, rose))) shows refuses
 
-refused_script : (words : List (List ℕ)) (old new : View) (name : List ℕ) (seen : Seen) (ending : Ending) → HasScript words name
-    → Shows script_file.limit old new name seen → Refuses script_file seen ending → Cause words old new ending.status
-refused_script words old new name seen ending has shows refuses =
+refused_script : (words : List (List ℕ)) (old new : View) (name : List ℕ) (seen : Seen) (ending : Ending) → ReadsPlan words old new
+    → HasScript words name → Shows script_file.limit old new name seen → Refuses script_file seen ending → Cause words old new ending.status
+refused_script words old new name seen ending plan has shows refuses =
     refused_file (List Todo) script_file 4 HasScript words old new name seen ending script_kind has
-    (λ r. Cause.script_refused r) (λ rose. Cause.read_fault (name, inr has, rose)) shows refuses
+    (λ r. Cause.script_refused plan r) (λ rose. Cause.read_fault (inr (plan, (name, has, rose)))) shows refuses
 
 -- ---- a start, with the script read where there is one
 
 start : (words : List (List ℕ)) (old new : View) (plan : List ℕ) (tree : Tree) (o : Option (World × ℕ)) → HasPlan words plan
     → Reads plan_file old new plan tree → ReadsScript words old new → started (sites tree) ≡ o
     → Cause words old new (of_start (sites tree) o).status
-start words old new plan tree None has reads scripts is = Cause.runaway (plan, tree, has, reads, is)
+start words old new plan tree None has reads scripts is = Cause.runaway (plan, tree, has, reads, is) scripts
 start words old new plan tree (Some at) has reads scripts is = Cause.done (plan, tree, has, reads, rw is refl) scripts
 
 -- a dry run has the status of its start
@@ -113,7 +113,8 @@ called words old new ending calls = by (command words) refl calls
     by (Some (DryRun plan name)) asks (seen, shows, inl refuses) =
         refused_plan words old new plan seen ending (ap (option_and_then plan_of) asks) shows refuses
     by (Some (DryRun plan name)) asks (read, shown, inr (tree, form, (seen, shows, inl refuses))) =
-        refused_script words old new name seen ending (ap (option_and_then script_of) asks) shows refuses
+        refused_script words old new name seen ending (plan, tree, ap (option_and_then plan_of) asks, (read, shown, form))
+        (ap (option_and_then script_of) asks) shows refuses
     by (Some (DryRun plan name)) asks (read, shown, inr (tree, form, (seen, shows, inr (threads, spells, ends)))) =
         subst (λ s. Cause words old new s) (sym (dry_run_status tree threads ending ends))
         (start words old new plan tree (started (sites tree)) (ap (option_and_then plan_of) asks) (read, shown, form)
@@ -180,7 +181,7 @@ no_plan words plan none has = let same = ap (option_and_then plan_of) none in cc
 
 -- what the command calls for behind its plan, whatever the command
 pub complete : (words : List (List ℕ)) (old new : View) (status : ℕ) → Headline words old new status → IsComplete words old new status
-complete words old new status headline plan files tree has told holds scripts readable sound =
+complete words old new status headline plan files tree has told holds scripts readable script_readable sound =
     sound_status words old new status (start_ending tree).status headline sound (λ ending calls. of_calls ending (command words) refl calls)
   where
     of_calls : (ending : Ending) (asked : Option Command) → command words ≡ asked → CommandCallsFor asked old new ending
@@ -190,54 +191,56 @@ complete words old new status headline plan files tree has told holds scripts re
         let all = ap (option_and_then plan_of) is in
         let same : other ≡ plan = cc in
         ap (λ e. e.status) (held Tree plan_file 3 old new files plan tree (λ t e. e ≡ start_ending t) ending plan_kind told holds
-        (λ rose. readable (plan, inl has, rose)) (subst (λ name. After plan_file old new name (λ t e. e ≡ start_ending t) ending) same c))
+        (λ rose. readable (plan, has, rose)) (subst (λ name. After plan_file old new name (λ t e. e ≡ start_ending t) ending) same c))
     of_calls ending (Some (DryRun other name)) is c =
         let all = ap (option_and_then plan_of) is in
         let same : other ≡ plan = cc in
         let asks : HasScript words name = ap (option_and_then script_of) is in
         let found = scripts name asks in
         let next = held Tree plan_file 3 old new files plan tree (λ t. After script_file old new name (DryRunEnds t)) ending plan_kind told holds
-        (λ rose. readable (plan, inl has, rose))
+        (λ rose. readable (plan, has, rose))
         (subst (λ n. After plan_file old new n (λ t. After script_file old new name (DryRunEnds t)) ending) same c) in
         dry_run_status tree found.0 ending
-        (held (List Todo) script_file 4 old new files name found.0 (DryRunEnds tree) ending script_kind told found.1 (λ rose. readable (name, inr asks, rose)) next)
+        (held (List Todo) script_file 4 old new files name found.0 (DryRunEnds tree) ending script_kind told found.1 (λ rose. script_readable (name, asks, rose)) next)
 
 pub refused : (words : List (List ℕ)) (old new : View) (status : ℕ) → Headline words old new status → IsRefused words old new status
 refused words old new status headline = record {
   plan = λ plan files has told holds readable sound.
       sound_status words old new status 3 headline sound (λ ending c. of_plan ending plan files has told holds readable (command words) refl c);
-  script = λ plan name files tree has asks told holds faulty readable sound.
-      sound_status words old new status 4 headline sound (λ ending c. of_script ending plan name files tree has asks told holds faulty readable (command words) refl c);
+  script = λ plan name files tree has asks told holds faulty readable script_readable sound.
+      sound_status words old new status 4 headline sound
+      (λ ending c. of_script ending plan name files tree has asks told holds faulty readable script_readable (command words) refl c);
 }
   where
     of_plan : (ending : Ending) (plan : List ℕ) (files : Files) → HasPlan words plan → old.files ≡ Some files → HoldsNone plan_file files plan
-        → ¬ FailsToRead words old new → (asked : Option Command) → command words ≡ asked → CommandCallsFor asked old new ending → ending.status ≡ 3
+        → ¬ FailsToRead HasPlan words old new → (asked : Option Command) → command words ≡ asked → CommandCallsFor asked old new ending
+        → ending.status ≡ 3
     of_plan ending plan files has told holds readable None is c = absurd (no_plan words plan is has)
     of_plan ending plan files has told holds readable (Some (TraceStart other)) is c =
         let all = ap (option_and_then plan_of) is in
         let same : other ≡ plan = cc in
         none_held Tree plan_file 3 old new files plan (λ t e. e ≡ start_ending t) ending plan_kind told holds
-        (λ rose. readable (plan, inl has, rose)) (subst (λ name. After plan_file old new name (λ t e. e ≡ start_ending t) ending) same c)
+        (λ rose. readable (plan, has, rose)) (subst (λ name. After plan_file old new name (λ t e. e ≡ start_ending t) ending) same c)
     of_plan ending plan files has told holds readable (Some (DryRun other name)) is c =
         let all = ap (option_and_then plan_of) is in
         let same : other ≡ plan = cc in
         none_held Tree plan_file 3 old new files plan (λ t. After script_file old new name (DryRunEnds t)) ending plan_kind told holds
-        (λ rose. readable (plan, inl has, rose))
+        (λ rose. readable (plan, has, rose))
         (subst (λ n. After plan_file old new n (λ t. After script_file old new name (DryRunEnds t)) ending) same c)
 
     of_script : (ending : Ending) (plan name : List ℕ) (files : Files) (tree : Tree) → HasPlan words plan → HasScript words name
-        → old.files ≡ Some files → Holds plan_file files plan tree → HoldsNone script_file files name → ¬ FailsToRead words old new
-        → (asked : Option Command) → command words ≡ asked → CommandCallsFor asked old new ending → ending.status ≡ 4
-    of_script ending plan name files tree has asks told holds faulty readable None is c = absurd (no_plan words plan is has)
-    of_script ending plan name files tree has asks told holds faulty readable (Some (TraceStart other)) is c =
+        → old.files ≡ Some files → Holds plan_file files plan tree → HoldsNone script_file files name → ¬ FailsToRead HasPlan words old new
+        → ¬ FailsToRead HasScript words old new → (asked : Option Command) → command words ≡ asked → CommandCallsFor asked old new ending → ending.status ≡ 4
+    of_script ending plan name files tree has asks told holds faulty readable script_readable None is c = absurd (no_plan words plan is has)
+    of_script ending plan name files tree has asks told holds faulty readable script_readable (Some (TraceStart other)) is c =
         let all = ap (option_and_then script_of) is in cc
-    of_script ending plan name files tree has asks told holds faulty readable (Some (DryRun other found)) is c =
+    of_script ending plan name files tree has asks told holds faulty readable script_readable (Some (DryRun other found)) is c =
         let plans = ap (option_and_then plan_of) is in
         let scripts = ap (option_and_then script_of) is in
         let same : other ≡ plan = cc in
         let same_script : found ≡ name = cc in
         let next = held Tree plan_file 3 old new files plan tree (λ t. After script_file old new found (DryRunEnds t)) ending plan_kind told holds
-        (λ rose. readable (plan, inl has, rose))
+        (λ rose. readable (plan, has, rose))
         (subst (λ n. After plan_file old new n (λ t. After script_file old new found (DryRunEnds t)) ending) same c) in
-        none_held (List Todo) script_file 4 old new files name (DryRunEnds tree) ending script_kind told faulty (λ rose. readable (name, inr asks, rose))
+        none_held (List Todo) script_file 4 old new files name (DryRunEnds tree) ending script_kind told faulty (λ rose. script_readable (name, asks, rose))
         (subst (λ n. After script_file old new n (DryRunEnds tree) ending) same_script next)

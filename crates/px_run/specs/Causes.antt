@@ -19,6 +19,10 @@ HasPlan words plan = option_and_then plan_of (command words) ≡ Some plan
 abbrev pub HasScript : List (List ℕ) → List ℕ → Type 0
 HasScript words name = option_and_then script_of (command words) ≡ Some name
 
+-- the plan's file spells a plan
+abbrev pub ReadsPlan : List (List ℕ) → View → View → Type 0
+ReadsPlan words old new = (plan : List ℕ) × (tree : Tree) × HasPlan words plan × Reads plan_file old new plan tree
+
 -- the plan's file spells a plan, whose start is such
 abbrev pub Starts : List (List ℕ) → View → View → (Option (World × ℕ) → Type 0) → Type 0
 Starts words old new IsSuch =
@@ -33,19 +37,21 @@ ReadsScript words old new =
 abbrev pub OperandIsRefused : {A : Type 0} → FileKind A → (List (List ℕ) → List ℕ → Type 0) → List (List ℕ) → View → View → Type 0
 OperandIsRefused kind Has words old new = (name : List ℕ) × Has words name × IsRefusedAs kind old new name
 
--- a fetch of the plan or of the script failed
-abbrev pub FailsToRead : List (List ℕ) → View → View → Type 0
-FailsToRead words old new =
-    (name : List ℕ) × (HasPlan words name ⊎ HasScript words name) × (old.read_faults name < new.read_faults name)
+-- a fetch of the file that the command has as this operand failed
+abbrev pub FailsToRead : (List (List ℕ) → List ℕ → Type 0) → List (List ℕ) → View → View → Type 0
+FailsToRead Has words old new =
+    (name : List ℕ) × Has words name × (old.read_faults name < new.read_faults name)
 
--- THE TABLE OF STATUSES: each with its cause
+-- THE TABLE OF STATUSES: each with its cause. What comes behind a plan or a script comes only where that was read.
 pub data Cause (words : List (List ℕ)) (old new : View) : ℕ → Type 0 where
   done : Starts words old new (λ start. IsSome start) → ReadsScript words old new → Cause words old new 0
   no_command : command words ≡ None → Cause words old new 2
   plan_refused : OperandIsRefused plan_file HasPlan words old new → Cause words old new 3
-  script_refused : OperandIsRefused script_file HasScript words old new → Cause words old new 4
-  runaway : Starts words old new (λ start. start ≡ None) → Cause words old new 6
-  read_fault : FailsToRead words old new → Cause words old new 7
+  script_refused : ReadsPlan words old new → OperandIsRefused script_file HasScript words old new → Cause words old new 4
+  runaway : Starts words old new (λ start. start ≡ None) → ReadsScript words old new → Cause words old new 6
+  read_fault :
+      FailsToRead HasPlan words old new ⊎ (ReadsPlan words old new × FailsToRead HasScript words old new)
+      → Cause words old new 7
   sink_fault : Faulted old new → Cause words old new 8
   no_memory : Cause words old new 10
 
@@ -55,7 +61,7 @@ IsComplete words old new status =
     (plan : List ℕ) (files : Files) (tree : Tree) → HasPlan words plan
     → old.files ≡ Some files → Holds plan_file files plan tree
     → ((name : List ℕ) → HasScript words name → (threads : List Todo) × Holds script_file files name threads)
-    → ¬ FailsToRead words old new → ¬ Faulted old new
+    → ¬ FailsToRead HasPlan words old new → ¬ FailsToRead HasScript words old new → ¬ Faulted old new
     → (status ≡ 10) ⊎ (status ≡ (start_ending tree).status)
 
 -- A plan that is refused, or a script behind a plan that is not, and no fault: the command is refused so, or memory is
@@ -63,8 +69,9 @@ IsComplete words old new status =
 pub record IsRefused (words : List (List ℕ)) (old new : View) (status : ℕ) : Type 0 where
   pub plan :
       (plan : List ℕ) (files : Files) → HasPlan words plan → old.files ≡ Some files → HoldsNone plan_file files plan
-      → ¬ FailsToRead words old new → ¬ Faulted old new → (status ≡ 10) ⊎ (status ≡ 3)
+      → ¬ FailsToRead HasPlan words old new → ¬ Faulted old new → (status ≡ 10) ⊎ (status ≡ 3)
   pub script :
       (plan name : List ℕ) (files : Files) (tree : Tree) → HasPlan words plan → HasScript words name
       → old.files ≡ Some files → Holds plan_file files plan tree → HoldsNone script_file files name
-      → ¬ FailsToRead words old new → ¬ Faulted old new → (status ≡ 10) ⊎ (status ≡ 4)
+      → ¬ FailsToRead HasPlan words old new → ¬ FailsToRead HasScript words old new → ¬ Faulted old new
+      → (status ≡ 10) ⊎ (status ≡ 4)
