@@ -4,9 +4,9 @@ use Rattle.std.specs.Prelude.{Result, Ok, Err, IfOk, Some, Vec}
 use Rattle.std.proofs.lemmas.Bool.{cases_lt}
 use Rattle.std.proofs.lemmas.List.{take_at, take_all, length_push}
 use Rattle.px_ports.specs.Moment.{overwritten, Torn, Elapses, Stays}
-use Rattle.px_ports.specs.Disk.{Writes, Syncs}
+use Rattle.px_ports.specs.Disk.{NoShorter, Writes, Syncs}
 use Rattle.px_ports.specs.Replay.{read_after, LeftByWrite, Leaves, read_of, images_of, picked}
-use Rattle.px_ports.specs.ReplayLaws.{Torn-same, picked-left, read_of-left}
+use Rattle.px_ports.specs.ReplayLaws.{Torn-same, length-overwritten, picked-left, read_of-left}
 use Rattle.px_ports.specs.declared.disk.DiskFault.{DiskFault}
 use Rattle.px_ports.specs.declared.moment.Moment.{Moment}
 use Rattle.px_ports.specs.declared.moment.Moment.TheVariants.{Began, Wrote, FailedToWrite, Settled}
@@ -56,12 +56,24 @@ module _ (step : List ℕ → List ℕ → Type 0) (stays : (file : List ℕ) �
 
 -- ---- the calls
 
+no_shorter_told : (old new : List ℕ) → length old ≤ length new → NoShorter (Some old) (Some new)
+no_shorter_told old new fits was is_old is is_new =
+    let before : old ≡ was = cc in
+    let after : new ≡ is = cc in
+    rw (← before, ← after) fits
+
+no_shorter_same : (old new : List ℕ) → new ≡ old → NoShorter (Some old) (Some new)
+no_shorter_same old new same = no_shorter_told old new (rw same (omega arith))
+
 module _ (moments later : List Moment) where
   pub writes_ok : (at : ℕ) (bytes : List ℕ) → later ≡ moments ++ Wrote at bytes ∷ []
       → Writes images_of at bytes (Some (read_of moments)) (Some (read_of later)) moments later (Ok tt)
   writes_ok at bytes is = record {
     written = ap Some (read_of-push moments later (Wrote at bytes) is);
     tells = refl;
+    no_shorter =
+        let read : read_of later ≡ overwritten at bytes (read_of moments) = read_of-push moments later (Wrote at bytes) is in
+        no_shorter_told (read_of moments) (read_of later) (rw read (omega (arith, length-overwritten at bytes (read_of moments))));
     elapses = elapses_push (Torn at (length bytes)) (Torn-same at (length bytes)) moments later (Wrote at bytes) is (λ image by. (by.0, by.1, by.2));
   }
 
@@ -70,6 +82,8 @@ module _ (moments later : List Moment) where
   writes_err fault at bytes room is = record {
     written = tt;
     tells = refl;
+    no_shorter = no_shorter_same (read_of moments) (read_of later)
+        (⊎_elim (λ added. read_of-push moments later (FailedToWrite at (length bytes)) added) (λ full. ap read_of full.1) is);
     elapses = ⊎_elim
         (λ added. elapses_push (Torn at (length bytes)) (Torn-same at (length bytes)) moments later (FailedToWrite at (length bytes)) added (λ image by. (by.0, by.1, by.2)))
         (λ full. elapses_same (Torn at (length bytes)) (Torn-same at (length bytes)) moments later full.1) is;
@@ -82,6 +96,7 @@ module _ (moments later : List Moment) where
         let read : read_of moments ≡ told = cc in
         images_of-push moments Settled image (subst (λ (ms : List Moment). images_of ms image) is left) ∙ read;
     tells = refl;
+    no_shorter = no_shorter_same (read_of moments) (read_of later) (read_of-push moments later Settled is);
     elapses = elapses_push Stays (λ file. refl) moments later Settled is (λ image read. (read_of moments, read_of-left moments, read));
   }
 

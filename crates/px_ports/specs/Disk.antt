@@ -38,12 +38,18 @@ pub record OnlyReads (images : Images) (old new : Told) (before now : List Momen
   pub elapses : Elapses images Stays before now
   pub kept : (image : List ℕ) → images before image → images now image
 
+-- no call cuts the file: a read gives at least as many bytes as before, where the disk tells them
+abbrev pub NoShorter : Told → Told → Type 0
+NoShorter old new = ForSome old (λ was. ForSome new (λ is. length was ≤ length is))
+
 -- at Ok the bytes stand in their range and the others as before; whatever the answer, a crash may tear the range and
 -- nothing else: `elapses`, by `Torn`, is the guarantee that a torn write spares the bytes around it
 pub record Writes (images : Images) (at : ℕ) (bytes : List ℕ) (old new : Told)
     (before now : List Moment) (result : Result Unit DiskFault) : Type 0 where
   pub written : OnOk result (new ≡ option_map (overwritten at bytes) old)
   pub tells : is_some new ≡ is_some old
+  -- also where the write failed
+  pub no_shorter : NoShorter old new
   pub elapses : Elapses images (Torn at (length bytes)) before now
 
 -- at Ok the one image is what a read gives; whatever the answer, each image is one from before: `settled` is the
@@ -53,4 +59,6 @@ pub record Syncs (images : Images) (old new : Told)
   pub bytes : OnOk result (new ≡ old)
   pub settled : OnOk result (ForSome old (λ told. (image : List ℕ) → images now image → image ≡ told))
   pub tells : is_some new ≡ is_some old
+  -- also where the sync failed
+  pub no_shorter : NoShorter old new
   pub elapses : Elapses images Stays before now

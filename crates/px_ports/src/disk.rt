@@ -13,8 +13,8 @@ pub struct DiskFault;
 ///
 /// Between two syncs each written range and the part past the old end may hold any bytes after a crash, and the length
 /// is any from the old to the new one; after a sync a crash leaves just what a read gives. A write or a sync that
-/// failed leaves any image that the same call might have left. No call cuts the file. The calls are device calls, apart
-/// from `faults`.
+/// failed leaves any image that the same call might have left. No call cuts the file: after each, also after one that
+/// failed, a read gives at least as many bytes as before. The calls are device calls, apart from `faults`.
 pub trait Disk {
     /// The name to which the disk is bound; none before an `attach`.
     ghost bound_to: { Self → Option (List ℕ) };
