@@ -1,172 +1,287 @@
-// Expressions with all their parentheses, and the places of faults.
+// Expressions with all their parentheses and the numbers of their tokens, and the places of faults.
+mod show;
+
 use crate::operation::{parse_expr, whole};
 use px_lex::lex;
-use px_syntax::{
-    Attribute, BinaryFunction, BinaryOperator, Enumerated, Literal, LookWord, NodeReference,
-    ParseFault, SurfaceExpr, UnaryFunction, UnaryOperator,
-};
+use px_syntax::ParseFault;
+use show::{numbered, show};
 use std::alloc::Global;
 use std::process::Abort;
 use std::test::Fail;
 
-/// The tree, with parentheses round each operation, and the number of each identifier behind it.
-fn show(alloc: Global, tree: &SurfaceExpr, out: &mut String) -> Result<(), Fail> {
-    match tree {
-        SurfaceExpr::Literal { value, .. } => show_literal(alloc, value, out)?,
-        SurfaceExpr::Enumerated { value, .. } => out.push_str(word_of(*value))?,
-        SurfaceExpr::Variable(name) => out.push_str(name.name.as_str())?,
-        SurfaceExpr::Element { array, index } => {
-            out.push_str(array.name.as_str())?;
-            out.push_str("[")?;
-            show(alloc, index, out)?;
-            out.push_str("]")?;
-        }
-        SurfaceExpr::Attribute { node, attribute } => {
-            show_node(alloc, node, out)?;
-            out.push_str(attribute_of(*attribute))?;
-        }
-        SurfaceExpr::Look {
-            word,
-            name,
-            args,
-            ..
-        } => {
-            out.push_str(look_of(*word))?;
-            out.push_str(name.name.as_str())?;
-            for arg in args {
-                out.push_str(" ")?;
-                show(alloc, arg, out)?;
-            }
-            out.push_str(">")?;
-        }
-        SurfaceExpr::UnaryCall {
-            function,
-            argument,
-            ..
-        } => {
-            out.push_str(match function {
-                UnaryFunction::IsKnown => "isKnown<",
-                UnaryFunction::Abs => "abs<",
-                UnaryFunction::StrLen => "strlen<",
-            })?;
-            show(alloc, argument, out)?;
-            out.push_str(">")?;
-        }
-        SurfaceExpr::BinaryCall {
-            function,
-            first,
-            second,
-            ..
-        } => {
-            out.push_str(match function {
-                BinaryFunction::Min => "min<",
-                BinaryFunction::Max => "max<",
-            })?;
-            show(alloc, first, out)?;
-            out.push_str(" ")?;
-            show(alloc, second, out)?;
-            out.push_str(">")?;
-        }
-        SurfaceExpr::Unary {
-            operator,
-            operand,
-            ..
-        } => {
-            out.push_str(match operator {
-                UnaryOperator::Not => "(!",
-                UnaryOperator::Negative => "(-",
-            })?;
-            show(alloc, operand, out)?;
-            out.push_str(")")?;
-        }
-        SurfaceExpr::Binary {
-            operator,
-            left,
-            right,
-        } => {
-            out.push_str("(")?;
-            show(alloc, left, out)?;
-            out.push_str(sign_of(*operator))?;
-            show(alloc, right, out)?;
-            out.push_str(")")?;
-        }
-    }
-    Ok(())
-}
+/// Operators of different levels.
+const LEVELS: [(&str, &str); 40] = [
+    ("a || b XOR c", "(a@0||(b@2 XOR c@4)) 5"),
+    ("a OR b XOR c", "(a@0||(b@2 XOR c@4)) 5"),
+    ("a XOR b OR c", "((a@0 XOR b@2)||c@4) 5"),
+    ("a XOR b || c", "((a@0 XOR b@2)||c@4) 5"),
+    ("a XOR b && c", "(a@0 XOR (b@2&&c@4)) 5"),
+    ("a XOR b AND c", "(a@0 XOR (b@2&&c@4)) 5"),
+    ("a AND b XOR c", "((a@0&&b@2) XOR c@4) 5"),
+    ("a && b XOR c", "((a@0&&b@2) XOR c@4) 5"),
+    ("a && b == c", "(a@0&&(b@2==c@4)) 5"),
+    ("a AND b != c", "(a@0&&(b@2!=c@4)) 5"),
+    ("a == b && c", "((a@0==b@2)&&c@4) 5"),
+    ("a != b AND c", "((a@0!=b@2)&&c@4) 5"),
+    ("a == b < c", "(a@0==(b@2<c@4)) 5"),
+    ("a == b <= c", "(a@0==(b@2<=c@4)) 5"),
+    ("a != b > c", "(a@0!=(b@2>c@4)) 5"),
+    ("a == b >= c", "(a@0==(b@2>=c@4)) 5"),
+    ("a < b == c", "((a@0<b@2)==c@4) 5"),
+    ("a <= b != c", "((a@0<=b@2)!=c@4) 5"),
+    ("a > b == c", "((a@0>b@2)==c@4) 5"),
+    ("a >= b != c", "((a@0>=b@2)!=c@4) 5"),
+    ("a < b + c", "(a@0<(b@2+c@4)) 5"),
+    ("a <= b + c", "(a@0<=(b@2+c@4)) 5"),
+    ("a > b - c", "(a@0>(b@2-c@4)) 5"),
+    ("a >= b + c", "(a@0>=(b@2+c@4)) 5"),
+    ("a + b < c", "((a@0+b@2)<c@4) 5"),
+    ("a - b > c", "((a@0-b@2)>c@4) 5"),
+    ("a - b >= c", "((a@0-b@2)>=c@4) 5"),
+    ("a + b * c", "(a@0+(b@2*c@4)) 5"),
+    ("a - b / c", "(a@0-(b@2/c@4)) 5"),
+    ("a + b % c", "(a@0+(b@2%c@4)) 5"),
+    ("a * b + c", "((a@0*b@2)+c@4) 5"),
+    ("a / b - c", "((a@0/b@2)-c@4) 5"),
+    ("a % b - c", "((a@0%b@2)-c@4) 5"),
+    ("a * - b", "(a@0*(-@2 b@3)) 4"),
+    ("a / NOT b", "(a@0/(!@2 b@3)) 4"),
+    ("a % - b", "(a@0%(-@2 b@3)) 4"),
+    ("- a * b", "((-@0 a@1)*b@3) 4"),
+    ("! a * b", "((!@0 a@1)*b@3) 4"),
+    ("NOT a / b", "((!@0 a@1)/b@3) 4"),
+    ("! a % b", "((!@0 a@1)%b@3) 4"),
+];
 
-fn show_literal(alloc: Global, value: &Literal, out: &mut String) -> Result<(), Fail> {
-    match value {
-        Literal::Integer(number) => out.push_str(format!(in alloc; "{number}")?.as_str())?,
-        Literal::Boolean(true) => out.push_str("true")?,
-        Literal::Boolean(false) => out.push_str("false")?,
-        Literal::Text(text) => out.push_str(text.as_str())?,
-    }
-    Ok(())
-}
+/// Operators of one level.
+const GROUPS: [(&str, &str); 14] = [
+    ("a || b OR c", "((a@0||b@2)||c@4) 5"),
+    ("a OR b || c", "((a@0||b@2)||c@4) 5"),
+    ("a XOR b XOR c", "((a@0 XOR b@2) XOR c@4) 5"),
+    ("a AND b && c", "((a@0&&b@2)&&c@4) 5"),
+    ("a == b != c", "((a@0==b@2)!=c@4) 5"),
+    ("a != b == c", "((a@0!=b@2)==c@4) 5"),
+    ("a < b >= c", "((a@0<b@2)>=c@4) 5"),
+    ("a <= b > c", "((a@0<=b@2)>c@4) 5"),
+    ("a >= b < c", "((a@0>=b@2)<c@4) 5"),
+    ("a - b + c - d", "(((a@0-b@2)+c@4)-d@6) 7"),
+    ("a / b * c % d", "(((a@0/b@2)*c@4)%d@6) 7"),
+    ("a % b * c", "((a@0%b@2)*c@4) 5"),
+    ("a - (b - c)", "(a@0-(b@3-c@5)) 7"),
+    ("((a)) - b", "(a@2-b@6) 7"),
+];
 
-fn show_node(alloc: Global, node: &NodeReference, out: &mut String) -> Result<(), Fail> {
-    let (word, token) = match node {
-        NodeReference::Named(name) => (name.name.as_str(), name.token),
-        NodeReference::SelfNode(token) => ("Self", *token),
-        NodeReference::Parent(token) => ("Parent", *token),
-        NodeReference::Sibling(_, name) => (name.name.as_str(), name.token),
-        NodeReference::Child(_, name) => (name.name.as_str(), name.token),
-    };
-    out.push_str(word)?;
-    out.push_str(format!(in alloc; "@{token}")?.as_str())?;
-    Ok(())
-}
+/// Operators before one operand.
+const BEFORE_ONE: [(&str, &str); 12] = [
+    ("! NOT - a", "(!@0 (!@1 (-@2 a@3))) 4"),
+    ("NOT ! - a", "(!@0 (!@1 (-@2 a@3))) 4"),
+    ("- NOT a", "(-@0 (!@1 a@2)) 3"),
+    ("- - 1", "(-@0 (-@1 1@2)) 3"),
+    ("--1", "(-@0 (-@1 1@2)) 3"),
+    ("-1", "(-@0 1@1) 2"),
+    ("1 -1", "(1@0-1@2) 3"),
+    ("1 - - 1", "(1@0-(-@2 1@3)) 4"),
+    ("-a[i]", "(-@0 a@1[i@3]) 5"),
+    ("!(a && b)", "(!@0 (a@2&&b@4)) 6"),
+    ("!a && b", "((!@0 a@1)&&b@3) 4"),
+    ("-2147483647 - 1", "((-@0 2147483647@1)-1@3) 4"),
+];
 
-fn word_of(value: Enumerated) -> &'static str {
-    match value {
-        Enumerated::State(state) => state.word(),
-        Enumerated::Outcome(outcome) => outcome.word(),
-        Enumerated::Failure(failure) => failure.word(),
-        Enumerated::Handle(handle) => handle.word(),
-    }
-}
+/// Expressions that are no operation, and parentheses.
+const PRIMARIES: [(&str, &str); 27] = [
+    ("true == false", "(true@0==false@2) 3"),
+    ("\"a b\" + x", "(\"a b\"@0+x@2) 3"),
+    ("f(1)", "f@0 1"),
+    ("a[i + 1] * 2", "(a@0[(i@2+1@4)]*2@7) 8"),
+    ("a[b[i]]", "a@0[b@2[i@4]] 7"),
+    ("a[i || j]", "a@0[(i@2||j@4)] 6"),
+    ("a[(i)]", "a@0[i@3] 6"),
+    ("((a + b))", "(a@2+b@4) 7"),
+    ("(a * b) + c", "((a@1*b@3)+c@6) 7"),
+    ("n.outcome", "n@0.outcome 3"),
+    (
+        "n.command_handle == COMMAND_DENIED",
+        "(n@0.command_handle==COMMAND_DENIED@4) 5",
+    ),
+    ("Self.state == EXECUTING", "(Self@0.state==EXECUTING@4) 5"),
+    ("Self.command_handle", "Self@0.command_handle 3"),
+    (
+        "Parent.outcome == SKIPPED",
+        "(Parent@0.outcome==SKIPPED@4) 5",
+    ),
+    ("Parent.failure", "Parent@0.failure 3"),
+    (
+        "Sibling(x).failure == EXITED",
+        "(Sibling@0(x@2).failure==EXITED@7) 8",
+    ),
+    ("Child(y).state", "Child@0(y@2).state 6"),
+    ("Lookup(go)", "Lookup@0<go@2> 4"),
+    ("LookupNow(go())", "LookupNow@0<go@2> 6"),
+    ("LookupNow(a(1))", "LookupNow@0<a@2 1@4> 7"),
+    ("Lookup(a((1)))", "Lookup@0<a@2 1@5> 9"),
+    ("Lookup(a(Lookup(b)))", "Lookup@0<a@2 Lookup@4<b@6>> 10"),
+    (
+        "LookupOnChange(at(1, x + 2))",
+        "LookupOnChange@0<at@2 1@4 (x@6+2@8)> 11",
+    ),
+    (
+        "isKnown(x) && abs(y) < 1",
+        "(isKnown@0<x@2>&&(abs@5<y@7><1@10)) 11",
+    ),
+    ("abs((x))", "abs@0<x@3> 6"),
+    ("strlen(\"ab\")", "strlen@0<\"ab\"@2> 4"),
+    ("min(1, max(2, 3))", "min@0<1@2 max@4<2@6 3@8>> 11"),
+];
 
-fn attribute_of(attribute: Attribute) -> &'static str {
-    match attribute {
-        Attribute::State => ".state",
-        Attribute::Outcome => ".outcome",
-        Attribute::Failure => ".failure",
-        Attribute::CommandHandle => ".command_handle",
-    }
-}
+/// What may stand behind an expression.
+const FOLLOWED: [(&str, &str); 8] = [
+    ("a = b", "a@0 1"),
+    ("a , b", "a@0 1"),
+    ("a : b", "a@0 1"),
+    ("a {", "a@0 1"),
+    ("a ! b", "a@0 1"),
+    ("a NOT b", "a@0 1"),
+    ("1 2", "1@0 1"),
+    ("a == b ) c", "(a@0==b@2) 3"),
+];
 
-fn look_of(word: LookWord) -> &'static str {
-    match word {
-        LookWord::Lookup => "Lookup<",
-        LookWord::LookupNow => "LookupNow<",
-        LookWord::LookupOnChange => "LookupOnChange<",
-    }
-}
+/// Faults of operations, parentheses and indices.
+const OPERATION_FAULTS: [(&str, &str); 29] = [
+    ("", "fault 0"),
+    ("* a", "fault 0"),
+    (")", "fault 0"),
+    ("Start", "fault 0"),
+    ("AND a", "fault 0"),
+    ("!", "fault 1"),
+    ("- ;", "fault 1"),
+    ("! * a", "fault 1"),
+    ("a +", "fault 2"),
+    ("a + ;", "fault 2"),
+    ("a AND", "fault 2"),
+    ("a == * b", "fault 2"),
+    ("(", "fault 1"),
+    ("()", "fault 1"),
+    ("(a", "fault 2"),
+    ("(a ;", "fault 2"),
+    ("(a]", "fault 2"),
+    ("(a, b)", "fault 2"),
+    ("a[", "fault 2"),
+    ("a[]", "fault 2"),
+    ("a[1", "fault 3"),
+    ("a[1)", "fault 3"),
+    ("a[1, 2]", "fault 3"),
+    ("a[1][2]", "fault 4"),
+    ("a + b[1][2]", "fault 6"),
+    ("(a)[1]", "fault 3"),
+    ("1[2]", "fault 1"),
+    ("Lookup(a)[1]", "fault 4"),
+    ("n.state[1]", "fault 3"),
+];
 
-fn sign_of(operator: BinaryOperator) -> &'static str {
-    match operator {
-        BinaryOperator::Or => "||",
-        BinaryOperator::Xor => " XOR ",
-        BinaryOperator::And => "&&",
-        BinaryOperator::Equal => "==",
-        BinaryOperator::Differs => "!=",
-        BinaryOperator::Less => "<",
-        BinaryOperator::AtMost => "<=",
-        BinaryOperator::Greater => ">",
-        BinaryOperator::AtLeast => ">=",
-        BinaryOperator::Plus => "+",
-        BinaryOperator::Minus => "-",
-        BinaryOperator::Times => "*",
-        BinaryOperator::Over => "/",
-        BinaryOperator::Rest => "%",
-    }
-}
+/// Faults of nodes and their attributes.
+const NODE_FAULTS: [(&str, &str); 32] = [
+    ("a.", "fault 2"),
+    ("a.1", "fault 2"),
+    ("a.Start", "fault 2"),
+    ("a.foo", "fault 2"),
+    ("a[1].state", "fault 4"),
+    ("(a).state", "fault 3"),
+    ("1.state", "fault 1"),
+    ("\"s\".state", "fault 1"),
+    ("EXECUTING.state", "fault 1"),
+    ("abs(a).state", "fault 4"),
+    ("Self.state.outcome", "fault 3"),
+    ("Self", "fault 1"),
+    ("Self == 1", "fault 1"),
+    ("Self.", "fault 2"),
+    ("Self.foo", "fault 2"),
+    ("Parent", "fault 1"),
+    ("Parent.foo", "fault 2"),
+    ("Sibling", "fault 1"),
+    ("Sibling.state", "fault 1"),
+    ("Sibling(", "fault 2"),
+    ("Sibling().state", "fault 2"),
+    ("Sibling(Self).state", "fault 2"),
+    ("Sibling(x, y)", "fault 3"),
+    ("Sibling(x)", "fault 4"),
+    ("Sibling(x) == 1", "fault 4"),
+    ("Sibling(x).", "fault 5"),
+    ("Sibling(x).foo", "fault 5"),
+    ("Child y", "fault 1"),
+    ("Child()", "fault 2"),
+    ("Child(y", "fault 3"),
+    ("Child(y)", "fault 4"),
+    ("Child(y).foo", "fault 5"),
+];
 
-/// The expression at the front of a text, and behind it the number of its tokens or the place of the fault.
-fn parsed(alloc: Global, text: &str) -> Result<String, Fail> {
+/// Faults of lookups and functions.
+const CALL_FAULTS: [(&str, &str); 31] = [
+    ("Lookup", "fault 1"),
+    ("Lookup go", "fault 1"),
+    ("Lookup(", "fault 2"),
+    ("Lookup(1)", "fault 2"),
+    ("Lookup(go", "fault 3"),
+    ("Lookup(a 1)", "fault 3"),
+    ("Lookup(go(", "fault 4"),
+    ("Lookup(go(,1))", "fault 4"),
+    ("Lookup(go(1", "fault 5"),
+    ("Lookup(go(1 2))", "fault 5"),
+    ("Lookup(go() 1)", "fault 5"),
+    ("Lookup(go(1)", "fault 6"),
+    ("Lookup(a(1,))", "fault 6"),
+    ("LookupNow(go, 5)", "fault 3"),
+    ("LookupOnChange(t, 5)", "fault 3"),
+    ("isKnown", "fault 1"),
+    ("isKnown x", "fault 1"),
+    ("isKnown()", "fault 2"),
+    ("isKnown(x", "fault 3"),
+    ("abs(", "fault 2"),
+    ("abs(1, 2)", "fault 3"),
+    ("strlen(\"a\" \"b\")", "fault 3"),
+    ("min", "fault 1"),
+    ("min 1", "fault 1"),
+    ("min()", "fault 2"),
+    ("min(1)", "fault 3"),
+    ("min(1,", "fault 4"),
+    ("min(1,)", "fault 4"),
+    ("max(1 2)", "fault 3"),
+    ("max(1, 2", "fault 5"),
+    ("max(1, 2, 3)", "fault 5"),
+];
+
+/// The names of the states, outcomes, failures and handles.
+const WORDS: [&str; 23] = [
+    "INACTIVE",
+    "WAITING",
+    "EXECUTING",
+    "FINISHING",
+    "ITERATION_ENDED",
+    "FAILING",
+    "FINISHED",
+    "SUCCESS",
+    "FAILURE",
+    "SKIPPED",
+    "INTERRUPTED",
+    "PRE_CONDITION_FAILED",
+    "POST_CONDITION_FAILED",
+    "INVARIANT_CONDITION_FAILED",
+    "PARENT_FAILED",
+    "EXITED",
+    "PARENT_EXITED",
+    "COMMAND_SENT_TO_SYSTEM",
+    "COMMAND_ACCEPTED",
+    "COMMAND_RCVD_BY_SYSTEM",
+    "COMMAND_FAILED",
+    "COMMAND_DENIED",
+    "COMMAND_SUCCESS",
+];
+
+/// The expression of a text from a token on, and behind it the place where it ends, or the place of the fault.
+fn parsed(rt: &impl Abort, alloc: Global, text: &str, from: usize) -> Result<String, Fail> {
     let tokens = lex(alloc, text)?;
+    assert!(rt; from <= tokens.len());
     let mut out = String::new(alloc);
-    match whole(alloc, &tokens, 0) {
+    match whole(alloc, &tokens, from) {
         Ok((tree, end)) => {
             show(alloc, &tree, &mut out)?;
             out.push_str(format!(in alloc; " {end}")?.as_str())?;
@@ -174,7 +289,10 @@ fn parsed(alloc: Global, text: &str) -> Result<String, Fail> {
         Err(ParseFault::SyntaxFault { token }) => {
             out.push_str(format!(in alloc; "fault {token}")?.as_str())?;
         }
-        Err(_) => out.push_str("no memory")?,
+        Err(ParseFault::Deep { token }) => {
+            out.push_str(format!(in alloc; "deep {token}")?.as_str())?;
+        }
+        Err(ParseFault::NoMemory) => out.push_str("no memory")?,
     }
     Ok(out)
 }
@@ -182,7 +300,7 @@ fn parsed(alloc: Global, text: &str) -> Result<String, Fail> {
 /// Each text is read as the text beside it.
 fn all_parsed(rt: &impl Abort, alloc: Global, cases: &[(&str, &str)]) -> Result<(), Fail> {
     for (text, tree) in cases {
-        let read = parsed(alloc, text)?;
+        let read = parsed(rt, alloc, text, 0)?;
         assert_eq!(rt; read.as_str(), *tree);
     }
     Ok(())
@@ -190,112 +308,64 @@ fn all_parsed(rt: &impl Abort, alloc: Global, cases: &[(&str, &str)]) -> Result<
 
 #[test]
 fn each_level_binds_tighter_than_the_one_before(rt: HostRuntime) -> Result<(), Fail> {
-    let cases = [
-        ("a || b XOR c", "(a||(b XOR c)) 5"),
-        ("a XOR b OR c", "((a XOR b)||c) 5"),
-        ("a XOR b && c", "(a XOR (b&&c)) 5"),
-        ("a AND b XOR c", "((a&&b) XOR c) 5"),
-        ("a && b == c", "(a&&(b==c)) 5"),
-        ("a != b AND c", "((a!=b)&&c) 5"),
-        ("a == b < c", "(a==(b<c)) 5"),
-        ("a >= b != c", "((a>=b)!=c) 5"),
-        ("a <= b + c", "(a<=(b+c)) 5"),
-        ("a - b > c", "((a-b)>c) 5"),
-        ("a + b * c", "(a+(b*c)) 5"),
-        ("a / b - c", "((a/b)-c) 5"),
-        ("a % - b", "(a%(-b)) 4"),
-        ("! a * b", "((!a)*b) 4"),
-    ];
-    all_parsed(&rt, rt.alloc(), &cases)
+    all_parsed(&rt, rt.alloc(), &LEVELS)
 }
 
 #[test]
 fn operators_of_one_level_group_to_the_left(rt: HostRuntime) -> Result<(), Fail> {
-    let cases = [
-        ("a || b OR c", "((a||b)||c) 5"),
-        ("a XOR b XOR c", "((a XOR b) XOR c) 5"),
-        ("a AND b && c", "((a&&b)&&c) 5"),
-        ("a == b != c", "((a==b)!=c) 5"),
-        ("a < b >= c", "((a<b)>=c) 5"),
-        ("a <= b > c", "((a<=b)>c) 5"),
-        ("a - b + c - d", "(((a-b)+c)-d) 7"),
-        ("a / b * c % d", "(((a/b)*c)%d) 7"),
-        ("a - (b - c)", "(a-(b-c)) 7"),
-        ("((a)) - b", "(a-b) 7"),
-    ];
-    all_parsed(&rt, rt.alloc(), &cases)
+    all_parsed(&rt, rt.alloc(), &GROUPS)
 }
 
 #[test]
 fn operators_before_an_operand_stand_one_before_another(rt: HostRuntime) -> Result<(), Fail> {
-    let cases = [
-        ("! NOT - a", "(!(!(-a))) 4"),
-        ("- - 1", "(-(-1)) 3"),
-        ("1 - - 1", "(1-(-1)) 4"),
-        ("!(a && b)", "(!(a&&b)) 6"),
-        ("!a && b", "((!a)&&b) 4"),
-        ("-2147483647 - 1", "((-2147483647)-1) 4"),
-    ];
-    all_parsed(&rt, rt.alloc(), &cases)
+    all_parsed(&rt, rt.alloc(), &BEFORE_ONE)
 }
 
 #[test]
 fn each_primary_is_read_with_its_parts(rt: HostRuntime) -> Result<(), Fail> {
-    let cases = [
-        ("true == false", "(true==false) 3"),
-        ("\"a b\" + x", "(a b+x) 3"),
-        ("a[i + 1] * 2", "(a[(i+1)]*2) 8"),
-        ("Self.state == EXECUTING", "(Self@0.state==EXECUTING) 5"),
-        ("Parent.outcome == SKIPPED", "(Parent@0.outcome==SKIPPED) 5"),
-        ("Sibling(x).failure == EXITED", "(x@2.failure==EXITED) 8"),
-        ("Child(y).state", "y@2.state 6"),
-        (
-            "n.command_handle == COMMAND_DENIED",
-            "(n@0.command_handle==COMMAND_DENIED) 5",
-        ),
-        ("Lookup(go)", "Lookup<go> 4"),
-        ("LookupNow(go())", "LookupNow<go> 6"),
-        (
-            "LookupOnChange(at(1, x + 2))",
-            "LookupOnChange<at 1 (x+2)> 11",
-        ),
-        ("isKnown(x) && abs(y) < 1", "(isKnown<x>&&(abs<y><1)) 11"),
-        ("min(1, max(2, 3))", "min<1 max<2 3>> 11"),
-        ("strlen(\"ab\")", "strlen<ab> 4"),
-    ];
-    all_parsed(&rt, rt.alloc(), &cases)
+    all_parsed(&rt, rt.alloc(), &PRIMARIES)?;
+    for word in WORDS {
+        let tree = format!(in rt.alloc(); "{word}@0 1")?;
+        let read = parsed(&rt, rt.alloc(), word, 0)?;
+        assert_eq!(rt; read.as_str(), tree.as_str());
+    }
+    Ok(())
+}
+
+#[test]
+fn an_expression_ends_before_what_is_no_part_of_it(rt: HostRuntime) -> Result<(), Fail> {
+    all_parsed(&rt, rt.alloc(), &FOLLOWED)
 }
 
 #[test]
 fn a_fault_stands_where_no_expression_goes_on(rt: HostRuntime) -> Result<(), Fail> {
+    all_parsed(&rt, rt.alloc(), &OPERATION_FAULTS)?;
+    all_parsed(&rt, rt.alloc(), &NODE_FAULTS)?;
+    all_parsed(&rt, rt.alloc(), &CALL_FAULTS)
+}
+
+#[test]
+fn an_expression_begins_at_any_token(rt: HostRuntime) -> Result<(), Fail> {
     let cases = [
-        ("", "fault 0"),
-        ("* a", "fault 0"),
-        ("a +", "fault 2"),
-        ("a + ;", "fault 2"),
-        ("(a", "fault 2"),
-        ("(a ;", "fault 2"),
-        ("a[]", "fault 2"),
-        ("a[1)", "fault 3"),
-        ("a[1][2]", "fault 4"),
-        ("a.foo", "fault 2"),
-        ("(a).state", "fault 3"),
-        ("1.state", "fault 1"),
-        ("Self == 1", "fault 1"),
-        ("Sibling().state", "fault 2"),
-        ("Sibling(x)", "fault 4"),
-        ("Lookup(1)", "fault 2"),
-        ("Lookup(a(1,))", "fault 6"),
-        ("Lookup(a 1)", "fault 3"),
-        ("isKnown()", "fault 2"),
-        ("abs(1, 2)", "fault 3"),
-        ("min(1)", "fault 3"),
-        ("max(1, 2", "fault 5"),
-        ("LookupOnChange(t, 5)", "fault 3"),
-        ("a ! b", "a 1"),
-        ("a == b ) c", "(a==b) 3"),
+        ("x = a + n.state;", 2, "(a@2+n@4.state) 7"),
+        ("A: { x = ; }", 5, "fault 5"),
+        ("A: { x = y.foo; }", 5, "fault 7"),
+        ("A: { Start ; }", 4, "fault 4"),
+        ("a", 1, "fault 1"),
     ];
-    all_parsed(&rt, rt.alloc(), &cases)
+    for (text, from, tree) in cases {
+        let read = parsed(&rt, rt.alloc(), text, from)?;
+        assert_eq!(rt; read.as_str(), tree);
+    }
+    Ok(())
+}
+
+/// A word this often at the end of a text.
+fn repeat(out: &mut String, word: &str, times: usize) -> Result<(), Fail> {
+    for _ in 0..times {
+        out.push_str(word)?;
+    }
+    Ok(())
 }
 
 /// A word this often, and then a text, and another word as often.
@@ -304,30 +374,93 @@ fn around(
     before: &str,
     text: &str,
     behind: &str,
-    times: u8,
+    times: usize,
 ) -> Result<String, Fail> {
     let mut out = String::new(alloc);
-    for _ in 0..times {
-        out.push_str(before)?;
-    }
+    repeat(&mut out, before, times)?;
     out.push_str(text)?;
-    for _ in 0..times {
-        out.push_str(behind)?;
-    }
+    repeat(&mut out, behind, times)?;
     Ok(out)
 }
 
 #[test]
-fn sixty_four_brackets_or_operators_and_one_more_are_read(rt: HostRuntime) -> Result<(), Fail> {
-    for times in [64, 65] {
-        let in_pairs = around(rt.alloc(), "(", "x", ")", times)?;
-        let tokens = lex(rt.alloc(), in_pairs.as_str())?;
-        let end = 2 * usize::from(times) + 1;
-        assert!(rt; whole(rt.alloc(), &tokens, 0)?.1 == end);
-        let sum = around(rt.alloc(), "", "x", "+x", times)?;
-        let tokens = lex(rt.alloc(), sum.as_str())?;
-        assert!(rt; whole(rt.alloc(), &tokens, 0)?.1 == end);
+fn sixty_four_pairs_of_parentheses_and_one_more_are_read(rt: HostRuntime) -> Result<(), Fail> {
+    for (times, tree) in [(64, "x@64 129"), (65, "x@65 131")] {
+        let text = around(rt.alloc(), "(", "x", ")", times)?;
+        let read = parsed(&rt, rt.alloc(), text.as_str(), 0)?;
+        assert_eq!(rt; read.as_str(), tree);
     }
+    Ok(())
+}
+
+#[test]
+fn sixty_four_sums_and_one_more_group_to_the_left(rt: HostRuntime) -> Result<(), Fail> {
+    for (times, end) in [(64, " 129"), (65, " 131")] {
+        let text = around(rt.alloc(), "", "x", "+x", times)?;
+        let mut tree = around(rt.alloc(), "(", "x@0", "", times)?;
+        for sum in 0..times {
+            numbered(rt.alloc(), "+x", 2 * sum + 2, &mut tree)?;
+            tree.push_str(")")?;
+        }
+        tree.push_str(end)?;
+        let read = parsed(&rt, rt.alloc(), text.as_str(), 0)?;
+        assert_eq!(rt; read.as_str(), tree.as_str());
+    }
+    Ok(())
+}
+
+#[test]
+fn sixty_four_operators_before_an_operand_and_one_more_are_read(
+    rt: HostRuntime,
+) -> Result<(), Fail> {
+    for (times, operand, end) in [(64, "x@64", " 65"), (65, "x@65", " 66")] {
+        let text = around(rt.alloc(), "-", "x", "", times)?;
+        let mut tree = String::new(rt.alloc());
+        for token in 0..times {
+            numbered(rt.alloc(), "(-", token, &mut tree)?;
+            tree.push_str(" ")?;
+        }
+        tree.push_str(operand)?;
+        repeat(&mut tree, ")", times)?;
+        tree.push_str(end)?;
+        let read = parsed(&rt, rt.alloc(), text.as_str(), 0)?;
+        assert_eq!(rt; read.as_str(), tree.as_str());
+    }
+    Ok(())
+}
+
+#[test]
+fn sixty_four_indices_and_one_more_are_read(rt: HostRuntime) -> Result<(), Fail> {
+    for (times, index, end) in [(64, "x@128", " 193"), (65, "x@130", " 196")] {
+        let text = around(rt.alloc(), "a[", "x", "]", times)?;
+        let mut tree = String::new(rt.alloc());
+        for array in 0..times {
+            numbered(rt.alloc(), "a", 2 * array, &mut tree)?;
+            tree.push_str("[")?;
+        }
+        tree.push_str(index)?;
+        repeat(&mut tree, "]", times)?;
+        tree.push_str(end)?;
+        let read = parsed(&rt, rt.alloc(), text.as_str(), 0)?;
+        assert_eq!(rt; read.as_str(), tree.as_str());
+    }
+    Ok(())
+}
+
+#[test]
+fn thirty_two_lookups_in_one_another_are_read(rt: HostRuntime) -> Result<(), Fail> {
+    let text = around(rt.alloc(), "Lookup(a(", "x", "))", 32)?;
+    let mut tree = String::new(rt.alloc());
+    for lookup in 0..32 {
+        numbered(rt.alloc(), "Lookup", 4 * lookup, &mut tree)?;
+        numbered(rt.alloc(), "<a", 4 * lookup + 2, &mut tree)?;
+        tree.push_str(" ")?;
+    }
+    tree.push_str("x@128")?;
+    repeat(&mut tree, ">", 32)?;
+    tree.push_str(" 193")?;
+    let read = parsed(&rt, rt.alloc(), text.as_str(), 0)?;
+    assert_eq!(rt; read.as_str(), tree.as_str());
     Ok(())
 }
 

@@ -265,6 +265,25 @@ mod tests {
     }
 
     #[test]
+    fn each_operator_between_numbers_has_its_level(rt: HostRuntime) {
+        let rows = [
+            (Sign::EqualEqual, BinaryOperator::Equal, 4),
+            (Sign::NotEqual, BinaryOperator::Differs, 4),
+            (Sign::Less, BinaryOperator::Less, 5),
+            (Sign::LessEqual, BinaryOperator::AtMost, 5),
+            (Sign::Greater, BinaryOperator::Greater, 5),
+            (Sign::GreaterEqual, BinaryOperator::AtLeast, 5),
+            (Sign::Plus, BinaryOperator::Plus, 6),
+            (Sign::Star, BinaryOperator::Times, 7),
+            (Sign::Slash, BinaryOperator::Over, 7),
+            (Sign::Percent, BinaryOperator::Rest, 7),
+        ];
+        for (sign, operator, level) in rows {
+            assert_eq!(rt; between(TokenKind::Sign(sign)), Some((operator, level)));
+        }
+    }
+
+    #[test]
     fn a_minus_stands_between_two_operands_or_before_one(rt: HostRuntime) {
         assert_eq!(rt;
             between(TokenKind::Sign(Sign::Minus)),
