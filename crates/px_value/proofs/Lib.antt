@@ -1,3 +1,4 @@
+pub mod Ascii
 pub mod Divisions
 pub mod Integers
 pub mod Names

@@ -82,7 +82,7 @@ impl Path {
 
     /// The path of the child with this name.
     pub fn child(&self, alloc: Global, name: &Name) -> Result<Path, AllocError>
-        requires { length self.now + length name.now < 5000 }
+        requires { length self.now + length name.now < PATH_LIMIT }
         ensures { IfOk result (λ path. path ≡ below self.now name.now) }
     {
         let mut text = String::from_str(alloc, self.text.as_str())?;
