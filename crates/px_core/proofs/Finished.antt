@@ -1,6 +1,6 @@
 -- The default end of a List, by the halves of its children.
-use Rattle.std.proofs.Common.{◌≡◌, true, ℕ, ◌/◌, ◌<◌, ◌≤◌, List, [], ◌∷◌, length, map, take, drop, slice_index_or, refl, ap, sym, ◌∙◌, subst, arith}
-use Rattle.std.proofs.lemmas.List.{length-take-le, length-map, take-append-drop, take-map, drop-map}
+use Rattle.std.proofs.Common.{◌≡◌, true, ℕ, ◌/◌, ◌<◌, ◌≤◌, List, [], ◌∷◌, length, map, take, drop, slice_index_or, ap, sym, ◌∙◌, subst, arith}
+use Rattle.std.proofs.lemmas.List.{length-map, take-map, drop-map}
 use Rattle.px_core.specs.declared.expr.BinaryOp.TheVariants as binary
 use Rattle.px_core.specs.Expr.{Term, Binary}
 use Rattle.px_core.specs.Joined.{truth, Joins}

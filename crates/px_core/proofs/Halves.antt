@@ -1,10 +1,10 @@
 -- Terms joined in halves: the term that joins them is there, and it is one.
-use Rattle.std.proofs.Common.{◌≡◌, Bool, ℕ, zero, suc, ◌+◌, ◌-◌, ◌/◌, ◌<◌, ◌≤◌, List, [], ◌∷◌, ◌++◌, length, take, drop, refl, sym, ap, ◌∙◌, subst, arith, length-append}
+use Rattle.std.proofs.Common.{◌≡◌, Bool, ℕ, zero, suc, ◌+◌, ◌-◌, ◌/◌, ◌≤◌, List, [], ◌∷◌, ◌++◌, length, take, drop, refl, sym, ap, ◌∙◌, subst, arith, length-append}
 use Rattle.std.proofs.Math.Seq.{take-append_seam, drop-append_seam}
 use Rattle.std.proofs.lemmas.List.{length-take-le, length-drop, take-append-drop}
 use Rattle.px_core.specs.declared.expr.BinaryOp.{BinaryOp}
 use Rattle.px_core.specs.Expr.{Term, Binary}
-use Rattle.px_core.specs.Joined.{truth, Joins, joined_within, joined}
+use Rattle.px_core.specs.Joined.{Joins, joined_within, joined}
 
 pub half_within : (n : ℕ) → n / 2 ≤ n
 half_within n = omega arith

@@ -1,3 +1,4 @@
 pub mod Finished
 pub mod Halves
+pub mod SitePaths
 pub mod Trees

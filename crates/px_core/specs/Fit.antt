@@ -1,10 +1,11 @@
 -- What makes a plan fit to run.
-use Rattle.std.specs.Prelude.{ℕ, ◌≤◌, Bool, true, false, not, ◌&&◌, nat_le, List, [], ◌∷◌, ◌++◌, length, map, sum, Option, Some, None, IsTrue}
+use Rattle.std.specs.Prelude.{◌≡◌, ℕ, ◌<◌, ◌≤◌, Bool, true, false, not, ◌&&◌, nat_le, List, [], ◌∷◌, ◌++◌, length, get_or, map, sum, Option, Some, None, IsTrue}
 use Rattle.std.specs.List.{list_all, list_any, flat_map}
+use Rattle.px_value.specs.Name.{is_name}
 use Rattle.px_core.specs.declared.node.Kind.{Kind}
 use Rattle.px_core.specs.declared.node.Kind.TheVariants as kinds
 use Rattle.px_core.specs.Expr.{Term, Terms, Literal, Var, Cell, StateOf, OutcomeOf, FailureOf, HandleOf, Acknowledged, Look, Unary, Binary, NoTerms, More}
-use Rattle.px_core.specs.Plan.{ConditionTerms, VariableData, TargetData, BodyData, Nothing, Assign, Command, Update, Tree, NoNode, Branch, Site, count_of, is_same, sites}
+use Rattle.px_core.specs.Plan.{ConditionTerms, VariableData, TargetData, BodyData, Nothing, Assign, Command, Update, Tree, NoNode, Branch, Site, no_site, count_of, is_same, sites}
 
 -- ---- the tree
 
@@ -58,6 +59,15 @@ abbrev pub siblings_differ : Tree → Bool
 siblings_differ NoNode = true
 siblings_differ (Branch head children rest) =
     not (list_any (is_same head.name) (names_of rest)) && siblings_differ children && siblings_differ rest
+
+-- a node's name is a name
+abbrev pub has_name : Site → Bool
+has_name site = is_name site.head.name
+
+-- different nodes have different paths
+abbrev pub AreDistinct : List Site → Type 0
+AreDistinct plan =
+    (i j : ℕ) → i < length plan → j < length plan → (get_or plan i no_site).path ≡ (get_or plan j no_site).path → i ≡ j
 
 -- ---- a node's own parts
 

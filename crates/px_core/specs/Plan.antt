@@ -1,8 +1,8 @@
 -- A plan as a tree with lists in place of vectors, and as the list of its nodes in preorder, each with its path.
-use Rattle.std.specs.Prelude.{ℕ, ◌+◌, Bool, false, List, [], ◌∷◌, ◌++◌, map, nat_eq, Option}
-use Rattle.std.specs.Cmp.Lexicographic.{pointwise}
+use Rattle.std.specs.Prelude.{ℕ, ◌+◌, Bool, false, List, [], ◌∷◌, ◌++◌, map, Option}
 use Rattle.std.specs.List.{find}
 use Rattle.std.specs.Option.{option_map, unwrap_or}
+use Rattle.std.specs.Str.{bytes_eq}
 use Rattle.px_value.specs.Path.{below}
 use Rattle.px_value.specs.declared.value.Value.{Value}
 use Rattle.px_value.specs.declared.value.Value.TheVariants as values
@@ -186,7 +186,7 @@ sites tree = sites_under [] tree
 
 -- two texts are the same
 abbrev pub is_same : List ℕ → List ℕ → Bool
-is_same a b = pointwise nat_eq a b
+is_same = bytes_eq
 
 -- the site of a path that a plan does not have
 abbrev pub no_site : Site
