@@ -1,11 +1,10 @@
 -- What stands at the front of a text, as a function of the text: each way to stand and each fault is one of its answers.
-use Rattle.std.proofs.Common.{◌≡◌, ℕ, ◌<◌, ◌≤◌, ◌^◌, Bool, true, false, not, ◌||◌, ◌==◌, List, [], ◌∷◌, ◌++◌, length, take, drop, Option, Some, None, refl, sym, ap, ◌∙◌, arith, inl, inr}
-use Rattle.std.specs.Prelude.{codes, nat_le, nat_lt, pos, is_none, if◌then◌else◌}
+use Rattle.std.proofs.Common.{◌≡◌, ℕ, ◌≤◌, ◌^◌, Bool, true, false, not, ◌==◌, List, [], ◌∷◌, ◌++◌, length, take, drop, Option, Some, None, refl, sym, ap, ◌∙◌, arith, inl, inr}
+use Rattle.std.specs.Prelude.{codes, pos, is_none, if◌then◌else◌}
 use Rattle.std.specs.List.{list_all, prefix_len}
 use Rattle.std.specs.Str.{bytes_eq}
-use Rattle.std.specs.Cmp.Lexicographic.{bytes_decides}
 use Rattle.std.proofs.Math.Seq.{take-append_seam, drop-append_seam}
-use Rattle.std.proofs.lemmas.Bool.{and_parts, and_from, or_parts, or_cases, or_left, cases_Bool, false≢true, lt-ltb, le-ltb, le-leb, lt-leb, eqb-true, not-true, ne_eqb}
+use Rattle.std.proofs.lemmas.Bool.{and_parts, and_from, or_parts, or_left, cases_Bool, false≢true, lt-ltb, le-ltb, le-leb, eqb-true, not-true, ne_eqb}
 use Rattle.std.proofs.lemmas.Bool.Decides.{nat_tests}
 use Rattle.px_value.specs.Name.{is_digit, begins_identifier, continues_identifier}
 use Rattle.px_lex.specs.declared.keyword.Keyword.{Keyword}
@@ -15,13 +14,13 @@ use Rattle.px_lex.specs.declared.token.TokenKind.TheVariants as kinds
 use Rattle.px_lex.specs.Gap.{begins, is_white_space, is_in_line, after_close, IsGap}
 use Rattle.px_lex.specs.Keyword.{keyword_rows, keyword_of}
 use Rattle.px_lex.specs.Word.{IsWord}
-use Rattle.px_lex.specs.Number.{IsNumber, number_of, is_fraction}
+use Rattle.px_lex.specs.Number.{IsNumber, number_of}
 use Rattle.px_lex.specs.String.{is_quote, read_string}
 use Rattle.px_lex.specs.Sign.{sign_rows, sign_of, opens_comment, ends_sign}
 use Rattle.px_lex.specs.Token.{IsToken}
 use Rattle.px_lex.specs.Fault.{FaultKind, Bad, is_other, word_fault, number_fault, string_fault, IsFaulty}
 use Rattle.px_lex.specs.Lexer.{Stands}
-use Rattle.px_lex.proofs.Signs.{row_of-all, sign_is_short}
+use Rattle.px_lex.proofs.Signs.{row_of-all, none_unless, sign_is_short}
 
 -- what stands at the front
 pub data Front : Type 0 where
@@ -183,10 +182,6 @@ word_is (c ∷ cs) rest w =
     let parts : (begins_identifier c ≡ true) × (list_all continues_identifier cs ≡ true) = and_parts (begins_identifier c) (list_all continues_identifier cs) w.word in
     let on : continues_identifier c ≡ true = or_left (begins_identifier c) (is_digit c) parts.0 in
     run_is (c ∷ cs) rest on (and_from (continues_identifier c) (list_all continues_identifier cs) on parts.1) w.longest ∙ rw (letter_no_digit c parts.0)
-
-none_unless : {K : Type 0} (o : Option K) → ((k : K) → o ≡ Some k → ⊥) → o ≡ None
-none_unless None h = refl
-none_unless (Some k) h = absurd (h k refl)
 
 keyword_is : (p : List ℕ → Bool) → list_all (λ (row : List ℕ × Keyword). p row.0) keyword_rows ≡ true → (word : List ℕ) → p word ≡ false → keyword_of word ≡ None
 keyword_is p each word h = none_unless (keyword_of word) (λ k found. false≢true (sym h ∙ row_of-all p keyword_rows word k each found))

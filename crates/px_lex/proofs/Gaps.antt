@@ -1,6 +1,7 @@
 -- The three gaps: where a text may be cut behind one, and what stands there.
 use Rattle.std.proofs.Common.{◌≡◌, ℕ, ◌+◌, ◌-◌, ◌≤◌, true, false, ◌&&◌, ◌==◌, List, [], ◌∷◌, ◌++◌, length, take, drop, get_or, Some, None, refl, sym, ap, ◌∙◌, subst, arith, inl, inr, length-append, append_assoc}
 use Rattle.std.specs.Prelude.{codes}
+use Rattle.std.specs.Char.{is_ascii}
 use Rattle.std.specs.List.{prefix_len}
 use Rattle.std.specs.Str.{IsUtf8, IsCharBoundary}
 use Rattle.std.proofs.lemmas.Bool.{cases_Bool, and_parts, not-false, eqb-true}
@@ -9,7 +10,7 @@ use Rattle.std.proofs.lemmas.Str.{IsCharBoundary-end, IsCharBoundary-before_asci
 use Rattle.std.proofs.Math.Seq.{take-length, drop-append_seam, get_or-append_seam}
 use Rattle.px_lex.specs.Gap.{begins, is_white_space, is_in_line, after_close, blank, line_comment, comment}
 use Rattle.px_lex.specs.Lexer.{Begins}
-use Rattle.px_lex.proofs.Cuts.{is_ascii, cut_behind}
+use Rattle.px_lex.proofs.Cuts.{cut_behind}
 use Rattle.px_lex.proofs.Spans.{Span, span}
 
 -- a blank

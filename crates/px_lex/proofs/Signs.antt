@@ -1,6 +1,7 @@
 -- Signs at the front of a text.
 use Rattle.std.proofs.Common.{◌≡◌, ℕ, ◌<◌, ◌≤◌, Bool, true, false, List, [], ◌∷◌, length, take, drop, Option, Some, None, refl, subst, arith, inl, inr}
 use Rattle.std.specs.Prelude.{nat_le}
+use Rattle.std.specs.Char.{is_ascii}
 use Rattle.std.specs.List.{list_all}
 use Rattle.std.specs.Str.{IsUtf8, IsCharBoundary, bytes_eq}
 use Rattle.std.specs.Cmp.Lexicographic.{bytes_decides}
@@ -13,7 +14,7 @@ use Rattle.px_lex.specs.Table.{row_of}
 use Rattle.px_lex.specs.Fault.{Bad, is_other, IsFaulty}
 use Rattle.px_lex.specs.Sign.{sign_rows, sign_of, opens_comment, ends_sign}
 use Rattle.px_lex.specs.Lexer.{Begins}
-use Rattle.px_lex.proofs.Cuts.{is_ascii, cut_behind}
+use Rattle.px_lex.proofs.Cuts.{cut_behind}
 
 -- what holds of the spelling of each row holds of a spelling that is found
 pub row_of-all : {K : Type 0} (p : List ℕ → Bool) (rows : List (List ℕ × K)) (spelling : List ℕ) (k : K) → list_all (λ row. p row.0) rows ≡ true → row_of rows spelling ≡ Some k → p spelling ≡ true
@@ -34,7 +35,8 @@ sign_is_ascii spelling sign h = row_of-all (λ s. list_all is_ascii s) sign_rows
 pub sign_is_short : (spelling : List ℕ) (sign : Sign) → sign_of spelling ≡ Some sign → length spelling ≤ 2
 sign_is_short spelling sign h = leb-true (length spelling) 2 (row_of-all is_short sign_rows spelling sign refl h)
 
-none_unless : {K : Type 0} (o : Option K) → ((k : K) → o ≡ Some k → ⊥) → o ≡ None
+-- there is none where each would be absurd
+pub none_unless : {K : Type 0} (o : Option K) → ((k : K) → o ≡ Some k → ⊥) → o ≡ None
 none_unless None h = refl
 none_unless (Some k) h = absurd (h k refl)
 
