@@ -1,9 +1,8 @@
 -- An entry that is read is the entry that was spelled, and one that was spelled is read again.
-use Rattle.std.proofs.Common.{◌≡◌, ℕ, zero, suc, ◌+◌, ◌*◌, ◌^◌, ◌<◌, ◌≤◌, Bool, true, false, cond, eqb, List, [], ◌∷◌, ◌++◌, length, Option, Some, None, refl, sym, ap, subst, ◌∙◌, append_assoc, arith}
+use Rattle.std.proofs.Common.{◌≡◌, ℕ, zero, suc, ◌^◌, ◌<◌, ◌≤◌, Bool, true, cond, eqb, List, [], ◌∷◌, ◌++◌, length, Some, None, refl, sym, ap, subst, ◌∙◌, append_assoc, arith}
 use Rattle.std.specs.Prelude.{◌&&◌, nat_le, nat_lt, IsTrue, Result, Ok, Err, IfOk, IsErrOf}
 use Rattle.std.specs.List.{list_all, flat_map}
-use Rattle.std.specs.Str.{is_utf8}
-use Rattle.std.proofs.lemmas.Bool.{and_parts, and_from, leb-true, le-leb, ltb-true, lt-ltb, eqb-true}
+use Rattle.std.proofs.lemmas.Bool.{and_parts, and_from, leb-true, ltb-true, lt-ltb, eqb-true}
 use Rattle.std.proofs.lemmas.List.{length-append, append-nil, nil_from_length}
 use Rattle.byteorder.specs.Endian.{big_bytes}
 use Rattle.px_value.specs.Name.{is_identifier, is_name}
@@ -14,14 +13,14 @@ use Rattle.px_value.specs.declared.value.Value.{Value}
 use Rattle.px_event.specs.Fit.{is_report_name, is_fit_event, is_fit_entry}
 use Rattle.px_event.specs.Values.{is_plain, is_plain_or_unknown}
 use Rattle.px_event.specs.Bytes.{text_bytes, value_bytes, handle_code, event_bytes, entry_bytes}
-use Rattle.px_event.specs.Reading.{Read, ◌>>=◌, only, byte_at, number_at, text_at, name_at, path_at, value_at, arguments_at, handle_of, handle_at, report_at, handle_event_at, return_at, event_behind, event_at, entry_at, decoded, Gives}
+use Rattle.px_event.specs.Reading.{Read, ◌>>=◌, only, byte_at, number_at, name_at, path_at, value_at, arguments_at, handle_of, handle_at, report_at, handle_event_at, return_at, event_behind, event_at, entry_at, decoded, Gives}
 use Rattle.px_event.specs.declared.fault.DecodeFault.{DecodeFault}
 use Rattle.px_event.specs.declared.fault.DecodeFault.TheVariants.{Bad, NoMemory}
 use Rattle.px_event.specs.declared.event.Event.{Event}
 use Rattle.px_event.specs.declared.event.Event.TheVariants as events
 use Rattle.px_event.specs.declared.entry.Entry.{Entry}
 use Rattle.px_event.proofs.Spelled.{report_name_text, path_text}
-use Rattle.px_event.proofs.Fields.{IsBytes, bind_some, after, some_is, only_some, only_passes, Takes, Takes-then, byte_takes, four_back, number_takes, number_again, tested_takes, tested_again}
+use Rattle.px_event.proofs.Fields.{IsBytes, bind_some, after, some_is, only_some, only_passes, Takes, Takes-then, byte_takes, four_back, number_takes, number_again, tested_takes, tested_again, passed}
 use Rattle.px_event.proofs.ToldValues.{value_takes, value_again, arguments_takes, arguments_again, value_short, arguments_short}
 
 -- ---- names, paths and handles
@@ -308,16 +307,12 @@ entry_again entry rest fit =
 
 -- ---- the whole
 
-ended : {X : Type 0} (b : Bool) (x y : X) → cond b (Some x) None ≡ Some y → (b ≡ true) × (x ≡ y)
-ended true x y e = (refl, cc)
-ended false x y e = absurd cc
-
 pub decoded_takes : (bytes : List ℕ) (entry : Entry) → IsBytes bytes → decoded bytes ≡ Some entry → (is_fit_entry entry ≡ true) × (bytes ≡ entry_bytes entry)
 unfolding decoded
 decoded_takes bytes entry fits e =
     let b = bind_some (entry_at bytes) (λ read. cond (eqb (length read.1) 0) (Some read.0) None) entry e in
     let t = entry_takes bytes b.0 fits b.1 in
-    let o = ended (eqb (length b.0.1) 0) b.0.0 entry b.2 in
+    let o = passed (eqb (length b.0.1) 0) b.0.0 entry b.2 in
     let none : b.0.1 ≡ [] = nil_from_length b.0.1 (eqb-true (length b.0.1) 0 o.0) in
     let whole : bytes ≡ entry_bytes b.0.0 = t.0.parts ∙ ap (λ (l : List ℕ). entry_bytes b.0.0 ++ l) none ∙ append-nil (entry_bytes b.0.0) in
     subst (λ (x : Entry). (is_fit_entry x ≡ true) × (bytes ≡ entry_bytes x)) o.1 (t.1, whole)

@@ -20,7 +20,7 @@ use Rattle.px_event.specs.declared.event.Event.TheVariants as events
 use Rattle.px_event.specs.declared.entry.Entry.{Entry}
 
 -- of an enum without fields
-bare_eq-decides : (D : Declared) → Bare D.parts → (a b : D.D) → Decides (sameb D a b) (a ≡ b)
+pub bare_eq-decides : (D : Declared) → Bare D.parts → (a b : D.D) → Decides (sameb D a b) (a ≡ b)
 bare_eq-decides D bare a b = (same_true D bare a b, true_same D a b)
 
 pub value_eq-decides : (a b : Value) → Decides (value_eq a b) (a ≡ b)

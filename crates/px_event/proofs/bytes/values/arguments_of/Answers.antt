@@ -1,4 +1,3 @@
-use Rattle.std.proofs.Common.{◌≡◌, ◌++◌, ◌∷◌, []}
 use Rattle.std.proofs.lemmas.Result.{err_from_is_err_and}
 use Rattle.px_event.specs.Reading.{arguments_at}
 use Rattle.px_event.proofs.Arguments.{goes_on, ends_so, is_done}
