@@ -1,6 +1,4 @@
 -- `==` of scripts answers whether they are equal.
-use denote.Enum.Declared.{Declared}
-use denote.Enum.Bare.{Bare, sameb, same_true, true_same}
 use Rattle.std.specs.Prelude.{◌≡◌, Bool}
 use Rattle.std.specs.Bool.{Decides}
 use Rattle.std.specs.Cmp.Lexicographic.{bytes_decides, pointwise_decides}
@@ -10,7 +8,7 @@ use Rattle.px_value.specs.contracts.enums.NodeState.{the_type as state_type}
 use Rattle.px_event.specs.contracts.cond.CondPartialEq.TheImpl as cond_equality
 use Rattle.px_event.specs.declared.cond.Cond.{Cond}
 use Rattle.px_event.specs.declared.cond.Cond.TheVariants as conds
-use Rattle.px_event.proofs.Equality.{event_eq-decides}
+use Rattle.px_event.proofs.Equality.{bare_eq-decides, event_eq-decides}
 use Rattle.px_script.specs.contracts.line.WhatPartialEq.TheImpl as what_equality
 use Rattle.px_script.specs.declared.line.Line.{Line}
 use Rattle.px_script.specs.declared.line.What.{What}
@@ -20,10 +18,6 @@ use Rattle.px_script.specs.declared.script.Script.{Script}
 use Rattle.px_script.specs.LineEquality.{line_eq}
 use Rattle.px_script.specs.TodoEquality.{todo_eq}
 use Rattle.px_script.specs.Equality.{script_eq}
-
--- of an enum without fields
-bare_eq-decides : (D : Declared) → Bare D.parts → (a b : D.D) → Decides (sameb D a b) (a ≡ b)
-bare_eq-decides D bare a b = (same_true D bare a b, true_same D a b)
 
 abbrev cond_eq : Cond → Cond → Bool
 cond_eq = (cond_equality.ghosts).eq

@@ -4,11 +4,12 @@ ghost use Rattle.px_script.specs.Equality.{script_eq};
 ghost use Rattle.px_script.specs.Fit.{IsFitScript};
 ghost use Rattle.px_script.specs.Script.{Threads, script};
 
+use crate::read::SCRIPT_LIMIT;
 use crate::script::Script;
 
 /// A script that bytes spell, at most 16,777,216 of them, is fit.
 pub fn fitness(bytes: &[u8], spelled: &Script)
-    requires { length bytes.now ≤ 16777216 }
+    requires { length bytes.now ≤ SCRIPT_LIMIT }
     ensures { script bytes.now ≡ Threads spelled.now.threads → IsFitScript spelled.now }
 {}
 

@@ -35,7 +35,7 @@ const FIRST_THREAD: u8 = 1;
 /// `Fault` comes exactly where a line is at fault, and names the first such line and the kind of its fault: 1, it has
 /// no such shape; 5, it is the 100,001st line that posts.
 pub fn read_script(alloc: Global, bytes: &[u8], plan: &Plan) -> Result<Script, ScriptFault>
-    requires size { length bytes.now ≤ 16777216 }
+    requires size { length bytes.now ≤ SCRIPT_LIMIT }
     requires plan { IsFit (tree_of plan.now) }
     ensures ok { IfOk result (λ read. script bytes.now ≡ Threads read.threads) }
     ensures fit { IfOk result (λ read. IsFitScript read) }
@@ -50,7 +50,7 @@ pub fn read_script(alloc: Global, bytes: &[u8], plan: &Plan) -> Result<Script, S
 
 /// The lines that post.
 fn read_lines(alloc: Global, bytes: &[u8]) -> Result<Vec<Line>, ScriptFault>
-    requires { length bytes.now ≤ 16777216 }
+    requires { length bytes.now ≤ SCRIPT_LIMIT }
     ensures ok { IfOk result (λ lines. script bytes.now ≡ Threads (threads_of lines.items)) }
     ensures fault { IfErr result (IsFaultOf (script bytes.now)) }
 {

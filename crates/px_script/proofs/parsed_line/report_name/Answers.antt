@@ -1,6 +1,6 @@
 use Rattle.std.proofs.Common.{◌≡◌, true, rules}
 use Rattle.px_value.specs.Name.{is_identifier}
-use Rattle.px_script.proofs.Identifiers.{identifier_text}
+use Rattle.px_value.proofs.Ascii.{identifier_text}
 use Rattle.px_script.proofs.parsed_line.report_name.Goals as goal
 
 pub returns-in_default : goal.returns-in_default
