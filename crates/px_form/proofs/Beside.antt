@@ -80,9 +80,6 @@ named-beside place (Block head actions rest) b =
     ap (λ more. (may_stand place head.name && is_named_from 1 actions) && more) (named-beside (suc place) rest b ∙ ap (λ n. is_named_from (suc place) rest && is_named_from n b) same)
     ∙ and_assoc (may_stand place head.name && is_named_from 1 actions) (is_named_from (suc place) rest) (is_named_from (place + suc (size_of rest)) b)
 
-pub is_same_sym : (a b : List ℕ) → is_same a b ≡ is_same b a
-is_same_sym a b = nat_list_eq_equiv.symm a b
-
 labels_law : (later same under rest taken below : Bool) →
     ((not (later || (same || false)) && under) && ((rest && not taken) && below)) ≡ ((((not later && under) && rest) && not (same || taken)) && below)
 labels_law true same under rest taken below = refl
@@ -97,5 +94,5 @@ pub labels-block : (a : Form) (body : OpenBlock) (is_list : Bool) (actions : For
 labels-block NoBlock body is_list actions = and_true (labels_differ actions)
 labels-block (Block head under rest) body is_list actions =
     let later : list_any (is_same head.name) (names_of (beside rest (block body is_list actions))) ≡ (list_any (is_same head.name) (names_of rest) || (is_same body.name head.name || false)) =
-    ap (list_any (is_same head.name)) (names_of-beside rest (block body is_list actions)) ∙ list_any-append (is_same head.name) (names_of rest) (body.name ∷ []) ∙ ap (λ s. list_any (is_same head.name) (names_of rest) || (s || false)) (is_same_sym head.name body.name) in
+    ap (list_any (is_same head.name)) (names_of-beside rest (block body is_list actions)) ∙ list_any-append (is_same head.name) (names_of rest) (body.name ∷ []) ∙ ap (λ s. list_any (is_same head.name) (names_of rest) || (s || false)) (nat_list_eq_equiv.symm head.name body.name) in
     rw (later, labels-block rest body is_list actions) (labels_law (list_any (is_same head.name) (names_of rest)) (is_same body.name head.name) (labels_differ under) (labels_differ rest) (is_taken body.name rest) (labels_differ actions))

@@ -2,6 +2,7 @@
 use Rattle.std.proofs.Common.{◌≡◌, ℕ, suc, ◌+◌, ◌<◌, ◌≤◌, ◌^◌, Bool, true, false, ◌&&◌, ◌||◌, List, [], ◌∷◌, ◌++◌, length, refl, sym, ap, ◌∙◌, arith, append_assoc, append-nil, inl, inr, Some, lt-ltb}
 use Rattle.std.specs.Prelude.{not, codes}
 use Rattle.std.specs.List.{list_any, list_all}
+use Rattle.std.specs.Cmp.Lexicographic.{bytes_decides, nat_list_eq_equiv}
 use Rattle.std.proofs.lemmas.Bool.{and_parts, or_cases, or_parts, or_from, not-true, false≢true}
 use Rattle.std.proofs.lemmas.List.Folds.{list_any-append}
 use Rattle.px_value.specs.Name.{generated_name}
@@ -17,8 +18,8 @@ use Rattle.px_form.specs.Core.{BlockHead, Form, NoBlock, Block}
 use Rattle.px_form.specs.FirstForm.{Token, Word, open_block, close_block, open_arguments, close_arguments, colon, semicolon, negation, given, asked_tokens, condition_word, item_tokens, items_tokens, label_tokens, actions_tokens, tokens_of, is_label, is_named_from, names_of, labels_differ, may_have, only_lists_have_actions, is_given, is_given_once, is_right_asked, is_right_item, has_right_items, items_are_right, depth_of_asked, depth_of_items, depth_of, blocks_of}
 use Rattle.px_form.specs.Items.{item_of}
 use Rattle.px_form.specs.Reading.{beside, size_of, OpenBlock, block, is_taken, Expects, AnyBlock, ColonOf, BracketOf, ItemOf, RestOf, ActionsOf, Level, State, opened, step, run}
-use Rattle.px_form.proofs.Beside.{may_stand, beside_assoc, beside_none, size_of-beside, names_of-beside, is_same_sym}
-use Rattle.px_form.proofs.Names.{tokens-label, tokens-generated, same_if}
+use Rattle.px_form.proofs.Beside.{may_stand, beside_assoc, beside_none, size_of-beside, names_of-beside}
+use Rattle.px_form.proofs.Names.{tokens-label, tokens-generated}
 use Rattle.px_form.proofs.Words.{condition_found, condition_no_list}
 
 abbrev pub state : List Level → Form → ℕ → Expects → State
@@ -54,7 +55,7 @@ enter levels blocks count name rest room =
           ∙ run_step (state levels blocks count (ColonOf name)) (state levels blocks count (BracketOf name)) colon (open_block ∷ rest) refl
           ∙ run_step (state levels blocks count (BracketOf name)) (state levels blocks (suc count) (ItemOf (body_of name []))) open_block rest (open_step levels blocks count (BracketOf name) name room)
       | inr same ↦
-          let is : name ≡ generated_name (suc (size_of blocks)) = same_if name (generated_name (suc (size_of blocks))) same in
+          let is : name ≡ generated_name (suc (size_of blocks)) = (bytes_decides name (generated_name (suc (size_of blocks)))).0 same in
           let small : suc (size_of blocks) < 2 ^ 32 = omega (arith, room.size, room.block_room) in
           ap (λ t. run (state levels blocks count AnyBlock) (t ++ (open_block ∷ rest))) (ap label_tokens is ∙ tokens-generated (suc (size_of blocks)) small)
           ∙ run_step (state levels blocks count AnyBlock) (state levels blocks (suc count) (ItemOf (body_of name []))) open_block rest
@@ -164,7 +165,7 @@ labels_parts (Block first under others) head actions rest h =
     sym (ap (list_any (is_same first.name)) (names_of-beside others (Block head actions rest)) ∙ list_any-append (is_same first.name) (names_of others) (head.name ∷ names_of rest)) ∙ none in
     let other : is_same first.name head.name ≡ false = (or_parts (is_same first.name head.name) (list_any (is_same first.name) (names_of rest)) (or_parts (list_any (is_same first.name) (names_of others)) (is_same first.name head.name || list_any (is_same first.name) (names_of rest)) split).1).0 in
     let below = labels_parts others head actions rest parts.1 in
-    (or_from (is_same head.name first.name) (is_taken head.name others) (is_same_sym head.name first.name ∙ other) below.0, below.1)
+    (or_from (is_same head.name first.name) (is_taken head.name others) (nat_list_eq_equiv.symm head.name first.name ∙ other) below.0, below.1)
 
 -- blocks fit behind others
 pub record Fits (levels : List Level) (blocks : Form) (begun : ℕ) (form : Form) : Type 0 where

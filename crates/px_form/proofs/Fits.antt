@@ -2,6 +2,7 @@
 use Rattle.std.proofs.Common.{◌≡◌, ℕ, zero, suc, ◌+◌, ◌*◌, ◌/◌, ◌<◌, ◌≤◌, ◌^◌, Bool, true, false, ◌&&◌, ◌||◌, cond, List, [], ◌∷◌, ◌++◌, length, map, sum, take, drop, refl, sym, ap, ◌∙◌, arith, append_assoc, inl, inr, le-leb, length-append}
 use Rattle.std.specs.Prelude.{nat_le, nat_eq}
 use Rattle.std.specs.List.{list_all, list_any, flat_map}
+use Rattle.std.specs.Cmp.Lexicographic.{bytes_decides, nat_list_eq_equiv}
 use Rattle.std.proofs.lemmas.Bool.{and_parts, and_from, or_cases, or_left, or_right, leb-true, eqb-true}
 use Rattle.std.proofs.lemmas.List.{take-append-drop}
 use Rattle.std.proofs.lemmas.List.Folds.{list_all-append, list_any-append}
@@ -26,7 +27,7 @@ use Rattle.px_form.specs.Core.{BlockHead, Form, NoBlock, Block, question_term, g
 use Rattle.px_form.specs.FirstForm as form
 use Rattle.px_form.specs.FirstForm.{is_label, is_one_block, is_named_from, labels_differ, only_lists_have_actions, depth_of, blocks_of, KeepsRules}
 use Rattle.px_form.proofs.Beside.{may_stand}
-use Rattle.px_form.proofs.Names.{label_name, same_if, is_same_refl}
+use Rattle.px_form.proofs.Names.{label_name}
 
 -- ---- the tree
 
@@ -68,7 +69,7 @@ pub name_short : (place : ℕ) (name : List ℕ) → place < 2 ^ 32 → may_stan
 name_short place name small stands =
     let fits : is_name name ≡ true = elim (or_cases (is_label name) (is_same name (generated_name place)) stands) [
       | inl label ↦ label_name name label
-      | inr same ↦ ap is_name (same_if name (generated_name place) same) ∙ generated_is_name place small
+      | inr same ↦ ap is_name ((bytes_decides name (generated_name place)).0 same) ∙ generated_is_name place small
     ] in
     leb-true (length name) 64 (and_parts (is_identifier name || is_generated name) (nat_le (length name) 64) fits).1
 
@@ -250,7 +251,7 @@ knows_rest before (site ∷ rest) =
     let test : Site → Bool = λ other. is_same other.path site.path && true in
     let here : known (before ++ (site ∷ rest)) site.path ≡ true =
     list_any-append test before (site ∷ rest)
-    ∙ or_right (list_any test before) (list_any test (site ∷ rest)) (or_left (test site) (list_any test rest) (rw (is_same_refl site.path) refl)) in
+    ∙ or_right (list_any test before) (list_any test (site ∷ rest)) (or_left (test site) (list_any test rest) (rw (nat_list_eq_equiv.refl site.path) refl)) in
     and_from (known (before ++ (site ∷ rest)) site.path) (all_known (before ++ (site ∷ rest)) rest) here
     (ap (λ plan. all_known plan rest) (sym (append_assoc before (site ∷ []) rest)) ∙ knows_rest (before ++ (site ∷ [])) rest)
 

@@ -1,6 +1,7 @@
 -- What an item is, of which some tokens are read.
 use Rattle.std.proofs.Common.{◌≡◌, ℕ, Bool, true, false, cond, List, [], ◌∷◌, ◌++◌, refl, sym, ap, ◌∙◌, subst, append_assoc, Some, None, ◌&&◌, ◌==◌}
 use Rattle.std.specs.Prelude.{codes, not}
+use Rattle.std.specs.Cmp.Lexicographic.{bytes_decides}
 use Rattle.std.proofs.lemmas.Bool.{and_parts, and_from, eqb-true}
 use Rattle.std.proofs.lemmas.Option.{cond_some}
 use Rattle.px_core.specs.declared.conditions.ConditionKind.{ConditionKind}
@@ -12,7 +13,6 @@ use Rattle.px_form.specs.declared.part.Part.{Part}
 use Rattle.px_form.specs.declared.part.Part.TheVariants as parts
 use Rattle.px_form.specs.FirstForm.{Token, Word, Sign, open_arguments, close_arguments, colon, negation, given, asked_tokens, question_tokens, condition_word, is_label}
 use Rattle.px_form.specs.Items.{is_sign, item_of, item_step}
-use Rattle.px_form.proofs.Names.{same_if}
 
 -- the tokens of what has begun
 abbrev pub begun_tokens : Begun → List Token
@@ -73,7 +73,7 @@ asked_by room begun word next true y z is _ _ h =
       good = refl;
       same = refl;
       text = ap (λ more. Word (condition_word begun.condition begun.long) ∷ more) (sym (append_assoc (given begun.colon colon) (given begun.negated negation) (Word (codes "true") ∷ [])))
-          ∙ ap (λ w. begun_tokens begun ++ (Word w ∷ [])) (sym (same_if word (codes "true") is));
+          ∙ ap (λ w. begun_tokens begun ++ (Word w ∷ [])) (sym ((bytes_decides word (codes "true")).0 is));
     })
 asked_by room begun word next false true z _ is _ h =
     let made : parts.End (item_of begun (asks.Truth false)) ≡ next = cc in
@@ -81,14 +81,14 @@ asked_by room begun word next false true z _ is _ h =
       good = refl;
       same = refl;
       text = ap (λ more. Word (condition_word begun.condition begun.long) ∷ more) (sym (append_assoc (given begun.colon colon) (given begun.negated negation) (Word (codes "false") ∷ [])))
-          ∙ ap (λ w. begun_tokens begun ++ (Word w ∷ [])) (sym (same_if word (codes "false") is));
+          ∙ ap (λ w. begun_tokens begun ++ (Word w ∷ [])) (sym ((bytes_decides word (codes "false")).0 is));
     })
 asked_by room begun word next false false true _ _ is h =
     let made : parts.Bracket begun ≡ next = cc in
     subst (GoesOn room (parts.Question begun) (Word word)) made (record {
       good = refl;
       same = refl;
-      text = ap (λ w. begun_tokens begun ++ (Word w ∷ [])) (sym (same_if word (codes "Lookup") is));
+      text = ap (λ w. begun_tokens begun ++ (Word w ∷ [])) (sym ((bytes_decides word (codes "Lookup")).0 is));
     })
 asked_by room begun word next false false false _ _ _ h = cc
 

@@ -86,7 +86,8 @@ lexed_if_splits (token ∷ tokens) bytes runs h =
     ∙ lexed-token token h.1 parts.0 h.4
     ∙ ap (option_map (λ more. token ∷ more)) (lexed_if_splits tokens h.1 parts.1 h.5)
 
-map_some : {A B : Type 0} (f : A → B) (o : Option A) (y : B) → option_map f o ≡ Some y → (x : A) × (o ≡ Some x) × (f x ≡ y)
+-- where a function of an option gives something, there was something
+pub map_some : {A B : Type 0} (f : A → B) (o : Option A) (y : B) → option_map f o ≡ Some y → (x : A) × (o ≡ Some x) × (f x ≡ y)
 map_some f None y h = cc
 map_some f (Some x) y h = (x, refl, cc)
 

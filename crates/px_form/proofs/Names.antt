@@ -1,21 +1,20 @@
 -- Labels, and the names of blocks without one.
 use Rattle.std.proofs.Common.{◌≡◌, ℕ, suc, ◌+◌, ◌<◌, ◌≤◌, ◌^◌, true, false, ◌&&◌, ◌||◌, List, [], ◌∷◌, length, refl, sym, ap, ◌∙◌, arith, ◌==◌, inl, inr}
-use Rattle.std.specs.Prelude.{not, is_none, nat_eq, nat_le, decimal}
+use Rattle.std.specs.Prelude.{not, is_none, nat_le, decimal}
 use Rattle.std.specs.List.{list_all}
-use Rattle.std.specs.Cmp.Lexicographic.{nat_list_eq_equiv}
-use Rattle.std.proofs.lemmas.Bool.{and_parts, and_from, or_cases, or_from, both_ways, false_from_ne_true, false≢true, eqb-true}
+use Rattle.std.proofs.lemmas.Bool.{and_parts, and_from, or_cases, or_from, both_ways, false_from_ne_true}
 use Rattle.std.proofs.lemmas.Bool.Decides.{nat_tests}
-use Rattle.std.proofs.lemmas.Str.{IsUtf8-from_ascii}
-use Rattle.std.proofs.lemmas.Str.Ascii.{IsAscii-nil, IsAscii-cons}
-use Rattle.std.specs.Str.{IsAscii, IsUtf8}
+use Rattle.std.specs.Str.{IsUtf8}
 use Rattle.std.proofs.lemmas.Fmt.{decimal_is_IsNumeral}
 use Rattle.std.specs.Str.Parse.{digits_value}
+use Rattle.std.specs.Cmp.Lexicographic.{bytes_decides}
 use Rattle.px_core.specs.Plan.{is_same}
 use Rattle.px_lex.specs.Keyword.{keyword_of}
 use Rattle.px_lex.specs.Word.{is_real_type}
 use Rattle.px_form.specs.Core.{Form, NoBlock, Block}
 use Rattle.px_form.specs.Reading.{size_of, is_taken}
 use Rattle.px_value.specs.Name.{begins_identifier, continues_identifier, is_identifier, is_generated, is_name, generated_name}
+use Rattle.px_value.proofs.Ascii.{identifier_text}
 use Rattle.px_value.proofs.Names.{generated_is_name}
 use Rattle.px_form.specs.FirstForm.{Word, colon, label_tokens, is_label, is_named_from}
 use Rattle.px_form.specs.Lexing.{is_run}
@@ -65,41 +64,17 @@ generated_on place small = (and_parts (is_generated (generated_name place)) (nat
 pub tokens-generated : (place : ℕ) → place < 2 ^ 32 → label_tokens (generated_name place) ≡ []
 tokens-generated place small = rw (generated_on place small)
 
-pub is_same_refl : (a : List ℕ) → is_same a a ≡ true
-is_same_refl a = nat_list_eq_equiv.refl a
-
-pub same_if : (a b : List ℕ) → is_same a b ≡ true → a ≡ b
-same_if [] [] h = refl
-same_if [] (y ∷ ys) h = absurd (false≢true h)
-same_if (x ∷ xs) [] h = absurd (false≢true h)
-same_if (x ∷ xs) (y ∷ ys) h =
-    let parts : (nat_eq x y ≡ true) × (is_same xs ys ≡ true) = and_parts (nat_eq x y) (is_same xs ys) h in
-    cc (eqb-true x y parts.0, same_if xs ys parts.1)
-
-on_ascii : (c : ℕ) → continues_identifier c ≡ true → c < 128
-on_ascii c h = grind (arith, nat_tests)
-
-run_ascii : (bytes : List ℕ) → list_all continues_identifier bytes ≡ true → IsAscii bytes
-run_ascii [] h = IsAscii-nil
-run_ascii (c ∷ cs) h =
-    let parts : (continues_identifier c ≡ true) × (list_all continues_identifier cs ≡ true) = and_parts (continues_identifier c) (list_all continues_identifier cs) h in
-    IsAscii-cons c cs (on_ascii c parts.0) (run_ascii cs parts.1)
-
-label_ascii : (name : List ℕ) → is_run name ≡ true → IsAscii name
-label_ascii [] h = IsAscii-nil
-label_ascii (c ∷ cs) h = run_ascii (c ∷ cs) h
-
 -- a label is text
 pub label_utf8 : (name : List ℕ) → is_label name ≡ true → IsUtf8 name
-label_utf8 name h = IsUtf8-from_ascii name (label_ascii name (label_run name h))
+label_utf8 name h = identifier_text name (label_identifier name h)
 
 generated_differs : (place other : ℕ) (name : List ℕ) → other < place → place < 2 ^ 32 → (is_label name || is_same name (generated_name other)) ≡ true → is_same (generated_name place) name ≡ true → ⊥
 generated_differs place other name before small stands same =
-    let is : generated_name place ≡ name = same_if (generated_name place) name same in
+    let is : generated_name place ≡ name = (bytes_decides (generated_name place) name).0 same in
     elim (or_cases (is_label name) (is_same name (generated_name other)) stands) [
       | inl label ↦ both_ways (is_generated name) (identifier_off name (label_identifier name label)) (ap is_generated (sym is) ∙ generated_on place small)
       | inr equal ↦
-          let names : generated_name place ≡ generated_name other = is ∙ same_if name (generated_name other) equal in
+          let names : generated_name place ≡ generated_name other = is ∙ (bytes_decides name (generated_name other)).0 equal in
           let texts : decimal place ≡ decimal other = cc in
           let numbers : place ≡ other = sym (decimal_is_IsNumeral place (omega arith)).1 ∙ ap (digits_value 10) texts ∙ (decimal_is_IsNumeral other (omega arith)).1 in
           omega arith

@@ -2,6 +2,7 @@
 use Rattle.std.proofs.Common.{◌≡◌, ℕ, suc, ◌+◌, ◌<◌, ◌^◌, Bool, true, false, ◌&&◌, List, [], ◌∷◌, ◌++◌, refl, sym, ap, ◌∙◌, subst, arith, append-nil, inl, inr, Option, Some, None}
 use Rattle.std.specs.List.{list_all}
 use Rattle.std.specs.Option.{option_and_then, option_map}
+use Rattle.std.specs.Cmp.Lexicographic.{bytes_decides}
 use Rattle.std.proofs.lemmas.Bool.{and_parts, and_from, or_cases, false≢true}
 use Rattle.std.proofs.lemmas.List.Folds.{list_all-append}
 use Rattle.px_value.specs.Name.{generated_name}
@@ -17,7 +18,7 @@ use Rattle.px_form.specs.Reading.{AnyBlock, State, start, step, finished, run, r
 use Rattle.px_form.proofs.Beside.{may_stand}
 use Rattle.px_form.proofs.Complete.{state, reads}
 use Rattle.px_form.proofs.Lexing.{lexed_if_splits, splits_if_lexed}
-use Rattle.px_form.proofs.Names.{tokens-label, tokens-generated, label_run, same_if}
+use Rattle.px_form.proofs.Names.{tokens-label, tokens-generated, label_run}
 use Rattle.px_form.proofs.Sound.{IsRead, read_if_run}
 use Rattle.px_form.proofs.Words.{condition_run}
 
@@ -32,7 +33,7 @@ label_runs : (place : ℕ) (name : List ℕ) → place < 2 ^ 32 → may_stand pl
 label_runs place name small stands =
     elim (or_cases (is_label name) (is_same name (generated_name place)) stands) [
       | inl label ↦ ap all_runs (tokens-label name label) ∙ and_from (is_run_token (Word name)) true (label_run name label) refl
-      | inr same ↦ ap (λ n. all_runs (label_tokens n)) (same_if name (generated_name place) same) ∙ ap all_runs (tokens-generated place small)
+      | inr same ↦ ap (λ n. all_runs (label_tokens n)) ((bytes_decides name (generated_name place)).0 same) ∙ ap all_runs (tokens-generated place small)
     ]
 
 asked_runs : (asked : Asked) → is_right_asked asked ≡ true → all_runs (asked_tokens asked) ≡ true

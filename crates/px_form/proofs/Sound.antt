@@ -2,7 +2,8 @@
 use Rattle.std.proofs.Common.{◌≡◌, ℕ, suc, ◌+◌, ◌<◌, ◌≤◌, ◌^◌, max, Bool, true, false, ◌&&◌, ◌==◌, cond, List, [], ◌∷◌, ◌++◌, length, refl, sym, ap, ◌∙◌, subst, arith, append_assoc, append-nil, Option, Some, None}
 use Rattle.std.specs.Prelude.{not, codes, nat_lt}
 use Rattle.std.specs.List.{list_all}
-use Rattle.std.specs.Option.{option_map, option_and_then}
+use Rattle.std.specs.Option.{option_and_then}
+use Rattle.std.specs.Cmp.Lexicographic.{bytes_decides, nat_list_eq_equiv}
 use Rattle.std.proofs.lemmas.Bool.{and_parts, and_from, or_left, or_right, not-true, ltb-true, eqb-true}
 use Rattle.std.proofs.lemmas.List.Folds.{list_all-append}
 use Rattle.std.proofs.lemmas.Option.{cond_some}
@@ -23,7 +24,8 @@ use Rattle.px_form.specs.Reading.{beside, size_of, OpenBlock, block, is_taken, E
 use Rattle.px_form.proofs.Beside.{may_stand, size_of-le}
 use Rattle.px_form.proofs.Complete.{state, body_of}
 use Rattle.px_form.proofs.ItemSteps.{part_tokens, condition_of_part, is_good_asked, is_good_part, GoesOn, sign_is, item_goes_on}
-use Rattle.px_form.proofs.Names.{tokens-label, tokens-generated, is_same_refl, same_if, generated_free}
+use Rattle.px_form.proofs.Lexing.{map_some}
+use Rattle.px_form.proofs.Names.{tokens-label, tokens-generated, generated_free}
 use Rattle.px_form.proofs.Whole.{whole, body_tokens, seen, seen-beside, IsSound, IsFree, add_leaf, blocks_of-within, named_innermost}
 use Rattle.px_form.proofs.Words.{condition_spelled}
 
@@ -120,7 +122,7 @@ unlabelled_good levels blocks count text next good h =
     let place : suc (size_of blocks) ≡ 1 + size_of blocks = omega arith in
     let small : suc (size_of blocks) < 2 ^ 32 = omega (arith, size_of-le blocks, blocks_of-within levels blocks, good.sound.count, good.counted, good.limit) in
     open_good levels blocks count AnyBlock name text next good refl
-    (or_right (is_label name) (is_same name (generated_name (1 + size_of blocks))) (ap (λ n. is_same name (generated_name n)) (sym place) ∙ is_same_refl name))
+    (or_right (is_label name) (is_same name (generated_name (1 + size_of blocks))) (ap (λ n. is_same name (generated_name n)) (sym place) ∙ nat_list_eq_equiv.refl name))
     (generated_free 1 (suc (size_of blocks)) blocks (omega arith) small (named_innermost levels blocks good.sound.names))
     (sym (tokens-generated (suc (size_of blocks)) small))
     ((guarded (nat_lt (size_of blocks) 4096) (opened (state levels blocks count AnyBlock) name) next h).1)
@@ -180,7 +182,7 @@ word_good levels blocks count body word text next true is good h =
     let after : state levels blocks count (ActionsOf body) ≡ next = cc in
     subst (λ t. IsGood t (text ++ Word word ∷ [])) after
     (continues_identifier levels blocks count (ItemOf body) (ActionsOf body) (Word word) text good refl good.awaits
-    (ap (λ w. body_tokens body ++ (Word w ∷ [])) (sym (same_if word (codes "NodeList") is))))
+    (ap (λ w. body_tokens body ++ (Word w ∷ [])) (sym ((bytes_decides word (codes "NodeList")).0 is))))
 word_good levels blocks count body word text next false is good h =
     condition_good levels blocks count body word text next (option_and_then condition_of (keyword_of word)) good refl h
 
@@ -200,10 +202,6 @@ leaf_good levels blocks count body c text next good h =
       awaits = tt;
       text = ap (λ t. t ++ close_block ∷ []) good.text ∙ sym (ap (λ t. t ++ []) (seen-beside levels blocks leaf) ∙ simp (append_assoc, append-nil));
     }))
-
-map_some : {A B : Type 0} (f : A → B) (o : Option A) (y : B) → option_map f o ≡ Some y → (x : A) × (o ≡ Some x) × (f x ≡ y)
-map_some f None y h = cc
-map_some f (Some x) y h = (x, refl, cc)
 
 rest_good : (levels : List Level) (blocks : Form) (count : ℕ) (body : OpenBlock) (part : Part) (token : Token) (text : List Token) (next : State)
     → IsGood (state levels blocks count (RestOf body part)) text

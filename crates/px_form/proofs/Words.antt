@@ -4,6 +4,7 @@ use Rattle.std.specs.Prelude.{codes}
 use Rattle.std.specs.List.{list_all}
 use Rattle.std.specs.Option.{option_and_then}
 use Rattle.std.specs.Str.{bytes_eq}
+use Rattle.std.specs.Cmp.Lexicographic.{bytes_decides}
 use Rattle.std.proofs.lemmas.Bool.{and_parts}
 use Rattle.px_core.specs.declared.conditions.ConditionKind.{ConditionKind}
 use Rattle.px_core.specs.declared.conditions.ConditionKind.TheVariants as conditions
@@ -14,7 +15,6 @@ use Rattle.px_lex.specs.Keyword.{keyword_rows, keyword_of}
 use Rattle.px_form.specs.FirstForm.{condition_word}
 use Rattle.px_form.specs.Items.{condition_of}
 use Rattle.px_form.specs.Lexing.{is_run}
-use Rattle.px_form.proofs.Names.{same_if}
 
 -- a row of the table spells its condition as the form does
 abbrev spells : List ℕ → Option (ConditionKind × Bool) → Bool
@@ -31,7 +31,7 @@ row_fits : (row : List ℕ × Keyword) (rest : Option Keyword) (word : List ℕ)
     → fits row ≡ true → (rest ≡ Some keyword → fits (word, keyword) ≡ true) → cond same (Some row.1) rest ≡ Some keyword → fits (word, keyword) ≡ true
 row_fits row rest word keyword true is here below h =
     let key : row.1 ≡ keyword = cc in
-    subst (λ w. fits (w, keyword) ≡ true) (same_if row.0 word is) (subst (λ k. fits (row.0, k) ≡ true) key here)
+    subst (λ w. fits (w, keyword) ≡ true) ((bytes_decides row.0 word).0 is) (subst (λ k. fits (row.0, k) ≡ true) key here)
 row_fits row rest word keyword false is here below h = below h
 
 row_found : (rows : List (List ℕ × Keyword)) (word : List ℕ) (keyword : Keyword) → list_all fits rows ≡ true → row_of rows word ≡ Some keyword → fits (word, keyword) ≡ true
@@ -45,7 +45,7 @@ spelled_by : (word : List ℕ) (keyword : Option Keyword) (condition : Condition
 spelled_by word None condition is h = cc
 spelled_by word (Some keyword) condition is h =
     let fit : spells word (condition_of keyword) ≡ true = row_found keyword_rows word keyword rows_fit is in
-    same_if word (condition_word condition.0 condition.1) (sym (ap (spells word) h) ∙ fit)
+    (bytes_decides word (condition_word condition.0 condition.1)).0 (sym (ap (spells word) h) ∙ fit)
 
 -- a word that begins a condition is spelled as the form says
 pub condition_spelled : (word : List ℕ) (condition : ConditionKind × Bool) → option_and_then condition_of (keyword_of word) ≡ Some condition

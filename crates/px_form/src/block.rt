@@ -10,7 +10,7 @@ ghost use Rattle.px_form.specs.FirstForm.{depth_of};
 
 use crate::item::Item;
 use px_core::{Body, ConditionKind, Conditions, CoreNode, Expr, Kind};
-use px_value::{Name, NoMemory, Path};
+use px_value::{NAME_LIMIT, Name, NoMemory, PATH_LIMIT, Path};
 use std::alloc::Global;
 
 /// The priority of a node without one (PLEXIL reference manual, "Assignment Nodes").
@@ -28,7 +28,7 @@ pub struct Block {
 impl Block {
     /// The path of the block in the block at `parent`.
     fn path_in(&self, alloc: Global, parent: &Path) -> Result<Path, NoMemory>
-        requires { length parent.now + 64 < 5000 }
+        requires { length parent.now + NAME_LIMIT < PATH_LIMIT }
         ensures path { IfOk result (λ path. path ≡ below parent.now (out-Block self.now).name) }
         ensures short { IfOk result (λ path. length path ≤ length parent.now + 65) }
     {
