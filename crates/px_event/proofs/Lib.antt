@@ -1,3 +1,4 @@
+pub mod Appends
 pub mod Equality
 pub mod Spelled
 pub mod Fields

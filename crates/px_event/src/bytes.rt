@@ -3,4 +3,4 @@ mod entries;
 mod fields;
 mod values;
 
-pub use entries::{ENTRY_LIMIT, decode, encode};
+pub use entries::{ENTRY_LIMIT, decode, encode, push_entry};

@@ -2,7 +2,8 @@
 //!
 //! An `Entry` is an `Event` with the thread and the line that it comes from, and `Values` are the arguments of a
 //! report; a `Reply` answers the post of an entry, and a `Cond` is what a script waits for. `encode` and `decode` lead to
-//! the bytes of an entry and back. `laws` says what `==` means, and that no bytes are those of two fit entries.
+//! the bytes of an entry and back, and `push_entry` appends them. `laws` says what `==` means, and that no bytes are
+//! those of two fit entries.
 #![tactic(auto)]
 
 mod bytes;
@@ -14,7 +15,7 @@ pub mod laws;
 mod reply;
 mod values;
 
-pub use bytes::{ENTRY_LIMIT, decode, encode};
+pub use bytes::{ENTRY_LIMIT, decode, encode, push_entry};
 pub use cond::Cond;
 pub use entry::{Entry, THREAD_LIMIT};
 pub use event::{ARGUMENT_LIMIT, Event};

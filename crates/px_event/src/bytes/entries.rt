@@ -1,5 +1,6 @@
 // The bytes of an entry: its thread, its line, and its event behind a byte that says of which kind it is.
-ghost use Rattle.std.specs.Prelude.{◌≡◌, ◌≢◌, ◌<◌, ◌++◌, IsTrue, IfOk, IsErrOf, OnOk};
+ghost use Rattle.std.specs.Prelude.{◌≡◌, ◌≢◌, ◌<◌, IsTrue, IfOk, IsErrOf};
+ghost use Rattle.px_event.specs.Appending.{Appends};
 ghost use Rattle.px_event.specs.Bytes.{handle_code, event_bytes, entry_bytes};
 ghost use Rattle.px_event.specs.Fit.{is_fit_event, is_fit_entry};
 ghost use Rattle.px_event.specs.Reading.{Gives, Reads, name_at, path_at, handle_of, handle_at, report_at, handle_event_at, return_at, event_at, entry_at, decoded};
@@ -33,15 +34,24 @@ pub fn encode(alloc: Global, entry: &Entry) -> Result<Vec<u8>, NoMemory>
     ensures { IfOk result (λ bytes. bytes.items ≡ entry_bytes entry.now) }
 {
     let mut out = Vec::with_capacity(alloc, ENTRY_LIMIT)?;
-    out.push(entry.thread)?;
-    push_u32(&mut out, entry.line)?;
-    push_event(&mut out, &entry.event)?;
+    push_entry(&mut out, entry)?;
     Ok(out)
+}
+
+/// Appends the bytes of an entry. It succeeds where they have room. After an `Err` some of them may stand behind what
+/// was there.
+pub fn push_entry(out: &mut Vec<u8>, entry: &Entry) -> Result<(), NoMemory>
+    requires { IsTrue (is_fit_entry entry.now) }
+    ensures { Appends (entry_bytes entry.now) out.old out.new result }
+{
+    out.push(entry.thread)?;
+    push_u32(out, entry.line)?;
+    push_event(out, &entry.event)
 }
 
 fn push_event(out: &mut Vec<u8>, event: &Event) -> Result<(), NoMemory>
     requires { IsTrue (is_fit_event event.now) }
-    ensures { OnOk result (out.new.items ≡ out.old.items ++ event_bytes event.now) }
+    ensures { Appends (event_bytes event.now) out.old out.new result }
 {
     match event {
         Event::Report { name, args, value } => {

@@ -1,5 +1,6 @@
 // The fields of an entry's bytes: bytes, numbers with the highest byte first, and texts.
-ghost use Rattle.std.specs.Prelude.{◌≡◌, ◌<◌, ◌^◌, ◌==◌, ◌++◌, ℕ, List, length, OnOk};
+ghost use Rattle.std.specs.Prelude.{◌≡◌, ◌<◌, ◌^◌, ◌==◌, ℕ, List, length};
+ghost use Rattle.px_event.specs.Appending.{Appends};
 ghost use Rattle.byteorder.specs.Endian.{big_bytes};
 ghost use Rattle.px_event.specs.Bytes.{text_bytes};
 ghost use Rattle.px_event.specs.Reading.{Reads, byte_at, number_at, front_at, text_at};
@@ -11,7 +12,7 @@ use std::marker::Model;
 
 /// Appends four bytes.
 pub fn push_u32(out: &mut Vec<u8>, number: u32) -> Result<(), NoMemory>
-    ensures { OnOk result (out.new.items ≡ out.old.items ++ big_bytes 4 number) }
+    ensures { Appends (big_bytes 4 number) out.old out.new result }
 {
     let mut bytes = [0; 4];
     BigEndian::write_u32(&mut bytes, number);
@@ -19,7 +20,7 @@ pub fn push_u32(out: &mut Vec<u8>, number: u32) -> Result<(), NoMemory>
 }
 
 fn push_u16(out: &mut Vec<u8>, number: u16) -> Result<(), NoMemory>
-    ensures { OnOk result (out.new.items ≡ out.old.items ++ big_bytes 2 number) }
+    ensures { Appends (big_bytes 2 number) out.old out.new result }
 {
     let mut bytes = [0; 2];
     BigEndian::write_u16(&mut bytes, number);
@@ -29,7 +30,7 @@ fn push_u16(out: &mut Vec<u8>, number: u16) -> Result<(), NoMemory>
 /// Appends a text: its length in two bytes, and its bytes.
 pub fn push_text(out: &mut Vec<u8>, text: &str) -> Result<(), NoMemory>
     requires { length text.now < 2 ^ 16 }
-    ensures { OnOk result (out.new.items ≡ out.old.items ++ text_bytes text.now) }
+    ensures { Appends (text_bytes text.now) out.old out.new result }
 {
     push_u16(out, text.len() as u16)?;
     out.extend_from_slice(text.as_bytes())

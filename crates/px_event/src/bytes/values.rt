@@ -1,5 +1,6 @@
 // The bytes of values: a tag, and what it says.
-ghost use Rattle.std.specs.Prelude.{◌≡◌, ◌++◌, OnOk, Some, None, if◌then◌else◌};
+ghost use Rattle.std.specs.Prelude.{◌≡◌, Some, None, if◌then◌else◌};
+ghost use Rattle.px_event.specs.Appending.{Appends};
 ghost use Rattle.std.specs.List.{flat_map};
 ghost use Rattle.px_value.specs.Text.{is_short_text};
 ghost use Rattle.px_event.specs.Bytes.{value_bytes};
@@ -22,7 +23,7 @@ const TEXT: u8 = 4;
 
 /// Appends the bytes of a value. What is never told, as a state, has none.
 pub fn push_value(out: &mut Vec<u8>, value: &Value) -> Result<(), NoMemory>
-    ensures { OnOk result (out.new.items ≡ out.old.items ++ value_bytes value.now) }
+    ensures { Appends (value_bytes value.now) out.old out.new result }
 {
     match value {
         Value::Unknown => out.push(UNKNOWN)?,
@@ -43,7 +44,7 @@ pub fn push_value(out: &mut Vec<u8>, value: &Value) -> Result<(), NoMemory>
 
 /// Appends the bytes of values, one after another.
 pub fn push_values(out: &mut Vec<u8>, values: &[Value]) -> Result<(), NoMemory>
-    ensures { OnOk result (out.new.items ≡ out.old.items ++ flat_map value_bytes values.now) }
+    ensures { Appends (flat_map value_bytes values.now) out.old out.new result }
 {
     for value in values {
         push_value(out, value)?;

@@ -74,6 +74,25 @@ fn an_entry_of_each_kind_has_its_bytes(rt: HostRuntime) -> Result<(), Fail> {
 }
 
 #[test]
+fn an_entry_is_appended_behind_what_was_there(rt: HostRuntime) -> Result<(), Fail> {
+    let alloc = rt.alloc();
+    let mut out = vec![in alloc; 7, 8]?;
+    let entry = Entry {
+        thread: 1,
+        line: 258,
+        event: Event::AbortDone {
+            node: Path::new(alloc, "A")?,
+        },
+    };
+    push_entry(&mut out, &entry)?;
+    assert_eq!(rt;
+        out.as_slice(),
+        [7, 8, 1, 0, 0, 1, 2, 4, 0, 1, 65].as_slice()
+    );
+    Ok(())
+}
+
+#[test]
 fn bytes_are_an_entry_within_the_limits_of_each_field(rt: HostRuntime) -> Result<(), Fail> {
     let alloc = rt.alloc();
     let cases: [(&[u8], bool); 17] = [
