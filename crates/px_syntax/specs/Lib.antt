@@ -7,3 +7,9 @@ pub mod BlockGrammar
 pub mod Plan
 pub mod PlanGrammar
 pub mod Depth
+pub mod ValueType
+pub mod Fault
+pub mod Scope
+pub mod ExprFaults
+pub mod BlockFaults
+pub mod PlanFaults

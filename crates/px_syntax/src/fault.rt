@@ -22,11 +22,47 @@ pub enum ParseFault {
     NoMemory,
 }
 
+/// What is wrong in a tree. Each kind has the number that is told of it.
+#[derive(Clone, Copy, Debug, PartialEq, Eq)]
+pub enum FaultKind {
+    /// A variable that isn't visible.
+    Undeclared = 1,
+    /// A second declaration, or a second label, of one name in one place.
+    Redeclared = 2,
+    /// An expression, an initial value or an answer of another type than is wanted there; an array that is read without
+    /// an index, or a scalar with one.
+    TypeDiffers = 3,
+    /// An array that is written without an index, or a scalar with one.
+    NotAssignable = 4,
+    /// No such node is there, or it has no such attribute.
+    NoSuchNode = 5,
+    /// A declared command or lookup with another number of arguments.
+    ArgCount = 6,
+    /// A second one of a block's conditions, or a second priority.
+    DoubleCondition = 7,
+    /// More elements, initial values, arguments, parameters, pairs or cells than there may be, or no element.
+    TooLarge = 8,
+}
+
+impl FaultKind {
+    ghost use Rattle.px_syntax.specs.Fault.{number_of};
+    ghost use Rattle.px_syntax.specs.declared.fault.CheckFault.TheVariants.{Fault};
+
+    /// The fault of this kind at a token.
+    pub fn at(self, token: usize) -> CheckFault
+        ensures { result ≡ Fault (number_of self) token }
+    {
+        CheckFault::Fault {
+            kind: self as u8,
+            token,
+        }
+    }
+}
+
 /// Why a tree is no plan that can be run.
 #[derive(Debug, Drop, PartialEq, Eq, Error)]
 pub enum CheckFault {
-    /// The first fault by its token, and of several at one token the least kind: 1 undeclared, 2 redeclared, 3 type
-    /// differs, 4 not assignable, 5 no such node, 6 argument count, 7 double condition, 8 too large.
+    /// The first fault by its token, and of several at one token the least kind; `kind` is the number of a `FaultKind`.
     #[error("check {kind} at token {token}")]
     Fault { kind: u8, token: usize },
     #[error("out of memory")]

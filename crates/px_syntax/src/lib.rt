@@ -4,6 +4,8 @@
 //! blocks with their items and actions, and `plan` the whole; `fault` is what the text of a plan can be refused for.
 //! In `specs/`, `Expr`, `Block` and `Plan` show each tree with lists in place of
 //! vectors, `ExprGrammar`, `BlockGrammar` and `PlanGrammar` say what is spelled, and `Depth` which tokens are too deep.
+//! `ValueType` has the types of expressions, `Scope` what names mean, and `ExprFaults`, `BlockFaults` and `PlanFaults` say
+//! which faults a tree has.
 #![tactic(auto)]
 
 mod block;
@@ -12,6 +14,7 @@ mod fault;
 pub mod laws;
 mod operator;
 mod plan;
+mod value_type;
 mod word;
 
 pub use block::{
@@ -19,7 +22,8 @@ pub use block::{
     Variable,
 };
 pub use expr::{Attribute, Enumerated, Identifier, Literal, NodeReference, SurfaceExpr, Tolerance};
-pub use fault::{CheckFault, ExpandFault, ParseFault, PlanFault};
+pub use fault::{CheckFault, ExpandFault, FaultKind, ParseFault, PlanFault};
 pub use operator::{BinaryOperator, OPERATORS, Operator, PRIMARY_LEVEL, Spelling, UnaryOperator};
 pub use plan::{Declaration, Parameter, Surface};
+pub use value_type::ValueType;
 pub use word::{BinaryFunction, BlockForm, Condition, LookWord, TypeName, UnaryFunction};
