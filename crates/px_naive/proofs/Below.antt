@@ -2,7 +2,9 @@
 use Rattle.std.proofs.Common.{◌≡◌, ◌≢◌, ℕ, ◌+◌, ◌<◌, Bool, true, false, not, ◌&&◌, ◌||◌, List, [], length, get_or, set}
 use Rattle.std.proofs.Common.{map, nat_eq, length-set, refl, ap, sym, ◌∙◌, arith, ◌⊎◌, inl, inr, Option, Some, None}
 use Rattle.std.proofs.Common.{take}
+use Rattle.std.specs.Cmp.Lexicographic.{bytes_decides, nat_list_eq_equiv}
 use Rattle.std.specs.Option.{ForSome}
+use Rattle.std.proofs.lemmas.Bool.{false_from_ne_true}
 use Rattle.std.proofs.lemmas.Bool.Decides.{eqb_tells}
 use Rattle.std.proofs.lemmas.List.{length-map, get_or-map, get_or-set_same, get_or-set_other, same_lists, take_all}
 use Rattle.std.proofs.lemmas.List.Folds.{list_all_more}
@@ -10,6 +12,7 @@ use Rattle.std.proofs.Math.Bool.{and-true}
 use Rattle.px_value.specs.declared.enums.NodeState.{NodeState}
 use Rattle.px_value.specs.declared.enums.NodeState.TheVariants.{Inactive}
 use Rattle.px_value.specs.declared.value.Value.{Value}
+use Rattle.px_core.specs.Fit.{AreDistinct}
 use Rattle.px_core.specs.Plan.{Site, is_same, no_site, is_child_of}
 use Rattle.px_sem.specs.World as world
 use Rattle.px_sem.specs.Guards.{is_at_rest, each_child}
@@ -19,7 +22,7 @@ use Rattle.px_naive.specs.declared.children.Children.{Children}
 use Rattle.px_naive.specs.Places.{above_in, head_in, site_of, sites_of, path_at, IsBefore, IsLaid, is_number, is_parent}
 use Rattle.px_naive.specs.Places.{recorded, world_of}
 use Rattle.px_naive.specs.Children.{children_among, children_of, with_child}
-use Rattle.px_naive.proofs.Laid.{same-self, same-other, AreDistinct, length-sites_of, site_at_number, found_record}
+use Rattle.px_naive.proofs.Laid.{length-sites_of, site_at_number, found_record}
 
 -- so far, each node's children among the first i nodes were seen
 pub record SeenSoFar (places : List Place) (records : List Record) (seen : List Children) (i : ℕ) : Type 0 where
@@ -49,8 +52,9 @@ same_number places laid j k hj hk = by (eqb_tells j k)
     by : ((nat_eq j k ≡ true) × (j ≡ k)) ⊎ ((nat_eq j k ≡ false) × (j ≢ k))
         → is_same (path_at places j) (path_at places k) ≡ nat_eq j k
     by (inl same) =
-        ap (λ n. is_same (path_at places j) (path_at places n)) (sym same.1) ∙ same-self (path_at places j) ∙ sym same.0
-    by (inr other) = same-other _ _ (λ e. other.1 (laid.distinct j k hj hk e)) ∙ sym other.0
+        ap (λ n. is_same (path_at places j) (path_at places n)) (sym same.1) ∙ nat_list_eq_equiv.refl (path_at places j) ∙ sym same.0
+    by (inr other) =
+        false_from_ne_true _ (λ same. other.1 (laid.distinct j k hj hk ((bytes_decides _ _).0 same))) ∙ sym other.0
 
 -- whether one node is another's child: by number
 pub is_child_by_number : (places : List Place) → IsLaid places → (i k : ℕ) (e : Place) → i < length places

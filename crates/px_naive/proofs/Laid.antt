@@ -1,30 +1,19 @@
 -- Places by number: each place's site stands over its parent's, and a look-up by path finds it.
-use Rattle.std.proofs.Common.{◌≡◌, ◌≢◌, ℕ, zero, suc, ◌+◌, ◌<◌, Bool, true, false, List, [], ◌∷◌, ◌++◌, length, get_or}
+use Rattle.std.proofs.Common.{◌≡◌, ℕ, zero, suc, ◌+◌, ◌<◌, false, List, [], ◌∷◌, ◌++◌, length, get_or}
 use Rattle.std.proofs.Common.{map, refl, ap, sym, ◌∙◌, subst, arith, Option, Some, None, length-append, zero-add}
 use Rattle.std.proofs.Common.{add-zero}
 use Rattle.std.specs.List.{zip}
 use Rattle.std.specs.Map.{lookup}
 use Rattle.std.specs.Option.{unwrap_or, ForSome}
-use Rattle.std.specs.Cmp.Lexicographic.{same_text}
-use Rattle.std.proofs.lemmas.Cmp.{nat_list_eq_equiv}
+use Rattle.std.specs.Cmp.Lexicographic.{bytes_decides, nat_list_eq_equiv}
+use Rattle.std.proofs.lemmas.Bool.{false_from_ne_true}
 use Rattle.std.proofs.lemmas.List.{get_or_append_left}
 use Rattle.std.proofs.Math.Seq.{get_or-append_seam}
+use Rattle.px_core.specs.Fit.{AreDistinct}
 use Rattle.px_core.specs.Plan.{Site, is_same, no_site, site_at}
 use Rattle.px_sem.specs.World as world
 use Rattle.px_naive.specs.declared.place.Place.{Place}
 use Rattle.px_naive.specs.Places.{above_in, head_in, site_of, grown, sites_of, IsBefore, IsLaid}
-
--- ---- texts
-
-pub same-self : (a : List ℕ) → is_same a a ≡ true
-same-self a = nat_list_eq_equiv.refl a
-
-pub same-other : (a b : List ℕ) → a ≢ b → is_same a b ≡ false
-same-other a b differ = by (is_same a b) refl
-  where
-    by : (answer : Bool) → is_same a b ≡ answer → answer ≡ false
-    by true h = absurd (differ (same_text a b (sym h)))
-    by false h = refl
 
 -- ---- sites of places
 
@@ -102,20 +91,14 @@ grown-push sites (first ∷ places) place = grown-push (sites ++ site_of sites f
 
 -- ---- look-ups by path
 
--- the paths of different sites differ
-abbrev pub AreDistinct : List Site → Type 0
-AreDistinct sites =
-    (i j : ℕ) → i < length sites → j < length sites → (get_or sites i no_site).path ≡ (get_or sites j no_site).path
-    → i ≡ j
-
 distinct_tail : (site : Site) (sites : List Site) → AreDistinct (site ∷ sites) → AreDistinct sites
 distinct_tail site sites distinct i j hi hj same =
     let e : suc i ≡ suc j = distinct (suc i) (suc j) (omega arith) (omega arith) same in omega arith
 
 head_differs : (site : Site) (sites : List Site) (i : ℕ) → AreDistinct (site ∷ sites) → i < length sites
     → is_same site.path (get_or sites i no_site).path ≡ false
-head_differs site sites i distinct h = same-other _ _ (λ same.
-    let e : 0 ≡ suc i = distinct 0 (suc i) (omega arith) (omega arith) same in absurd (omega arith))
+head_differs site sites i distinct h = false_from_ne_true _ (λ same.
+    let e : 0 ≡ suc i = distinct 0 (suc i) (omega arith) (omega arith) ((bytes_decides _ _).0 same) in absurd (omega arith))
 
 pub found_record : (sites : List Site) (records : List world.NodeRecord) (i : ℕ) (e : world.NodeRecord) → AreDistinct sites
     → i < length sites
@@ -124,7 +107,7 @@ pub found_record : (sites : List Site) (records : List world.NodeRecord) (i : �
     ≡ get_or records i e
 found_record [] records i e distinct h long = absurd (omega arith)
 found_record (site ∷ sites) [] i e distinct h long = absurd (omega arith)
-found_record (site ∷ sites) (r ∷ records) zero e distinct h long = rw (same-self site.path) refl
+found_record (site ∷ sites) (r ∷ records) zero e distinct h long = rw (nat_list_eq_equiv.refl site.path) refl
 found_record (site ∷ sites) (r ∷ records) (suc i) e distinct h long =
     let within : i < length sites = omega arith in
     rw (head_differs site sites i distinct within)
@@ -133,7 +116,7 @@ found_record (site ∷ sites) (r ∷ records) (suc i) e distinct h long =
 pub found_site : (sites : List Site) (i : ℕ) → AreDistinct sites → i < length sites
     → site_at sites (get_or sites i no_site).path ≡ get_or sites i no_site
 found_site [] i distinct h = absurd (omega arith)
-found_site (site ∷ sites) zero distinct h = rw (same-self site.path) refl
+found_site (site ∷ sites) zero distinct h = rw (nat_list_eq_equiv.refl site.path) refl
 found_site (site ∷ sites) (suc i) distinct h =
     let within : i < length sites = omega arith in
     rw (head_differs site sites i distinct within) (found_site sites i (distinct_tail site sites distinct) within)

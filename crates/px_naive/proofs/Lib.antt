@@ -3,14 +3,12 @@ pub mod Ahead
 pub mod Arriving
 pub mod Bare
 pub mod Below
-pub mod Distinct
 pub mod Found
 pub mod Heads
 pub mod Laid
 pub mod Looking
 pub mod Numbering
 pub mod Reporting
-pub mod Rows
 pub mod Stepping
 pub mod Taking
 pub mod Terms

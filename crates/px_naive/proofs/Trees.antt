@@ -9,6 +9,7 @@ use Rattle.std.proofs.lemmas.Bool.{leb-true}
 use Rattle.std.proofs.lemmas.Bool.Decides.{eqb_tells}
 use Rattle.std.proofs.lemmas.List.{get_or_append_left, take_more}
 use Rattle.std.proofs.lemmas.List.Folds.{list_all-append}
+use Rattle.std.proofs.lemmas.List.Sums.{list_all-from_AllPass}
 use Rattle.std.proofs.Math.Seq.{get_or-append_seam}
 use Rattle.px_value.specs.Name.{is_name}
 use Rattle.px_value.specs.Path.{below}
@@ -17,13 +18,13 @@ use Rattle.px_core.specs.declared.node.CoreNode.TheViews.{out-CoreNode}
 use Rattle.px_core.specs.declared.node.CoreNode.TheFolds.{fold-CoreNode, fold_out-CoreNode}
 use Rattle.px_core.specs.Plan.{Tree, Branch, NoNode, Head, count_of, Site, no_site, branch, head_of, path_under}
 use Rattle.px_core.specs.Plan.{site_under, sites_under, sites}
-use Rattle.px_core.specs.Fit.{siblings_differ, has_short_path}
+use Rattle.px_core.specs.Fit.{siblings_differ, has_name, has_short_path, AreDistinct}
+use Rattle.px_core.proofs.SitePaths.{paths_differ}
 use Rattle.px_core.specs.Simple.{is_simple_head, is_simple_site}
 use Rattle.px_naive.specs.declared.place.Place.{Place}
 use Rattle.px_naive.specs.Places.{above_in, head_in, site_of, sites_of, path_at, IsBefore, IsLaid}
 use Rattle.px_naive.specs.Laying.{trees, below_it, is_layable, IsLinked, IsNamed, IsPlaceUnder, IsRootPlace}
-use Rattle.px_naive.proofs.Distinct.{Each, each_from, are_distinct, differ_tree}
-use Rattle.px_naive.proofs.Laid.{AreDistinct, length-sites_of, site_at_linked, grown-push}
+use Rattle.px_naive.proofs.Laid.{length-sites_of, site_at_linked, grown-push}
 
 -- a node's head
 abbrev pub node_head : CoreNode → Head
@@ -341,13 +342,11 @@ laid places tree spare same siblings linked named = record {
       λ i j hi hj is. distinct i j (omega (arith, length-sites_of places)) (omega (arith, length-sites_of places)) is;
 }
   where
-    each_named : Each (λ site. is_name site.head.name ≡ true) (sites_of places)
-    each_named = each_from (λ site. is_name site.head.name ≡ true) (sites_of places) no_site (λ i h.
+    each_named : list_all has_name (sites_of places) ≡ true
+    each_named = list_all-from_AllPass has_name (sites_of places) (λ i d h.
         let within : i < length places = omega (arith, length-sites_of places) in
-        subst (λ site. is_name site.head.name ≡ true) (sym (site_at_linked places linked i no_site spare within))
-        (named i spare within))
+        subst (λ site. has_name site ≡ true) (sym (site_at_linked places linked i d spare within)) (named i spare within))
 
     distinct : AreDistinct (sites_of places)
     distinct = subst AreDistinct (sym same)
-        (are_distinct (sites tree) (differ_tree [] tree siblings
-        (subst (Each (λ site. is_name site.head.name ≡ true)) same each_named)))
+        (paths_differ tree siblings (subst (λ plan. list_all has_name plan ≡ true) same each_named))

@@ -13,7 +13,6 @@ use crate::children::Children;
 use crate::place::{Place, Record};
 use crate::reports::Reports;
 use crate::states::{is_executing, is_false, is_finished, is_true, is_waiting};
-use crate::table;
 use crate::truths::Truths;
 use px_core::Kind;
 use px_sem::{Arrival, Guards};
@@ -85,7 +84,7 @@ fn dest(
 ) -> Option<Arrival>
     ensures { result ≡ dest_in kind (recorded r) parent asked children truths }
 {
-    table::dest(
+    px_tables::dest(
         kind,
         r.state,
         &guards(kind, r, parent, asked, children, truths),

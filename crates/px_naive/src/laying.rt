@@ -10,7 +10,7 @@ ghost use Rattle.px_naive.specs.Laying.{below_it, is_layable, IsLinked, IsNamed,
 
 use crate::place::Place;
 use px_core::{CoreNode, Plan};
-use px_value::{NoMemory, Path};
+use px_value::{NoMemory, PATH_LIMIT, Path};
 use std::alloc::Global;
 
 fn place_at(
@@ -47,7 +47,7 @@ fn place_under(
 ) -> Result<Place, NoMemory>
     requires parent { parent < length places.now }
     requires linked { IsLinked places.now }
-    requires short { length (path_at places.now parent) + length (out-CoreNode node.now).name < 5000 }
+    requires short { length (path_at places.now parent) + length (out-CoreNode node.now).name < PATH_LIMIT }
     requires simple { IsTrue (is_simple_head (head_of (out-CoreNode node.now))) }
     ensures { IfOk result (IsPlaceUnder places.now parent node.now) }
 {

@@ -5,7 +5,7 @@
 //!
 //! A micro step looks at all nodes before any of them moves (`sight`): down at their children (`children`), in at the
 //! truths of their conditions (`truths`, by the values of `expressions`), up at what their ancestors ask of them
-//! (`asked`), and by all this ahead at where they go (`arrivals`, by the rows of `table`). Then the moves are told, and
+//! (`asked`), and by all this ahead at where they go (`arrivals`, by px_tables). Then the moves are told, and
 //! all nodes that go arrive at once (`moving`). Where none goes, the world is quiet.
 //!
 //! An event sets the records aside as the settled ones, and where it is a report, `reports` takes it and remembers how
@@ -27,7 +27,6 @@ mod place;
 mod reports;
 mod sight;
 mod states;
-mod table;
 mod truths;
 
 pub use naive::Naive;
