@@ -1,5 +1,6 @@
 -- Arguments, one after another, and the parentheses that may be left out.
 use Rattle.std.proofs.Common.{◌≡◌, ℕ, ◌+◌, ◌≤◌, ◌<◌, inl, inr, refl, sym, ap, subst, ◌∙◌, List, [], ◌∷◌, ◌++◌, length, map, Some, None, arith}
+use Rattle.px_lex.specs.declared.sign.Sign.{Sign}
 use Rattle.px_lex.specs.declared.sign.Sign.TheVariants as signs
 use Rattle.px_lex.specs.declared.token.Token.{Token}
 use Rattle.px_lex.specs.declared.token.TokenKind.TheVariants as kinds
@@ -242,6 +243,20 @@ module _ (tokens : List Token) (from : ℕ) (so_far : List Term) (at : ℕ) (beg
         none others agree other end (NoTerms, is, next) = lacks.1 (sym (agree to (omega arith)) ∙ next.0)
         none others agree other end (More first rest, is, next) = no_comma (sym (agree to (omega arith)) ∙ next.0)
 
+-- no expression begins with a sign with which none opens
+pub no_expression :
+    (which : Sign) → opening_of (kinds.Sign which) ≡ openings.Nothing → unary_of (kinds.Sign which) ≡ None
+    → (tokens : List Token) (from : ℕ) → HasSign tokens from which → (tree : Term) (end : ℕ)
+    → expression tree tokens from end → ⊥
+no_expression which opens_nothing is_no_operator tokens from there tree end o =
+    let begins : Begins tokens from openings.Nothing =
+    record {
+      opens = ap (option_map opening_of) there ∙ ap (λ (opening : Opening). Some opening) opens_nothing;
+      no_operator = ap (option_and_then unary_of) there ∙ is_no_operator;
+    } in
+    let s = spine from tree 0 end o in
+    rest_of tokens from openings.Nothing begins s.first s.middle s.stands
+
 closing_opens_nothing : opening_of (kinds.Sign signs.CloseParen) ≡ openings.Nothing
 unfolding opening_of
 closing_opens_nothing = refl
@@ -250,18 +265,18 @@ closing_is_no_operator : unary_of (kinds.Sign signs.CloseParen) ≡ None
 unfolding unary_of
 closing_is_no_operator = refl
 
--- no expression begins with a closing parenthesis
-no_expression :
-    (tokens : List Token) (from : ℕ) → HasSign tokens from signs.CloseParen → (tree : Term) (end : ℕ)
+colon_opens_nothing : opening_of (kinds.Sign signs.Colon) ≡ openings.Nothing
+unfolding opening_of
+colon_opens_nothing = refl
+
+colon_is_no_operator : unary_of (kinds.Sign signs.Colon) ≡ None
+unfolding unary_of
+colon_is_no_operator = refl
+
+pub no_colon :
+    (tokens : List Token) (from : ℕ) → HasSign tokens from signs.Colon → (tree : Term) (end : ℕ)
     → expression tree tokens from end → ⊥
-no_expression tokens from there tree end o =
-    let begins : Begins tokens from openings.Nothing =
-    record {
-      opens = ap (option_map opening_of) there ∙ ap (λ (which : Opening). Some which) closing_opens_nothing;
-      no_operator = ap (option_and_then unary_of) there ∙ closing_is_no_operator;
-    } in
-    let s = spine from tree 0 end o in
-    rest_of tokens from openings.Nothing begins s.first s.middle s.stands
+no_colon = no_expression signs.Colon colon_opens_nothing colon_is_no_operator
 
 -- nothing but the parenthesis
 pub found_none :
@@ -282,7 +297,7 @@ found_none tokens from inside paren =
     only others there NoTerms end o = (refl, omega (arith, o.1, o.2.1))
     only others there (More first rest) end o =
         let f = first_argument others from first rest end o in
-        absurd (no_expression others from there first f.0 f.1)
+        absurd (no_expression signs.CloseParen closing_opens_nothing closing_is_no_operator others from there first f.0 f.1)
 
 -- ---- the arguments of a lookup
 

@@ -32,11 +32,16 @@ pub comma_closes : IsCloser signs.Comma
 unfolding binary_of
 comma_closes = record { no_operator = refl; no_bracket = λ e. cc; no_dot = λ e. cc }
 
+pub semicolon_closes : IsCloser signs.Semicolon
+unfolding binary_of
+semicolon_closes = record { no_operator = refl; no_bracket = λ e. cc; no_dot = λ e. cc }
+
 -- the signs that close are such ones
 pub closer_of : (which : Sign) → is_closer which ≡ true → IsCloser which
 closer_of signs.CloseParen e = paren_closes
 closer_of signs.CloseBracket e = bracket_closes
 closer_of signs.Comma e = comma_closes
+closer_of signs.Semicolon e = semicolon_closes
 closer_of which e = cc
 
 pub closer_ends :

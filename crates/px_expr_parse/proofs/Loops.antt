@@ -135,3 +135,23 @@ module _ (tokens : List Token) (from : ℕ) where
           | inr ends ↦ omega (arith, ends.0)
         ];
       }
+
+  -- the same of all tokens that agree
+  pub is_refused :
+      (tree : Term) (to : ℕ) → IsRead 0 tokens from tree to → GoesOn 0 tokens to
+      → IsRefused 0 tokens from (faults.SyntaxFault to)
+  is_refused tree to read follows = (
+    omega (arith, read.advances),
+    read.within,
+    λ others agree other end o. elim ((read.longest others agree).only other end o) [
+      | inl same ↦
+          (omega (arith, same.1), subst (λ (place : ℕ). GoesOn 0 others place) (sym same.1) (goes_on_too others agree follows))
+      | inr ends ↦ (omega (arith, ends.0), ends.1)
+    ],
+  )
+    where
+      goes_on_too : (others : List Token) → Agree tokens others to → GoesOn 0 tokens to → GoesOn 0 others to
+      goes_on_too others agree (operation operator is allowed) =
+          operation operator (ap (option_and_then binary_of) (agree to (omega arith)) ∙ is) allowed
+      goes_on_too others agree (index is) = index (agree to (omega arith) ∙ is)
+      goes_on_too others agree (attribute is) = attribute (agree to (omega arith) ∙ is)

@@ -9,11 +9,12 @@ use Rattle.px_syntax.specs.Expr.{Term, Terms}
 use Rattle.px_syntax.specs.ExprGrammar.{arguments, attribute_word, expression, optional_arguments}
 use Rattle.px_syntax.specs.Form.{Form, identifier, one, sign, ◌then◌}
 
--- a sign that may stand behind an expression in parentheses or brackets
+-- a sign that may stand behind an expression that it closes
 abbrev pub is_closer : Sign → Bool
 is_closer signs.CloseParen = true
 is_closer signs.CloseBracket = true
 is_closer signs.Comma = true
+is_closer signs.Semicolon = true
 is_closer sign = false
 
 -- an expression, and the sign that closes it

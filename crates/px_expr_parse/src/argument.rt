@@ -1,5 +1,6 @@
 // What stands in parentheses or brackets.
-ghost use Rattle.std.specs.Prelude.{◌≡◌, ◌+◌, ◌≤◌, ◌<◌, length, map, true, IfOk, IfErr};
+ghost use Rattle.std.specs.Prelude.{◌≡◌, ◌+◌, ◌≤◌, ◌<◌, [], length, map, true, IfOk, IfErr};
+ghost use Rattle.px_syntax.specs.Depth.{too_deep};
 ghost use Rattle.px_syntax.specs.Expr.{in_turn, term_of};
 ghost use Rattle.px_expr_parse.specs.Tail.{closed, closed_arguments, is_closer, look_arguments};
 ghost use Rattle.px_expr_parse.specs.Verdict.{IsFound, IsMissing};
@@ -9,6 +10,46 @@ use crate::token::{expect, is_sign};
 use px_lex::{Sign, Token};
 use px_syntax::{ParseFault, SurfaceExpr};
 use std::alloc::Global;
+
+/// The expression that a sign closes, and the place behind that sign (PLEXIL reference manual, "Expressions").
+///
+/// `SyntaxFault` comes exactly where there is none. Where the token that it names is one of the tokens, no expression
+/// that the sign closes begins with those from `from` up to and including it. `Deep` never comes: that no token is too
+/// deep bounds the stack.
+pub fn parse_closed(
+    alloc: Global,
+    tokens: &[Token],
+    from: usize,
+    close: Sign,
+) -> Result<(SurfaceExpr, usize), ParseFault>
+    requires depth { too_deep tokens.now ≡ [] }
+    requires place { from ≤ length tokens.now }
+    requires closer { is_closer close ≡ true }
+    ensures ok { IfOk result
+        (λ read. IsFound (closed close) tokens.now from (term_of read.0) read.1) }
+    ensures fault { IfErr result (λ fault. IsMissing (closed close) tokens.now from fault) }
+{
+    closed(alloc, tokens, from, close)
+}
+
+/// The arguments from behind an opening parenthesis on, and the place behind the one that closes them (PLEXIL
+/// reference manual, "Expressions").
+///
+/// `SyntaxFault` comes exactly where there are none. Where the token that it names is one of the tokens, no arguments
+/// begin with those from `from` up to and including it. `Deep` never comes: that no token is too deep bounds the stack.
+pub fn parse_arguments(
+    alloc: Global,
+    tokens: &[Token],
+    from: usize,
+) -> Result<(Vec<SurfaceExpr>, usize), ParseFault>
+    requires depth { too_deep tokens.now ≡ [] }
+    requires place { from ≤ length tokens.now }
+    ensures ok { IfOk result (λ read.
+        IsFound closed_arguments tokens.now from (in_turn (map term_of read.0.items)) read.1) }
+    ensures fault { IfErr result (λ fault. IsMissing closed_arguments tokens.now from fault) }
+{
+    arguments(alloc, tokens, from)
+}
 
 /// expression close
 #[cycle(expression)]

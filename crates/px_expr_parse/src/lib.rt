@@ -13,6 +13,8 @@ mod operation;
 mod primary;
 #[cfg(test)]
 mod tests;
-mod token;
+pub mod token;
 
+pub use argument::{parse_arguments, parse_closed};
 pub use operation::parse_expr;
+pub use primary::literal_of;

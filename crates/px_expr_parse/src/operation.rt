@@ -16,7 +16,8 @@ use std::alloc::Global;
 ///
 /// `SyntaxFault` comes exactly where there is none, or where an operator between operands, `[` or a dot stands behind
 /// it, since no expression of a plan is followed by one of these. Where the token that it names is one of the tokens,
-/// no expression begins with those from `from` up to and including it. `Deep` never comes: that no token is too deep
+/// no expression begins with those from `from` up to and including it. Both answers hold of all tokens that agree up to
+/// and including the place behind the expression or the named token. `Deep` never comes: that no token is too deep
 /// bounds the stack.
 pub fn parse_expr(
     alloc: Global,
@@ -27,6 +28,8 @@ pub fn parse_expr(
     requires place { from ≤ length tokens.now }
     ensures ok { IfOk result (λ read. IsExpression tokens.now from (term_of read.0) read.1) }
     ensures fault { IfErr result (λ fault. IsNoExpression tokens.now from fault) }
+    ensures read { IfOk result (λ read. IsRead 0 tokens.now from (term_of read.0) read.1) }
+    ensures refused { IfErr result (λ fault. IsRefused 0 tokens.now from fault) }
 {
     whole(alloc, tokens, from)
 }
@@ -40,6 +43,8 @@ pub(crate) fn whole(
     requires { from ≤ length tokens.now }
     ensures ok { IfOk result (λ read. IsExpression tokens.now from (term_of read.0) read.1) }
     ensures fault { IfErr result (λ fault. IsNoExpression tokens.now from fault) }
+    ensures read { IfOk result (λ read. IsRead 0 tokens.now from (term_of read.0) read.1) }
+    ensures refused { IfErr result (λ fault. IsRefused 0 tokens.now from fault) }
 {
     let (tree, end) = operation(alloc, tokens, from, 0)?;
     if is_sign(tokens, end, Sign::OpenBracket) || is_sign(tokens, end, Sign::Dot) {

@@ -51,8 +51,8 @@ pub(crate) fn primary(
     }
 }
 
-/// The literal that a token is.
-fn literal_of(alloc: Global, kind: &TokenKind) -> Result<Option<Literal>, NoMemory>
+/// The literal that a token is by itself, if it is one.
+pub fn literal_of(alloc: Global, kind: &TokenKind) -> Result<Option<Literal>, NoMemory>
     ensures { IfOk result (λ found. MatchOption found
         ((value : LiteralValue) → kind.now ≡ literal_kind value → ⊥)
         (λ value. kind.now ≡ literal_kind value)) }

@@ -360,6 +360,23 @@ fn an_expression_begins_at_any_token(rt: HostRuntime) -> Result<(), Fail> {
     Ok(())
 }
 
+#[test]
+fn a_list_is_no_expression(rt: HostRuntime) -> Result<(), Fail> {
+    let cases = [
+        ("#(-1)", 0, "fault 0"),
+        ("x = #(-1);", 2, "fault 2"),
+        ("1 + #(2)", 0, "fault 2"),
+        ("(-1)", 0, "(-@1 1@2) 4"),
+        ("-(1)", 0, "(-@0 1@2) 4"),
+        ("#(-1)", 1, "(-@1 1@2) 3"),
+    ];
+    for (text, from, tree) in cases {
+        let read = parsed(&rt, rt.alloc(), text, from)?;
+        assert_eq!(rt; read.as_str(), tree);
+    }
+    Ok(())
+}
+
 /// A word this often at the end of a text.
 fn repeat(out: &mut String, word: &str, times: usize) -> Result<(), Fail> {
     for _ in 0..times {

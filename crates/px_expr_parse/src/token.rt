@@ -8,7 +8,7 @@ use px_syntax::{BinaryOperator, Identifier, ParseFault, UnaryOperator};
 use std::alloc::Global;
 
 /// What the token at a place is, if there is one.
-pub(crate) fn kind_at(tokens: &[Token], at: usize) -> Option<&TokenKind>
+pub fn kind_at(tokens: &[Token], at: usize) -> Option<&TokenKind>
     ensures { MatchOption result (kind_at tokens.now at ≡ None)
         (λ kind. (at < length tokens.now) × (kind_at tokens.now at ≡ Some kind.now)) }
 {
@@ -36,7 +36,7 @@ pub(crate) fn unary_at(tokens: &[Token], at: usize) -> Option<UnaryOperator>
 }
 
 /// Whether this sign stands at a place.
-pub(crate) fn is_sign(tokens: &[Token], at: usize, sign: Sign) -> bool
+pub fn is_sign(tokens: &[Token], at: usize, sign: Sign) -> bool
     ensures answer { IsTrue result ↔ HasSign tokens.now at sign }
     ensures inside { IsTrue result → at < length tokens.now }
 {
@@ -47,7 +47,7 @@ pub(crate) fn is_sign(tokens: &[Token], at: usize, sign: Sign) -> bool
 }
 
 /// Makes sure that this sign stands at a place.
-pub(crate) fn expect(tokens: &[Token], at: usize, sign: Sign) -> Result<(), ParseFault>
+pub fn expect(tokens: &[Token], at: usize, sign: Sign) -> Result<(), ParseFault>
     requires { at ≤ length tokens.now }
     ensures ok { OnOk result ((at < length tokens.now) × HasSign tokens.now at sign) }
     ensures fault { IfErr result (λ fault. LacksSign tokens.now at sign fault) }
@@ -60,7 +60,7 @@ pub(crate) fn expect(tokens: &[Token], at: usize, sign: Sign) -> Result<(), Pars
 }
 
 /// The name at a place.
-pub(crate) fn name_at(alloc: Global, tokens: &[Token], at: usize) -> Result<Identifier, ParseFault>
+pub fn name_at(alloc: Global, tokens: &[Token], at: usize) -> Result<Identifier, ParseFault>
     requires { at ≤ length tokens.now }
     ensures ok { IfOk result (λ name. IsFound identifier tokens.now at name (at + 1)) }
     ensures fault { IfErr result (λ fault. IsMissing identifier tokens.now at fault) }

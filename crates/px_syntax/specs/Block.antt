@@ -1,12 +1,14 @@
 -- Blocks with lists in place of vectors.
 use Rattle.std.specs.Prelude.{ℕ, ℤ, List, [], ◌∷◌, Option, Some, None, map}
 use Rattle.std.specs.Option.{option_map}
-use Rattle.px_syntax.specs.declared.block.Action.{Action-F}
+use Rattle.px_syntax.specs.declared.block.Action.{Action, Action-F, fold-Action}
 use Rattle.px_syntax.specs.declared.block.Block.{Block, Block-F, fold-Block}
+use Rattle.px_syntax.specs.declared.block.Body.{Body}
+use Rattle.px_syntax.specs.declared.block.Body.TheFolds.{fold-Body}
 use Rattle.px_syntax.specs.declared.block.Body.TheOpen.{Body-F}
-use Rattle.px_syntax.specs.declared.block.Branch.{Branch-F}
+use Rattle.px_syntax.specs.declared.block.Branch.{Branch as BranchType, Branch-F, fold-Branch}
 use Rattle.px_syntax.specs.declared.block.Call.{Call as CallParts}
-use Rattle.px_syntax.specs.declared.block.Guarded.{Guarded-F}
+use Rattle.px_syntax.specs.declared.block.Guarded.{Guarded as GuardedType, Guarded-F, fold-Guarded}
 use Rattle.px_syntax.specs.declared.block.Initial.{Initial}
 use Rattle.px_syntax.specs.declared.block.Initial.TheVariants as initials
 use Rattle.px_syntax.specs.declared.block.Item.{Item}
@@ -159,5 +161,29 @@ guarded_step guarded = Guarded (term_of guarded.test) guarded.branch
 abbrev pub block_of : Block → BlockTree
 block_of =
     fold-Block
+    BodyTree ActionTree BlockTree BranchTree GuardedTree
+    body_step action_step block_step branch_step guarded_step
+
+abbrev pub body_of : Body → BodyTree
+body_of =
+    fold-Body
+    BodyTree ActionTree BlockTree BranchTree GuardedTree
+    body_step action_step block_step branch_step guarded_step
+
+abbrev pub action_of : Action → ActionTree
+action_of =
+    fold-Action
+    BodyTree ActionTree BlockTree BranchTree GuardedTree
+    body_step action_step block_step branch_step guarded_step
+
+abbrev pub branch_of : BranchType → BranchTree
+branch_of =
+    fold-Branch
+    BodyTree ActionTree BlockTree BranchTree GuardedTree
+    body_step action_step block_step branch_step guarded_step
+
+abbrev pub guarded_of : GuardedType → GuardedTree
+guarded_of =
+    fold-Guarded
     BodyTree ActionTree BlockTree BranchTree GuardedTree
     body_step action_step block_step branch_step guarded_step

@@ -2,7 +2,7 @@ use Rattle.std.proofs.Common.{◌≡◌, refl, true, false}
 use Rattle.std.proofs.lemmas.Result.{err_from_is_err_and}
 use Rattle.px_syntax.specs.Expr.{term_of}
 use Rattle.px_expr_parse.specs.Verdict.{GoesOn, index, attribute}
-use Rattle.px_expr_parse.proofs.Loops.{is_expression, is_followed, is_no_expression}
+use Rattle.px_expr_parse.proofs.Loops.{is_expression, is_followed, is_no_expression, is_refused}
 use Rattle.px_expr_parse.proofs.operation.whole.Goals as goal
 use Rattle.px_expr_parse.proofs.operation.whole.Goals.{then-is_sign-via-then-is_sign, then-is_sign-via-else-is_sign+then-is_sign-2}
 
@@ -23,6 +23,15 @@ returns-then-is_sign-clause-fault c =
       | then-is_sign-via-else-is_sign+then-is_sign-2 w ↦ attribute (w.if-is_sign-2.ensures.answer.0 refl)
     ] in
     is_followed c.args.tokens.now c.args.from (term_of c.in_ok-tree.tree) c.in_ok-tree.end c.in_ok-tree.ensures.ok follows
+
+pub returns-then-is_sign-clause-refused : goal.returns-then-is_sign-clause-refused
+returns-then-is_sign-clause-refused c =
+    let follows : GoesOn 0 c.args.tokens.now c.in_ok-tree.end =
+    elim c.then-is_sign.branch [
+      | then-is_sign-via-then-is_sign w ↦ index (w.if-is_sign.ensures.answer.0 refl)
+      | then-is_sign-via-else-is_sign+then-is_sign-2 w ↦ attribute (w.if-is_sign-2.ensures.answer.0 refl)
+    ] in
+    is_refused c.args.tokens.now c.args.from (term_of c.in_ok-tree.tree) c.in_ok-tree.end c.in_ok-tree.ensures.ok follows
 
 pub returns-clause-ok : goal.returns-clause-ok
 returns-clause-ok c =
