@@ -1,20 +1,17 @@
 -- A change of one node's cells or of what it has under way is a change of its record alone.
-use Rattle.std.proofs.Common.{◌≡◌, ◌≢◌, ℕ, zero, suc, ◌+◌, ◌*◌, ◌-◌, ◌<◌, ◌≤◌, Bool, true, false, List, [], ◌∷◌, length, get_or, set, map, sum, take, drop, refl, ap, sym, ◌∙◌, subst, arith, inl, inr, if◌then◌else◌}
+use Rattle.std.proofs.Common.{◌≡◌, ◌≢◌, ℕ, zero, suc, ◌+◌, ◌-◌, ◌<◌, ◌≤◌, List, [], ◌∷◌, length, set, map, sum, take, drop, refl, ap, sym, ◌∙◌, arith, if◌then◌else◌}
 use Rattle.std.specs.List.{enumerate_from}
-use Rattle.std.proofs.lemmas.Bool.{cases_eq}
-use Rattle.std.proofs.lemmas.List.{get_or-set_same, get_or-set_other, take-set-le, drop-set-add}
+use Rattle.std.proofs.lemmas.List.{take-set-le, drop-set-add}
 use Rattle.std.proofs.lemmas.List.Sums.{sum_by-cons}
 use Rattle.px_value.specs.declared.value.Value.{Value}
-use Rattle.px_core.specs.Fit.{cells_of, cells_of_site}
-use Rattle.px_core.specs.Plan.{Site, VariableData, no_site, is_same}
+use Rattle.px_core.specs.Fit.{cells_of, AreDistinct}
+use Rattle.px_core.specs.Plan.{Site, VariableData, is_same}
 use Rattle.px_sem.specs.Events.{with_record}
 use Rattle.px_sem.specs.World.{World, NodeRecord, LookState}
 use Rattle.px_flat.specs.declared.act.Act.{Act}
-use Rattle.px_flat.specs.Layout.{variable_cells, first_cell, node_cell}
 use Rattle.px_flat.specs.Parts.{values_in, record_in, world_of}
 use Rattle.px_flat.specs.Row.{site_in}
-use Rattle.px_flat.proofs.Paths.{AreDistinct, same-self, same-other}
-use Rattle.px_flat.proofs.Sums.{sum_more, sum_front}
+use Rattle.px_flat.proofs.Paths.{same-self, same-other}
 
 -- ---- the records of all nodes but one stay
 

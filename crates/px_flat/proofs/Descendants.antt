@@ -17,7 +17,7 @@ or_true true = refl
 or_true false = refl
 
 -- all nodes of a tree stand below each of their ancestors
-all_below : (own : List ℕ) (above : List (List ℕ)) (tree : Tree) → list_any (is_same own) above ≡ true
+pub all_below : (own : List ℕ) (above : List (List ℕ)) (tree : Tree) → list_any (is_same own) above ≡ true
     → list_all (is_below own) (sites_under above tree) ≡ true
 all_below own above NoNode here = refl
 all_below own above (Branch head children rest) here =
@@ -29,21 +29,21 @@ all_below own above (Branch head children rest) here =
     ∙ ap (λ b. b && list_all (is_below own) (sites_under above rest)) (all_below own under children deeper)
     ∙ all_below own above rest here
 
-self_among : (own : List ℕ) (above : List (List ℕ)) → list_any (is_same own) (own ∷ above) ≡ true
+pub self_among : (own : List ℕ) (above : List (List ℕ)) → list_any (is_same own) (own ∷ above) ≡ true
 self_among own above = ap (λ b. b || list_any (is_same own) above) (same-self own)
 
 -- ---- those that don't, by the length of the paths above them
 
 -- each path has fewer bytes
-abbrev Shorter : ℕ → List (List ℕ) → Type 0
+abbrev pub Shorter : ℕ → List (List ℕ) → Type 0
 Shorter n [] = Unit {0}
 Shorter n (path ∷ paths) = (length path < n) × Shorter n paths
 
-shorter_more : (n m : ℕ) (paths : List (List ℕ)) → n ≤ m → Shorter n paths → Shorter m paths
+pub shorter_more : (n m : ℕ) (paths : List (List ℕ)) → n ≤ m → Shorter n paths → Shorter m paths
 shorter_more n m [] le h = tt
 shorter_more n m (path ∷ paths) le h = let lt : length path < n = h.0 in (omega arith, shorter_more n m paths le h.1)
 
-not_among : (own : List ℕ) (paths : List (List ℕ)) → Shorter (length own) paths → list_any (is_same own) paths ≡ false
+pub not_among : (own : List ℕ) (paths : List (List ℕ)) → Shorter (length own) paths → list_any (is_same own) paths ≡ false
 not_among own [] h = refl
 not_among own (path ∷ paths) h =
     let lt : length path < length own = h.0 in
@@ -51,11 +51,11 @@ not_among own (path ∷ paths) h =
     ap (λ b. b || list_any (is_same own) paths) (same-other own path differ) ∙ not_among own paths h.1
 
 -- the least length of the paths under these ancestors
-abbrev depth : List (List ℕ) → ℕ
+abbrev pub depth : List (List ℕ) → ℕ
 depth [] = 0
 depth (parent ∷ above) = suc (length parent)
 
-own_long : (above : List (List ℕ)) (name : List ℕ) → depth above ≤ length (path_under above name)
+pub own_long : (above : List (List ℕ)) (name : List ℕ) → depth above ≤ length (path_under above name)
 own_long [] name = omega arith
 own_long (parent ∷ above) name = omega (arith, length-append parent (46 ∷ name))
 
@@ -71,7 +71,7 @@ first_more n m (site ∷ sites) le h = shorter_more n m site.above le h
 -- ---- the run of nodes below a node
 
 -- the first fails the test
-abbrev FirstFails : (Site → Bool) → List Site → Type 0
+abbrev pub FirstFails : (Site → Bool) → List Site → Type 0
 FirstFails p [] = Unit {0}
 FirstFails p (site ∷ sites) = p site ≡ false
 
@@ -79,7 +79,7 @@ run_none : (p : Site → Bool) (sites : List Site) → FirstFails p sites → pr
 run_none p [] h = refl
 run_none p (site ∷ sites) h = ap (λ b. cond b (1 + prefix_len p sites) 0) h
 
-run_all : (p : Site → Bool) (front behind : List Site) → list_all p front ≡ true → FirstFails p behind
+pub run_all : (p : Site → Bool) (front behind : List Site) → list_all p front ≡ true → FirstFails p behind
     → prefix_len p (front ++ behind) ≡ length front
 run_all p [] behind all fails = run_none p behind fails
 run_all p (site ∷ front) behind all fails =

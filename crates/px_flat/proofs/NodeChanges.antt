@@ -1,9 +1,9 @@
 -- A write of one of a node's cells is a change of one field of its record.
-use Rattle.std.proofs.Common.{◌≡◌, ◌≢◌, ℕ, ◌+◌, ◌*◌, ◌-◌, ◌<◌, ◌≤◌, List, length, get_or, set, map, sum, drop, refl, ap, sym, ◌∙◌, arith}
+use Rattle.std.proofs.Common.{◌≡◌, ◌≢◌, ℕ, ◌+◌, ◌-◌, ◌<◌, ◌≤◌, List, length, set, drop, ap, sym, ◌∙◌, arith}
 use Rattle.std.proofs.lemmas.List.{get_or-set_same, get_or-set_other, drop-set-add}
 use Rattle.px_value.specs.declared.value.Value.{Value}
 use Rattle.px_value.specs.declared.value.Value.TheVariants as values
-use Rattle.px_core.specs.Fit.{cells_of, cells_of_site}
+use Rattle.px_core.specs.Fit.{cells_of_site, AreDistinct}
 use Rattle.px_core.specs.Plan.{Site, no_site}
 use Rattle.px_sem.specs.Events.{with_record}
 use Rattle.px_sem.specs.World.{NodeRecord, LookState, record_at}
@@ -14,7 +14,6 @@ use Rattle.px_flat.specs.Numbered.{held}
 use Rattle.px_flat.specs.Parts.{values_in, record_in, world_of, action_in, act_of, state_in, outcome_in, failure_in}
 use Rattle.px_flat.specs.Row.{site_in}
 use Rattle.px_flat.proofs.Changes.{values_in-behind, world_of-changed}
-use Rattle.px_flat.proofs.Paths.{AreDistinct}
 use Rattle.px_flat.proofs.Sums.{sum_more, sum_front}
 use Rattle.px_flat.proofs.Worlds.{record_at-world_of}
 

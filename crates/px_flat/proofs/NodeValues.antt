@@ -3,7 +3,7 @@ use Rattle.std.proofs.Common.{◌≡◌, ℕ, ◌<◌, true, List, ap, sym, ◌�
 use Rattle.px_value.specs.declared.value.Value.{Value}
 use Rattle.px_value.specs.declared.value.Value.TheVariants as values
 use Rattle.px_core.specs.Expr as terms
-use Rattle.px_core.specs.Fit.{Node, CommandNode, UpdateNode, path_is_there, is_command, is_update}
+use Rattle.px_core.specs.Fit.{Node, CommandNode, UpdateNode, path_is_there, is_command, is_update, AreDistinct}
 use Rattle.px_core.specs.Plan.{Site}
 use Rattle.px_sem.specs.Expressions.{value, outcome_value, failure_value, handle_value, handle_of, is_acknowledged}
 use Rattle.px_sem.specs.World.{NodeRecord, LookState, record_at}
@@ -12,7 +12,6 @@ use Rattle.px_flat.specs.Layout.{state_cell, outcome_cell, failure_cell, handle_
 use Rattle.px_flat.specs.Numbered.{numbered, numbered_value, node_of, held}
 use Rattle.px_flat.specs.Parts.{IsParts, world_of, record_in, act_of}
 use Rattle.px_flat.specs.Row.{site_in}
-use Rattle.px_flat.proofs.Paths.{AreDistinct}
 use Rattle.px_flat.proofs.Worlds.{record_at-world_of, site_there, node_of-path}
 use Rattle.px_flat.proofs.Worlds.{state_value-state_in, outcome_value-outcome_in, failure_value-failure_in}
 use Rattle.px_flat.proofs.Worlds.{handle_value-action_in, is_acknowledged-action_in}

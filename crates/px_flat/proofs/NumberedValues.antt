@@ -1,82 +1,38 @@
 -- The value of a numbered expression is that of the plan's own expression, in the world that parts stand for.
-use Rattle.std.proofs.Common.{◌≡◌, ℕ, zero, suc, ◌<◌, Bool, true, not, ◌&&◌, length, arith, List, [], ◌∷◌, ◌++◌, refl, ap, sym, ◌∙◌}
+use Rattle.std.proofs.Common.{◌≡◌, ℕ, Bool, true, not, ◌&&◌, List, [], ◌∷◌, refl, ap, sym, ◌∙◌}
 use Rattle.std.specs.List.{list_all, list_any}
 use Rattle.std.proofs.lemmas.Bool.{and_parts}
-use Rattle.std.proofs.lemmas.List.Folds.{list_all-append}
+use Rattle.std.proofs.lemmas.List.Sums.{AllPass-from_list_all}
 use Rattle.px_value.specs.declared.value.Value.{Value}
 use Rattle.px_core.specs.Expr as terms
 use Rattle.px_core.specs.Expr.{Term, Terms, NoTerms, More}
 use Rattle.px_core.specs.Fit.{Reference, Node, CommandNode, UpdateNode, Scalar, Array, references, references_of_each, path_is_there, variable_is_there, has_right_variables, declares_scalar, declares_array, is_array}
-use Rattle.px_core.specs.Plan.{Site, VariableData, is_same}
+use Rattle.px_core.specs.Plan.{Site, VariableData, no_site, is_same}
 use Rattle.px_sem.specs.Expressions.{value, value_of_each, element, looked_up, unary_value, binary_value}
 use Rattle.px_sem.specs.World.{LookState, cells_at}
 use Rattle.px_flat.specs.declared.act.Act.{Act}
-use Rattle.px_flat.specs.declared.flat.Flat.{Flat}
-use Rattle.px_flat.specs.Flat.{plan_of}
 use Rattle.px_flat.specs.Layout.{first_cell}
 use Rattle.px_flat.specs.Numbered.{numbered, each_numbered, numbered_value, numbered_values, reported_of}
 use Rattle.px_flat.specs.Parts.{IsParts, world_of}
-use Rattle.px_flat.specs.Row.{site_in, lookups_in, lookups_in_each, lookups_of}
+use Rattle.px_flat.specs.Lookups.{lookups_in, lookups_in_each, lookups_of}
+use Rattle.px_flat.specs.Row.{site_in}
+use Rattle.px_flat.proofs.Known.{IsSound, AreKnown, is_there, front, back}
 use Rattle.px_flat.proofs.NodeValues.{state_value, outcome_of_value, failure_of_value, handle_of_value, acknowledged_value}
-use Rattle.px_flat.proofs.Numbers.{distinct_sites}
-use Rattle.px_flat.proofs.Paths.{AreDistinct}
 use Rattle.px_flat.proofs.VariableValues.{has_place, IsPlaced, placed, name_at}
 use Rattle.px_flat.proofs.Worlds.{IsThere, site_there}
 
--- what a plan has to have: different paths, and arrays of one element or more
-pub record IsSound (plan : List Site) : Type 0 where
-  pub distinct : AreDistinct plan
-  pub sizes : list_all has_right_variables plan ≡ true
-
--- what is spoken of is there
-abbrev pub is_there : List Site → Reference → Bool
-is_there plan mention = path_is_there plan mention && variable_is_there plan mention
-
--- all that expressions speak of and look up is the plan's
-pub record AreKnown (plan : List Site) (mentions : List Reference) (names : List (List ℕ)) : Type 0 where
-  pub mentioned : list_all (is_there plan) mentions ≡ true
-  pub looked_up : list_all (λ name. list_any (is_same name) (lookups_of plan)) names ≡ true
-
-front : (plan : List Site) (mentions more : List Reference) (names others : List (List ℕ))
-    → AreKnown plan (mentions ++ more) (names ++ others) → AreKnown plan mentions names
-front plan mentions more names others known = record {
-  mentioned = (and_parts (list_all (is_there plan) mentions) (list_all (is_there plan) more)
-      (sym (list_all-append (is_there plan) mentions more) ∙ known.mentioned)).0;
-  looked_up = (and_parts (list_all (λ name. list_any (is_same name) (lookups_of plan)) names)
-      (list_all (λ name. list_any (is_same name) (lookups_of plan)) others)
-      (sym (list_all-append (λ name. list_any (is_same name) (lookups_of plan)) names others) ∙ known.looked_up)).0;
-}
-
-back : (plan : List Site) (mentions more : List Reference) (names others : List (List ℕ))
-    → AreKnown plan (mentions ++ more) (names ++ others) → AreKnown plan more others
-back plan mentions more names others known = record {
-  mentioned = (and_parts (list_all (is_there plan) mentions) (list_all (is_there plan) more)
-      (sym (list_all-append (is_there plan) mentions more) ∙ known.mentioned)).1;
-  looked_up = (and_parts (list_all (λ name. list_any (is_same name) (lookups_of plan)) names)
-      (list_all (λ name. list_any (is_same name) (lookups_of plan)) others)
-      (sym (list_all-append (λ name. list_any (is_same name) (lookups_of plan)) names others) ∙ known.looked_up)).1;
-}
-
 -- the path of the first thing spoken of is there
-first_path : (plan : List Site) (mention : Reference) (more : List Reference) (names : List (List ℕ))
+pub first_path : (plan : List Site) (mention : Reference) (more : List Reference) (names : List (List ℕ))
     → AreKnown plan (mention ∷ more) names → path_is_there plan mention ≡ true
 first_path plan mention more names known =
     (and_parts (path_is_there plan mention) (variable_is_there plan mention)
     (and_parts (is_there plan mention) (list_all (is_there plan) more) known.mentioned).0).0
 
-first_variable : (plan : List Site) (mention : Reference) (more : List Reference) (names : List (List ℕ))
+pub first_variable : (plan : List Site) (mention : Reference) (more : List Reference) (names : List (List ℕ))
     → AreKnown plan (mention ∷ more) names → variable_is_there plan mention ≡ true
 first_variable plan mention more names known =
     (and_parts (path_is_there plan mention) (variable_is_there plan mention)
     (and_parts (is_there plan mention) (list_all (is_there plan) more) known.mentioned).0).1
-
--- each node's variables have the right sizes
-right_at : (plan : List Site) (node : ℕ) → node < length plan → list_all has_right_variables plan ≡ true
-    → has_right_variables (site_in plan node) ≡ true
-right_at [] node within right = absurd (omega arith)
-right_at (site ∷ plan) zero within right = (and_parts (has_right_variables site) (list_all has_right_variables plan) right).0
-right_at (site ∷ plan) (suc node) within right =
-    right_at plan node (omega arith) (and_parts (has_right_variables site) (list_all has_right_variables plan) right).1
 
 -- a variable that is declared stands at its place
 variable_at : (plan : List Site) (cells : List Value) (reports : List (LookState × Value)) (acts : List Act)
@@ -86,7 +42,7 @@ variable_at : (plan : List Site) (cells : List Value) (reports : List (LookState
 variable_at plan cells reports acts owner name form sound there =
     placed plan cells reports acts owner name there.node sound.distinct there.within there.path_is
     (has_place form (first_cell plan there.node) (site_in plan there.node).head.variables name
-    (right_at plan there.node there.within sound.sizes) there.is)
+    (AllPass-from_list_all has_right_variables plan sound.arrays there.node no_site there.within) there.is)
 
 mutual
   pub numbered_value-numbered : (plan : List Site) (cells : List Value) (reports : List (LookState × Value))
@@ -148,7 +104,3 @@ mutual
       ∙ ap (λ vs. value plan (world_of plan cells reports acts) first ∷ vs)
       (numbered_values-numbered plan cells reports acts rest sound parts
       (back plan (references first) (references_of_each rest) (lookups_in first) (lookups_in_each rest) known))
-
--- the plan of tables is sound
-pub flat_sound : (flat : Flat) → IsSound (plan_of flat)
-flat_sound flat = record { distinct = distinct_sites flat.rows.items flat.laid; sizes = flat.fit.arrays }

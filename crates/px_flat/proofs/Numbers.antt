@@ -5,11 +5,12 @@ use Rattle.std.proofs.lemmas.Bool.{lt-ltb}
 use Rattle.std.proofs.lemmas.List.{take_more, get_or-map, get_or-take, length-map, length-take-le}
 use Rattle.std.proofs.lemmas.List.Folds.{list_any_none}
 use Rattle.indexmap.specs.IndexSet.{insert_key}
+use Rattle.px_core.specs.Fit.{AreDistinct}
 use Rattle.px_core.specs.Plan.{Site, no_site, is_same}
 use Rattle.px_flat.specs.declared.row.Row.{Row}
 use Rattle.px_flat.specs.Row.{IsRowOf, site_in, paths_of, number_at, parent_number}
 use Rattle.px_flat.specs.Rows.{IsLaid, sites_of, site_of}
-use Rattle.px_flat.proofs.Paths.{AreDistinct, same-self, same-other}
+use Rattle.px_flat.proofs.Paths.{same-self, same-other}
 use Rattle.px_flat.proofs.Sites.{length-sites_of, site_at_number}
 
 pub distinct_sites : (rows : List Row) → IsLaid rows → AreDistinct (sites_of rows)

@@ -7,10 +7,11 @@ use Rattle.std.specs.Map.{lookup}
 use Rattle.std.specs.Option.{unwrap_or, ForSome}
 use Rattle.std.proofs.lemmas.List.{get_or_append_left}
 use Rattle.std.proofs.Math.Seq.{get_or-append_seam}
+use Rattle.px_core.specs.Fit.{AreDistinct}
 use Rattle.px_core.specs.Plan.{Site, is_same, no_site, site_at}
 use Rattle.px_sem.specs.World as world
 use Rattle.px_flat.specs.declared.row.Row.{Row}
-use Rattle.px_flat.proofs.Paths.{same-self, same-other, AreDistinct}
+use Rattle.px_flat.proofs.Paths.{same-self, same-other}
 use Rattle.px_flat.specs.Row.{head_data}
 use Rattle.px_flat.specs.Rows.{above_in, site_of, grown, sites_of, IsBefore, IsLaid}
 

@@ -9,6 +9,7 @@ use Rattle.std.proofs.lemmas.Bool.{leb-true}
 use Rattle.std.proofs.lemmas.Bool.Decides.{eqb_tells}
 use Rattle.std.proofs.lemmas.List.{get_or_append_left, take_more}
 use Rattle.std.proofs.lemmas.List.Folds.{list_all-append}
+use Rattle.std.proofs.lemmas.List.Sums.{list_all-from_AllPass}
 use Rattle.std.proofs.Math.Seq.{get_or-append_seam}
 use Rattle.px_value.specs.Name.{is_name}
 use Rattle.px_value.specs.Path.{below}
@@ -17,12 +18,12 @@ use Rattle.px_core.specs.declared.node.CoreNode.TheViews.{out-CoreNode}
 use Rattle.px_core.specs.declared.node.CoreNode.TheFolds.{fold-CoreNode, fold_out-CoreNode}
 use Rattle.px_core.specs.Plan.{Tree, Branch, NoNode, Head, count_of, Site, no_site, branch, head_of, path_under}
 use Rattle.px_core.specs.Plan.{site_under, sites_under, sites}
-use Rattle.px_core.specs.Fit.{siblings_differ, has_short_path}
+use Rattle.px_core.specs.Fit.{siblings_differ, has_short_path, has_name, AreDistinct}
 use Rattle.px_flat.specs.declared.row.Row.{Row}
 use Rattle.px_flat.specs.Row.{head_data}
 use Rattle.px_flat.specs.Rows.{above_in, site_of, sites_of, path_at, IsBefore, IsLaid, IsLinked, IsNamed}
 use Rattle.px_flat.specs.Laying.{trees, below_it, ends_from, IsRowUnder, IsRootRow}
-use Rattle.px_flat.proofs.Paths.{AreDistinct, Each, each_from, are_distinct, differ_tree}
+use Rattle.px_core.proofs.SitePaths.{paths_differ}
 use Rattle.px_flat.proofs.Sites.{length-sites_of, site_at_linked, grown-push}
 
 -- a node's head
@@ -146,10 +147,10 @@ pub record IsPut (old rows put : List Row) (parent : ℕ) (node : CoreNode) : Ty
       ≡ path_under (above_in (sites_of old) (Some parent)) (node_head node).name ∷ above_in (sites_of old) (Some parent)
   pub long : length put ≡ length rows + 1
 
--- what holds of each row by its number holds with one more
-each_put : (P : ℕ → Row → Type 0) (rows : List Row) (row : Row)
-    → ((i : ℕ) (d : Row) → i < length rows → P i (get_or rows i d))
-    → P (length rows) row → (i : ℕ) (d : Row) → i < length (rows ++ row ∷ [])
+-- what holds of each by its number holds with one more
+pub each_put : {X : Type 0} (P : ℕ → X → Type 0) (rows : List X) (row : X)
+    → ((i : ℕ) (d : X) → i < length rows → P i (get_or rows i d))
+    → P (length rows) row → (i : ℕ) (d : X) → i < length (rows ++ row ∷ [])
     → P i (get_or (rows ++ row ∷ []) i d)
 each_put P rows row each here i d h = by (eqb_tells i (length rows))
   where
@@ -400,13 +401,12 @@ laid rows tree spare same siblings linked named = record {
       λ i j hi hj is. distinct i j (omega (arith, length-sites_of rows)) (omega (arith, length-sites_of rows)) is;
 }
   where
-    each_named : Each (λ site. is_name site.head.name ≡ true) (sites_of rows)
-    each_named = each_from (λ site. is_name site.head.name ≡ true) (sites_of rows) no_site (λ i h.
+    each_named : list_all has_name (sites_of rows) ≡ true
+    each_named = list_all-from_AllPass has_name (sites_of rows) (λ i d h.
         let within : i < length rows = omega (arith, length-sites_of rows) in
-        subst (λ site. is_name site.head.name ≡ true) (sym (site_at_linked rows linked i no_site spare within))
+        subst (λ site. has_name site ≡ true) (sym (site_at_linked rows linked i d spare within))
         (named i spare within))
 
     distinct : AreDistinct (sites_of rows)
     distinct = subst AreDistinct (sym same)
-        (are_distinct (sites tree) (differ_tree [] tree siblings
-        (subst (Each (λ site. is_name site.head.name ≡ true)) same each_named)))
+        (paths_differ tree siblings (subst (λ plan. list_all has_name plan ≡ true) same each_named))

@@ -1,13 +1,14 @@
 -- What a numbered expression has of a variable and of a lookup name.
-use Rattle.std.proofs.Common.{◌≡◌, ℕ, suc, ◌+◌, ◌<◌, ◌≤◌, Bool, true, false, not, ◌&&◌, ◌⊎◌, cond, nat_le, List, [], ◌∷◌, length, get_or, take, drop, position, refl, ap, sym, ◌∙◌, subst, arith, inl, inr, Option, Some, None, if◌then◌else◌}
+use Rattle.std.proofs.Common.{◌≡◌, ℕ, suc, ◌+◌, ◌<◌, ◌≤◌, Bool, true, false, not, ◌&&◌, ◌⊎◌, cond, nat_le, map, sum, List, [], ◌∷◌, length, get_or, take, drop, position, refl, ap, sym, ◌∙◌, subst, arith, inl, inr, Option, Some, None, if◌then◌else◌}
 use Rattle.std.specs.List.{list_all, list_any, position_or_len}
 use Rattle.std.specs.Option.{option_and_then, unwrap_or}
 use Rattle.std.specs.Cmp.Lexicographic.{same_text}
 use Rattle.std.proofs.lemmas.Bool.{and_parts, or_cases, leb-true, lt-ltb}
 use Rattle.std.proofs.lemmas.List.{get_or-take, get_or-drop}
+use Rattle.std.proofs.lemmas.List.Sums.{sum_by-cons}
 use Rattle.px_value.specs.declared.value.Value.{Value}
 use Rattle.px_value.specs.declared.value.Value.TheVariants.{Unknown}
-use Rattle.px_core.specs.Fit.{cells_of, has_right_cells, has_right_size}
+use Rattle.px_core.specs.Fit.{cells_of, has_right_cells, has_right_size, AreDistinct}
 use Rattle.px_core.specs.Plan.{Site, VariableData, is_same}
 use Rattle.px_sem.specs.World.{LookState, NodeRecord, record_at, cells_at, of_variable}
 use Rattle.px_flat.specs.declared.act.Act.{Act}
@@ -16,7 +17,6 @@ use Rattle.px_flat.specs.Numbered.{place_of, held}
 use Rattle.px_flat.specs.Parts.{world_of}
 use Rattle.px_flat.specs.Row.{site_in}
 use Rattle.px_flat.proofs.Numbers.{number_is}
-use Rattle.px_flat.proofs.Paths.{AreDistinct}
 use Rattle.px_flat.proofs.Sites.{found_site}
 use Rattle.px_flat.proofs.Worlds.{record_at-world_of, of_variable-values_in}
 
@@ -27,6 +27,7 @@ pub record HasPlace (cell : ℕ) (variables : List VariableData) (name : List �
   pub place : Place
   pub is : place_from cell variables name ≡ Some place
   pub some_cells : 0 < place.size
+  pub within : place.first + place.size ≤ cell + sum (map cells_of variables)
 
 right_size : (variable : VariableData) → has_right_cells variable ≡ true → 0 < cells_of variable
 right_size variable right = by variable.size refl
@@ -53,6 +54,9 @@ has_place test cell (variable ∷ variables) name right there =
     both : (has_right_cells variable ≡ true) × (list_all has_right_cells variables ≡ true)
     both = and_parts (has_right_cells variable) (list_all has_right_cells variables) right
 
+    total : sum (map cells_of (variable ∷ variables)) ≡ cells_of variable + sum (map cells_of variables)
+    total = sum_by-cons (λ n. n) (cells_of variable) (map cells_of variables)
+
     by : (same : Bool) → is_same variable.name name ≡ same
         → ((is_same variable.name name && test variable) ≡ true)
         ⊎ (list_any (λ variable. is_same variable.name name && test variable) variables ≡ true)
@@ -64,6 +68,7 @@ has_place test cell (variable ∷ variables) name right there =
       is = ap (λ b. if b then Some (record { first = cell; size = cells_of variable })
           else place_from (cell + cells_of variable) variables name) is;
       some_cells = right_size variable both.0;
+      within = omega (arith, total);
     }
     by false is (inl here) rest = absurd (cc (sym here ∙ ap (λ b. b && test variable) is))
     by false is (inr behind) rest =
@@ -73,7 +78,19 @@ has_place test cell (variable ∷ variables) name right there =
           is = ap (λ b. if b then Some (record { first = cell; size = cells_of variable })
               else place_from (cell + cells_of variable) variables name) is ∙ found.is;
           some_cells = found.some_cells;
+          within = omega (arith, found.within, total);
         }
+
+-- the place of a variable by the node that declares it
+pub place_of-node : (plan : List Site) (owner name : List ℕ) (node : ℕ) → AreDistinct plan → node < length plan
+    → (site_in plan node).path ≡ owner → (has : HasPlace (first_cell plan node) (site_in plan node).head.variables name)
+    → place_of plan owner name ≡ has.place
+place_of-node plan owner name node distinct within path_is has =
+    ap (λ path. place_of plan path name) (sym path_is)
+    ∙ ap (λ number. unwrap_or (option_and_then (λ node. place_from (first_cell plan node)
+    (site_in plan node).head.variables name) number) (record { first = 0; size = 0 }))
+    (number_is plan node distinct within)
+    ∙ ap (λ place. unwrap_or place (record { first = 0; size = 0 })) has.is
 
 -- what stands at the place of a variable
 pub record IsPlaced (plan : List Site) (cells : List Value) (reports : List (LookState × Value)) (acts : List Act)
@@ -94,12 +111,7 @@ placed plan cells reports acts owner name node distinct within path_is has =
     own = (site_in plan node).path
 
     place_is : place_of plan owner name ≡ has.place
-    place_is =
-        ap (λ path. place_of plan path name) (sym path_is)
-        ∙ ap (λ number. unwrap_or (option_and_then (λ node. place_from (first_cell plan node)
-        (site_in plan node).head.variables name) number) (record { first = 0; size = 0 }))
-        (number_is plan node distinct within)
-        ∙ ap (λ place. unwrap_or place (record { first = 0; size = 0 })) has.is
+    place_is = place_of-node plan owner name node distinct within path_is has
 
     at_own : cells_at plan (world_of plan cells reports acts) own name
         ≡ take has.place.size (drop has.place.first cells)
@@ -129,7 +141,7 @@ placed plan cells reports acts owner name node distinct within path_is has =
 
 -- ---- lookup names
 
-first_name : (names : List (List ℕ)) (name : List ℕ) → list_any (is_same name) names ≡ true
+pub first_name : (names : List (List ℕ)) (name : List ℕ) → list_any (is_same name) names ≡ true
     → (position_or_len (is_same name) names < length names)
     × (get_or names (position_or_len (is_same name) names) [] ≡ name)
 first_name [] name there = absurd (cc)
@@ -165,3 +177,11 @@ name_at names name there =
     ap (λ b. get_or names (unwrap_or (cond b (Some (position_or_len (is_same name) names)) None) 0) [])
     (lt-ltb (position_or_len (is_same name) names) (length names) found.0)
     ∙ found.1
+
+-- the number of a name is below that of the names
+pub number_within : (names : List (List ℕ)) (name : List ℕ) → list_any (is_same name) names ≡ true
+    → unwrap_or (position (is_same name) names) 0 < length names
+number_within names name there =
+    let found = first_name names name there in
+    subst (λ b. unwrap_or (cond b (Some (position_or_len (is_same name) names)) None) 0 < length names)
+    (sym (lt-ltb (position_or_len (is_same name) names) (length names) found.0)) found.0

@@ -3,7 +3,13 @@ pub mod FitPlan
 pub mod Flat
 pub mod Laying
 pub mod Layout
+pub mod Lookups
+pub mod Names
 pub mod Numbered
+pub mod NumberedData
 pub mod Parts
 pub mod Row
 pub mod Rows
+pub mod Slots
+pub mod Values
+pub mod Within

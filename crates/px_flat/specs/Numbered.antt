@@ -1,6 +1,6 @@
 -- Expressions whose variables, nodes and lookup names are numbers, and their values in cells and reports.
 use Rattle.std.specs.Prelude.{ℕ, List, [], ◌∷◌, map, take, drop, position, slice_index_or, Option}
-use Rattle.std.specs.Option.{option_map, unwrap_or}
+use Rattle.std.specs.Option.{option_map, option_and_then, unwrap_or}
 use Rattle.px_value.specs.declared.value.Value.{Value}
 use Rattle.px_value.specs.declared.value.Value.TheVariants.{Unknown}
 use Rattle.px_core.specs.declared.expr.BinaryOp.{BinaryOp}
@@ -8,13 +8,14 @@ use Rattle.px_core.specs.declared.expr.UnaryOp.{UnaryOp}
 use Rattle.px_core.specs.declared.variable.VarKind.{VarKind}
 use Rattle.px_core.specs.declared.variable.VarKind.TheVariants as kinds
 use Rattle.px_core.specs.Plan as core
-use Rattle.px_core.specs.Plan.{Site, Head, ConditionTerms, TargetData, BodyData, is_same}
+use Rattle.px_core.specs.Plan.{Site, Head, VariableData, ConditionTerms, TargetData, BodyData, is_same}
 use Rattle.px_core.specs.Expr as terms
 use Rattle.px_core.specs.Expr.{Term, Terms, NoTerms, More}
 use Rattle.px_sem.specs.Expressions.{element, looked_up, unary_value, binary_value}
 use Rattle.px_sem.specs.World.{LookState, of_variable}
 use Rattle.px_flat.specs.Layout.{Place, place_at, state_cell, outcome_cell, failure_cell, handle_cell, acknowledgement_cell}
-use Rattle.px_flat.specs.Row.{number_at, lookups_of}
+use Rattle.px_flat.specs.Lookups.{lookups_of}
+use Rattle.px_flat.specs.Row.{site_in, number_at}
 
 -- ---- with numbers in place of names
 
@@ -128,11 +129,15 @@ pub record TargetNumbered : Type 0 where
   pub kind : VarKind
   pub index : Option Numbered
 
+-- the type of the variable of this name among these
+abbrev pub kind_among : List VariableData → List ℕ → Option VarKind
+kind_among variables name = of_variable name variables (map (λ variable. variable.kind) variables)
+
 -- the type of the variable that a node declares
 abbrev pub kind_of : List Site → List ℕ → List ℕ → VarKind
 kind_of plan owner name =
-    unwrap_or (of_variable name (core.site_at plan owner).head.variables
-    (map (λ variable. variable.kind) (core.site_at plan owner).head.variables)) kinds.Boolean
+    unwrap_or (option_and_then (λ node. kind_among (site_in plan node).head.variables name) (number_at plan owner))
+    kinds.Boolean
 
 abbrev pub numbered_target : List Site → TargetData → TargetNumbered
 numbered_target plan target = record {
@@ -153,3 +158,14 @@ numbered_body plan (core.Assign target value) = Assign (numbered_target plan tar
 numbered_body plan (core.Command name args result) =
     Command (map (numbered plan) args) (option_map (numbered_target plan) result)
 numbered_body plan (core.Update pairs) = Update (map (λ pair. numbered plan pair.value) pairs)
+
+-- what a node computes
+pub record NodeNumbered : Type 0 where
+  pub conditions : ConditionsNumbered
+  pub body : BodyNumbered
+
+abbrev pub numbered_node : List Site → Head → NodeNumbered
+numbered_node plan head = record {
+  conditions = numbered_conditions plan head.conditions;
+  body = numbered_body plan head.body;
+}

@@ -1,5 +1,5 @@
 -- The world that parts stand for: cells by the layout of a plan, reports, and what each node has under way.
-use Rattle.std.specs.Prelude.{◌≡◌, ℕ, ◌<◌, Bool, true, false, List, [], ◌∷◌, map, take, drop, length, slice_index_or, Option, Some, None, IsTrue}
+use Rattle.std.specs.Prelude.{◌≡◌, ℕ, ◌<◌, Bool, true, false, not, ◌&&◌, nat_lt, List, [], ◌∷◌, map, take, drop, length, slice_index_or, Option, Some, None, is_some, IsTrue}
 use Rattle.std.specs.List.{enumerate_from}
 use Rattle.px_value.specs.declared.enums.NodeState.{NodeState}
 use Rattle.px_value.specs.declared.enums.NodeState.TheVariants.{Inactive}
@@ -9,7 +9,7 @@ use Rattle.px_value.specs.declared.enums.Handle.{Handle}
 use Rattle.px_value.specs.declared.value.Value.{Value}
 use Rattle.px_value.specs.declared.value.Value.TheVariants as values
 use Rattle.px_core.specs.Fit.{cells_of}
-use Rattle.px_core.specs.Plan.{Site, VariableData, BodyData, Assign, Command, Update}
+use Rattle.px_core.specs.Plan.{Site, VariableData, TargetData, BodyData, Assign, Command, Update}
 use Rattle.px_sem.specs.World as world
 use Rattle.px_sem.specs.World.{World, NodeRecord, Action, NoAction, Assigned, Commanded, LookState}
 use Rattle.px_flat.specs.declared.act.Abort.{Abort}
@@ -18,7 +18,7 @@ use Rattle.px_flat.specs.declared.act.Act.{Act}
 use Rattle.px_flat.specs.declared.act.Act.TheVariants as under_way
 use Rattle.px_flat.specs.Layout.{first_cell, state_cell, outcome_cell, failure_cell, handle_cell, acknowledgement_cell}
 use Rattle.px_flat.specs.Layout as layout
-use Rattle.px_flat.specs.Numbered.{held}
+use Rattle.px_flat.specs.Numbered.{held, place_of}
 use Rattle.px_flat.specs.Row.{site_in}
 
 -- ---- what a value says of a node
@@ -55,7 +55,8 @@ abbrev pub action_in : Act → Value → Value → Action
 action_in under_way.Idle handle acknowledgement = NoAction
 action_in under_way.Unwritten handle acknowledgement = Assigned None
 action_in (under_way.Scalar old) handle acknowledgement = Assigned (Some (record { place = world.Whole; old = old }))
-action_in (under_way.Element index old) handle acknowledgement = Assigned (Some (record { place = world.Element index; old = old }))
+action_in (under_way.Element index old) handle acknowledgement =
+    Assigned (Some (record { place = world.Element index; old = old }))
 action_in (under_way.Sent index abort) handle acknowledgement = Commanded index (handle_in handle) (abort_in abort)
 action_in under_way.Updated handle acknowledgement = world.Updated (truth_in acknowledgement)
 
@@ -114,19 +115,25 @@ is_acknowledgement_of act (values.Boolean false) = true
 is_acknowledgement_of under_way.Updated (values.Boolean true) = true
 is_acknowledgement_of act value = false
 
--- what a node may have under way
-abbrev pub fits : BodyData → Act → Bool
-fits body under_way.Idle = true
-fits (Assign target value) under_way.Unwritten = true
-fits (Assign target value) (under_way.Scalar old) = true
-fits (Assign target value) (under_way.Element index old) = true
-fits (Command name args result) (under_way.Sent index abort) = true
-fits (Update pairs) under_way.Updated = true
-fits body act = false
+-- an index is within the array that is written
+abbrev pub is_within : List Site → TargetData → ℕ → Bool
+is_within plan target index = is_some target.index && nat_lt index (place_of plan target.owner target.name).size
 
--- The parts of one node. Its state cell holds a State; its outcome and failure cells hold what they are named for, or UNKNOWN;
--- its handle cell holds a Handle or UNKNOWN, and UNKNOWN where it has no command under way; its acknowledgement cell holds a
--- Boolean, which is false where it has no update under way; and what it has under way is what its body may have.
+-- What a node may have under way: what it wrote, or will write with a result, is a place of its target.
+abbrev pub fits : List Site → BodyData → Act → Bool
+fits plan body under_way.Idle = true
+fits plan (Assign target value) under_way.Unwritten = is_some target.index
+fits plan (Assign target value) (under_way.Scalar old) = not (is_some target.index)
+fits plan (Assign target value) (under_way.Element index old) = is_within plan target index
+fits plan (Command name args result) (under_way.Sent None abort) = true
+fits plan (Command name args (Some target)) (under_way.Sent (Some index) abort) = is_within plan target index
+fits plan (Update pairs) under_way.Updated = true
+fits plan body act = false
+
+-- The parts of one node. Its state cell holds a State; its outcome and failure cells hold what they are named for, or
+-- UNKNOWN; its handle cell holds a Handle or UNKNOWN, and UNKNOWN where it has no command under way; its acknowledgement
+-- cell holds a Boolean, which is false where it has no update under way; and what it has under way is what its body may
+-- have, at a place of its target.
 pub record IsNode (plan : List Site) (cells : List Value) (acts : List Act) (node : ℕ) : Type 0 where
   pub state : IsTrue (is_state (held cells (state_cell plan node)))
   pub outcome : IsTrue (is_outcome (held cells (outcome_cell plan node)))
@@ -134,10 +141,10 @@ pub record IsNode (plan : List Site) (cells : List Value) (acts : List Act) (nod
   pub handle : IsTrue (is_handle_of (act_of acts node) (held cells (handle_cell plan node)))
   pub acknowledgement :
       IsTrue (is_acknowledgement_of (act_of acts node) (held cells (acknowledgement_cell plan node)))
-  pub act : IsTrue (fits (site_in plan node).head.body (act_of acts node))
+  pub act : IsTrue (fits plan (site_in plan node).head.body (act_of acts node))
 
--- Parts stand for a world of a plan where there are as many cells as its layout has, as many acts as it has nodes, and the
--- parts of each node are right.
+-- Parts stand for a world of a plan where there are as many cells as its layout has, as many acts as it has nodes, and
+-- the parts of each node are right.
 pub record IsParts (plan : List Site) (cells : List Value) (acts : List Act) : Type 0 where
   pub all_cells : length cells ≡ layout.all_cells plan
   pub all_acts : length acts ≡ length plan

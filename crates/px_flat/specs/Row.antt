@@ -1,9 +1,7 @@
 -- The tables of a plan: its nodes by number in preorder, from 0.
-use Rattle.std.specs.Prelude.{◌≡◌, ℕ, suc, ◌+◌, Bool, List, [], ◌∷◌, ◌++◌, map, fold, length, drop, position, take_while, slice_index_or, Option, Some, None, if◌then◌else◌}
-use Rattle.std.specs.List.{list_any, flat_map}
-use Rattle.px_core.specs.Fit.{terms_of, terms_of_conditions, targets_of}
-use Rattle.px_core.specs.Plan.{Site, Head, TargetData, condition_terms, variable_data, body_data, is_same, no_site}
-use Rattle.px_core.specs.Expr.{Term, Terms, Literal, Var, Cell, StateOf, OutcomeOf, FailureOf, HandleOf, Acknowledged, Look, Unary, Binary, NoTerms, More}
+use Rattle.std.specs.Prelude.{◌≡◌, ℕ, suc, ◌+◌, Bool, List, [], ◌∷◌, map, length, drop, position, take_while, slice_index_or, Option, None}
+use Rattle.std.specs.List.{list_any}
+use Rattle.px_core.specs.Plan.{Site, Head, condition_terms, variable_data, body_data, is_same, no_site}
 use Rattle.px_flat.specs.declared.row.Head as heads
 use Rattle.px_flat.specs.declared.row.Row.{Row}
 
@@ -53,44 +51,3 @@ pub record IsRowOf (plan : List Site) (node : ℕ) (row : Row) : Type 0 where
   pub path : row.path ≡ (site_in plan node).path
   pub parent : row.parent ≡ parent_number plan node
   pub head : head_data row.head ≡ (site_in plan node).head
-
--- ---- the lookup names of a plan
-
--- the names that an expression looks up, from left to right
-abbrev mutual
-  pub lookups_in : Term → List (List ℕ)
-  lookups_in (Literal value) = []
-  lookups_in (Var owner name) = []
-  lookups_in (Cell owner name index) = lookups_in index
-  lookups_in (StateOf path) = []
-  lookups_in (OutcomeOf path) = []
-  lookups_in (FailureOf path) = []
-  lookups_in (HandleOf path) = []
-  lookups_in (Acknowledged path) = []
-  lookups_in (Look word name args tolerance) = name ∷ lookups_in_each args
-  lookups_in (Unary op arg) = lookups_in arg
-  lookups_in (Binary op left right) = lookups_in left ++ lookups_in right
-
-  pub lookups_in_each : Terms → List (List ℕ)
-  lookups_in_each NoTerms = []
-  lookups_in_each (More first rest) = lookups_in first ++ lookups_in_each rest
-
-abbrev pub lookups_in_target : TargetData → List (List ℕ)
-lookups_in_target target = of_index target.index
-  where
-    of_index : Option Term → List (List ℕ)
-    of_index None = []
-    of_index (Some index) = lookups_in index
-
-abbrev pub lookups_in_site : Site → List (List ℕ)
-lookups_in_site site =
-    flat_map lookups_in (terms_of_conditions site.head.conditions)
-    ++ (flat_map lookups_in (terms_of site.head.body) ++ flat_map lookups_in_target (targets_of site.head.body))
-
--- a name after the others, if it is not among them
-abbrev pub with_name : List (List ℕ) → List ℕ → List (List ℕ)
-with_name names name = if list_any (is_same name) names then names else names ++ name ∷ []
-
--- each name that a plan looks up, once, in the order in which they stand first
-abbrev pub lookups_of : List Site → List (List ℕ)
-lookups_of plan = fold with_name [] (flat_map lookups_in_site plan)

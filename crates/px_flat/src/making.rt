@@ -10,6 +10,8 @@ use px_value::NoMemory;
 use std::alloc::Global;
 
 /// The tables of a plan: a row a node in preorder, and what is found by them.
+///
+/// `NoMemory` comes for want of memory, and where the plan looks up 2^32 names or more.
 pub fn flatten(alloc: Global, plan: &Plan) -> Result<Flat, NoMemory>
     requires { IsFit (tree_of plan.now) }
     ensures { IfOk result (λ flat. plan_of flat ≡ sites (tree_of plan.now)) }

@@ -2,12 +2,13 @@ use Rattle.std.proofs.Common.{◌<◌, [], length, get_or, ap, sym, ◌∙◌, s
 use Rattle.px_core.specs.Plan.{Tree, tree_of, count_of}
 use Rattle.px_flat.specs.Row.{after_last, paths_of}
 use Rattle.px_flat.specs.Extents.{AreExtents}
-use Rattle.px_flat.specs.FitPlan.{IsFitPlan}
+use Rattle.px_flat.specs.Lookups.{lookups_of}
 use Rattle.px_flat.specs.Rows.{sites_of}
+use Rattle.px_flat.specs.Slots.{AreSlots}
 use Rattle.px_flat.proofs.Descendants.{end_is}
 use Rattle.px_flat.proofs.Sites.{length-sites_of}
 use Rattle.px_flat.proofs.Trees.{length-sites_under, length-ends_from}
-use Rattle.px_flat.proofs.flat.Flat.of.Goals as goal
+use Rattle.px_flat.proofs.names.Names.of.Goals as goal
 
 pub extents-requires-clause-long : goal.extents-requires-clause-long
 extents-requires-clause-long c =
@@ -39,24 +40,31 @@ extents-requires-clause-ends c = λ i within.
     ∙ end_is tree i inside
     ∙ ap (λ plan. after_last plan i) (sym c.in_ok-rows.ensures.sites ∙ ap sites_of (sym c.deref.ensures.value))
 
+pub slots_of-requires-clause-fit : goal.slots_of-requires-clause-fit
+slots_of-requires-clause-fit c = record {
+  tree = tree_of c.args.plan.now;
+  fit = c.requires;
+  nodes = ap sites_of c.deref-4.ensures.value ∙ c.in_ok-rows.ensures.sites;
+}
+
+pub slots_of-requires-clause-extended : goal.slots_of-requires-clause-extended
+slots_of-requires-clause-extended c =
+    subst (λ rows. AreExtents (sites_of rows) c.deref-5.result.now) (sym c.deref-4.ensures.value)
+    (subst (AreExtents (sites_of c.in_ok-rows.rows.items)) (sym c.deref-5.ensures.value)
+    (subst (λ rows. AreExtents (sites_of rows) c.in_ok-extents.extents.items) c.deref.ensures.value
+    c.in_ok-extents.ensures))
+
 pub invariant_of-result : goal.invariant_of-result
 invariant_of-result c =
     let tree : Tree = tree_of c.args.plan.now in
     let rows = c.in_ok-rows.rows.items in
     record {
       laid = c.in_ok-rows.ensures.laid;
-      fit = subst IsFitPlan (sym c.in_ok-rows.ensures.sites) (record {
-        count = omega (arith, length-sites_under [] tree, c.requires.count);
-        paths = c.requires.paths;
-        cells = c.requires.cells;
-        variables = c.requires.variables;
-        bodies = c.requires.bodies;
-        arrays = c.requires.arrays;
-        spoken = c.requires.spoken;
-        declared = c.requires.declared;
-        targets = c.requires.targets;
-      });
+      fit = ∣ record { tree = tree; fit = c.requires; nodes = c.in_ok-rows.ensures.sites } ∣₁;
       extended = subst (λ rows. AreExtents (sites_of rows) c.in_ok-extents.extents.items) c.deref.ensures.value
           c.in_ok-extents.ensures;
       found = c.in_ok-paths.ensures ∙ ap (λ rows. paths_of (sites_of rows)) c.deref-3.ensures.value;
+      declared = subst (λ rows. AreSlots (sites_of rows) c.in_ok-slots.slots.items) c.deref-4.ensures.value c.in_ok-slots.ensures;
+      looked = c.in_ok-lookups.ensures.names ∙ ap (λ rows. lookups_of (sites_of rows)) c.deref-6.ensures.value;
+      few = c.in_ok-lookups.ensures.few;
     }

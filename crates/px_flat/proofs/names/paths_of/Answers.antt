@@ -6,7 +6,7 @@ use Rattle.px_flat.specs.Row.{site_in, paths_of}
 use Rattle.px_flat.specs.Rows.{sites_of, site_of}
 use Rattle.px_flat.proofs.Numbers.{distinct_sites, paths_more}
 use Rattle.px_flat.proofs.Sites.{length-sites_of, site_at_number}
-use Rattle.px_flat.proofs.flat.paths_of.Goals as goal
+use Rattle.px_flat.proofs.names.paths_of.Goals as goal
 
 pub loop-row-preserved : goal.loop-row-preserved
 loop-row-preserved c =

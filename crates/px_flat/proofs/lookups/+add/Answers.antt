@@ -1,0 +1,43 @@
+use Rattle.std.proofs.Common.{◌≡◌, rules, fold, map, ap, sym, ◌∙◌}
+use Rattle.std.specs.List.{flat_map}
+use Rattle.std.proofs.lemmas.List.{take_all}
+use Rattle.std.proofs.lemmas.List.Folds.{flat_map-map}
+use Rattle.indexmap.specs.IndexSet.{insert_key}
+use Rattle.px_core.specs.Expr.{term_of}
+use Rattle.px_core.specs.Plan.{is_same}
+use Rattle.px_flat.specs.Lookups.{with_name, lookups_in}
+use Rattle.px_flat.proofs.LookedUp.{names_then, each_lookup}
+use Rattle.px_flat.proofs.Terms.{look, binary}
+use Rattle.px_flat.proofs.lookups.+add.Goals as goal
+
+pub add-returns-in_ok-add_each-in-Look : goal.add-returns-in_ok-add_each-in-Look
+add-returns-in_ok-add_each-in-Look t c =
+    let keys = c.args.names.now.keys in
+    let w = c.in-Look in
+    c.in_ok-add_each-in-Look.ensures
+    ∙ (λ i. fold with_name (c.in_ok-insert-in-Look.ensures.keys i) (flat_map lookups_in (map term_of (c.deref-in-Look.ensures.value i))))
+    ∙ ap (λ name. fold with_name (insert_key is_same keys name) (flat_map lookups_in (map term_of w.args.items))) c.in_ok-copy-in-Look.ensures.copy
+    ∙ ap (fold with_name (with_name keys w.name)) (sym (each_lookup (map term_of w.args.items)))
+    ∙ ap (λ term. fold with_name keys (lookups_in term)) (sym (look w.word w.name w.args w.tolerance))
+    ∙ ap (λ e. fold with_name keys (lookups_in (term_of e))) (sym w.is)
+
+pub add-returns-in_ok-add-in-Binary-2 : goal.add-returns-in_ok-add-in-Binary-2
+add-returns-in_ok-add-in-Binary-2 t c =
+    let keys = c.args.names.now.keys in
+    let w = c.in-Binary in
+    let one : c.add-in-Binary.new.names.keys ≡ fold with_name keys (lookups_in (term_of w.left.value)) = search rules in
+    let both : c.add-in-Binary-2.new.names.keys
+    ≡ fold with_name c.add-in-Binary.new.names.keys (lookups_in (term_of w.right.value)) = search rules in
+    both
+    ∙ ap (λ names. fold with_name names (lookups_in (term_of w.right.value))) one
+    ∙ sym (names_then keys (lookups_in (term_of w.left.value)) (lookups_in (term_of w.right.value)))
+    ∙ ap (λ term. fold with_name keys (lookups_in term)) (sym (binary w.op w.left w.right))
+    ∙ ap (λ e. fold with_name keys (lookups_in (term_of e))) (sym w.is)
+
+pub add_each-returns : goal.add_each-returns
+add_each-returns t c =
+    let keys = c.args.names.now.keys in
+    c.loop-expr.invariant
+    ∙ ap (λ exprs. fold with_name keys (flat_map (λ e. lookups_in (term_of e)) exprs))
+    (take_all c.loop-expr.expr-index c.args.exprs.now c.loop-expr-test.false)
+    ∙ ap (fold with_name keys) (sym (flat_map-map lookups_in term_of c.args.exprs.now))
