@@ -1,3 +1,4 @@
+pub mod Example
 pub mod Extents
 pub mod FitPlan
 pub mod Flat

@@ -23,6 +23,8 @@ mod numbered;
 mod numbering;
 mod row;
 mod slots;
+#[cfg(test)]
+mod tests;
 
 pub use act::{Abort, Act};
 pub use flat::Flat;
