@@ -6,3 +6,4 @@ pub mod Productions
 pub mod Primaries
 pub mod Arguments
 pub mod Loops
+pub mod Calls

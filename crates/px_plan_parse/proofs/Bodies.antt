@@ -1,0 +1,530 @@
+-- What actions and branches consist of.
+use Rattle.std.proofs.Common.{◌≡◌, ℕ, ℤ, ◌+◌, ◌≤◌, ◌<◌, ◌⊎◌, inl, inr, refl, sym, ap, subst, ◌∙◌, List, [], ◌∷◌, length, Option, Some, None, Bool, true, false, arith}
+use Rattle.px_lex.specs.declared.keyword.Keyword.TheVariants as words
+use Rattle.px_lex.specs.declared.sign.Sign.TheVariants as signs
+use Rattle.px_lex.specs.declared.token.Token.{Token}
+use Rattle.px_lex.specs.declared.token.TokenKind.{TokenKind}
+use Rattle.px_lex.specs.declared.token.TokenKind.TheVariants as kinds
+use Rattle.px_syntax.specs.declared.expr.Identifier.{Identifier}
+use Rattle.px_syntax.specs.declared.fault.ParseFault.{ParseFault}
+use Rattle.px_syntax.specs.Block.{ActionTree, Labelled, BlockTree, BranchTree, Branch, GuardedTree, Guarded, ElseIfs, NoElseIfs, ElseIf, ElseTree, NoElse, Else, BodyTree, Inner, Assign, CallInto, Call, PairData, Update, If, While, For, else_ifs_in_turn, else_of}
+use Rattle.px_syntax.specs.BlockGrammar.{action, block, body, branch, else_ifs, guarded, label, otherwise}
+use Rattle.px_syntax.specs.Expr.{Term}
+use Rattle.px_syntax.specs.Form.{Form, identifier, keyword, kind_at, optional, sign, ◌then◌, maybe, each}
+use Rattle.px_expr_parse.specs.Tail.{closed}
+use Rattle.px_expr_parse.specs.Verdict.{Agree, IsFound}
+use Rattle.px_expr_parse.proofs.Parts.{agree_before}
+use Rattle.px_plan_parse.specs.declared.start.Start.{Start}
+use Rattle.px_plan_parse.specs.declared.start.Start.TheVariants as starts
+use Rattle.px_plan_parse.specs.Named.{NamedData, Calls, Writes, Value, Answer, named, named_body}
+use Rattle.px_plan_parse.specs.Part.{Follow, Anything, IsLacking, IsPart, IsSole, Lacks}
+use Rattle.px_plan_parse.specs.Start.{NoBranch, NoElse as NotElse, NoElseIf as NotElseIf, NoName, is_branch, keyword_start, start_at}
+use Rattle.px_plan_parse.specs.Tail.{counter, update_pairs}
+use Rattle.px_plan_parse.proofs.Blocks.{block_sort, body_sort, sort_of, tree_sort}
+use Rattle.px_plan_parse.proofs.Parts.{Begins, HasKind, Makes, behind, both}
+use Rattle.px_plan_parse.proofs.Starts.{start_keyword, start_name, start_too}
+
+-- ---- branches
+
+pub block_no_name : Begins block Anything NoName
+block_no_name tokens tree from end o next is =
+    let e : 1 ≡ 2 = sym (ap sort_of is) ∙ block_sort tree tokens from end o in omega (arith, e)
+
+pub makes_branch :
+    (tokens : List Token) (from : ℕ)
+    → Makes branch (both label block) (λ (parts : Option Identifier × BlockTree). Branch parts.0 parts.1) tokens from
+makes_branch tokens from = record { builds = λ others agree part end o. o; splits = λ others agree. split others }
+  where
+    split :
+        (others : List Token) (tree : BranchTree) (end : ℕ) → branch tree others from end
+        → (parts : Option Identifier × BlockTree) × (tree ≡ Branch parts.0 parts.1) × both label block parts others from end
+    split others (Branch name parts) end o = ((name, parts), refl, o)
+
+abbrev pub test_and_branch : Term × BranchTree → Form
+test_and_branch = behind (kinds.Sign signs.OpenParen) (both (closed signs.CloseParen) branch)
+
+pub makes_guarded :
+    (tokens : List Token) (from : ℕ)
+    → Makes guarded test_and_branch (λ (parts : Term × BranchTree). Guarded parts.0 parts.1) tokens from
+makes_guarded tokens from =
+    record {
+      builds = λ others agree part end o. (o.0, o.1, (o.2.1.0, o.2.1.1, (o.2.0, o.2.1.2, o.2.2)));
+      splits = λ others agree. split others;
+    }
+  where
+    split :
+        (others : List Token) (tree : GuardedTree) (end : ℕ) → guarded tree others from end
+        → (parts : Term × BranchTree) × (tree ≡ Guarded parts.0 parts.1) × test_and_branch parts others from end
+    split others (Guarded test parts) end o =
+        ((test, parts), refl, (o.0, o.1, (o.2.2.0, (o.2.0, o.2.1, o.2.2.1), o.2.2.2)))
+
+-- ---- the branches of an if
+
+pub else_if_starts : (tokens : List Token) (place : ℕ) → HasKind tokens place (kinds.Keyword words.ElseIf) → start_at tokens place ≡ starts.ElseIf
+unfolding keyword_start
+else_if_starts tokens place has = start_keyword tokens place words.ElseIf has
+
+pub else_starts : (tokens : List Token) (place : ℕ) → HasKind tokens place (kinds.Keyword words.Else) → start_at tokens place ≡ starts.Else
+unfolding keyword_start
+else_starts tokens place has = start_keyword tokens place words.Else has
+
+pub end_if_starts : (tokens : List Token) (place : ℕ) → HasKind tokens place (kinds.Keyword words.EndIf) → start_at tokens place ≡ starts.EndIf
+unfolding keyword_start
+end_if_starts tokens place has = start_keyword tokens place words.EndIf has
+
+abbrev pub one_else_if : GuardedTree → Form
+one_else_if = behind (kinds.Keyword words.ElseIf) guarded
+
+to_turn : (parts : List GuardedTree) (tokens : List Token) (from to : ℕ) → each one_else_if parts tokens from to
+    → else_ifs (else_ifs_in_turn parts) tokens from to
+to_turn [] tokens from to o = o
+to_turn (first ∷ rest) tokens from to o = (o.1.0, o.1.1, (o.0, o.1.2, to_turn rest tokens o.0 to o.2))
+
+from_turn : (tree : ElseIfs) (tokens : List Token) (from to : ℕ) → else_ifs tree tokens from to
+    → (parts : List GuardedTree) × (tree ≡ else_ifs_in_turn parts) × each one_else_if parts tokens from to
+from_turn NoElseIfs tokens from to o = ([], refl, o)
+from_turn (ElseIf first rest) tokens from to o =
+    let r = from_turn rest tokens o.2.0 to o.2.2 in
+    (first ∷ r.0, ap (λ (more : ElseIfs). ElseIf first more) r.1, (o.2.0, (o.0, o.1, o.2.1), r.2))
+
+pub makes_else_ifs : (tokens : List Token) (from : ℕ) → Makes else_ifs (each one_else_if) else_ifs_in_turn tokens from
+makes_else_ifs tokens from =
+    record {
+      builds = λ others agree part end o. to_turn part others from end o;
+      splits = λ others agree tree end o. from_turn tree others from end o;
+    }
+
+pub makes_otherwise :
+    (tokens : List Token) (from : ℕ) → Makes otherwise (maybe (behind (kinds.Keyword words.Else) branch)) else_of tokens from
+makes_otherwise tokens from = record { builds = λ others agree. build others; splits = λ others agree. split others }
+  where
+    build :
+        (others : List Token) (part : Option BranchTree) (end : ℕ) → maybe (behind (kinds.Keyword words.Else) branch) part others from end
+        → otherwise (else_of part) others from end
+    build others None end o = o
+    build others (Some part) end o = o
+
+    split :
+        (others : List Token) (tree : ElseTree) (end : ℕ) → otherwise tree others from end
+        → (part : Option BranchTree) × (tree ≡ else_of part) × maybe (behind (kinds.Keyword words.Else) branch) part others from end
+    split others NoElse end o = (None, refl, o)
+    split others (Else parts) end o = (Some parts, refl, o)
+
+abbrev pub end_if : Unit {0} → Form
+end_if none = optional (keyword words.EndIf)
+
+pub end_follows : Begins end_if NoBranch NotElse
+end_follows tokens part from end (inl none) next is =
+    let s : start_at tokens end ≡ starts.Else = ap (λ (p : ℕ). start_at tokens p) none ∙ is in
+    let f : true ≡ false = sym (ap is_branch s) ∙ next in cc
+end_follows tokens part from end (inr given) next is = let s = end_if_starts tokens from given.0 in cc
+
+pub else_follows : Begins (both otherwise end_if) NoBranch NotElseIf
+else_follows tokens (NoElse, none) from end (middle, nothing_is, inl last) next is =
+    let s : start_at tokens end ≡ starts.ElseIf = ap (λ (p : ℕ). start_at tokens p) (last ∙ nothing_is) ∙ is in
+    let f : true ≡ false = sym (ap is_branch s) ∙ next in cc
+else_follows tokens (NoElse, none) from end (middle, nothing_is, inr given) next is =
+    let s = end_if_starts tokens middle given.0 in
+    let t : start_at tokens middle ≡ starts.ElseIf = ap (λ (p : ℕ). start_at tokens p) nothing_is ∙ is in cc
+else_follows tokens (Else parts, none) from end (middle, given, last) next is = let s = else_starts tokens from given.1.0 in cc
+
+module _ (tokens : List Token) (at : ℕ) where
+  pub no_else_if :
+      (start_at tokens at ≡ starts.ElseIf → ⊥) → (others : List Token) → Agree tokens others at → (part : GuardedTree) (end : ℕ)
+      → one_else_if part others at end → ⊥
+  no_else_if none others agree part end o =
+      none (sym (start_too tokens others at at (omega arith) agree) ∙ else_if_starts others at o.1.0)
+
+  pub else_if_goes_on :
+      start_at tokens at ≡ starts.ElseIf → (others : List Token) → Agree tokens others at → NotElseIf others at → ⊥
+  else_if_goes_on is others agree none = none (start_too tokens others at at (omega arith) agree ∙ is)
+
+  pub no_else :
+      (start_at tokens at ≡ starts.Else → ⊥) → (others : List Token) → Agree tokens others at → (part : BranchTree) (end : ℕ)
+      → behind (kinds.Keyword words.Else) branch part others at end → ⊥
+  no_else none others agree part end o =
+      none (sym (start_too tokens others at at (omega arith) agree) ∙ else_starts others at o.1.0)
+
+  pub else_goes_on :
+      start_at tokens at ≡ starts.Else → (others : List Token) → Agree tokens others at → NotElse others at → ⊥
+  else_goes_on is others agree none = none (start_too tokens others at at (omega arith) agree ∙ is)
+
+  -- the word that ends an if, or none
+  pub part_end_if :
+      (end : ℕ) → at ≤ length tokens
+      → ((start_at tokens at ≡ starts.EndIf) × HasKind tokens at (kinds.Keyword words.EndIf) × (at < length tokens) × (end ≡ at + 1))
+      ⊎ ((start_at tokens at ≡ starts.EndIf → ⊥) × (end ≡ at))
+      → IsPart end_if NoBranch tokens at tt end
+  part_end_if end within (inl given) =
+      record {
+        advances = omega (arith, given.3);
+        within = omega (arith, given.2, given.3);
+        sole = λ others agree.
+            record {
+              spelled = inr (agree at (omega (arith, given.3)) ∙ given.1, given.3);
+              only = λ other last o next. only others (start_too tokens others at end (omega (arith, given.3)) agree) other last o next;
+            };
+      }
+    where
+      only :
+          (others : List Token) → start_at others at ≡ start_at tokens at → (other : Unit {0}) (last : ℕ) → end_if other others at last
+          → NoBranch others last → (other ≡ tt) × (last ≡ end)
+      only others same other last (inl none) next =
+          let s : start_at others last ≡ starts.EndIf = ap (λ (p : ℕ). start_at others p) none ∙ same ∙ given.0 in
+          absurd (let f : true ≡ false = sym (ap is_branch s) ∙ next in cc)
+      only others same other last (inr there) next = (refl, omega (arith, there.1, given.3))
+  part_end_if end within (inr absent) =
+      record {
+        advances = omega (arith, absent.1);
+        within = omega (arith, within, absent.1);
+        sole = λ others agree.
+            record {
+              spelled = inl absent.1;
+              only = λ other last o next. only others (start_too tokens others at end (omega (arith, absent.1)) agree) other last o;
+            };
+      }
+    where
+      only :
+          (others : List Token) → start_at others at ≡ start_at tokens at → (other : Unit {0}) (last : ℕ) → end_if other others at last
+          → (other ≡ tt) × (last ≡ end)
+      only others same other last (inl none) = (refl, omega (arith, none, absent.1))
+      only others same other last (inr there) = absurd (absent.0 (sym same ∙ end_if_starts others at there.0))
+
+-- ---- actions by their sorts
+
+abbrev pub if_parts : GuardedTree × (ElseIfs × (ElseTree × Unit {0})) → Form
+if_parts = behind (kinds.Keyword words.If) (both guarded (both else_ifs (both otherwise end_if)))
+
+abbrev pub for_parts : (Identifier × ℤ) × (Term × (Term × BranchTree)) → Form
+for_parts = behind (kinds.Keyword words.For) (both counter (both (closed signs.Semicolon) (both (closed signs.CloseParen) branch)))
+
+module _ (tokens : List Token) (from : ℕ) where
+  pub makes_named :
+      sort_of (start_at tokens from) ≡ 1
+      → Makes body (both identifier named) (λ (parts : Identifier × NamedData). named_body parts.0 parts.1) tokens from
+  makes_named is =
+      record { builds = λ others agree. build others; splits = λ others agree. split others (ap sort_of (start_too tokens others from from (omega arith) agree) ∙ is) }
+    where
+      build :
+          (others : List Token) (parts : Identifier × NamedData) (end : ℕ) → both identifier named parts others from end
+          → body (named_body parts.0 parts.1) others from end
+      build others (name, Calls args) end o = (o.2.0, (o.0, o.1, o.2.1), o.2.2)
+      build others (name, Writes index (Value value)) end o = (o.2.0, (o.0, o.1, o.2.1), o.2.2)
+      build others (name, Writes index (Answer parts)) end o = (o.2.0, (o.0, o.1, o.2.1), o.2.2)
+
+      split :
+          (others : List Token) → sort_of (start_at others from) ≡ 1 → (tree : BodyTree) (end : ℕ) → body tree others from end
+          → (parts : Identifier × NamedData) × (tree ≡ named_body parts.0 parts.1) × both identifier named parts others from end
+      split others begins (Assign written value) end o =
+          ((written.name, Writes written.index (Value value)), refl, (o.1.0, o.1.1, (o.0, o.1.2, o.2)))
+      split others begins (CallInto written parts) end o =
+          ((written.name, Writes written.index (Answer parts)), refl, (o.1.0, o.1.1, (o.0, o.1.2, o.2)))
+      split others begins (Call parts) end o = ((parts.name, Calls parts.args), refl, (o.1.0, o.1.1, (o.0, o.1.2, o.2)))
+      split others begins (Inner tree) end o =
+          absurd (let e : 2 ≡ 1 = sym (body_sort (Inner tree) others from end o) ∙ begins in omega (arith, e))
+      split others begins (Update token pairs) end o =
+          absurd (let e : 3 ≡ 1 = sym (body_sort (Update token pairs) others from end o) ∙ begins in omega (arith, e))
+      split others begins (If first others_of last) end o =
+          absurd (let e : 4 ≡ 1 = sym (body_sort (If first others_of last) others from end o) ∙ begins in omega (arith, e))
+      split others begins (While parts) end o =
+          absurd (let e : 5 ≡ 1 = sym (body_sort (While parts) others from end o) ∙ begins in omega (arith, e))
+      split others begins (For variable first test step parts) end o =
+          absurd (let e : 6 ≡ 1 = sym (body_sort (For variable first test step parts) others from end o) ∙ begins in omega (arith, e))
+
+  pub makes_inner :
+      sort_of (start_at tokens from) ≡ 2 → Makes body (block) (λ (tree : BlockTree). Inner tree) tokens from
+  makes_inner is =
+      record { builds = λ others agree. λ part end o. o; splits = λ others agree. split others (ap sort_of (start_too tokens others from from (omega arith) agree) ∙ is) }
+    where
+      split :
+          (others : List Token) → sort_of (start_at others from) ≡ 2 → (tree : BodyTree) (end : ℕ) → body tree others from end
+          → (part : BlockTree) × (tree ≡ (λ (tree : BlockTree). Inner tree) part) × (block) part others from end
+      split others begins (Inner tree) end o = (tree, refl, o)
+      split others begins (Assign written value) end o =
+          absurd (let e : 1 ≡ 2 = sym (body_sort (Assign written value) others from end o) ∙ begins in omega (arith, e))
+      split others begins (CallInto written parts) end o =
+          absurd (let e : 1 ≡ 2 = sym (body_sort (CallInto written parts) others from end o) ∙ begins in omega (arith, e))
+      split others begins (Call parts) end o =
+          absurd (let e : 1 ≡ 2 = sym (body_sort (Call parts) others from end o) ∙ begins in omega (arith, e))
+      split others begins (Update token pairs) end o =
+          absurd (let e : 3 ≡ 2 = sym (body_sort (Update token pairs) others from end o) ∙ begins in omega (arith, e))
+      split others begins (If first others_of last) end o =
+          absurd (let e : 4 ≡ 2 = sym (body_sort (If first others_of last) others from end o) ∙ begins in omega (arith, e))
+      split others begins (While parts) end o =
+          absurd (let e : 5 ≡ 2 = sym (body_sort (While parts) others from end o) ∙ begins in omega (arith, e))
+      split others begins (For variable first test step parts) end o =
+          absurd (let e : 6 ≡ 2 = sym (body_sort (For variable first test step parts) others from end o) ∙ begins in omega (arith, e))
+
+  pub makes_update :
+      sort_of (start_at tokens from) ≡ 3 → Makes body (behind (kinds.Keyword words.Update) update_pairs) (λ (pairs : List PairData). Update from pairs) tokens from
+  makes_update is =
+      record { builds = λ others agree. λ part end o. (o.0, (refl, o.1), o.2); splits = λ others agree. split others (ap sort_of (start_too tokens others from from (omega arith) agree) ∙ is) }
+    where
+      split :
+          (others : List Token) → sort_of (start_at others from) ≡ 3 → (tree : BodyTree) (end : ℕ) → body tree others from end
+          → (part : List PairData) × (tree ≡ (λ (pairs : List PairData). Update from pairs) part) × (behind (kinds.Keyword words.Update) update_pairs) part others from end
+      split others begins (Update token pairs) end o =
+          (pairs, ap (λ (t : ℕ). Update t pairs) o.1.0, (o.0, o.1.1, o.2))
+      split others begins (Inner tree) end o =
+          absurd (let e : 2 ≡ 3 = sym (body_sort (Inner tree) others from end o) ∙ begins in omega (arith, e))
+      split others begins (Assign written value) end o =
+          absurd (let e : 1 ≡ 3 = sym (body_sort (Assign written value) others from end o) ∙ begins in omega (arith, e))
+      split others begins (CallInto written parts) end o =
+          absurd (let e : 1 ≡ 3 = sym (body_sort (CallInto written parts) others from end o) ∙ begins in omega (arith, e))
+      split others begins (Call parts) end o =
+          absurd (let e : 1 ≡ 3 = sym (body_sort (Call parts) others from end o) ∙ begins in omega (arith, e))
+      split others begins (If first others_of last) end o =
+          absurd (let e : 4 ≡ 3 = sym (body_sort (If first others_of last) others from end o) ∙ begins in omega (arith, e))
+      split others begins (While parts) end o =
+          absurd (let e : 5 ≡ 3 = sym (body_sort (While parts) others from end o) ∙ begins in omega (arith, e))
+      split others begins (For variable first test step parts) end o =
+          absurd (let e : 6 ≡ 3 = sym (body_sort (For variable first test step parts) others from end o) ∙ begins in omega (arith, e))
+
+  pub makes_if :
+      sort_of (start_at tokens from) ≡ 4 → Makes body (if_parts) (λ (parts : GuardedTree × (ElseIfs × (ElseTree × Unit {0}))). If parts.0 parts.1.0 parts.1.1.0) tokens from
+  makes_if is =
+      record { builds = λ others agree. λ part end o. o; splits = λ others agree. split others (ap sort_of (start_too tokens others from from (omega arith) agree) ∙ is) }
+    where
+      split :
+          (others : List Token) → sort_of (start_at others from) ≡ 4 → (tree : BodyTree) (end : ℕ) → body tree others from end
+          → (part : GuardedTree × (ElseIfs × (ElseTree × Unit {0}))) × (tree ≡ (λ (parts : GuardedTree × (ElseIfs × (ElseTree × Unit {0}))). If parts.0 parts.1.0 parts.1.1.0) part) × (if_parts) part others from end
+      split others begins (If first others_of last) end o = ((first, (others_of, (last, tt))), refl, o)
+      split others begins (Inner tree) end o =
+          absurd (let e : 2 ≡ 4 = sym (body_sort (Inner tree) others from end o) ∙ begins in omega (arith, e))
+      split others begins (Assign written value) end o =
+          absurd (let e : 1 ≡ 4 = sym (body_sort (Assign written value) others from end o) ∙ begins in omega (arith, e))
+      split others begins (CallInto written parts) end o =
+          absurd (let e : 1 ≡ 4 = sym (body_sort (CallInto written parts) others from end o) ∙ begins in omega (arith, e))
+      split others begins (Call parts) end o =
+          absurd (let e : 1 ≡ 4 = sym (body_sort (Call parts) others from end o) ∙ begins in omega (arith, e))
+      split others begins (Update token pairs) end o =
+          absurd (let e : 3 ≡ 4 = sym (body_sort (Update token pairs) others from end o) ∙ begins in omega (arith, e))
+      split others begins (While parts) end o =
+          absurd (let e : 5 ≡ 4 = sym (body_sort (While parts) others from end o) ∙ begins in omega (arith, e))
+      split others begins (For variable first test step parts) end o =
+          absurd (let e : 6 ≡ 4 = sym (body_sort (For variable first test step parts) others from end o) ∙ begins in omega (arith, e))
+
+  pub makes_while :
+      sort_of (start_at tokens from) ≡ 5 → Makes body (behind (kinds.Keyword words.While) guarded) (λ (parts : GuardedTree). While parts) tokens from
+  makes_while is =
+      record { builds = λ others agree. λ part end o. o; splits = λ others agree. split others (ap sort_of (start_too tokens others from from (omega arith) agree) ∙ is) }
+    where
+      split :
+          (others : List Token) → sort_of (start_at others from) ≡ 5 → (tree : BodyTree) (end : ℕ) → body tree others from end
+          → (part : GuardedTree) × (tree ≡ (λ (parts : GuardedTree). While parts) part) × (behind (kinds.Keyword words.While) guarded) part others from end
+      split others begins (While parts) end o = (parts, refl, o)
+      split others begins (Inner tree) end o =
+          absurd (let e : 2 ≡ 5 = sym (body_sort (Inner tree) others from end o) ∙ begins in omega (arith, e))
+      split others begins (Assign written value) end o =
+          absurd (let e : 1 ≡ 5 = sym (body_sort (Assign written value) others from end o) ∙ begins in omega (arith, e))
+      split others begins (CallInto written parts) end o =
+          absurd (let e : 1 ≡ 5 = sym (body_sort (CallInto written parts) others from end o) ∙ begins in omega (arith, e))
+      split others begins (Call parts) end o =
+          absurd (let e : 1 ≡ 5 = sym (body_sort (Call parts) others from end o) ∙ begins in omega (arith, e))
+      split others begins (Update token pairs) end o =
+          absurd (let e : 3 ≡ 5 = sym (body_sort (Update token pairs) others from end o) ∙ begins in omega (arith, e))
+      split others begins (If first others_of last) end o =
+          absurd (let e : 4 ≡ 5 = sym (body_sort (If first others_of last) others from end o) ∙ begins in omega (arith, e))
+      split others begins (For variable first test step parts) end o =
+          absurd (let e : 6 ≡ 5 = sym (body_sort (For variable first test step parts) others from end o) ∙ begins in omega (arith, e))
+
+  pub makes_for :
+      sort_of (start_at tokens from) ≡ 6 → Makes body (for_parts) (λ (parts : (Identifier × ℤ) × (Term × (Term × BranchTree))). For parts.0.0 parts.0.1 parts.1.0 parts.1.1.0 parts.1.1.1) tokens from
+  makes_for is =
+      record { builds = λ others agree. λ part end i. (i.0, i.1, (i.2.1.0, i.2.1.1, (i.2.1.2.0, i.2.1.2.1, (i.2.1.2.2.0, i.2.1.2.2.1, (i.2.1.2.2.2.0, i.2.1.2.2.2.1, (i.2.1.2.2.2.2.0, i.2.1.2.2.2.2.1, (i.2.0, i.2.1.2.2.2.2.2, (i.2.2.1.0, i.2.2.1.1, (i.2.2.0, i.2.2.1.2, (i.2.2.2.1.0, i.2.2.2.1.1, (i.2.2.2.0, i.2.2.2.1.2, i.2.2.2.2))))))))))); splits = λ others agree. split others (ap sort_of (start_too tokens others from from (omega arith) agree) ∙ is) }
+    where
+      split :
+          (others : List Token) → sort_of (start_at others from) ≡ 6 → (tree : BodyTree) (end : ℕ) → body tree others from end
+          → (part : (Identifier × ℤ) × (Term × (Term × BranchTree))) × (tree ≡ (λ (parts : (Identifier × ℤ) × (Term × (Term × BranchTree))). For parts.0.0 parts.0.1 parts.1.0 parts.1.1.0 parts.1.1.1) part) × (for_parts) part others from end
+      split others begins (For variable first test step parts) end o =
+          (((variable, first), (test, (step, parts))), refl, (o.0, o.1, (o.2.2.2.2.2.2.0, (o.2.0, o.2.1, (o.2.2.0, o.2.2.1, (o.2.2.2.0, o.2.2.2.1, (o.2.2.2.2.0, o.2.2.2.2.1, (o.2.2.2.2.2.0, o.2.2.2.2.2.1, o.2.2.2.2.2.2.1))))), (o.2.2.2.2.2.2.2.2.0, (o.2.2.2.2.2.2.2.0, o.2.2.2.2.2.2.2.1, o.2.2.2.2.2.2.2.2.1), (o.2.2.2.2.2.2.2.2.2.2.0, (o.2.2.2.2.2.2.2.2.2.0, o.2.2.2.2.2.2.2.2.2.1, o.2.2.2.2.2.2.2.2.2.2.1), o.2.2.2.2.2.2.2.2.2.2.2)))))
+      split others begins (Inner tree) end o =
+          absurd (let e : 2 ≡ 6 = sym (body_sort (Inner tree) others from end o) ∙ begins in omega (arith, e))
+      split others begins (Assign written value) end o =
+          absurd (let e : 1 ≡ 6 = sym (body_sort (Assign written value) others from end o) ∙ begins in omega (arith, e))
+      split others begins (CallInto written parts) end o =
+          absurd (let e : 1 ≡ 6 = sym (body_sort (CallInto written parts) others from end o) ∙ begins in omega (arith, e))
+      split others begins (Call parts) end o =
+          absurd (let e : 1 ≡ 6 = sym (body_sort (Call parts) others from end o) ∙ begins in omega (arith, e))
+      split others begins (Update token pairs) end o =
+          absurd (let e : 3 ≡ 6 = sym (body_sort (Update token pairs) others from end o) ∙ begins in omega (arith, e))
+      split others begins (If first others_of last) end o =
+          absurd (let e : 4 ≡ 6 = sym (body_sort (If first others_of last) others from end o) ∙ begins in omega (arith, e))
+      split others begins (While parts) end o =
+          absurd (let e : 5 ≡ 6 = sym (body_sort (While parts) others from end o) ∙ begins in omega (arith, e))
+
+  pub no_body :
+      sort_of (start_at tokens from) ≡ 0 → (others : List Token) → start_at others from ≡ start_at tokens from → (tree : BodyTree) (end : ℕ)
+      → body tree others from end → ⊥
+  no_body none others same tree end o =
+      some tree (sym (body_sort tree others from end o) ∙ ap sort_of same ∙ none)
+    where
+      some : (tree : BodyTree) → tree_sort tree ≡ 0 → ⊥
+      some (Inner tree) e = omega (arith, e)
+      some (Assign written value) e = omega (arith, e)
+      some (CallInto written parts) e = omega (arith, e)
+      some (Call parts) e = omega (arith, e)
+      some (Update token pairs) e = omega (arith, e)
+      some (If first others_of last) e = omega (arith, e)
+      some (While parts) e = omega (arith, e)
+      some (For variable first test step parts) e = omega (arith, e)
+
+pub no_sort :
+    (start : Start) → (start ≡ starts.Name → ⊥) → ((form : _) → start ≡ starts.Form form → ⊥) → (start ≡ starts.Brace → ⊥)
+    → (start ≡ starts.Update → ⊥) → (start ≡ starts.If → ⊥) → (start ≡ starts.While → ⊥) → (start ≡ starts.For → ⊥) → sort_of start ≡ 0
+no_sort starts.Name n f b u i w r = absurd (n refl)
+no_sort (starts.Form form) n f b u i w r = absurd (f form refl)
+no_sort starts.Brace n f b u i w r = absurd (b refl)
+no_sort starts.Update n f b u i w r = absurd (u refl)
+no_sort starts.If n f b u i w r = absurd (i refl)
+no_sort starts.While n f b u i w r = absurd (w refl)
+no_sort starts.For n f b u i w r = absurd (r refl)
+no_sort start n f b u i w r = refl
+
+-- ---- labels of actions
+
+module _ (tokens : List Token) (from : ℕ) where
+  pub makes_unlabelled :
+      (start_at tokens from ≡ starts.Name → ⊥) → Makes action body (λ (tree : BodyTree). Labelled None tree) tokens from
+  makes_unlabelled no_name =
+      record {
+        builds = λ others agree part end o. (from, refl, o);
+        splits = λ others agree. split others (start_too tokens others from from (omega arith) agree);
+      }
+    where
+      split :
+          (others : List Token) → start_at others from ≡ start_at tokens from → (tree : ActionTree) (end : ℕ) → action tree others from end
+          → (part : BodyTree) × (tree ≡ Labelled None part) × body part others from end
+      split others same (Labelled None parts) end o = (parts, refl, subst (λ (p : ℕ). body parts others p end) o.1 o.2)
+      split others same (Labelled (Some name) parts) end o =
+          absurd (no_name (sym same ∙ start_name others from name.name o.1.1.1.0))
+
+  module _ (name : Identifier) (found : IsFound identifier tokens from name (from + 1)) where
+    name_is : (others : List Token) → Agree tokens others (from + 1) → start_at others from ≡ starts.Name
+    name_is others agree = start_name others from name.name (found.only others agree).spelled.1.0
+
+    -- an action without a label, by what is behind its name
+    unlabelled :
+        (others : List Token) → Agree tokens others (from + 1) → (parts : BodyTree) (end : ℕ) → body parts others from end
+        → (inner : NamedData) × (parts ≡ named_body name inner) × named inner others (from + 1) end
+    unlabelled others agree parts end o =
+        let is = name_is others agree in
+        let s = (makes_named others from (ap sort_of is)).splits others (λ place le. refl) parts end o in
+        let same = (found.only others agree).only s.0.0 s.2.0 s.2.1 in (
+          s.0.1,
+          s.1 ∙ ap (λ (n : Identifier). named_body n s.0.1) same.0,
+          subst (λ (p : ℕ). named s.0.1 others p end) same.1 s.2.2,
+        )
+
+    module _ (colon : HasKind tokens (from + 1) (kinds.Sign signs.Colon)) where
+      no_named : (others : List Token) → HasKind others (from + 1) (kinds.Sign signs.Colon) → (inner : NamedData) (end : ℕ)
+          → named inner others (from + 1) end → ⊥
+      no_named others there (Calls args) end o = let h = o.1.1.0 in cc
+      no_named others there (Writes None value) end o =
+          let h : HasKind others (from + 1) (kinds.Sign signs.Assign) = subst (λ (p : ℕ). HasKind others p (kinds.Sign signs.Assign)) o.1 o.2.1.0 in cc
+      no_named others there (Writes (Some index) value) end o = let h = o.1.1.0 in cc
+
+      -- what stands behind the label
+      labelled :
+          (others : List Token) → Agree tokens others (from + 1) → (tree : ActionTree) (end : ℕ) → action tree others from end
+          → (parts : BodyTree) × (tree ≡ Labelled (Some name) parts) × body parts others (from + 2) end
+      labelled others agree (Labelled None parts) end o =
+          let u = unlabelled others agree parts end (subst (λ (p : ℕ). body parts others p end) o.1 o.2) in
+          absurd (no_named others (agree (from + 1) (omega arith) ∙ colon) u.0 end u.2)
+      labelled others agree (Labelled (Some other) parts) end (middle, (place, named_is, colon_is), o) =
+          let same = (found.only others agree).only other place named_is in
+          let behind_colon : middle ≡ from + 2 = omega (arith, same.1, colon_is.1) in (
+            parts,
+            ap (λ (n : Identifier). Labelled (Some n) parts) same.0,
+            subst (λ (p : ℕ). body parts others p end) behind_colon o,
+          )
+
+      pub part_labelled :
+          (parts : BodyTree) (to : ℕ) → IsPart body NoBranch tokens (from + 2) parts to
+          → IsPart action NoBranch tokens from (Labelled (Some name) parts) to
+      part_labelled parts to f =
+          record {
+            advances = omega (arith, f.advances);
+            within = f.within;
+            sole = λ others agree.
+                let agree_next = agree_before tokens others (from + 1) to (omega (arith, f.advances)) agree in
+                let one = f.sole others agree in
+                record {
+                  spelled = (
+                    from + 2,
+                    (from + 1, (found.only others agree_next).spelled, (agree_next (from + 1) (omega arith) ∙ colon, omega arith)),
+                    one.spelled,
+                  );
+                  only = λ other end o next.
+                      let l = labelled others agree_next other end o in
+                      let is = one.only l.0 end l.2 next in
+                      (l.1 ∙ ap (λ (b : BodyTree). Labelled (Some name) b) is.0, is.1);
+                };
+          }
+
+      pub lack_labelled :
+          (fault : ParseFault) → IsLacking body NoBranch tokens (from + 2) fault → IsLacking action NoBranch tokens from fault
+      lack_labelled fault f =
+          record {
+            named = λ token is.
+                let l = f.named token is in
+                record {
+                  reached = omega (arith, l.reached);
+                  within = l.within;
+                  none = λ others agree other end o next.
+                      let p = labelled others (agree_before tokens others (from + 1) token (omega (arith, l.reached)) agree) other end o in
+                      l.none others agree p.0 end p.2 next;
+                };
+            shallow = f.shallow;
+          }
+
+    module _ (no_colon : HasKind tokens (from + 1) (kinds.Sign signs.Colon) → ⊥) where
+      plain :
+          (others : List Token) → Agree tokens others (from + 1) → (tree : ActionTree) (end : ℕ) → action tree others from end
+          → (inner : NamedData) × (tree ≡ Labelled None (named_body name inner)) × named inner others (from + 1) end
+      plain others agree (Labelled None parts) end o =
+          let u = unlabelled others agree parts end (subst (λ (p : ℕ). body parts others p end) o.1 o.2) in
+          (u.0, ap (λ (b : BodyTree). Labelled None b) u.1, u.2)
+      plain others agree (Labelled (Some other) parts) end (middle, (place, named_is, colon_is), o) =
+          let same = (found.only others agree).only other place named_is in
+          absurd (no_colon (sym (agree (from + 1) (omega arith)) ∙ subst (λ (p : ℕ). HasKind others p (kinds.Sign signs.Colon)) same.1 colon_is.0))
+
+      pub part_plain :
+          (inner : NamedData) (to : ℕ) → IsPart named Anything tokens (from + 1) inner to
+          → IsPart action NoBranch tokens from (Labelled None (named_body name inner)) to
+      part_plain inner to f =
+          record {
+            advances = omega (arith, f.advances);
+            within = f.within;
+            sole = λ others agree.
+                let agree_next = agree_before tokens others (from + 1) to f.advances agree in
+                let one = f.sole others agree in
+                record {
+                  spelled = (
+                    from,
+                    refl,
+                    (makes_named others from (ap sort_of (name_is others agree_next))).builds others (λ place le. refl) (name, inner) to
+                        (from + 1, (found.only others agree_next).spelled, one.spelled),
+                  );
+                  only = λ other end o next.
+                      let p = plain others agree_next other end o in
+                      let is = one.only p.0 end p.2 tt in
+                      (p.1 ∙ ap (λ (i : NamedData). Labelled None (named_body name i)) is.0, is.1);
+                };
+          }
+
+      pub lack_plain :
+          (fault : ParseFault) → IsLacking named Anything tokens (from + 1) fault → IsLacking action NoBranch tokens from fault
+      lack_plain fault f =
+          record {
+            named = λ token is.
+                let l = f.named token is in
+                record {
+                  reached = omega (arith, l.reached);
+                  within = l.within;
+                  none = λ others agree other end o next.
+                      let p = plain others (agree_before tokens others (from + 1) token l.reached agree) other end o in
+                      l.none others agree p.0 end p.2 tt;
+                };
+            shallow = f.shallow;
+          }

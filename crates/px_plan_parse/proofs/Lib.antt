@@ -1,0 +1,10 @@
+pub mod Parts
+pub mod Commas
+pub mod Starts
+pub mod Items
+pub mod Globals
+pub mod Names
+pub mod Blocks
+pub mod Bodies
+pub mod Depths
+pub mod Plans

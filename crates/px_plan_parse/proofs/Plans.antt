@@ -1,0 +1,93 @@
+-- The whole plan.
+use Rattle.std.proofs.Common.{◌≡◌, ℕ, ◌+◌, ◌≤◌, ◌<◌, ◌⊎◌, inl, inr, get_or, refl, sym, ap, subst, ◌∙◌, List, length, Option, Some, None, Bool, true, false, arith}
+use Rattle.std.specs.Option.{option_map}
+use Rattle.std.specs.List.{slice_get}
+use Rattle.std.proofs.lemmas.Option.{slice_get_cases}
+use Rattle.px_lex.specs.declared.token.Token.{Token}
+use Rattle.px_lex.specs.declared.token.TokenKind.{TokenKind}
+use Rattle.px_syntax.specs.declared.expr.Identifier.{Identifier}
+use Rattle.px_syntax.specs.declared.fault.ParseFault.{ParseFault}
+use Rattle.px_syntax.specs.declared.fault.ParseFault.TheVariants as faults
+use Rattle.px_syntax.specs.Block.{BlockTree}
+use Rattle.px_syntax.specs.BlockGrammar.{block, label}
+use Rattle.px_syntax.specs.Form.{Form, kind_at}
+use Rattle.px_syntax.specs.Plan.{DeclarationData, PlanTree}
+use Rattle.px_syntax.specs.PlanGrammar.{Spells, plan}
+use Rattle.px_expr_parse.specs.Verdict.{Agree}
+use Rattle.px_expr_parse.proofs.Calls.{inside_of}
+use Rattle.px_plan_parse.specs.declared.start.Start.{Start}
+use Rattle.px_plan_parse.specs.declared.start.Start.TheVariants as starts
+use Rattle.px_plan_parse.specs.Part.{Anything, IsLacking, IsPart}
+use Rattle.px_plan_parse.specs.Start.{NoDeclaration, is_declaration, start_at}
+use Rattle.px_plan_parse.specs.Tail.{every_declaration}
+use Rattle.px_plan_parse.specs.Verdict.{BeginsNoPlan, IsNoPlan, IsPlan}
+use Rattle.px_plan_parse.proofs.Blocks.{block_sort, sort_of}
+use Rattle.px_plan_parse.proofs.Parts.{Begins, Makes, both}
+use Rattle.px_plan_parse.proofs.Starts.{start_name}
+
+abbrev pub plan_parts : List DeclarationData × (Option Identifier × BlockTree) → Form
+plan_parts = both every_declaration (both label block)
+
+pub makes_plan :
+    (tokens : List Token) (from : ℕ)
+    → Makes plan plan_parts
+    (λ (parts : List DeclarationData × (Option Identifier × BlockTree)).
+    record { declarations = parts.0; label = parts.1.0; root = parts.1.1 }) tokens from
+makes_plan tokens from =
+    record {
+      builds = λ others agree part end o. o;
+      splits = λ others agree tree end o. ((tree.declarations, (tree.label, tree.root)), refl, o);
+    }
+
+sort_two : (start : Start) → sort_of start ≡ 2 → is_declaration start ≡ false
+sort_two (starts.Type of_type) e = absurd (omega (arith, e))
+sort_two starts.Command e = absurd (omega (arith, e))
+sort_two start e = refl
+
+pub root_begins : Begins (both label block) Anything NoDeclaration
+root_begins tokens (None, root) from end o next =
+    sort_two (start_at tokens from)
+    (ap (λ (p : ℕ). sort_of (start_at tokens p)) (sym o.1) ∙ block_sort root tokens o.0 end o.2)
+root_begins tokens (Some name, root) from end o next = ap is_declaration (start_name tokens from name.name o.1.1.1.0)
+
+module _ (tokens : List Token) where
+  pub is_plan :
+      (tree : PlanTree) (end : ℕ) → length tokens ≤ end → IsPart plan Anything tokens 0 tree end → IsPlan tokens tree
+  is_plan tree end all f =
+      let whole : end ≡ length tokens = omega (arith, all, f.within) in
+      let sole = f.sole tokens (λ place le. refl) in
+      record {
+        spelled = subst (λ (p : ℕ). plan tree tokens 0 p) whole sole.spelled;
+        only = λ other o. (sole.only other (length tokens) o tt).0;
+      }
+
+  pub is_no_plan : (fault : ParseFault) → IsLacking plan Anything tokens 0 fault → IsNoPlan tokens fault
+  is_no_plan (faults.SyntaxFault token) f =
+      let l = f.named token refl in
+      record { within = l.within; none = λ others agree tree o. l.none others agree tree (length others) o tt }
+  is_no_plan (faults.Deep token) f = f.shallow token refl
+  is_no_plan faults.NoMemory f = tt
+
+  -- a plan that ends before a token
+  pub goes_on : (tree : PlanTree) (end : ℕ) → end < length tokens → IsPart plan Anything tokens 0 tree end → BeginsNoPlan tokens end
+  goes_on tree end more f =
+      record {
+        within = f.within;
+        none = λ others agree other o. none others agree ((f.sole others agree).only other (length others) o tt).1;
+      }
+    where
+      there : (kind : TokenKind) × (kind_at tokens end ≡ Some kind)
+      there = go (slice_get_cases tokens end).1
+        where
+          go :
+              ((token : Token) × (end < length tokens) × (slice_get tokens end ≡ Some token) × (get_or tokens end token ≡ token))
+              ⊎ ((length tokens ≤ end) × (slice_get tokens end ≡ None))
+              → (kind : TokenKind) × (kind_at tokens end ≡ Some kind)
+          go (inl is) = (is.0.kind, ap (λ (t : Option Token). option_map (λ (x : Token). x.kind) t) is.2)
+          go (inr past) = absurd (omega (arith, past.0, more))
+
+      none : (others : List Token) → Agree tokens others end → length others ≡ end → ⊥
+      none others agree same =
+          let t = there in
+          let inside = inside_of others end t.0 (agree end (omega arith) ∙ t.1) in
+          omega (arith, inside, same)

@@ -1,0 +1,34 @@
+use Rattle.std.proofs.Common.{◌≡◌, ℕ, ◌+◌, ◌<◌, refl, sym, ap, subst, ◌∙◌, inl, inr, arith, Some, None, List, [], ◌∷◌, ◌++◌, map, true, false}
+use Rattle.std.proofs.lemmas.Result.{IfErr-weaker, IfOk-weaker, err_from_is_err_and}
+use Rattle.px_lex.specs.declared.keyword.Keyword.TheVariants as words
+use Rattle.px_lex.specs.declared.sign.Sign.TheVariants as signs
+use Rattle.px_lex.specs.declared.token.TokenKind.TheVariants as kinds
+use Rattle.px_plan_parse.specs.declared.start.Start.TheVariants as starts
+use Rattle.px_plan_parse.proofs.Blocks.{lack_brace, lack_form, part_brace, part_form}
+use Rattle.px_plan_parse.proofs.block.head.Goals as goal
+
+-- a test that failed
+not_true : false ≡ true → ⊥
+not_true e = cc
+
+pub returns-in_err-expect-clause-fault : goal.returns-in_err-expect-clause-fault
+returns-in_err-expect-clause-fault c =
+    let p = err_from_is_err_and c.from_residual.result c.from_residual.ensures.1 in
+    rw (p.1, p.2) (lack_form c.args.tokens.now c.args.from c.in-Form.form (sym c.start_at.ensures.value ∙ c.in-Form.is) c.in_err-expect.field-0.0
+    (omega (arith, c.start_at.ensures.inside (λ e. let t = c.in-Form.is in cc))) c.in_err-expect.ensures.fault)
+
+pub returns-in-Form-clause-ok : goal.returns-in-Form-clause-ok
+returns-in-Form-clause-ok c =
+    part_form c.args.tokens.now c.args.from c.in-Form.form (sym c.start_at.ensures.value ∙ c.in-Form.is)
+    c.in_ok-expect.ensures.ok.0 c.in_ok-expect.ensures.ok.1
+
+pub returns-in_err-expect-2-clause-fault : goal.returns-in_err-expect-2-clause-fault
+returns-in_err-expect-2-clause-fault c =
+    let p = err_from_is_err_and c.from_residual-in_err-expect-2.result c.from_residual-in_err-expect-2.ensures.1 in
+    rw (p.1, p.2) (lack_brace c.args.tokens.now c.args.from (λ form is. c.in_default.not-Form form (c.start_at.ensures.value ∙ is))
+    c.in_err-expect-2.field-0.0 c.requires c.in_err-expect-2.ensures.fault)
+
+pub returns-clause-ok : goal.returns-clause-ok
+returns-clause-ok c =
+    part_brace c.args.tokens.now c.args.from (λ form is. c.in_default.not-Form form (c.start_at.ensures.value ∙ is))
+    c.in_ok-expect-2.ensures.ok.0 c.in_ok-expect-2.ensures.ok.1

@@ -1,0 +1,27 @@
+use Rattle.std.proofs.Common.{◌≡◌, ℕ, ◌+◌, ◌<◌, refl, sym, ap, subst, ◌∙◌, inl, inr, arith, Some, None, List, [], ◌∷◌, ◌++◌, map, true, false}
+use Rattle.std.proofs.lemmas.Result.{IfErr-weaker, IfOk-weaker, err_from_is_err_and}
+use Rattle.px_lex.specs.declared.keyword.Keyword.TheVariants as words
+use Rattle.px_lex.specs.declared.sign.Sign.TheVariants as signs
+use Rattle.px_lex.specs.declared.token.TokenKind.TheVariants as kinds
+use Rattle.px_plan_parse.specs.declared.start.Start.TheVariants as starts
+use Rattle.px_syntax.specs.Form.{identifier}
+use Rattle.px_plan_parse.specs.Part.{Anything}
+use Rattle.px_plan_parse.proofs.Blocks.{no_label}
+use Rattle.px_plan_parse.proofs.Globals.{name_goes_on}
+use Rattle.px_plan_parse.proofs.Parts.{lack_before, lack_present, of_missing, part_absent}
+use Rattle.px_plan_parse.proofs.block.label.Goals as goal
+
+-- a test that failed
+not_true : false ≡ true → ⊥
+not_true e = cc
+
+pub returns-then-not-begins-clause-ok : goal.returns-then-not-begins-clause-ok
+returns-then-not-begins-clause-ok c =
+    part_absent c.requires (no_label c.args.tokens.now c.args.from (λ name. not_true (c.if-not-begins.ensures.answer.1 name)))
+
+pub returns-in_err-name-clause-fault : goal.returns-in_err-name-clause-fault
+returns-in_err-name-clause-fault c =
+    let p = err_from_is_err_and c.from_residual.result c.from_residual.ensures.1 in
+    rw (p.1, p.2) (lack_present (name_goes_on c.args.tokens.now c.args.from (c.if-not-begins.ensures.answer.0 refl))
+    (lack_before {Next = Anything} (λ others place is. tt)
+    (of_missing identifier c.args.tokens.now c.args.from c.in_err-name.field-0.0 Anything c.in_err-name.ensures.fault)))

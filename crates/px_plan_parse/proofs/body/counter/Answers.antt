@@ -1,0 +1,73 @@
+use Rattle.std.proofs.Common.{◌≡◌, ℕ, ◌+◌, ◌<◌, refl, sym, ap, subst, ◌∙◌, inl, inr, arith, Some, None, List, [], ◌∷◌, ◌++◌, map, true, false}
+use Rattle.std.proofs.lemmas.Result.{IfErr-weaker, IfOk-weaker, err_from_is_err_and}
+use Rattle.px_lex.specs.declared.keyword.Keyword.TheVariants as words
+use Rattle.px_lex.specs.declared.sign.Sign.TheVariants as signs
+use Rattle.px_lex.specs.declared.token.TokenKind.TheVariants as kinds
+use Rattle.px_plan_parse.specs.declared.start.Start.TheVariants as starts
+use Rattle.px_lex.specs.declared.token.TokenKind.{TokenKind}
+use Rattle.px_syntax.specs.declared.fault.ParseFault.{ParseFault}
+use Rattle.px_syntax.specs.declared.fault.ParseFault.TheVariants as faults
+use Rattle.px_syntax.specs.declared.word.TypeName.TheVariants as types
+use Rattle.px_syntax.specs.BlockGrammar.{signed}
+use Rattle.px_syntax.specs.Form.{identifier}
+use Rattle.px_plan_parse.specs.Part.{Anything, IsPart, IsLacking}
+use Rattle.px_plan_parse.specs.Tail.{counter}
+use Rattle.std.proofs.lemmas.Int.{to_z-of_z}
+use Rattle.std.proofs.Common.{ℤ}
+use mir.Syntax.{w32}
+use mir.Val.{SFits, of_z, to_z}
+use Rattle.px_plan_parse.proofs.Parts.{HasKind, before, behind, both, lack_before, lack_behind, lack_kind, lack_second, lack_token, of_found, part_before, part_behind, part_both}
+use Rattle.px_plan_parse.proofs.Starts.{here, start_integer}
+use Rattle.px_plan_parse.proofs.body.counter.Goals as goal
+
+-- a test that failed
+not_true : false ≡ true → ⊥
+not_true e = cc
+
+two : (n : ℕ) → n + 2 ≡ n + 1 + 1
+two n = omega arith
+
+three : (n : ℕ) → n + 3 ≡ n + 2 + 1
+three n = omega arith
+
+four : (n : ℕ) → n + 4 ≡ n + 3 + 1
+four n = omega arith
+
+pub returns-then-not-begins-clause-fault : goal.returns-then-not-begins-clause-fault
+returns-then-not-begins-clause-fault c =
+    lack_behind (lack_kind (omega (arith, c.in_ok-expect.ensures.ok.0))
+    (refl, λ has. not_true (c.if-not-begins.ensures.answer.1 (start_integer c.args.tokens.now (c.args.from + 1) has))))
+
+pub returns-in_err-first-clause-fault : goal.returns-in_err-first-clause-fault
+returns-in_err-first-clause-fault c =
+    let p = err_from_is_err_and c.from_residual-in_err-first.result c.from_residual-in_err-first.ensures.1 in
+    rw (p.1, p.2) (lack_behind (lack_behind (rw (sym (two c.args.from)) (
+    lack_second (λ others part from end o next. tt) (of_found Anything c.in_ok-variable.ensures.ok)
+    (rw (sym (three c.args.from)) (lack_behind (lack_before {Next = Anything} (λ others place is. tt)
+    (rw (four c.args.from) at c.in_err-first.ensures.fault))))))))
+
+pub returns-in_err-expect-3-clause-fault : goal.returns-in_err-expect-3-clause-fault
+returns-in_err-expect-3-clause-fault c =
+    let p = err_from_is_err_and c.from_residual-in_err-expect-3.result c.from_residual-in_err-expect-3.ensures.1 in
+    rw (p.1, p.2) (lack_behind (lack_behind (rw (sym (two c.args.from)) (
+    lack_second (λ others part from end o next. tt) (of_found Anything c.in_ok-variable.ensures.ok)
+    (rw (sym (three c.args.from)) (lack_behind (lack_token {Next = Anything} (λ others place is. tt)
+    (rw (four c.args.from) at c.in_ok-first.ensures.ok) c.in_err-expect-3.ensures.fault)))))))
+
+pub returns-clause-ok : goal.returns-clause-ok
+returns-clause-ok c =
+    let same : to_z w32 (of_z w32 c.in_ok-first.first) ≡ c.in_ok-first.first = to_z-of_z w32 c.in_ok-first.first c.in_ok-first.ensures.fits in
+    subst (λ (first : ℤ). IsPart counter Anything c.args.tokens.now c.args.from (c.in_ok-variable.variable, first) (c.in_ok-first.end + 1)) (sym same)
+    (part_behind c.in_ok-expect.ensures.ok.1
+    (part_behind (here (starts.Type types.Integer) (kinds.Keyword words.Integer) (λ kind is_of. is_of) (λ e. cc) c.args.tokens.now (c.args.from + 1)
+    (c.if-not-begins.ensures.answer.0 refl))
+    (rw (sym (two c.args.from)) (
+    part_both (λ others part from end o next. tt) (of_found Anything c.in_ok-variable.ensures.ok)
+    (rw (sym (three c.args.from)) (part_behind c.in_ok-expect-2.ensures.ok.1
+    (part_before {Next = Anything} (λ others place is. tt) c.in_ok-expect-3.ensures.ok.0
+    (rw (four c.args.from) at c.in_ok-first.ensures.ok) c.in_ok-expect-3.ensures.ok.1)))))))
+
+pub returns-clause-fits : goal.returns-clause-fits
+returns-clause-fits c =
+    let same : to_z w32 (of_z w32 c.in_ok-first.first) ≡ c.in_ok-first.first = to_z-of_z w32 c.in_ok-first.first c.in_ok-first.ensures.fits in
+    subst (λ (first : ℤ). SFits w32 first) (sym same) c.in_ok-first.ensures.fits

@@ -1,0 +1,70 @@
+use Rattle.std.proofs.Common.{◌≡◌, ℕ, ◌+◌, ◌<◌, refl, sym, ap, subst, ◌∙◌, inl, inr, arith, Some, None, List, [], ◌∷◌, ◌++◌, map, true, false}
+use Rattle.std.proofs.lemmas.Result.{IfErr-weaker, IfOk-weaker, err_from_is_err_and}
+use Rattle.px_lex.specs.declared.keyword.Keyword.TheVariants as words
+use Rattle.px_lex.specs.declared.sign.Sign.TheVariants as signs
+use Rattle.px_lex.specs.declared.token.TokenKind.TheVariants as kinds
+use Rattle.px_plan_parse.specs.declared.start.Start.TheVariants as starts
+use Rattle.px_syntax.specs.BlockGrammar.{type_word}
+use Rattle.px_syntax.specs.Plan.{DeclarationData}
+use Rattle.px_syntax.specs.PlanGrammar.{declaration}
+use Rattle.px_plan_parse.specs.Part.{Anything, IsPart}
+use Rattle.px_plan_parse.specs.Tail.{signature}
+use Rattle.px_plan_parse.proofs.Globals.{lacks_here, makes_command_word, makes_lookup_word, makes_typed, no_word, worded}
+use Rattle.px_plan_parse.proofs.Parts.{lack_behind, lack_made, lack_word, part_behind, part_made, part_word}
+use Rattle.px_plan_parse.proofs.Starts.{here, typed_ends, typed_stands}
+use Rattle.px_plan_parse.proofs.global.typed.Goals as goal
+
+-- a test that failed
+not_true : false ≡ true → ⊥
+not_true e = cc
+
+two : (n : ℕ) → n + 2 ≡ n + 1 + 1
+two n = omega arith
+
+pub returns-in_err-name-in-Command-clause-fault : goal.returns-in_err-name-in-Command-clause-fault
+returns-in_err-name-in-Command-clause-fault c =
+    let p = err_from_is_err_and c.from_residual.result c.from_residual.ensures.1 in
+    let is = sym c.start_at.ensures.value ∙ c.in-Command.is in
+    rw (p.1, p.2) (lack_made (makes_typed c.args.tokens.now c.args.from c.args.answer c.requires.begins)
+    (lack_word (type_word c.args.answer) worded (typed_ends c.args.tokens.now c.args.from c.args.answer)
+    (lack_made (makes_command_word c.args.tokens.now (c.args.from + 1) is)
+    (lack_behind (rw (two c.args.from) at c.in_err-name-in-Command.ensures.fault)))))
+
+pub returns-in_ok-name-in-Command-clause-ok : goal.returns-in_ok-name-in-Command-clause-ok
+returns-in_ok-name-in-Command-clause-ok c =
+    let is = sym c.start_at.ensures.value ∙ c.in-Command.is in
+    subst (λ (tree : DeclarationData). IsPart declaration Anything c.args.tokens.now c.args.from tree c.in_ok-name-in-Command.end) (sym c.command.ensures)
+    (part_made (makes_typed c.args.tokens.now c.args.from c.args.answer c.requires.begins)
+    (part_word (type_word c.args.answer) worded
+    (typed_stands c.args.tokens.now c.args.from c.args.answer c.requires.begins) (typed_ends c.args.tokens.now c.args.from c.args.answer)
+    (part_made (makes_command_word c.args.tokens.now (c.args.from + 1) is)
+    (part_behind (here starts.Command (kinds.Keyword words.Command) (λ kind is_of. is_of) (λ e. cc) c.args.tokens.now (c.args.from + 1) is)
+    (rw (two c.args.from) at c.in_ok-name-in-Command.ensures.ok)))))
+
+pub returns-in_err-name-in-Lookup-clause-fault : goal.returns-in_err-name-in-Lookup-clause-fault
+returns-in_err-name-in-Lookup-clause-fault c =
+    let p = err_from_is_err_and c.from_residual-in_err-name-in-Lookup.result c.from_residual-in_err-name-in-Lookup.ensures.1 in
+    let is = sym c.start_at.ensures.value ∙ c.in-Lookup.is in
+    rw (p.1, p.2) (lack_made (makes_typed c.args.tokens.now c.args.from c.args.answer c.requires.begins)
+    (lack_word (type_word c.args.answer) worded (typed_ends c.args.tokens.now c.args.from c.args.answer)
+    (lack_made (makes_lookup_word c.args.tokens.now (c.args.from + 1) is)
+    (lack_behind (rw (two c.args.from) at c.in_err-name-in-Lookup.ensures.fault)))))
+
+pub returns-in_ok-name-in-Lookup-clause-ok : goal.returns-in_ok-name-in-Lookup-clause-ok
+returns-in_ok-name-in-Lookup-clause-ok c =
+    let is = sym c.start_at.ensures.value ∙ c.in-Lookup.is in
+    subst (λ (tree : DeclarationData). IsPart declaration Anything c.args.tokens.now c.args.from tree c.in_ok-name-in-Lookup.end) (sym c.lookup.ensures)
+    (part_made (makes_typed c.args.tokens.now c.args.from c.args.answer c.requires.begins)
+    (part_word (type_word c.args.answer) worded
+    (typed_stands c.args.tokens.now c.args.from c.args.answer c.requires.begins) (typed_ends c.args.tokens.now c.args.from c.args.answer)
+    (part_made (makes_lookup_word c.args.tokens.now (c.args.from + 1) is)
+    (part_behind (here starts.Lookup (kinds.Keyword words.Lookup) (λ kind is_of. is_of) (λ e. cc) c.args.tokens.now (c.args.from + 1) is)
+    (rw (two c.args.from) at c.in_ok-name-in-Lookup.ensures.ok)))))
+
+pub returns-in_default-clause-fault : goal.returns-in_default-clause-fault
+returns-in_default-clause-fault c =
+    lack_made (makes_typed c.args.tokens.now c.args.from c.args.answer c.requires.begins)
+    (lack_word (type_word c.args.answer) worded (typed_ends c.args.tokens.now c.args.from c.args.answer)
+    (lacks_here c.args.tokens.now (c.args.from + 1) _ refl (omega (arith, c.requires.place))
+    (no_word c.args.tokens.now (c.args.from + 1) (λ is. c.in_default.not-Command (c.start_at.ensures.value ∙ is))
+    (λ is. c.in_default.not-Lookup (c.start_at.ensures.value ∙ is)))))

@@ -1,0 +1,30 @@
+use Rattle.std.proofs.Common.{◌≡◌, ◌+◌, ◌<◌, refl, sym, ap, subst, ◌∙◌, inl, inr, arith, Some, None, List, [], ◌∷◌, ◌++◌, map, true, false}
+use Rattle.std.proofs.lemmas.Result.{IfErr-weaker, IfOk-weaker, err_from_is_err_and}
+use Rattle.px_lex.specs.declared.sign.Sign.TheVariants as signs
+use Rattle.px_lex.specs.declared.token.TokenKind.TheVariants as kinds
+use Rattle.px_syntax.specs.Block.{InitialData}
+use Rattle.px_syntax.specs.BlockGrammar.{initial}
+use Rattle.px_plan_parse.specs.Part.{Anything, IsPart}
+use Rattle.px_plan_parse.proofs.Items.{makes_list, makes_value}
+use Rattle.px_plan_parse.proofs.Parts.{lack_behind, lack_made, part_behind, part_made}
+use Rattle.px_plan_parse.proofs.literal.initial.Goals as goal
+
+-- a test that failed
+not_true : false ≡ true → ⊥
+not_true e = cc
+
+pub returns-in_err-values-clause-fault : goal.returns-in_err-values-clause-fault
+returns-in_err-values-clause-fault c =
+    let p = err_from_is_err_and c.from_residual.result c.from_residual.ensures.1 in
+    rw (p.1, p.2) (lack_made (makes_list c.args.tokens.now c.args.from (c.if-is_sign.ensures.answer.0 refl)) (lack_behind c.in_err-values.ensures.fault))
+
+pub returns-then-is_sign-clause-ok : goal.returns-then-is_sign-clause-ok
+returns-then-is_sign-clause-ok c =
+    subst (λ (tree : InitialData). IsPart initial Anything c.args.tokens.now c.args.from tree c.in_ok-values.end) (sym c.first_list.ensures)
+    (part_made (makes_list c.args.tokens.now c.args.from (c.if-is_sign.ensures.answer.0 refl))
+    (part_behind (c.if-is_sign.ensures.answer.0 refl) c.in_ok-values.ensures.ok))
+
+pub returns-clause-ok : goal.returns-clause-ok
+returns-clause-ok c =
+    subst (λ (tree : InitialData). IsPart initial Anything c.args.tokens.now c.args.from tree c.in_ok-value.end) (sym c.first_literal.ensures)
+    (part_made (makes_value c.args.tokens.now c.args.from (λ has. not_true (c.if-is_sign.ensures.answer.1 has))) c.in_ok-value.ensures.ok)

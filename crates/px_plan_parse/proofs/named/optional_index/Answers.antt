@@ -1,0 +1,29 @@
+use Rattle.std.proofs.Common.{◌≡◌, ℕ, ◌+◌, ◌<◌, refl, sym, ap, subst, ◌∙◌, inl, inr, arith, Some, None, List, [], ◌∷◌, ◌++◌, map, true, false}
+use Rattle.std.proofs.lemmas.Result.{IfErr-weaker, IfOk-weaker, err_from_is_err_and}
+use Rattle.px_lex.specs.declared.keyword.Keyword.TheVariants as words
+use Rattle.px_lex.specs.declared.sign.Sign.TheVariants as signs
+use Rattle.px_lex.specs.declared.token.TokenKind.TheVariants as kinds
+use Rattle.px_plan_parse.specs.declared.start.Start.TheVariants as starts
+use Rattle.px_expr_parse.specs.Tail.{closed}
+use Rattle.px_plan_parse.specs.Tail.{Unless}
+use Rattle.px_plan_parse.proofs.Names.{not_unless}
+use Rattle.px_plan_parse.proofs.Parts.{lack_behind, lack_present, of_found, of_missing, part_behind, part_present}
+use Rattle.px_plan_parse.proofs.named.optional_index.Goals as goal
+
+-- a test that failed
+not_true : false ≡ true → ⊥
+not_true e = cc
+
+pub returns-in_err-index-clause-fault : goal.returns-in_err-index-clause-fault
+returns-in_err-index-clause-fault c =
+    let p = err_from_is_err_and c.from_residual.result c.from_residual.ensures.1 in
+    let bracket = c.if-not-is_sign.ensures.answer.0 refl in
+    rw (p.1, p.2) (lack_present (not_unless c.args.tokens.now c.args.from signs.OpenBracket bracket)
+    (lack_behind (of_missing (closed signs.CloseBracket) c.args.tokens.now (c.args.from + 1) c.in_err-index.field-0.0 (Unless signs.OpenBracket)
+    c.in_err-index.ensures.fault)))
+
+pub returns-clause-ok : goal.returns-clause-ok
+returns-clause-ok c =
+    let bracket = c.if-not-is_sign.ensures.answer.0 refl in
+    part_present (not_unless c.args.tokens.now c.args.from signs.OpenBracket bracket)
+    (part_behind bracket (of_found (Unless signs.OpenBracket) c.in_ok-index.ensures.ok))

@@ -1,0 +1,33 @@
+use Rattle.std.proofs.Common.{◌≡◌, ℕ, ◌+◌, ◌<◌, refl, sym, ap, subst, ◌∙◌, inl, inr, arith, Some, None, List, [], ◌∷◌, ◌++◌, map, true, false}
+use Rattle.std.proofs.lemmas.Result.{IfErr-weaker, IfOk-weaker, err_from_is_err_and}
+use Rattle.px_lex.specs.declared.keyword.Keyword.TheVariants as words
+use Rattle.px_lex.specs.declared.sign.Sign.TheVariants as signs
+use Rattle.px_lex.specs.declared.token.TokenKind.TheVariants as kinds
+use Rattle.px_plan_parse.specs.declared.start.Start.TheVariants as starts
+use Rattle.px_syntax.specs.Block.{PairData}
+use Rattle.px_syntax.specs.BlockGrammar.{pair}
+use Rattle.px_plan_parse.specs.Part.{Anything, Ended, IsPart}
+use Rattle.px_plan_parse.proofs.Names.{makes_pair}
+use Rattle.px_plan_parse.proofs.Parts.{lack_behind, lack_made, lack_second, of_found, of_read, of_refused, part_behind, part_both, part_made}
+use Rattle.px_plan_parse.proofs.named.pair.Goals as goal
+
+-- a test that failed
+not_true : false ≡ true → ⊥
+not_true e = cc
+
+two : (n : ℕ) → n + 2 ≡ n + 1 + 1
+two n = omega arith
+
+pub returns-in_err-value-clause-fault : goal.returns-in_err-value-clause-fault
+returns-in_err-value-clause-fault c =
+    let p = err_from_is_err_and c.from_residual-in_err-value.result c.from_residual-in_err-value.ensures.1 in
+    rw (p.1, p.2) (lack_made (makes_pair c.args.tokens.now c.args.from)
+    (lack_second (λ others part from end o next. tt) (of_found Anything c.in_ok-name.ensures.ok)
+    (lack_behind (of_refused c.args.tokens.now (c.args.from + 1 + 1) c.in_err-value.field-0.0 (rw (two c.args.from) at c.in_err-value.ensures.refused)))))
+
+pub returns-clause-ok : goal.returns-clause-ok
+returns-clause-ok c =
+    subst (λ (tree : PairData). IsPart pair Ended c.args.tokens.now c.args.from tree c.in_ok-value.end) (sym c.pair.ensures)
+    (part_made (makes_pair c.args.tokens.now c.args.from)
+    (part_both (λ others part from end o next. tt) (of_found Anything c.in_ok-name.ensures.ok)
+    (part_behind c.in_ok-expect.ensures.ok.1 (of_read (rw (two c.args.from) at c.in_ok-value.ensures.read)))))

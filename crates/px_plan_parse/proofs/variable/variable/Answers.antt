@@ -1,0 +1,30 @@
+use Rattle.std.proofs.Common.{◌≡◌, ℕ, ◌+◌, ◌<◌, refl, sym, ap, subst, ◌∙◌, inl, inr, arith, Some, None, List, [], ◌∷◌, ◌++◌, map, true, false}
+use Rattle.std.proofs.lemmas.Result.{IfErr-weaker, IfOk-weaker, err_from_is_err_and}
+use Rattle.px_lex.specs.declared.keyword.Keyword.TheVariants as words
+use Rattle.px_lex.specs.declared.sign.Sign.TheVariants as signs
+use Rattle.px_lex.specs.declared.token.TokenKind.TheVariants as kinds
+use Rattle.px_syntax.specs.Block.{VariableData, InitialData, initial_data}
+use Rattle.px_syntax.specs.BlockGrammar.{variable}
+use Rattle.px_plan_parse.specs.Part.{Anything, IsPart}
+use Rattle.px_plan_parse.specs.Tail.{VariableEnded}
+use Rattle.px_plan_parse.proofs.Items.{makes_variable, size_begins}
+use Rattle.px_plan_parse.proofs.Parts.{lack_made, lack_second, of_found, part_both, part_made}
+use Rattle.px_plan_parse.proofs.variable.variable.Goals as goal
+
+-- a test that failed
+not_true : false ≡ true → ⊥
+not_true e = cc
+
+pub returns-in_err-initial-clause-fault : goal.returns-in_err-initial-clause-fault
+returns-in_err-initial-clause-fault c =
+    let p = err_from_is_err_and c.from_residual-in_err-initial.result c.from_residual-in_err-initial.ensures.1 in
+    rw (p.1, p.2) (lack_made (makes_variable c.args.tokens.now c.args.from)
+    (lack_second (λ others part from end o ended. tt) (of_found Anything c.in_ok-name.ensures.ok)
+    (lack_second size_begins c.in_ok-size.ensures.ok c.in_err-initial.ensures.fault)))
+
+pub returns-clause-ok : goal.returns-clause-ok
+returns-clause-ok c =
+    subst (λ (tree : VariableData). IsPart variable VariableEnded c.args.tokens.now c.args.from tree c.in_ok-initial.end) (sym c.declared.ensures)
+    (part_made (makes_variable c.args.tokens.now c.args.from)
+    (part_both (λ others part from end o ended. tt) (of_found Anything c.in_ok-name.ensures.ok)
+    (part_both size_begins c.in_ok-size.ensures.ok c.in_ok-initial.ensures.ok)))
