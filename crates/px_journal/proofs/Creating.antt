@@ -1,0 +1,166 @@
+-- What each moment of a creation leaves: the closed master gate, what goes behind it, and the open one.
+use Rattle.std.proofs.Common.{◌≡◌, ◌≢◌, ◌≤◌, ◌<◌, ◌+◌, ◌⊎◌, inl, inr, ⊎_elim, ℕ, Bool, true, false, List, [], ◌∷◌, ◌++◌, length, take, drop, refl, sym, ◌∙◌, ap, subst, arith, append_assoc, IsTrue}
+use Rattle.std.specs.Prelude.{Some, None, Result, Ok, Err, OnOk, IsFalse, is_some, nat_lt, slice_range, slice_index}
+use Rattle.std.specs.Option.{ForSome, option_map}
+use Rattle.std.proofs.lemmas.Bool.{cases_Bool, or_left, or_right, or_from}
+use Rattle.std.proofs.lemmas.Bool.Decides.{nat_tests}
+use Rattle.std.proofs.lemmas.List.{take_at, drop_at, drop-drop}
+use Rattle.px_ports.specs.Disk.{Told}
+use Rattle.px_ports.specs.Moment.{Images, Torn, Elapses, Stays, overwritten}
+use Rattle.px_ports.specs.declared.disk.DiskFault.{DiskFault}
+use Rattle.px_ports.specs.declared.moment.Moment.{Moment}
+use Rattle.px_journal.specs.Crash.{Puts, LeavesOnly, OldOrNew}
+use Rattle.px_journal.specs.Layout.{heading, is_open, is_closed, is_nothing, next_gate, Stands}
+use Rattle.px_journal.proofs.Appending.{closed_within, open_or_closed, same_told, told_before}
+use Rattle.px_journal.proofs.Fronts.{is_closed-front}
+use Rattle.px_journal.proofs.Moments.{leaves, leaves_more, leaves_on}
+use Rattle.px_journal.proofs.Torn.{torn_below, torn_above, written_below, written_from, written_above}
+
+short_test : (n : ℕ) → n < 13 → nat_lt n 13 ≡ true
+short_test n short = grind (arith, nat_tests)
+
+long_test : (n : ℕ) → 13 ≤ n → nat_lt n 13 ≡ false
+long_test n long = grind (arith, nat_tests)
+
+pub short_nothing : (bytes : List ℕ) → length bytes < 13 → IsTrue (is_nothing bytes)
+short_nothing bytes short = or_left _ _ (short_test (length bytes) short)
+
+pub closed_nothing : (bytes : List ℕ) → IsTrue (is_closed bytes) → IsTrue (is_nothing bytes)
+closed_nothing bytes closed = or_right _ _ closed
+
+pub not_nothing : (bytes : List ℕ) → 13 ≤ length bytes → is_closed bytes ≡ false → IsFalse (is_nothing bytes)
+not_nothing bytes long shut = or_from _ _ (long_test (length bytes) long) shut
+
+pub nothing_or_not : (test : Bool) → IsTrue test → IsFalse test → ⊥
+nothing_or_not test is is_not = let both : true ≡ false = sym is ∙ is_not in cc
+
+-- the first byte that was read
+pub gate_closed : (told gate : List ℕ) → 13 ≤ length told → gate ≡ slice_range told 0 1 → slice_index gate 0 ≡ 0 → IsTrue (is_closed told)
+gate_closed [] gate long read zero = absurd (omega arith)
+gate_closed (byte ∷ rest) gate long read zero = let is : byte ≡ 0 = sym (ap (λ (l : List ℕ). slice_index l 0) read) ∙ zero in rw is refl
+
+pub gate_open : (told gate : List ℕ) → 13 ≤ length told → gate ≡ slice_range told 0 1 → slice_index gate 0 ≢ 0 → is_closed told ≡ false
+gate_open [] gate long read other = absurd (omega arith)
+gate_open (byte ∷ rest) gate long read other =
+    let differs : byte ≢ 0 = λ is. other (ap (λ (l : List ℕ). slice_index l 0) read ∙ is) in
+    grind (arith, nat_tests, differs)
+
+module _ (images : Images) (old : List Moment) where
+  pub same_leaves : (new : List Moment) → Elapses images Stays old new → LeavesOnly images (λ image. images old image ⊎ IsTrue (is_nothing image)) old new
+  same_leaves new elapses = leaves images (λ image. images old image ⊎ IsTrue (is_nothing image)) Stays old new elapses
+      (λ before image was same. inl (subst (images old) (sym same) was))
+
+  -- a torn write of the first byte of a short file leaves a short file
+  pub short_leaves : (told : List ℕ) (mid new : List Moment) → length told < 13 → ((image : List ℕ) → images mid image → length image ≤ length told)
+      → Elapses images Stays old mid → Elapses images (Torn 0 1) mid new → LeavesOnly images (λ image. images old image ⊎ IsTrue (is_nothing image)) old new
+  short_leaves told mid new short longest stays torn = leaves_on images (λ image. images old image ⊎ IsTrue (is_nothing image)) old mid new (same_leaves mid stays)
+      (leaves images (λ image. images old image ⊎ IsTrue (is_nothing image)) (Torn 0 1) mid new torn
+      (λ before image was step. inr (short_nothing image (omega (arith, step.no_longer, longest before was, short)))))
+
+-- ---- behind the closed master gate
+
+module _ (text told content : List ℕ) (short : length text ≤ 1048576) (content_is : content ≡ heading text ++ 0 ∷ []) (closed : IsTrue (is_closed told)) where
+  within : 1 ≤ length told
+  within = omega (arith, closed_within 0 told closed)
+
+  abbrev filled : List ℕ
+  filled = overwritten 1 content told
+
+  still_closed : (image : List ℕ) → take 1 image ≡ take 1 told → IsTrue (is_closed image)
+  still_closed image same = subst IsTrue (is_closed-front told image (sym same)) closed
+
+  torn_content : (image : List ℕ) → Torn 1 (length content) told image → IsTrue (is_nothing image)
+  torn_content image torn = closed_nothing image (still_closed image (torn_below 1 (length content) told image torn within))
+
+  filled_closed : IsTrue (is_closed filled)
+  filled_closed = still_closed filled (written_below 1 content told within)
+
+  abbrev rest : List ℕ
+  rest = drop (1 + length content) told
+
+  filled_from : drop 1 filled ≡ heading text ++ 0 ∷ rest
+  filled_from = written_from 1 content told within ∙ ap (λ (l : List ℕ). l ++ rest) content_is ∙ append_assoc (heading text) (0 ∷ []) rest
+
+  filled_within : 1 ≤ length filled
+  filled_within = omega (arith, closed_within 0 filled filled_closed)
+
+  open_gate : (image : List ℕ) → drop 1 image ≡ drop 1 filled → IsTrue (is_open image) → Stands image text []
+  open_gate image above gate =
+      let from : drop 1 image ≡ heading text ++ 0 ∷ rest = above ∙ filled_from in
+      let place : drop (next_gate text []) image ≡ 0 ∷ rest =
+      ap (λ (n : ℕ). drop n image) (let sum : next_gate text [] ≡ 1 + length (heading text) = omega arith in sum)
+      ∙ sym (drop-drop (length (heading text)) 1 image)
+      ∙ ap (λ (l : List ℕ). drop (length (heading text)) l) from
+      ∙ drop_at (heading text) (0 ∷ rest) (length (heading text)) refl in
+      record {
+        front = record {
+          opens = record {
+            gate = gate;
+            content = ap (λ (l : List ℕ). take (length (heading text)) l) from ∙ take_at (heading text) (0 ∷ rest) (length (heading text)) refl;
+          };
+          records = tt;
+          text_fits = short;
+          fit = refl;
+        };
+        closed = subst IsTrue (sym (ap is_closed place)) refl;
+        few = omega arith;
+      }
+
+  torn_gate : (image : List ℕ) → Torn 0 1 filled image → IsTrue (is_nothing image) ⊎ Stands image text []
+  torn_gate image torn =
+      let above = torn_above 0 1 filled image torn filled_within in
+      let long : 1 ≤ length image = omega (arith, filled_within, torn.no_shorter) in
+      elim (cases_Bool (is_closed image)) [
+        | inl shut ↦ inl (closed_nothing image shut)
+        | inr not_shut ↦ inr (open_gate image above (open_or_closed image long not_shut))
+      ]
+
+  opened_stands : Stands (overwritten 0 (1 ∷ []) filled) text []
+  opened_stands =
+      open_gate (overwritten 0 (1 ∷ []) filled) (written_above 0 (1 ∷ []) filled (omega arith)) refl
+
+  module _ (images : Images) (was mid : Told) (old half : List Moment) (is : was ≡ Some told) (settled : (image : List ℕ) → images old image → image ≡ told) where
+    pub content_leaves : (result : Result Unit DiskFault) → Puts images 1 content was mid old half result
+        → LeavesOnly images (λ image. IsTrue (is_nothing image) ⊎ Stands image text []) old half
+    content_leaves result puts = leaves images (λ image. IsTrue (is_nothing image) ⊎ Stands image text []) (Torn 1 (length content)) old half puts.elapses
+        (λ before image left torn. inl (torn_content image (subst (λ (b : List ℕ). Torn 1 (length content) b image) (settled before left) torn)))
+
+    module _ (first : Puts images 1 content was mid old half (Ok tt)) where
+      mid_told : mid ≡ Some filled
+      mid_told = first.written ∙ ap (option_map (overwritten 1 content)) is
+
+      pub opened_leaves : (then : Told) (new : List Moment) (result : Result Unit DiskFault) → Puts images 0 (1 ∷ []) mid then half new result
+          → LeavesOnly images (λ image. IsTrue (is_nothing image) ⊎ Stands image text []) old new
+      opened_leaves then new result puts = leaves_on images (λ image. IsTrue (is_nothing image) ⊎ Stands image text []) old half new (content_leaves (Ok tt) first)
+          (leaves images (λ image. IsTrue (is_nothing image) ⊎ Stands image text []) (Torn 0 1) half new puts.elapses
+          (λ before image left torn. torn_gate image (subst (λ (b : List ℕ). Torn 0 1 b image) (first.settled filled mid_told before left) torn)))
+
+      pub opened_told : (then : Told) (new : List Moment) → Puts images 0 (1 ∷ []) mid then half new (Ok tt) → ForSome then (λ now. Stands now text [])
+      opened_told then new puts now now_is =
+          let then_is : then ≡ Some (overwritten 0 (1 ∷ []) filled) = puts.written ∙ ap (option_map (overwritten 0 (1 ∷ []))) mid_told in
+          subst (λ (b : List ℕ). Stands b text []) (same_told then _ now then_is now_is) opened_stands
+
+-- at Ok, over the answer of the second write
+pub if_opened : (images : Images) (was mid then : Told) (old half new : List Moment) (text content : List ℕ) (result : Result Unit DiskFault)
+    → length text ≤ 1048576 → content ≡ heading text ++ 0 ∷ [] → ForSome was (λ told. IsTrue (is_closed told))
+    → ForSome was (λ told. (image : List ℕ) → images old image → image ≡ told)
+    → Puts images 1 content was mid old half (Ok tt) → Puts images 0 (1 ∷ []) mid then half new result
+    → OnOk result (ForSome then (λ now. Stands now text []))
+if_opened images was mid then old half new text content (Err fault) short content_is closed settled first second = tt
+if_opened images was mid then old half new text content (Ok unit) short content_is closed settled first second = λ now now_is.
+    let middle = told_before mid then (overwritten 0 (1 ∷ [])) now second.written now_is in
+    let told = told_before was mid (overwritten 1 content) (middle.0) first.written (middle.1) in
+    opened_told text (told.0) content short content_is (closed (told.0) (told.1)) images was mid old half (told.1) (settled (told.0) (told.1)) first then new second now now_is
+
+-- what was told before is told after
+pub told_after : (was now : Told) (told : List ℕ) → is_some now ≡ is_some was → was ≡ Some told → (after : List ℕ) × (now ≡ Some after)
+told_after was None told same is = absurd (let both : false ≡ true = same ∙ ap is_some is in cc)
+told_after was (Some after) told same is = (after, refl)
+
+-- the whole of a creation
+pub old_or_new : (images : Images) (text : List ℕ) (old mid new : List Moment)
+    → LeavesOnly images (λ image. images old image ⊎ IsTrue (is_nothing image)) old mid
+    → LeavesOnly images (λ image. IsTrue (is_nothing image) ⊎ Stands image text []) mid new → LeavesOnly images (OldOrNew (images old) text) old new
+old_or_new images text old mid new first second = leaves_on images (OldOrNew (images old) text) old mid new
+    (leaves_more images _ _ old mid (λ image left. ⊎_elim (λ was. inl was) (λ none. inr (inl none)) left) first)
+    (leaves_more images _ _ mid new (λ image left. inr left) second)

@@ -1,0 +1,12 @@
+pub mod Moments
+pub mod Torn
+pub mod Fronts
+pub mod Meaning
+pub mod Histories
+pub mod Appending
+pub mod Creating
+pub mod Reading
+pub mod Walking
+pub mod Undamaged
+pub mod Verdicts
+pub mod Windows

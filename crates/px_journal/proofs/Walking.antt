@@ -1,0 +1,94 @@
+-- A journal that was read up to a gate.
+use Rattle.std.proofs.Common.{◌≡◌, ◌≤◌, ◌<◌, ◌+◌, ◌⊎◌, inl, inr, ⊎_elim, ℕ, Bool, List, [], ◌∷◌, ◌++◌, length, drop, refl, sym, ◌∙◌, subst, arith, length-append, IsTrue}
+use Rattle.std.specs.Prelude.{◌==◌, IsErrAnd, IsFalse, Some, Result, Ok, Err}
+use Rattle.std.proofs.lemmas.Bool.Decides.{nat_tests}
+use Rattle.std.specs.List.{list_all}
+use Rattle.std.specs.Option.{ForSome}
+use Rattle.px_event.specs.Fit.{is_fit_entry}
+use Rattle.px_event.specs.declared.entry.Entry.{Entry}
+use Rattle.px_ports.specs.Disk.{OnlyReads, StaysAttached}
+use Rattle.px_ports.specs.declared.disk.Disk
+use Rattle.px_journal.specs.Damage.{Damaged, DamagedRecord, IsBroken}
+use Rattle.px_journal.specs.Damage.Damaged.{record_is}
+use Rattle.px_journal.specs.Layout.{is_closed, is_open, next_gate, record_bytes, Front, Opens, Stands}
+use Rattle.px_journal.proofs.Fronts.{Front-push, fits-push, next_gate-push}
+use Rattle.px_journal.proofs.Histories.{length-heading}
+use Rattle.px_journal.proofs.Moments.{reads_none, reads_on}
+
+-- behind this history stands the gate at this place, and nothing was written
+pub record HasRead {D : Type 0} (members : Disk.Ghosts D) (old now : D) (plan : List ℕ) (size : ℕ) (history : List Entry) (gate : ℕ) : Type 0 where
+  pub place : gate ≡ next_gate plan history
+  pub within : gate < size
+  pub fit : IsTrue (list_all is_fit_entry history)
+  pub few : length history ≤ 100000
+  pub front : ForSome (members.content old) (λ told. Front told plan history)
+  pub reads : OnlyReads members.images (members.content old) (members.content now) (members.moments old) (members.moments now)
+  pub stays : StaysAttached (members.bound_to old) (members.bound_to now) (members.is_attached old) (members.is_attached now)
+  pub later : members.faults old ≤ members.faults now
+
+module _ {D : Type 0} (members : Disk.Ghosts D) (old now : D) (plan : List ℕ) (size : ℕ) (history : List Entry) (gate : ℕ)
+    (read : HasRead members old now plan size history gate) where
+  -- what is told now was told before
+  now_told : (told : List ℕ) → members.content old ≡ Some told → members.content now ≡ Some told
+  now_told told is = read.reads.bytes ∙ is
+
+  pub read_next : (new : D) (entry : Entry) (next : ℕ) → IsTrue (is_fit_entry entry) → next ≡ gate + 1 + length (record_bytes entry) → next < size → length history < 100000
+      → ForSome (members.content now) (λ told. Opens (record_bytes entry) (drop gate told))
+      → OnlyReads members.images (members.content now) (members.content new) (members.moments now) (members.moments new)
+      → StaysAttached (members.bound_to now) (members.bound_to new) (members.is_attached now) (members.is_attached new)
+      → members.faults now ≤ members.faults new → HasRead members old new plan size (history ++ entry ∷ []) next
+  read_next new entry next fit next_is within few opens reads stays later = record {
+    place = omega (arith, next_is, read.place, next_gate-push plan history entry);
+    within = within;
+    fit = fits-push history entry read.fit fit;
+    few = omega (arith, few, length-append history (entry ∷ []));
+    front = λ told is. Front-push told plan history entry (read.front told is) fit
+        (subst (λ (n : ℕ). Opens (record_bytes entry) (drop n told)) read.place (opens told (now_told told is)));
+    reads = reads_on members.images _ _ _ _ _ _ read.reads reads;
+    stays = record { bound = stays.bound ∙ read.stays.bound; attached = stays.attached ∙ read.stays.attached };
+    later = omega (arith, read.later, later);
+  }
+
+  pub read_stands : ForSome (members.content now) (λ told. IsTrue (is_closed (drop gate told))) → ForSome (members.content old) (λ told. Stands told plan history)
+  read_stands closed = λ told is. record {
+    front = read.front told is;
+    closed = subst (λ (n : ℕ). IsTrue (is_closed (drop n told))) read.place (closed told (now_told told is));
+    few = read.few;
+  }
+
+  pub read_damaged : (at : ℕ) (is_full : Bool) → (IsTrue is_full → length history ≡ 100000) → (IsFalse is_full → length history < 100000)
+      → ForSome (members.content now) (λ told. IsTrue (is_open (drop gate told)) × (((at ≡ gate) × IsTrue is_full) ⊎ (IsFalse is_full × IsBroken told gate at)))
+      → ForSome (members.content old) (λ told. Damaged told at)
+  read_damaged at is_full full not_full damaged = λ told is.
+      let found = damaged told (now_told told is) in
+      let row : ((at ≡ gate) × (length history ≡ 100000)) ⊎ ((length history < 100000) × IsBroken told gate at) =
+      ⊎_elim (λ much. inl (much.0, full (much.1))) (λ broken. inr (not_full (broken.0), broken.1)) (found.1) in
+      record_is plan history at (read.front told is)
+      (subst (λ (n : ℕ). DamagedRecord told history n at) read.place (record { open_gate = found.0; row = row }))
+
+-- before the first record
+pub read_nothing : {D : Type 0} (members : Disk.Ghosts D) (disk : D) (plan : List ℕ) (size : ℕ) → next_gate plan [] < size
+    → ForSome (members.content disk) (λ told. Front told plan []) → HasRead members disk disk plan size [] (13 + length plan)
+read_nothing members disk plan size within front =
+    let place : 13 + length plan ≡ next_gate plan [] = omega (arith, length-heading plan) in
+    record {
+      place = place;
+      within = omega (arith, place, within);
+      fit = refl;
+      few = omega arith;
+      front = front;
+      reads = reads_none members.images (members.content disk) (members.moments disk);
+      stays = record { bound = refl; attached = refl };
+      later = omega arith;
+    }
+
+pub full_history : (n : ℕ) → IsTrue (n == 100000) → n ≡ 100000
+full_history n full = grind (arith, nat_tests)
+
+pub room_in_history : (n : ℕ) → n ≤ 100000 → IsFalse (n == 100000) → n < 100000
+room_in_history n few not_full = grind (arith, nat_tests)
+
+-- a fault that is handed on is the fault that came
+pub err_is : {T E : Type 0} (result : Result T E) (given came : E) → IsErrAnd result (λ handed. handed ≡ came) → result ≡ Err given → came ≡ given
+err_is (Ok value) given came handed same = absurd handed
+err_is (Err fault) given came handed same = sym handed ∙ (let is : fault ≡ given = cc in is)

@@ -1,0 +1,80 @@
+use Rattle.std.proofs.Common.{◌≤◌, length, sym, ◌∙◌, arith}
+use Rattle.px_ports.specs.Moment.{Stays}
+use Rattle.px_journal.specs.Layout.{is_nothing}
+use Rattle.px_journal.proofs.Creating.{closed_nothing, not_nothing, gate_closed, gate_open, nothing_or_not, same_leaves, short_leaves}
+use Rattle.px_journal.proofs.Moments.{elapses_on}
+use Rattle.px_journal.proofs.create.close_master_gate.Goals as goal
+
+pub returns-in_err-len-clause-old_or_nothing : goal.returns-in_err-len-clause-old_or_nothing
+returns-in_err-len-clause-old_or_nothing g c = λ told is. same_leaves g.D.Disk.images _ _ c.len.ensures.reads.elapses
+
+-- ---- a short file
+
+pub returns-in_err-put-clause-old_or_nothing : goal.returns-in_err-put-clause-old_or_nothing
+returns-in_err-put-clause-old_or_nothing g c = λ told is.
+    short_leaves g.D.Disk.images _ told _ _ (omega (arith, c.in_ok-len.ensures.length told is, c.if-branch-lt-TEXT_PLACE.true))
+    (g.met.D.Disk.none_is_longer c.len.new.self told (c.len.ensures.reads.bytes ∙ is)) c.len.ensures.reads.elapses c.put.ensures.puts.elapses
+
+pub returns-then-branch-lt-TEXT_PLACE-clause-old_or_nothing : goal.returns-then-branch-lt-TEXT_PLACE-clause-old_or_nothing
+returns-then-branch-lt-TEXT_PLACE-clause-old_or_nothing g c = λ told is.
+    short_leaves g.D.Disk.images _ told _ _ (omega (arith, c.in_ok-len.ensures.length told is, c.if-branch-lt-TEXT_PLACE.true))
+    (g.met.D.Disk.none_is_longer c.len.new.self told (c.len.ensures.reads.bytes ∙ is)) c.len.ensures.reads.elapses c.put.ensures.puts.elapses
+
+-- ---- the first byte is read
+
+pub returns-in_err-read_at-clause-untouched : goal.returns-in_err-read_at-clause-untouched
+returns-in_err-read_at-clause-untouched g c = λ told is other. record {
+  content = c.read_at.ensures.reads.bytes ∙ c.len.ensures.reads.bytes;
+  elapses = elapses_on g.D.Disk.images Stays _ _ _ c.len.ensures.reads.elapses c.read_at.ensures.reads.elapses;
+}
+
+pub returns-in_err-read_at-clause-old_or_nothing : goal.returns-in_err-read_at-clause-old_or_nothing
+returns-in_err-read_at-clause-old_or_nothing g c = λ told is.
+    same_leaves g.D.Disk.images _ _ (elapses_on g.D.Disk.images Stays _ _ _ c.len.ensures.reads.elapses c.read_at.ensures.reads.elapses)
+
+pub returns-then-gate-ne-CLOSED-clause-exists : goal.returns-then-gate-ne-CLOSED-clause-exists
+returns-then-gate-ne-CLOSED-clause-exists g c = λ refused told is.
+    let long : 13 ≤ length told = omega (arith, c.in_ok-len.ensures.length told is, c.if-branch-lt-TEXT_PLACE.false) in
+    not_nothing told long (gate_open told _ long (c.in_ok-read_at.ensures.read told (c.len.ensures.reads.bytes ∙ is)) c.if-gate-ne-CLOSED.true)
+
+pub returns-then-gate-ne-CLOSED-clause-untouched : goal.returns-then-gate-ne-CLOSED-clause-untouched
+returns-then-gate-ne-CLOSED-clause-untouched g c = λ told is other. record {
+  content = c.read_at.ensures.reads.bytes ∙ c.len.ensures.reads.bytes;
+  elapses = elapses_on g.D.Disk.images Stays _ _ _ c.len.ensures.reads.elapses c.read_at.ensures.reads.elapses;
+}
+
+pub returns-then-gate-ne-CLOSED-clause-old_or_nothing : goal.returns-then-gate-ne-CLOSED-clause-old_or_nothing
+returns-then-gate-ne-CLOSED-clause-old_or_nothing g c = λ told is.
+    same_leaves g.D.Disk.images _ _ (elapses_on g.D.Disk.images Stays _ _ _ c.len.ensures.reads.elapses c.read_at.ensures.reads.elapses)
+
+-- ---- and is 0
+
+pub returns-clause-only_nothing : goal.returns-clause-only_nothing
+returns-clause-only_nothing g c = λ told is.
+    closed_nothing told (gate_closed told _ (omega (arith, c.in_ok-len.ensures.length told is, c.if-branch-lt-TEXT_PLACE.false))
+    (c.in_ok-read_at.ensures.read told (c.len.ensures.reads.bytes ∙ is)) c.if-gate-ne-CLOSED.false)
+
+pub returns-in_err-sync-clause-untouched : goal.returns-in_err-sync-clause-untouched
+returns-in_err-sync-clause-untouched g c = λ told is other.
+    let closed = closed_nothing told (gate_closed told _ (omega (arith, c.in_ok-len.ensures.length told is, c.if-branch-lt-TEXT_PLACE.false))
+    (c.in_ok-read_at.ensures.read told (c.len.ensures.reads.bytes ∙ is)) c.if-gate-ne-CLOSED.false) in
+    absurd (nothing_or_not (is_nothing told) closed other)
+
+pub returns-in_err-sync-clause-old_or_nothing : goal.returns-in_err-sync-clause-old_or_nothing
+returns-in_err-sync-clause-old_or_nothing g c = λ told is.
+    same_leaves g.D.Disk.images _ _
+    (elapses_on g.D.Disk.images Stays _ _ _ (elapses_on g.D.Disk.images Stays _ _ _ c.len.ensures.reads.elapses c.read_at.ensures.reads.elapses) c.sync.ensures.syncs.elapses)
+
+pub returns-clause-nothing : goal.returns-clause-nothing
+returns-clause-nothing g c = λ told is.
+    let before = sym (c.in_ok-sync.ensures.syncs.bytes ∙ c.read_at.ensures.reads.bytes ∙ c.len.ensures.reads.bytes) ∙ is in
+    gate_closed told _ (omega (arith, c.in_ok-len.ensures.length told before, c.if-branch-lt-TEXT_PLACE.false))
+    (c.in_ok-read_at.ensures.read told (c.len.ensures.reads.bytes ∙ before)) c.if-gate-ne-CLOSED.false
+
+pub returns-clause-untouched : goal.returns-clause-untouched
+returns-clause-untouched g c = λ told is other. absurd (nothing_or_not (is_nothing told) (returns-clause-only_nothing g c told is) other)
+
+pub returns-clause-old_or_nothing : goal.returns-clause-old_or_nothing
+returns-clause-old_or_nothing g c = λ told is.
+    same_leaves g.D.Disk.images _ _
+    (elapses_on g.D.Disk.images Stays _ _ _ (elapses_on g.D.Disk.images Stays _ _ _ c.len.ensures.reads.elapses c.read_at.ensures.reads.elapses) c.sync.ensures.syncs.elapses)

@@ -1,0 +1,8 @@
+use Rattle.px_journal.proofs.Meaning.{one_meaning_text, one_meaning_history}
+use Rattle.px_journal.proofs.laws.one_meaning.Goals as goal
+
+pub returns-clause-text : goal.returns-clause-text
+returns-clause-text c = λ bytes text other history others first second. one_meaning_text bytes text other history others first second
+
+pub returns-clause-history : goal.returns-clause-history
+returns-clause-history c = λ bytes text other history others first second. one_meaning_history bytes text other history others first second

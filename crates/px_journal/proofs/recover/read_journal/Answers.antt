@@ -1,0 +1,23 @@
+use Rattle.std.proofs.Common.{Err, sym, ◌∙◌, ap}
+use Rattle.px_ports.specs.Moment.{Stays}
+use Rattle.px_journal.specs.declared.fault.RecoverWhy.TheVariants as whys
+use Rattle.px_journal.proofs.Moments.{elapses_on, left_now}
+use Rattle.px_journal.proofs.Walking.{err_is}
+use Rattle.px_journal.proofs.recover.read_journal.Goals as goal
+
+pub returns-in_err-plan-clause-damaged : goal.returns-in_err-plan-clause-damaged
+returns-in_err-plan-clause-damaged g c = λ at refused told is.
+    let why = err_is c.from_residual-in_err-plan.result (whys.Damaged at) c.in_err-plan.field-0.0 c.from_residual-in_err-plan.ensures.1 refused in
+    c.in_err-plan.ensures.damaged at (ap Err why) told (c.in_ok-sync.ensures.syncs.bytes ∙ is)
+
+pub returns-in_err-plan-clause-writes_nothing : goal.returns-in_err-plan-clause-writes_nothing
+returns-in_err-plan-clause-writes_nothing g c = elapses_on g.D.Disk.images Stays _ _ _ c.sync.ensures.syncs.elapses c.read_stable.ensures.reads.elapses
+
+pub returns-clause-writes_nothing : goal.returns-clause-writes_nothing
+returns-clause-writes_nothing g c = elapses_on g.D.Disk.images Stays _ _ _ c.sync.ensures.syncs.elapses c.read_stable.ensures.reads.elapses
+
+pub returns-clause-settled : goal.returns-clause-settled
+returns-clause-settled g c = λ told is image left.
+    let reads = c.read_stable.ensures.reads in
+    let from = reads.elapses.each image (left_now g.D.Disk.images _ _ image reads.elapses.grows left) in
+    from.2 ∙ c.in_ok-sync.ensures.syncs.settled told (sym (reads.bytes ∙ c.in_ok-sync.ensures.syncs.bytes) ∙ is) (from.0) (from.1)

@@ -1,0 +1,46 @@
+-- What a crash at a moment of a call may leave of a journal.
+use Rattle.std.specs.Prelude.{◌≡◌, ◌≤◌, ◌⊎◌, ℕ, List, [], ◌∷◌, ◌++◌, length, take, Result, OnOk, IsTrue}
+use Rattle.std.specs.Option.{option_map, ForSome}
+use Rattle.px_event.specs.declared.entry.Entry.{Entry}
+use Rattle.px_ports.specs.Disk.{Told}
+use Rattle.px_ports.specs.Moment.{Images, LeftSince, overwritten, Torn, Elapses}
+use Rattle.px_ports.specs.declared.disk.DiskFault.{DiskFault}
+use Rattle.px_ports.specs.declared.moment.Moment.{Moment}
+use Rattle.px_journal.specs.Layout.{Stands, is_nothing}
+
+-- a write and then a sync: at Ok they are written and nothing else is left; whatever the answer, a crash may tear the
+-- range and nothing else
+pub record Puts (images : Images) (at : ℕ) (bytes : List ℕ) (old new : Told) (before now : List Moment)
+    (result : Result Unit DiskFault) : Type 0 where
+  pub written : OnOk result (new ≡ option_map (overwritten at bytes) old)
+  pub settled : OnOk result (ForSome new (λ told. (image : List ℕ) → images now image → image ≡ told))
+  pub elapses : Elapses images (Torn at (length bytes)) before now
+
+-- the bytes are nothing, or they stand for some text and history
+abbrev pub IsNothingOrStands : List ℕ → Type 0
+IsNothingOrStands bytes =
+    IsTrue (is_nothing bytes) ⊎ ((text : List ℕ) × (history : List Entry) × Stands bytes text history)
+
+-- the bytes stand for the text, and for the history with the entry or without it
+abbrev pub WithOrWithout : List ℕ → List Entry → Entry → List ℕ → Type 0
+WithOrWithout text history entry bytes = Stands bytes text history ⊎ Stands bytes text (history ++ entry ∷ [])
+
+-- the bytes are an image from before, or nothing, or they stand for the text and the empty history
+abbrev pub OldOrNew : (List ℕ → Type 0) → List ℕ → List ℕ → Type 0
+OldOrNew old text bytes = old bytes ⊎ (IsTrue (is_nothing bytes) ⊎ Stands bytes text [])
+
+-- a call adds moments, and a crash at each of them leaves only such images
+pub record LeavesOnly (images : Images) (left : List ℕ → Type 0) (old new : List Moment) : Type 0 where
+  pub grows : take (length old) new ≡ old
+  pub each : (image : List ℕ) → LeftSince images new (length old) image → left image
+
+-- each image since t stands for the text and a history that begins with this one
+abbrev pub KeepsSince : Images → ℕ → List ℕ → List Entry → List Moment → Type 0
+KeepsSince images t text front moments =
+    (image : List ℕ) → LeftSince images moments t image → (later : List Entry) × Stands image text (front ++ later)
+
+-- what each image since some moment keeps, it keeps after the call too
+abbrev pub KeepsHistories : Images → List Moment → List Moment → Type 0
+KeepsHistories images old new =
+    (t : ℕ) → t ≤ length old → (text : List ℕ) (front : List Entry)
+    → KeepsSince images t text front old → KeepsSince images t text front new

@@ -1,0 +1,63 @@
+-- What a journal stands for, and what its calls answer.
+use Rattle.std.specs.Prelude.{◌≡◌, ◌≤◌, ℕ, List, length, IsTrue, Result, Ok, Err, vec_capacity}
+use Rattle.std.specs.List.{list_all}
+use Rattle.std.specs.Option.{ForSome}
+use Rattle.px_event.specs.Fit.{is_fit_entry}
+use Rattle.px_event.specs.declared.entry.Entry.{Entry}
+use Rattle.px_ports.specs.Moment.{Elapses, Stays}
+use Rattle.px_ports.specs.declared.disk.Disk
+use Rattle.px_journal.specs.Crash.{IsNothingOrStands}
+use Rattle.px_journal.specs.Layout.{next_gate, Stands}
+use Rattle.px_journal.specs.declared.fault.CreateFault.{CreateFault}
+use Rattle.px_journal.specs.declared.fault.CreateWhy.{CreateWhy}
+use Rattle.px_journal.specs.declared.fault.RecoverFault.{RecoverFault}
+use Rattle.px_journal.specs.declared.fault.RecoverWhy.{RecoverWhy}
+use Rattle.px_journal.specs.declared.journal.Journal.{Journal}
+use Rattle.px_journal.specs.declared.journal.Recovered.{Recovered}
+
+-- a crash now leaves just what a read gives, where the disk tells it
+abbrev pub IsSettled : {D : Type 0} → Disk.Ghosts D → D → Type 0
+IsSettled members disk = ForSome (members.content disk)
+    (λ told. (image : List ℕ) → members.images (members.moments disk) image → image ≡ told)
+
+-- THE JOURNAL STANDS FOR A TEXT AND A HISTORY, and is ready for the next entry. What it says of the bytes, it says
+-- where the disk tells them: each image that a crash now may leave stands for the text and the history.
+pub record IsReady {D : Type 0} (members : Disk.Ghosts D) (journal : Journal D) (text : List ℕ)
+    (history : List Entry) : Type 0 where
+  pub settled : IsSettled members journal.disk
+  pub stands : ForSome (members.content journal.disk) (λ told. Stands told text history)
+  pub gate : journal.gate ≡ next_gate text history
+  pub count : journal.count ≡ length history
+  pub text_fits : length text ≤ 1048576
+  pub fit : IsTrue (list_all is_fit_entry history)
+  pub few : length history ≤ 100000
+  pub attached : IsTrue (members.is_attached journal.disk)
+  pub room : 9319 ≤ vec_capacity journal.buffer
+
+-- no write was made: what a read gives is the same, and each image since is one of before
+pub record IsUntouched {D : Type 0} (members : Disk.Ghosts D) (old new : D) : Type 0 where
+  pub content : members.content new ≡ members.content old
+  pub elapses : Elapses members.images Stays (members.moments old) (members.moments new)
+
+-- the disk after a call that takes it, which a journal has then or a fault hands back
+abbrev pub disk_after : {D : Type 0} → Result (Journal D) (CreateFault D) → D
+disk_after (Ok journal) = journal.disk
+disk_after (Err fault) = fault.disk
+
+-- `create` was refused for this reason
+abbrev pub IsRefused : {D : Type 0} → Result (Journal D) (CreateFault D) → CreateWhy → Type 0
+IsRefused (Ok journal) why = ⊥
+IsRefused (Err fault) why = fault.why ≡ why
+
+-- the same of `recover`
+abbrev pub disk_recovered : {D : Type 0} → Result (Recovered D) (RecoverFault D) → D
+disk_recovered (Ok recovered) = recovered.journal.disk
+disk_recovered (Err fault) = fault.disk
+
+abbrev pub IsNotRecovered : {D : Type 0} → Result (Recovered D) (RecoverFault D) → RecoverWhy → Type 0
+IsNotRecovered (Ok recovered) why = ⊥
+IsNotRecovered (Err fault) why = fault.why ≡ why
+
+-- each image that a crash now may leave is nothing, or stands for some text and history
+abbrev pub IsWhole : {D : Type 0} → Disk.Ghosts D → D → Type 0
+IsWhole members disk = (image : List ℕ) → members.images (members.moments disk) image → IsNothingOrStands image

@@ -1,0 +1,5 @@
+pub mod Layout
+pub mod Damage
+pub mod Crash
+pub mod Journal
+pub mod Window

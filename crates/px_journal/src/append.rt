@@ -1,0 +1,91 @@
+// A record at the end of a journal.
+//
+// The record goes behind the closed gate of the last place, with the next gate closed, and is synced before its gate is
+// opened by a write of its own. So a torn write of the record stands behind a closed gate, and whatever a torn write
+// leaves of the gate means closed or open over a record that is whole.
+ghost use Rattle.std.specs.Prelude.{◌≡◌, ◌≤◌, ◌<◌, ◌+◌, ◌-◌, ◌^◌, ◌++◌, [], ◌∷◌, ℕ, List, length, take, drop, IsTrue, OnOk, vec_capacity, vec_len};
+ghost use Rattle.std.specs.Option.{ForSome};
+ghost use Rattle.byteorder.specs.Endian.{big_bytes};
+ghost use Rattle.px_event.specs.Fit.{is_fit_entry};
+ghost use Rattle.px_event.specs.declared.entry.Entry.{Entry as AnyEntry};
+ghost use Rattle.px_ports.specs.Disk.{CountsFaults, StaysAttached};
+ghost use Rattle.px_journal.specs.Layout.{record_bytes};
+ghost use Rattle.px_journal.specs.Crash.{WithOrWithout, LeavesOnly, KeepsHistories};
+ghost use Rattle.px_journal.specs.Journal.{IsReady};
+
+use crate::journal::Journal;
+use crate::layout::{CLOSED, OPEN};
+use crate::put::put;
+use byteorder::{BigEndian, ByteOrder};
+use px_event::{Entry, push_entry};
+use px_ports::{Disk, DiskFault};
+
+impl<D: Disk> Journal<D> {
+    /// Adds an entry. It takes no memory.
+    ///
+    /// After `Ok` the entry is kept: each image from then on has it. After a `DiskFault` a crash leaves the history
+    /// with the entry or without it, and the journal has to be recovered anew.
+    pub fn append(&mut self, entry: &Entry) -> Result<(), DiskFault>
+        requires fit { IsTrue (is_fit_entry entry.now) }
+        requires room { self.old.count < 100000 }
+        requires ready { (text : List ℕ) × (history : List AnyEntry) × IsReady D.Disk self.old text history }
+
+        ensures kept { OnOk result ((text : List ℕ) (history : List AnyEntry) → IsReady D.Disk self.old text history
+            → IsReady D.Disk self.new text (history ++ entry.now ∷ [])) }
+
+        ensures whole_or_not { (text : List ℕ) (history : List AnyEntry) → IsReady D.Disk self.old text history
+            → ForSome (D.content self.old.disk) (λ _. LeavesOnly D.images (WithOrWithout text history entry.now)
+            (D.moments self.old.disk) (D.moments self.new.disk)) }
+        ensures grows { take (length (D.moments self.old.disk)) (D.moments self.new.disk) ≡ D.moments self.old.disk }
+        ensures keeps { ForSome (D.content self.old.disk)
+            (λ _. KeepsHistories D.images (D.moments self.old.disk) (D.moments self.new.disk)) }
+
+        ensures stays { StaysAttached (D.bound_to self.old.disk) (D.bound_to self.new.disk)
+            (D.is_attached self.old.disk) (D.is_attached self.new.disk) }
+        ensures cause { CountsFaults (D.faults self.old.disk) (D.faults self.new.disk) result }
+    {
+        fill(&mut self.buffer, entry);
+        put(&mut self.disk, self.gate + 1, &self.buffer)?;
+        put(&mut self.disk, self.gate, &[OPEN])?;
+        self.gate += self.buffer.len() as u64;
+        self.count += 1;
+        Ok(())
+    }
+}
+
+/// Puts the bytes behind a record's gate into the buffer: the length, the body, and the next gate.
+fn fill(buffer: &mut Vec<u8>, entry: &Entry)
+    requires fit { IsTrue (is_fit_entry entry.now) }
+    requires room { 9319 ≤ vec_capacity buffer.old }
+    ensures bytes { buffer.new.items ≡ record_bytes entry.now ++ 0 ∷ [] }
+    ensures capacity { vec_capacity buffer.old ≤ vec_capacity buffer.new }
+{
+    buffer.clear();
+    push_in_room(buffer, &[0; 2]);
+    if push_entry(buffer, entry).is_err() {
+        unreachable!();
+    }
+    tell_length(buffer);
+    push_in_room(buffer, &[CLOSED]);
+}
+
+/// Puts the number of bytes behind the first two into those two.
+fn tell_length(bytes: &mut [u8])
+    requires least { 2 ≤ length bytes.old }
+    requires most { length bytes.old < 2 + 2 ^ 16 }
+    ensures { bytes.new ≡ big_bytes 2 (length bytes.old - 2) ++ drop 2 bytes.old }
+{
+    let length = bytes.len() - 2;
+    BigEndian::write_u16(bytes, length as u16);
+}
+
+/// Appends bytes that have room.
+fn push_in_room(buffer: &mut Vec<u8>, bytes: &[u8])
+    requires { vec_len buffer.old + length bytes.now ≤ vec_capacity buffer.old }
+    ensures bytes { buffer.new.items ≡ buffer.old.items ++ bytes.now }
+    ensures capacity { vec_capacity buffer.old ≤ vec_capacity buffer.new }
+{
+    if buffer.extend_from_slice(bytes).is_err() {
+        unreachable!();
+    }
+}

@@ -1,0 +1,162 @@
+// A new journal on a disk.
+//
+// All is written behind a closed master gate and synced before that gate is opened by a write of its own. So until then
+// a crash leaves nothing, and then nothing or the whole.
+ghost use Rattle.std.specs.Prelude.{◌≡◌, ◌≤◌, ◌++◌, [], ◌∷◌, ◌⊎◌, ℕ, List, length, take, IsTrue, IsFalse, IfOk, OnOk, IsErrOf, is_some, vec_capacity};
+ghost use Rattle.std.specs.Option.{ForSome};
+ghost use Rattle.px_ports.specs.Disk.{CountsFaults, StaysAttached};
+ghost use Rattle.px_ports.specs.Host.{Rose};
+ghost use Rattle.px_journal.specs.Crash.{OldOrNew, LeavesOnly};
+ghost use Rattle.px_journal.specs.Journal.{IsReady, IsSettled, IsUntouched, IsRefused, disk_after};
+ghost use Rattle.px_journal.specs.Layout.{heading, is_closed, is_nothing, Stands};
+ghost use Rattle.px_journal.specs.declared.fault.CreateWhy.TheVariants as whys;
+
+use crate::fault::{CreateFault, CreateWhy};
+use crate::journal::{BUFFER_ROOM, Journal};
+use crate::layout::{CLOSED, MAGIC, OPEN, TEXT_PLACE};
+use crate::put::put;
+use byteorder::{BigEndian, ByteOrder};
+use px_ports::{Disk, DiskFault};
+use px_value::NoMemory;
+use std::alloc::Global;
+
+impl<D: Disk> Journal<D> {
+    /// Makes the journal of a plan's text, with the empty history, on an attached disk. A file of fewer than 13 bytes,
+    /// or one whose first byte is 0, is overwritten.
+    ///
+    /// `Exists` comes exactly where the file has at least 13 bytes and its first isn't 0, `DiskFault` only where a call
+    /// of the disk failed, and `NoMemory` before the first call.
+    pub fn create(alloc: Global, disk: D, plan_text: &[u8]) -> Result<Journal<D>, CreateFault<D>>
+        requires attached { IsTrue (D.is_attached disk) }
+        requires short { length plan_text.now ≤ 1048576 }
+
+        ensures made { IfOk result (λ journal. IsReady D.Disk journal plan_text.now []) }
+        ensures only_nothing { OnOk result (ForSome (D.content disk) (λ told. IsTrue (is_nothing told))) }
+
+        ensures exists { IsRefused result whys.Exists → ForSome (D.content disk) (λ told. IsFalse (is_nothing told)) }
+        ensures untouched { ForSome (D.content disk) (λ told. IsFalse (is_nothing told)
+            → IsUntouched D.Disk disk (disk_after result)) }
+        ensures no_memory { IsRefused result whys.NoMemory → disk_after result ≡ disk }
+        ensures cause { IsRefused result whys.DiskFault → Rose (D.faults disk) (D.faults (disk_after result)) }
+        ensures later { D.faults disk ≤ D.faults (disk_after result) }
+
+        ensures old_or_new { ForSome (D.content disk) (λ _. LeavesOnly D.images
+            (OldOrNew (D.images (D.moments disk)) plan_text.now) (D.moments disk) (D.moments (disk_after result))) }
+        ensures grows { take (length (D.moments disk)) (D.moments (disk_after result)) ≡ D.moments disk }
+        ensures stays { StaysAttached (D.bound_to disk) (D.bound_to (disk_after result))
+            (D.is_attached disk) (D.is_attached (disk_after result)) }
+    {
+        let mut disk = disk;
+        match write_new(alloc, &mut disk, plan_text) {
+            Ok(buffer) => Ok(Journal {
+                disk,
+                gate: TEXT_PLACE + plan_text.len() as u64,
+                count: 0,
+                buffer,
+            }),
+            Err(why) => Err(CreateFault { disk, why }),
+        }
+    }
+}
+
+/// Writes the journal of a text to the disk, and gives the buffer for its records.
+fn write_new<D: Disk>(alloc: Global, disk: &mut D, plan_text: &[u8]) -> Result<Vec<u8>, CreateWhy>
+    requires attached { IsTrue (D.is_attached disk.old) }
+    requires short { length plan_text.now ≤ 1048576 }
+
+    ensures room { IfOk result (λ buffer. 9319 ≤ vec_capacity buffer) }
+    ensures settled { OnOk result (IsSettled D.Disk disk.new) }
+    ensures stands { OnOk result (ForSome (D.content disk.new) (λ told. Stands told plan_text.now [])) }
+    ensures only_nothing { OnOk result (ForSome (D.content disk.old) (λ told. IsTrue (is_nothing told))) }
+
+    ensures exists { IsErrOf result whys.Exists → ForSome (D.content disk.old) (λ told. IsFalse (is_nothing told)) }
+    ensures untouched { ForSome (D.content disk.old) (λ told. IsFalse (is_nothing told)
+        → IsUntouched D.Disk disk.old disk.new) }
+    ensures no_memory { IsErrOf result whys.NoMemory → disk.new ≡ disk.old }
+    ensures cause { IsErrOf result whys.DiskFault → Rose (D.faults disk.old) (D.faults disk.new) }
+    ensures later { D.faults disk.old ≤ D.faults disk.new }
+
+    ensures old_or_new { ForSome (D.content disk.old) (λ _. LeavesOnly D.images
+        (OldOrNew (D.images (D.moments disk.old)) plan_text.now) (D.moments disk.old) (D.moments disk.new)) }
+    ensures grows { take (length (D.moments disk.old)) (D.moments disk.new) ≡ D.moments disk.old }
+    ensures stays { StaysAttached (D.bound_to disk.old) (D.bound_to disk.new)
+        (D.is_attached disk.old) (D.is_attached disk.new) }
+{
+    let buffer = Vec::with_capacity(alloc, BUFFER_ROOM)?;
+    let content = behind_master_gate(alloc, plan_text)?;
+    close_master_gate(disk)?;
+    open_behind(disk, &content)?;
+    Ok(buffer)
+}
+
+/// What goes behind the master gate: the magic, the length, the text, and the closed gate of the first record.
+fn behind_master_gate(alloc: Global, plan_text: &[u8]) -> Result<Vec<u8>, NoMemory>
+    requires { length plan_text.now ≤ 1048576 }
+    ensures { IfOk result (λ bytes. bytes.items ≡ heading plan_text.now ++ 0 ∷ []) }
+{
+    let mut length = [0; 4];
+    BigEndian::write_u32(&mut length, plan_text.len() as u32);
+    let mut bytes = Vec::with_capacity(alloc, MAGIC.len() + 4 + plan_text.len() + 1)?;
+    bytes.extend_from_slice(&MAGIC)?;
+    bytes.extend_from_slice(&length)?;
+    bytes.extend_from_slice(plan_text)?;
+    bytes.push(CLOSED)?;
+    Ok(bytes)
+}
+
+/// Makes sure that the disk's bytes are nothing, by a closed master gate, and settled.
+fn close_master_gate<D: Disk>(disk: &mut D) -> Result<(), CreateWhy>
+    requires { IsTrue (D.is_attached disk.old) }
+
+    ensures settled { OnOk result (IsSettled D.Disk disk.new) }
+    ensures nothing { OnOk result (ForSome (D.content disk.new) (λ told. IsTrue (is_closed told))) }
+    ensures only_nothing { OnOk result (ForSome (D.content disk.old) (λ told. IsTrue (is_nothing told))) }
+
+    ensures exists { IsErrOf result whys.Exists → ForSome (D.content disk.old) (λ told. IsFalse (is_nothing told)) }
+    ensures untouched { ForSome (D.content disk.old) (λ told. IsFalse (is_nothing told)
+        → IsUntouched D.Disk disk.old disk.new) }
+    ensures memory { IsErrOf result whys.NoMemory → ⊥ }
+    ensures cause { IsErrOf result whys.DiskFault → Rose (D.faults disk.old) (D.faults disk.new) }
+    ensures later { D.faults disk.old ≤ D.faults disk.new }
+
+    ensures tells { OnOk result (is_some (D.content disk.new) ≡ is_some (D.content disk.old)) }
+    ensures old_or_nothing { ForSome (D.content disk.old) (λ _. LeavesOnly D.images
+        (λ image. D.images (D.moments disk.old) image ⊎ IsTrue (is_nothing image))
+        (D.moments disk.old) (D.moments disk.new)) }
+    ensures grows { take (length (D.moments disk.old)) (D.moments disk.new) ≡ D.moments disk.old }
+    ensures stays { StaysAttached (D.bound_to disk.old) (D.bound_to disk.new)
+        (D.is_attached disk.old) (D.is_attached disk.new) }
+{
+    if disk.len()? < TEXT_PLACE {
+        put(disk, 0, &[CLOSED])?;
+        return Ok(());
+    }
+    let mut gate = [CLOSED];
+    disk.read_at(0, &mut gate)?;
+    if gate[0] != CLOSED {
+        return Err(CreateWhy::Exists);
+    }
+    disk.sync()?;
+    Ok(())
+}
+
+/// Writes what goes behind the closed master gate, and then opens that gate.
+fn open_behind<D: Disk>(disk: &mut D, content: &[u8]) -> Result<(), DiskFault>
+    requires attached { IsTrue (D.is_attached disk.old) }
+    requires settled { IsSettled D.Disk disk.old }
+    requires closed { ForSome (D.content disk.old) (λ told. IsTrue (is_closed told)) }
+
+    ensures settled { OnOk result (IsSettled D.Disk disk.new) }
+    ensures stands { (text : List ℕ) → length text ≤ 1048576 → content.now ≡ heading text ++ 0 ∷ []
+        → OnOk result (ForSome (D.content disk.new) (λ told. Stands told text [])) }
+    ensures nothing_or_new { (text : List ℕ) → length text ≤ 1048576 → content.now ≡ heading text ++ 0 ∷ []
+        → ForSome (D.content disk.old) (λ _. LeavesOnly D.images
+        (λ image. IsTrue (is_nothing image) ⊎ Stands image text []) (D.moments disk.old) (D.moments disk.new)) }
+    ensures grows { take (length (D.moments disk.old)) (D.moments disk.new) ≡ D.moments disk.old }
+    ensures stays { StaysAttached (D.bound_to disk.old) (D.bound_to disk.new)
+        (D.is_attached disk.old) (D.is_attached disk.new) }
+    ensures cause { CountsFaults (D.faults disk.old) (D.faults disk.new) result }
+{
+    put(disk, 1, content)?;
+    put(disk, 0, &[OPEN])
+}

@@ -1,0 +1,25 @@
+// What the layout means: laws that hold of it, each a clause of a function that does nothing.
+ghost use Rattle.std.specs.Prelude.{◌≡◌, ◌<◌, ◌⊎◌, ℕ, List, slice_index, IsFalse};
+ghost use Rattle.px_event.specs.declared.entry.Entry.{Entry as AnyEntry};
+ghost use Rattle.px_journal.specs.Damage.{Damaged};
+ghost use Rattle.px_journal.specs.Layout.{is_nothing, Stands};
+
+/// Bytes stand for at most one text and one history.
+pub fn one_meaning()
+    ensures text { (bytes text other : List ℕ) (history others : List AnyEntry) → Stands bytes text history
+        → Stands bytes other others → text ≡ other }
+    ensures history { (bytes text other : List ℕ) (history others : List AnyEntry) → Stands bytes text history
+        → Stands bytes other others → history ≡ others }
+{}
+
+/// Bytes that stand for a text and a history are damaged at no place.
+pub fn never_both()
+    ensures { (bytes text : List ℕ) (history : List AnyEntry) (at : ℕ) → Stands bytes text history
+        → Damaged bytes at → ⊥ }
+{}
+
+/// Bytes that aren't nothing stand for a text and a history, or are damaged at some place.
+pub fn either_or()
+    ensures { (bytes : List ℕ) → ((i : ℕ) → slice_index bytes i < 256) → IsFalse (is_nothing bytes)
+        → ((text : List ℕ) × (history : List AnyEntry) × Stands bytes text history) ⊎ ((at : ℕ) × Damaged bytes at) }
+{}
