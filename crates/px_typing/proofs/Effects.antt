@@ -1,0 +1,193 @@
+-- What a node writes, and what it keeps, is of the type of the variable that it is written to.
+use Rattle.std.proofs.Common.{◌≡◌, ◌<◌, ◌≤◌, ℕ, Bool, true, List, length, get_or, Option, Some, None, refl, sym, subst, ◌⊎◌, inl, inr}
+use Rattle.std.specs.List.{All}
+use Rattle.std.proofs.Math.ListN.{get_or-eq_default}
+use Rattle.std.proofs.lemmas.Bool.{cases_lt}
+use Rattle.std.proofs.lemmas.List.Elements.{All-get_or}
+use Rattle.std.specs.Option.{ForSome}
+use Rattle.px_value.specs.declared.value.Value.{Value}
+use Rattle.px_value.specs.declared.value.Value.TheVariants as values
+use Rattle.px_core.specs.declared.variable.VarKind.{VarKind}
+use Rattle.px_core.specs.declared.variable.VarKind.TheVariants as kinds
+use Rattle.px_core.specs.Expr.{Term}
+use Rattle.px_core.specs.Plan.{Site, VariableData, TargetData, BodyData, Nothing, Assign, Command, Update}
+use Rattle.px_sem.specs.declared.guards.Arrival.{Arrival}
+use Rattle.px_sem.specs.declared.moves.Effect.TheVariants as effects
+use Rattle.px_sem.specs.Expressions.{value}
+use Rattle.px_value.specs.declared.enums.Handle.{Handle}
+use Rattle.px_sem.specs.World.{World, Abort, Action, NoAction, Assigned, Commanded, Updated, Place, record_at, variable_at, cells_at}
+use Rattle.px_sem.specs.Effects.{MoveKind, Initializes, Resets, Starts, Fails, Other, move_kind, as_kind, Write, write_at, value_at, cell_of, place_of, Effects, silent, writing, sends, updates, writes_back, aborts, effects_of}
+use Rattle.px_typing.specs.Typing.{suits, Suits, CellsSuit, KeptSuits}
+
+-- a write is of its variable's type, or UNKNOWN
+abbrev pub WriteSuits : List Site → Write → Type 0
+WriteSuits plan write = ForSome (variable_at plan write.owner write.name) (λ variable. Suits variable.kind write.value)
+
+pub as_kind_suits : (kind : VarKind) (value : Value) → suits kind (as_kind kind value) ≡ true
+as_kind_suits kinds.Boolean (values.Boolean truth) = refl
+as_kind_suits kinds.Integer (values.Integer number) = refl
+as_kind_suits kinds.Text (values.Text text) = refl
+as_kind_suits kind value = refl
+
+-- ---- the table of effects, row by row
+
+abbrev assigned_at : List Site → World → TargetData → Term → Option Place → Effects
+assigned_at plan world target right None = record { write = None; action = Assigned None; told = Some effects.NoWrite }
+assigned_at plan world target right (Some place) =
+    writing (Assigned (Some (record { place = place; old = value_at (cells_at plan world target.owner target.name) place })))
+    (write_at plan target (value plan world right) place)
+
+abbrev row : List Site → World → Action → MoveKind → BodyData → Effects
+row plan world under_way move Nothing = silent NoAction
+row plan world under_way Initializes body = silent NoAction
+row plan world under_way Resets body = silent NoAction
+row plan world under_way Starts (Assign target right) = assigned_at plan world target right (place_of plan world target)
+row plan world under_way Starts (Command name args result) = sends plan world name args result
+row plan world under_way Starts (Update pairs) = updates plan world pairs
+row plan world under_way Fails (Assign target right) = writes_back target under_way
+row plan world under_way Fails (Command name args result) = aborts name under_way
+row plan world under_way move body = silent under_way
+
+in_rows : (plan : List Site) (world : World) (site : Site) (arrival : Arrival)
+    → effects_of plan world site arrival
+    ≡ row plan world (record_at world site.path).action (move_kind (record_at world site.path).state arrival.to) site.head.body
+in_rows plan world site arrival = refl
+
+-- ---- writes
+
+abbrev WritesSuit : List Site → Effects → Type 0
+WritesSuit plan made = (write : Write) → made.write ≡ Some write → WriteSuits plan write
+
+silent_suits : (plan : List Site) (under_way : Action) → WritesSuit plan (silent under_way)
+silent_suits plan under_way = λ write is. absurd (cc)
+
+-- a value as a variable takes it
+abbrev taken_by : Value → Option VariableData → Value
+taken_by given None = values.Unknown
+taken_by given (Some variable) = as_kind variable.kind given
+
+taken_suits : (given : Value) (declared : Option VariableData)
+    → ForSome declared (λ variable. Suits variable.kind (taken_by given declared))
+taken_suits given None variable is = absurd (cc)
+taken_suits given (Some declared) variable is =
+    let same : declared ≡ variable = cc in
+    subst (λ v. Suits v.kind (as_kind declared.kind given)) same (as_kind_suits declared.kind given)
+
+pub write_at_suits : (plan : List Site) (target : TargetData) (given : Value) (place : Place)
+    → WriteSuits plan (write_at plan target given place)
+write_at_suits plan target given place = taken_suits given (variable_at plan target.owner target.name)
+
+assigned_suits : (plan : List Site) (world : World) (target : TargetData) (right : Term) (place : Option Place)
+    → WritesSuit plan (assigned_at plan world target right place)
+assigned_suits plan world target right None = λ write is. absurd (cc)
+assigned_suits plan world target right (Some place) = λ write is.
+    let same : write_at plan target (value plan world right) place ≡ write = cc in
+    subst (WriteSuits plan) same (write_at_suits plan target (value plan world right) place)
+
+back_suits : (plan : List Site) (target : TargetData) (right : Term) (under_way : Action)
+    → KeptSuits plan (Assign target right) under_way → WritesSuit plan (writes_back target under_way)
+back_suits plan target right (Assigned (Some kept)) keeps = λ write is.
+    let back : Write = record { owner = target.owner; name = target.name; place = kept.place; value = kept.old } in
+    let same : back ≡ write = cc in
+    subst (WriteSuits plan) same keeps
+back_suits plan target right NoAction keeps = silent_suits plan NoAction
+back_suits plan target right (Assigned None) keeps = silent_suits plan (Assigned None)
+back_suits plan target right (Commanded index handle abort) keeps = silent_suits plan (Commanded index handle abort)
+back_suits plan target right (Updated acknowledged) keeps = silent_suits plan (Updated acknowledged)
+
+row_suits : (plan : List Site) (world : World) (under_way : Action) (move : MoveKind) (body : BodyData)
+    → KeptSuits plan body under_way → WritesSuit plan (row plan world under_way move body)
+row_suits plan world under_way move Nothing kept = silent_suits plan NoAction
+row_suits plan world under_way Initializes body kept = silent_suits plan NoAction
+row_suits plan world under_way Resets body kept = silent_suits plan NoAction
+row_suits plan world under_way Starts (Assign target right) kept =
+    assigned_suits plan world target right (place_of plan world target)
+row_suits plan world under_way Starts (Command name args result) kept = λ write is. absurd (cc)
+row_suits plan world under_way Starts (Update pairs) kept = λ write is. absurd (cc)
+row_suits plan world under_way Fails (Assign target right) kept = back_suits plan target right under_way kept
+row_suits plan world under_way Fails (Command name args result) kept = λ write is. absurd (cc)
+row_suits plan world under_way Fails (Update pairs) kept = silent_suits plan under_way
+row_suits plan world under_way Other body kept = silent_suits plan under_way
+
+-- what a node writes suits
+pub effects_suit : (plan : List Site) (world : World) (site : Site) (arrival : Arrival)
+    → KeptSuits plan site.head.body (record_at world site.path).action
+    → (write : Write) → (effects_of plan world site arrival).write ≡ Some write → WriteSuits plan write
+effects_suit plan world site arrival kept =
+    row_suits plan world (record_at world site.path).action (move_kind (record_at world site.path).state arrival.to)
+    site.head.body kept
+
+-- ---- what is kept
+
+pub unknown_suits : (kind : VarKind) → suits kind values.Unknown ≡ true
+unknown_suits kinds.Boolean = refl
+unknown_suits kinds.Integer = refl
+unknown_suits kinds.Text = refl
+
+-- what holds of each element and of the default holds of what is read
+read_anywhere : {X : Type 0} (P : X → Type 0) (xs : List X) (i : ℕ) (d : X) → All P xs → P d → P (get_or xs i d)
+read_anywhere P xs i d all none = by (cases_lt i (length xs))
+  where
+    by : (i < length xs) ⊎ (length xs ≤ i) → P (get_or xs i d)
+    by (inl within) = All-get_or P xs i d within all
+    by (inr beyond) = subst P (sym (get_or-eq_default xs d beyond)) none
+
+assigned_kept : (plan : List Site) (world : World) (target : TargetData) (right : Term) (place : Option Place)
+    → CellsSuit plan world target.owner target.name
+    → KeptSuits plan (Assign target right) (assigned_at plan world target right place).action
+assigned_kept plan world target right None cells = tt
+assigned_kept plan world target right (Some place) cells = λ variable is.
+    read_anywhere (Suits variable.kind) (cells_at plan world target.owner target.name) (cell_of place) values.Unknown
+    (cells variable is) (unknown_suits variable.kind)
+
+back_kept : (plan : List Site) (target : TargetData) (right : Term) (under_way : Action)
+    → KeptSuits plan (Assign target right) under_way
+    → KeptSuits plan (Assign target right) (writes_back target under_way).action
+back_kept plan target right (Assigned (Some kept)) keeps = keeps
+back_kept plan target right NoAction keeps = keeps
+back_kept plan target right (Assigned None) keeps = keeps
+back_kept plan target right (Commanded index handle abort) keeps = keeps
+back_kept plan target right (Updated acknowledged) keeps = keeps
+
+row_kept : (plan : List Site) (world : World) (under_way : Action) (move : MoveKind) (body : BodyData)
+    → ((owner name : List ℕ) → CellsSuit plan world owner name) → KeptSuits plan body under_way
+    → KeptSuits plan body (row plan world under_way move body).action
+row_kept plan world under_way move Nothing cells kept = tt
+row_kept plan world under_way move (Command name args result) cells kept = tt
+row_kept plan world under_way move (Update pairs) cells kept = tt
+row_kept plan world under_way Initializes (Assign target right) cells kept = tt
+row_kept plan world under_way Resets (Assign target right) cells kept = tt
+row_kept plan world under_way Starts (Assign target right) cells kept =
+    assigned_kept plan world target right (place_of plan world target) (cells target.owner target.name)
+row_kept plan world under_way Fails (Assign target right) cells kept = back_kept plan target right under_way kept
+row_kept plan world under_way Other (Assign target right) cells kept = kept
+
+-- what a node keeps after its move suits
+pub effects_keep : (plan : List Site) (world : World) (site : Site) (arrival : Arrival)
+    → ((owner name : List ℕ) → CellsSuit plan world owner name)
+    → KeptSuits plan site.head.body (record_at world site.path).action
+    → KeptSuits plan site.head.body (effects_of plan world site arrival).action
+effects_keep plan world site arrival cells kept =
+    row_kept plan world (record_at world site.path).action (move_kind (record_at world site.path).state arrival.to)
+    site.head.body cells kept
+
+-- ---- what has no old value
+
+pub nothing_kept : (plan : List Site) (body : BodyData) → KeptSuits plan body NoAction
+nothing_kept plan Nothing = tt
+nothing_kept plan (Assign target right) = tt
+nothing_kept plan (Command name args result) = tt
+nothing_kept plan (Update pairs) = tt
+
+pub command_kept : (plan : List Site) (body : BodyData) (index : Option ℕ) (handle : Option Handle) (abort : Abort)
+    → KeptSuits plan body (Commanded index handle abort)
+command_kept plan Nothing index handle abort = tt
+command_kept plan (Assign target right) index handle abort = tt
+command_kept plan (Command name args result) index handle abort = tt
+command_kept plan (Update pairs) index handle abort = tt
+
+pub update_kept : (plan : List Site) (body : BodyData) (acknowledged : Bool) → KeptSuits plan body (Updated acknowledged)
+update_kept plan Nothing acknowledged = tt
+update_kept plan (Assign target right) acknowledged = tt
+update_kept plan (Command name args result) acknowledged = tt
+update_kept plan (Update pairs) acknowledged = tt

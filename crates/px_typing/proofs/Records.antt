@@ -1,0 +1,116 @@
+-- The record of a node after a step, and after another record was put in the place of one.
+use Rattle.std.proofs.Common.{◌≡◌, ℕ, zero, suc, ◌<◌, Bool, true, false, List, [], ◌∷◌, length, get_or, map, Option, Some, refl, ap, sym, ◌∙◌, subst, arith, if◌then◌else◌}
+use Rattle.std.specs.List.{All, find}
+use Rattle.std.specs.Map.{lookup}
+use Rattle.std.specs.Option.{unwrap_or, option_map}
+use Rattle.std.specs.Cmp.Lexicographic.{bytes_decides, nat_list_eq_equiv}
+use Rattle.std.proofs.lemmas.Bool.{false_from_ne_true}
+use Rattle.std.proofs.lemmas.List.{get_or_default}
+use Rattle.px_core.specs.Fit.{AreDistinct}
+use Rattle.px_core.specs.Plan.{Site, no_site, is_same}
+use Rattle.px_sem.specs.World.{World, NodeRecord, no_record, record_at, initial_world, initial_record}
+use Rattle.px_sem.specs.Step.{micro, record_after}
+use Rattle.px_sem.specs.Conflicts.{transition}
+
+-- the first node at a path
+abbrev pub found : List Site → List ℕ → Option Site
+found plan path = find (λ site. is_same site.path path) plan
+
+-- it has the path
+pub found_path : (plan : List Site) (path : List ℕ) (site : Site) → found plan path ≡ Some site → site.path ≡ path
+found_path [] path site is = absurd (cc)
+found_path (first ∷ plan) path site is = by (is_same first.path path) refl is (found_path plan path site)
+  where
+    by : (b : Bool) → is_same first.path path ≡ b → (if b then Some first else found plan path) ≡ Some site
+        → (found plan path ≡ Some site → site.path ≡ path) → site.path ≡ path
+    by true same is others =
+        let it : first ≡ site = cc in
+        subst (λ s. s.path ≡ path) it ((bytes_decides first.path path).0 same)
+    by false other is others = others is
+
+-- what holds of each node holds of it
+pub found_holds : (P : Site → Type 0) (plan : List Site) → All P plan → (path : List ℕ) (site : Site)
+    → found plan path ≡ Some site → P site
+found_holds P [] all path site is = absurd (cc)
+found_holds P (first ∷ plan) all path site is =
+    by (is_same first.path path) is (found_holds P plan (λ k d within. all (suc k) d (omega arith)) path site)
+  where
+    by : (b : Bool) → (if b then Some first else found plan path) ≡ Some site → (found plan path ≡ Some site → P site)
+        → P site
+    by true is others =
+        let it : first ≡ site = cc in
+        subst P it (all zero first (omega arith))
+    by false is others = others is
+
+-- each node is the one at its path, where paths differ
+own_at : (plan : List Site) (i : ℕ) → AreDistinct plan → i < length plan
+    → found plan (get_or plan i no_site).path ≡ Some (get_or plan i no_site)
+own_at [] i distinct within = absurd (omega arith)
+own_at (first ∷ plan) zero distinct within =
+    ap (λ b. if b then Some first else found plan first.path) (nat_list_eq_equiv.refl first.path)
+own_at (first ∷ plan) (suc i) distinct within =
+    let own : List ℕ = (get_or plan i no_site).path in
+    let other : is_same first.path own ≡ false = false_from_ne_true (is_same first.path own) (λ same.
+    let e : 0 ≡ suc i = distinct 0 (suc i) (omega arith) (omega arith) ((bytes_decides first.path own).0 same) in
+    absurd (omega arith)) in
+    let behind : AreDistinct plan = λ j k hj hk same.
+    let e : suc j ≡ suc k = distinct (suc j) (suc k) (omega arith) (omega arith) same in omega arith in
+    ap (λ b. if b then Some first else found plan own) other ∙ own_at plan i behind (omega arith)
+
+pub each_is_found : (plan : List Site) → AreDistinct plan → All (λ site. found plan site.path ≡ Some site) plan
+each_is_found plan distinct k d within =
+    subst (λ site. found plan site.path ≡ Some site) (get_or_default plan k no_site d within) (own_at plan k distinct within)
+
+-- ---- records
+
+looked_up : {X : Type 0} (f : Site → X) (plan : List Site) (path : List ℕ)
+    → lookup (λ key. is_same key path) (map (λ site. (site.path, f site)) plan) ≡ option_map f (found plan path)
+looked_up f [] path = refl
+looked_up f (site ∷ plan) path = by (is_same site.path path) (looked_up f plan path)
+  where
+    by : (b : Bool)
+        → lookup (λ key. is_same key path) (map (λ site. (site.path, f site)) plan) ≡ option_map f (found plan path)
+        → (if b then Some (f site) else lookup (λ key. is_same key path) (map (λ site. (site.path, f site)) plan))
+        ≡ option_map f (if b then Some site else found plan path)
+    by true rest = refl
+    by false rest = rest
+
+abbrev pub record_of : (Site → NodeRecord) → Option Site → NodeRecord
+record_of f site = unwrap_or (option_map f site) no_record
+
+-- the record after a step, and before the start
+pub record_of_step : (plan : List Site) (world : World) (path : List ℕ)
+    → record_at (micro plan world) path
+    ≡ record_of (λ site. record_after plan world site (transition plan world site)) (found plan path)
+record_of_step plan world path =
+    ap (λ r. unwrap_or r no_record) (looked_up (λ site. record_after plan world site (transition plan world site)) plan path)
+
+pub record_of_start : (plan : List Site) (path : List ℕ)
+    → record_at (initial_world plan) path ≡ record_of (λ site. initial_record site.head) (found plan path)
+record_of_start plan path = ap (λ r. unwrap_or r no_record) (looked_up (λ site. initial_record site.head) plan path)
+
+-- what holds of the records at a path, and of one that is put there, holds of the record behind
+pub with_record_holds : (P : List ℕ → NodeRecord → Type 0) (nodes : List (List ℕ × NodeRecord)) (path : List ℕ)
+    (r : NodeRecord) → P path r → (at : List ℕ)
+    → P at (unwrap_or (lookup (λ key. is_same key at) nodes) no_record)
+    → P at (unwrap_or (lookup (λ key. is_same key at)
+    (map (λ entry. (entry.0, if is_same entry.0 path then r else entry.1)) nodes)) no_record)
+with_record_holds P [] path r new at before = before
+with_record_holds P (entry ∷ nodes) path r new at before =
+    by (is_same entry.0 at) refl before (with_record_holds P nodes path r new at)
+  where
+    Behind : Type 0
+    Behind = P at (unwrap_or (lookup (λ key. is_same key at)
+        (map (λ entry. (entry.0, if is_same entry.0 path then r else entry.1)) nodes)) no_record)
+
+    here : (c : Bool) → is_same entry.0 path ≡ c → entry.0 ≡ at → P at entry.1 → P at (if c then r else entry.1)
+    here true same is old = subst (λ q. P q r) (sym ((bytes_decides entry.0 path).0 same) ∙ is) new
+    here false other is old = old
+
+    by : (b : Bool) → is_same entry.0 at ≡ b
+        → P at (unwrap_or (if b then Some entry.1 else lookup (λ key. is_same key at) nodes) no_record)
+        → (P at (unwrap_or (lookup (λ key. is_same key at) nodes) no_record) → Behind)
+        → P at (unwrap_or (if b then Some (if is_same entry.0 path then r else entry.1)
+        else lookup (λ key. is_same key at) (map (λ entry. (entry.0, if is_same entry.0 path then r else entry.1)) nodes)) no_record)
+    by true same before others = here (is_same entry.0 path) refl ((bytes_decides entry.0 at).0 same) before
+    by false other before others = others before

@@ -1,0 +1,166 @@
+-- A micro step keeps the types of cells and of kept values.
+use Rattle.std.proofs.Common.{◌≡◌, ℕ, zero, suc, Bool, true, false, ◌&&◌, List, [], ◌∷◌, map, slice_index_or, Option, Some, None, refl, ap, sym, ◌∙◌, subst, arith, if◌then◌else◌}
+use Rattle.std.specs.List.{All, zip}
+use Rattle.std.specs.Option.{ForSome, unwrap_or, option_and_then}
+use Rattle.std.specs.Cmp.Lexicographic.{bytes_decides}
+use Rattle.px_value.specs.declared.value.Value.{Value}
+use Rattle.px_core.specs.Fit.{AreDistinct}
+use Rattle.px_core.specs.Plan.{Site, no_site, is_same, site_at}
+use Rattle.px_sem.specs.declared.guards.Arrival.{Arrival}
+use Rattle.px_sem.specs.World.{World, NodeRecord, record_at, variable_at}
+use Rattle.px_sem.specs.Conflicts.{transition}
+use Rattle.px_sem.specs.Effects.{Write, effects_of, initial_values, write_to, written}
+use Rattle.px_sem.specs.Step.{micro, record_after, initializes, step_writes}
+use Rattle.px_typing.specs.Typing.{InitialsSuit, KeptSuits, IsTyped}
+use Rattle.px_typing.proofs.Effects.{WriteSuits, effects_suit, effects_keep}
+use Rattle.px_typing.proofs.Records.{found, found_path, found_holds, each_is_found, record_of, record_of_step}
+use Rattle.px_typing.proofs.Variables.{named, named_so, HoldsSuiting, Keeps, initial_values_suit, changed_suit, written_suits}
+
+-- ---- the writes of a step
+
+-- what a node writes in a step
+abbrev own_write : List Site → World → Site → Option Write
+own_write plan world site =
+    option_and_then (λ arrival. (effects_of plan world site arrival).write) (transition plan world site)
+
+own_write_suits : (plan : List Site) (world : World) → IsTyped plan world → (site : Site)
+    → found plan site.path ≡ Some site → ForSome (own_write plan world site) (WriteSuits plan)
+own_write_suits plan world typed site own write = by (transition plan world site)
+  where
+    kept : KeptSuits plan site.head.body (record_at world site.path).action
+    kept = subst (λ s. KeptSuits plan (unwrap_or s no_site).head.body (record_at world site.path).action) own
+        (typed.kept site.path)
+
+    by : (arrival : Option Arrival)
+        → option_and_then (λ arrival. (effects_of plan world site arrival).write) arrival ≡ Some write
+        → WriteSuits plan write
+    by None is = absurd (cc)
+    by (Some arrival) is = effects_suit plan world site arrival kept write is
+
+-- a write to a variable is one of these
+record IsFound (plan : List Site) (owner name : List ℕ) (write : Write) : Type 0 where
+  owner_is : write.owner ≡ owner
+  name_is : write.name ≡ name
+  suits : WriteSuits plan write
+
+write_is_found : (plan : List Site) (writes : Site → Option Write) (sites : List Site)
+    → All (λ site. ForSome (writes site) (WriteSuits plan)) sites
+    → (owner name : List ℕ) (write : Write) → write_to owner name (map writes sites) ≡ Some write
+    → IsFound plan owner name write
+write_is_found plan writes [] all owner name write is = absurd (cc)
+write_is_found plan writes (site ∷ sites) all owner name write is =
+    by (writes site) (all zero site (omega arith)) is
+    (write_is_found plan writes sites (λ k d within. all (suc k) d (omega arith)) owner name write)
+  where
+    Later : Type 0
+    Later = write_to owner name (map writes sites) ≡ Some write → IsFound plan owner name write
+
+    test : (w : Write) → WriteSuits plan w → (a : Bool) → is_same w.owner owner ≡ a → (b : Bool) → is_same w.name name ≡ b
+        → (if a && b then Some w else write_to owner name (map writes sites)) ≡ Some write → Later
+        → IsFound plan owner name write
+    test w suits true owner_is true name_is is later =
+        let it : w ≡ write = cc in
+        subst (IsFound plan owner name) it (record {
+          owner_is = (bytes_decides w.owner owner).0 owner_is;
+          name_is = (bytes_decides w.name name).0 name_is;
+          suits = suits;
+        })
+    test w suits true owner_is false name_is is later = later is
+    test w suits false owner_is b name_is is later = later is
+
+    by : (own : Option Write) → ForSome own (WriteSuits plan) → write_to owner name (own ∷ map writes sites) ≡ Some write
+        → Later → IsFound plan owner name write
+    by None suits is later = later is
+    by (Some w) suits is later = test w (suits w refl) (is_same w.owner owner) refl (is_same w.name name) refl is later
+
+-- ---- the variables of a node
+
+-- what a node's variables hold after a step
+abbrev holds_after : List Site → World → Site → Bool → List (List Value)
+holds_after plan world site b =
+    if b then map initial_values site.head.variables
+    else map (λ variable. written variable.1 (write_to site.path variable.0.name (step_writes plan world)))
+    (zip site.head.variables (record_at world site.path).variables)
+
+step_holds : (plan : List Site) (world : World) → AreDistinct plan → All InitialsSuit plan → IsTyped plan world
+    → (site : Site) → found plan site.path ≡ Some site → (name : List ℕ) (b : Bool)
+    → HoldsSuiting site.head.variables name (holds_after plan world site b)
+step_holds plan world distinct initials typed site own name true =
+    initial_values_suit site.head.variables name (found_holds InitialsSuit plan initials site.path site own)
+step_holds plan world distinct initials typed site own name false =
+    changed_suit (λ variable. written variable.1 (write_to site.path variable.0.name (step_writes plan world)))
+    site.head.variables (record_at world site.path).variables name
+    (subst (λ s. HoldsSuiting (unwrap_or s no_site).head.variables name (record_at world site.path).variables) own
+    (typed.cells site.path name))
+    keeps
+  where
+    all_suit : All (λ other. ForSome (own_write plan world other) (WriteSuits plan)) plan
+    all_suit k d within = own_write_suits plan world typed (slice_index_or plan k d) (each_is_found plan distinct k d within)
+
+    keeps : ForSome (named site.head.variables name)
+        (Keeps (λ variable. written variable.1 (write_to site.path variable.0.name (step_writes plan world))))
+    keeps variable is cells suit =
+        written_suits variable.kind cells (write_to site.path variable.name (step_writes plan world)) suit
+        (λ write written_is.
+        let it : IsFound plan site.path variable.name write =
+        write_is_found plan (own_write plan world) plan all_suit site.path variable.name write written_is in
+        it.suits variable
+        (ap (λ owner. variable_at plan owner write.name) it.owner_is
+        ∙ ap (variable_at plan site.path) (it.name_is ∙ named_so site.head.variables name variable is)
+        ∙ ap (λ s. named (unwrap_or s no_site).head.variables name) own
+        ∙ is))
+
+-- ---- the records
+
+step_cells : (plan : List Site) (world : World) → AreDistinct plan → All InitialsSuit plan → IsTyped plan world
+    → (owner name : List ℕ)
+    → HoldsSuiting (site_at plan owner).head.variables name (record_at (micro plan world) owner).variables
+step_cells plan world distinct initials typed owner name =
+    subst (λ r. HoldsSuiting (site_at plan owner).head.variables name r.variables) (sym (record_of_step plan world owner))
+    (by (found plan owner) refl)
+  where
+    after : Site → NodeRecord
+    after site = record_after plan world site (transition plan world site)
+
+    moved : (site : Site) → found plan site.path ≡ Some site → (arrival : Option Arrival)
+        → HoldsSuiting site.head.variables name (record_after plan world site arrival).variables
+    moved site own None = step_holds plan world distinct initials typed site own name false
+    moved site own (Some arrival) =
+        step_holds plan world distinct initials typed site own name
+        (initializes (record_at world site.path) (Some arrival))
+
+    by : (s : Option Site) → found plan owner ≡ s
+        → HoldsSuiting (unwrap_or s no_site).head.variables name (record_of after s).variables
+    by None is = λ variable has. absurd (cc)
+    by (Some site) is =
+        moved site (ap (found plan) (found_path plan owner site is) ∙ is) (transition plan world site)
+
+step_keeps : (plan : List Site) (world : World) → IsTyped plan world → (path : List ℕ)
+    → KeptSuits plan (site_at plan path).head.body (record_at (micro plan world) path).action
+step_keeps plan world typed path =
+    subst (λ r. KeptSuits plan (site_at plan path).head.body r.action) (sym (record_of_step plan world path))
+    (by (found plan path) refl)
+  where
+    after : Site → NodeRecord
+    after site = record_after plan world site (transition plan world site)
+
+    moved : (site : Site) → KeptSuits plan site.head.body (record_at world site.path).action → (arrival : Option Arrival)
+        → KeptSuits plan site.head.body (record_after plan world site arrival).action
+    moved site kept None = kept
+    moved site kept (Some arrival) = effects_keep plan world site arrival typed.cells kept
+
+    by : (s : Option Site) → found plan path ≡ s
+        → KeptSuits plan (unwrap_or s no_site).head.body (record_of after s).action
+    by None is = tt
+    by (Some site) is =
+        let own : found plan site.path ≡ Some site = ap (found plan) (found_path plan path site is) ∙ is in
+        moved site
+        (subst (λ s. KeptSuits plan (unwrap_or s no_site).head.body (record_at world site.path).action) own (typed.kept site.path))
+        (transition plan world site)
+
+pub step_typed : (plan : List Site) (world : World) → AreDistinct plan → All InitialsSuit plan → IsTyped plan world
+    → IsTyped plan (micro plan world)
+step_typed plan world distinct initials typed = record {
+  cells = step_cells plan world distinct initials typed;
+  kept = step_keeps plan world typed;
+}
