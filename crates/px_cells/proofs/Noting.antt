@@ -1,5 +1,5 @@
 -- Which cells keep an old value.
-use Rattle.std.proofs.Common.{◌≡◌, ◌≢◌, ℕ, ◌+◌, ◌<◌, ◌≤◌, Bool, true, false, ◌||◌, nat_eq, List, [], ◌∷◌, ◌++◌, length, set, get_or, slice_get, drop, Option, Some, None, is_some, refl, ap, sym, ◌∙◌, inl, inr, Contains, AllPairs, if◌then◌else◌}
+use Rattle.std.proofs.Common.{◌≡◌, ◌≢◌, ℕ, ◌+◌, ◌*◌, ◌^◌, ◌<◌, ◌≤◌, Fits, w64, arith, Bool, true, false, ◌||◌, nat_eq, List, [], ◌∷◌, ◌++◌, length, set, get_or, slice_get, drop, Option, Some, None, is_some, refl, ap, sym, ◌∙◌, inl, inr, Contains, AllPairs, if◌then◌else◌}
 use Rattle.std.specs.List.{list_any}
 use Rattle.std.proofs.lemmas.Bool.{eqb-true, eq-eqb, cases_lt, cases_Bool}
 use Rattle.std.proofs.lemmas.Bool.Decides.{eqb_tells}
@@ -7,142 +7,151 @@ use Rattle.std.proofs.lemmas.List.{get_or-set_same, get_or-set_other, get_or_pas
 use Rattle.std.proofs.lemmas.List.Folds.{list_any-append, list_any_at}
 use Rattle.std.proofs.lemmas.List.Quantifiers.{all_pairs_push}
 use Rattle.std.proofs.lemmas.Map.Views.{Contains-from_any}
-use Rattle.px_value.specs.declared.value.Value.{Value}
+use Rattle.std.proofs.Math.Nat.{mul-le-mul_right}
 use Rattle.px_cells.specs.Marks.{AreNoted, NoneKept, at_mark}
 use Rattle.px_cells.proofs.Marking.{at_mark-back, at_mark-slice}
 
--- a cell that keeps an old value is one of the cells
-pub kept_within : (olds : List (Option Value)) (at : ℕ) → is_some (get_or olds at None) ≡ true → at < length olds
-kept_within olds at kept = elim (cases_lt at (length olds)) [
-  | inl within ↦ within
-  | inr past ↦ absurd (cc (sym kept ∙ ap is_some (get_or_past olds at None past)))
-]
+module _ {T : Type 0} where
+  -- a cell that keeps an old value is one of the cells
+  pub kept_within : (olds : List (Option T)) (at : ℕ) → is_some (get_or olds at None) ≡ true → at < length olds
+  kept_within olds at kept = elim (cases_lt at (length olds)) [
+    | inl within ↦ within
+    | inr past ↦ absurd (cc (sym kept ∙ ap is_some (get_or_past olds at None past)))
+  ]
 
--- a changed cell keeps an old value
-pub changed_kept : (olds : List (Option Value)) (changed : List ℕ) (k d : ℕ) → AreNoted olds changed → k < length changed
-    → is_some (get_or olds (get_or changed k d) None) ≡ true
-changed_kept olds changed k d noted within =
-    noted (get_or changed k d)
-    ∙ list_any_at (nat_eq (get_or changed k d)) changed k d within (eq-eqb (get_or changed k d) (get_or changed k d) refl)
+  -- a changed cell keeps an old value
+  pub changed_kept : (olds : List (Option T)) (changed : List ℕ) (k d : ℕ) → AreNoted olds changed → k < length changed
+      → is_some (get_or olds (get_or changed k d) None) ≡ true
+  changed_kept olds changed k d noted within =
+      noted (get_or changed k d)
+      ∙ list_any_at (nat_eq (get_or changed k d)) changed k d within (eq-eqb (get_or changed k d) (get_or changed k d) refl)
 
-pub changed_within : (olds : List (Option Value)) (changed : List ℕ) (k d : ℕ) → AreNoted olds changed
-    → k < length changed → get_or changed k d < length olds
-changed_within olds changed k d noted within =
-    kept_within olds (get_or changed k d) (changed_kept olds changed k d noted within)
+  pub changed_within : (olds : List (Option T)) (changed : List ℕ) (k d : ℕ) → AreNoted olds changed
+      → k < length changed → get_or changed k d < length olds
+  changed_within olds changed k d noted within =
+      kept_within olds (get_or changed k d) (changed_kept olds changed k d noted within)
 
--- what is among no changed cells keeps no old value
-pub other_kept : (olds : List (Option Value)) (changed : List ℕ) (at : ℕ) → AreNoted olds changed
-    → (Contains changed at → ⊥) → is_some (get_or olds at None) ≡ false
-other_kept olds changed at noted other = elim (cases_Bool (list_any (nat_eq at) changed)) [
-  | inl is ↦ absurd (other (Contains-from_any eqb-true at changed is))
-  | inr is ↦ noted at ∙ is
-]
+  -- so far from the first lies what stands at a changed number, where all have room together
+  pub offset_fits : (olds : List (Option T)) (changed : List ℕ) (k size : ℕ) → AreNoted olds changed → k < length changed
+      → (count : ℕ) → length olds ≡ count → count * size < 2 ^ 63 → Fits w64 (get_or changed k 0 * size)
+  offset_fits olds changed k size noted within count many room =
+      let there : get_or changed k 0 < length olds = changed_within olds changed k 0 noted within in
+      let near : get_or changed k 0 ≤ count = omega (arith, there, many) in
+      omega (arith, mul-le-mul_right size near, room)
 
--- a cell is noted as it keeps its value
-pub noted_first : (olds : List (Option Value)) (changed : List ℕ) (at : ℕ) (value : Value) → AreNoted olds changed
-    → at < length olds → AreNoted (set olds at (Some value)) (changed ++ at ∷ [])
-noted_first olds changed at value noted within k = elim (eqb_tells k at) [
-  | inl same ↦
-      ap (λ n. is_some (get_or (set olds at (Some value)) n None)) same.1
-      ∙ ap is_some (get_or-set_same olds at (Some value) None within)
-      ∙ sym (last true same.0)
-  | inr other ↦
-      ap is_some (get_or-set_other olds at k (Some value) None other.1) ∙ noted k ∙ sym (last false other.0)
-]
-  where
-    is_or : (a b : Bool) → (a || (b || false)) ≡ (if b then true else a)
-    is_or true true = refl
-    is_or true false = refl
-    is_or false true = refl
-    is_or false false = refl
+  -- what is among no changed cells keeps no old value
+  pub other_kept : (olds : List (Option T)) (changed : List ℕ) (at : ℕ) → AreNoted olds changed
+      → (Contains changed at → ⊥) → is_some (get_or olds at None) ≡ false
+  other_kept olds changed at noted other = elim (cases_Bool (list_any (nat_eq at) changed)) [
+    | inl is ↦ absurd (other (Contains-from_any eqb-true at changed is))
+    | inr is ↦ noted at ∙ is
+  ]
 
-    last : (answer : Bool) → nat_eq k at ≡ answer
-        → list_any (nat_eq k) (changed ++ at ∷ []) ≡ (if answer then true else list_any (nat_eq k) changed)
-    last answer is =
-        list_any-append (nat_eq k) changed (at ∷ []) ∙ is_or (list_any (nat_eq k) changed) (nat_eq k at)
-        ∙ ap (λ b. if b then true else list_any (nat_eq k) changed) is
+  -- a cell is noted as it keeps its value
+  pub noted_first : (olds : List (Option T)) (changed : List ℕ) (at : ℕ) (value : T) → AreNoted olds changed
+      → at < length olds → AreNoted (set olds at (Some value)) (changed ++ at ∷ [])
+  noted_first olds changed at value noted within k = elim (eqb_tells k at) [
+    | inl same ↦
+        ap (λ n. is_some (get_or (set olds at (Some value)) n None)) same.1
+        ∙ ap is_some (get_or-set_same olds at (Some value) None within)
+        ∙ sym (last true same.0)
+    | inr other ↦
+        ap is_some (get_or-set_other olds at k (Some value) None other.1) ∙ noted k ∙ sym (last false other.0)
+  ]
+    where
+      is_or : (a b : Bool) → (a || (b || false)) ≡ (if b then true else a)
+      is_or true true = refl
+      is_or true false = refl
+      is_or false true = refl
+      is_or false false = refl
 
--- each cell once
-pub once_first : (olds : List (Option Value)) (changed : List ℕ) (at : ℕ) → AreNoted olds changed
-    → is_some (get_or olds at None) ≡ false
-    → AllPairs (λ a b. a ≢ b) changed → AllPairs (λ a b. a ≢ b) (changed ++ at ∷ [])
-once_first olds changed at noted none once =
-    all_pairs_push (λ a b. a ≢ b) changed at once (λ k d within same.
-    absurd (cc (sym none ∙ ap (λ n. is_some (get_or olds n None)) (sym same) ∙ changed_kept olds changed k d noted within)))
+      last : (answer : Bool) → nat_eq k at ≡ answer
+          → list_any (nat_eq k) (changed ++ at ∷ []) ≡ (if answer then true else list_any (nat_eq k) changed)
+      last answer is =
+          list_any-append (nat_eq k) changed (at ∷ []) ∙ is_or (list_any (nat_eq k) changed) (nat_eq k at)
+          ∙ ap (λ b. if b then true else list_any (nat_eq k) changed) is
 
--- ---- going over the changed cells, each of which gives its old value up
+  -- each cell once
+  pub once_first : (olds : List (Option T)) (changed : List ℕ) (at : ℕ) → AreNoted olds changed
+      → is_some (get_or olds at None) ≡ false
+      → AllPairs (λ a b. a ≢ b) changed → AllPairs (λ a b. a ≢ b) (changed ++ at ∷ [])
+  once_first olds changed at noted none once =
+      all_pairs_push (λ a b. a ≢ b) changed at once (λ k d within same.
+      absurd (cc (sym none ∙ ap (λ n. is_some (get_or olds n None)) (sym same) ∙ changed_kept olds changed k d noted within)))
 
--- what keeps an old value still stands behind
-abbrev pub AreLeft : List (Option Value) → List ℕ → ℕ → Type 0
-AreLeft olds changed i =
-    (at : ℕ) → is_some (get_or olds at None) ≡ true → list_any (nat_eq at) (drop i changed) ≡ true
+  -- ---- going over the changed cells, each of which gives its old value up
 
-pub left_first : (olds : List (Option Value)) (changed : List ℕ) → AreNoted olds changed → AreLeft olds changed 0
-left_first olds changed noted at kept = sym (noted at) ∙ kept
+  -- what keeps an old value still stands behind
+  abbrev pub AreLeft : List (Option T) → List ℕ → ℕ → Type 0
+  AreLeft olds changed i =
+      (at : ℕ) → is_some (get_or olds at None) ≡ true → list_any (nat_eq at) (drop i changed) ≡ true
 
-pub left_next : (olds : List (Option Value)) (changed : List ℕ) (i d : ℕ) → i < length changed
-    → get_or changed i d < length olds → AreLeft olds changed i
-    → AreLeft (set olds (get_or changed i d) None) changed (i + 1)
-left_next olds changed i d within there left k kept = elim (eqb_tells k (get_or changed i d)) [
-  | inl same ↦
-      absurd (cc (sym kept ∙ ap (λ n. is_some (get_or (set olds (get_or changed i d) None) n None)) same.1
-      ∙ ap is_some (get_or-set_same olds (get_or changed i d) None None there)))
-  | inr other ↦
-      let before : list_any (nat_eq k) (drop i changed) ≡ true =
-      left k (sym (ap is_some (get_or-set_other olds (get_or changed i d) k None None other.1)) ∙ kept) in
-      sym (ap (λ b. b || list_any (nat_eq k) (drop (i + 1) changed)) other.0)
-      ∙ sym (ap (list_any (nat_eq k)) (drop_more changed i d within)) ∙ before
-]
+  pub left_first : (olds : List (Option T)) (changed : List ℕ) → AreNoted olds changed → AreLeft olds changed 0
+  left_first olds changed noted at kept = sym (noted at) ∙ kept
 
-pub left_none : (olds : List (Option Value)) (changed : List ℕ) (i : ℕ) → length changed ≤ i → AreLeft olds changed i
-    → NoneKept olds
-left_none olds changed i past left at = elim (cases_Bool (is_some (get_or olds at None))) [
-  | inl is ↦ absurd (cc (sym (left at is) ∙ ap (list_any (nat_eq at)) (drop_all i changed past)))
-  | inr is ↦ is
-]
+  pub left_next : (olds : List (Option T)) (changed : List ℕ) (i d : ℕ) → i < length changed
+      → get_or changed i d < length olds → AreLeft olds changed i
+      → AreLeft (set olds (get_or changed i d) None) changed (i + 1)
+  left_next olds changed i d within there left k kept = elim (eqb_tells k (get_or changed i d)) [
+    | inl same ↦
+        absurd (cc (sym kept ∙ ap (λ n. is_some (get_or (set olds (get_or changed i d) None) n None)) same.1
+        ∙ ap is_some (get_or-set_same olds (get_or changed i d) None None there)))
+    | inr other ↦
+        let before : list_any (nat_eq k) (drop i changed) ≡ true =
+        left k (sym (ap is_some (get_or-set_other olds (get_or changed i d) k None None other.1)) ∙ kept) in
+        sym (ap (λ b. b || list_any (nat_eq k) (drop (i + 1) changed)) other.0)
+        ∙ sym (ap (list_any (nat_eq k)) (drop_more changed i d within)) ∙ before
+  ]
 
--- the first cells have gone back
-pub record GoesBack (kept : List (Option Value)) (before : List Value) (changed : List ℕ) (i : ℕ)
-    (olds : List (Option Value)) (values : List Value) : Type 0 where
-  pub same : at_mark olds values ≡ at_mark kept before
-  pub sized : length olds ≡ length values
-  pub as_many : length values ≡ length before
-  pub left : AreLeft olds changed i
+  pub left_none : (olds : List (Option T)) (changed : List ℕ) (i : ℕ) → length changed ≤ i → AreLeft olds changed i
+      → NoneKept olds
+  left_none olds changed i past left at = elim (cases_Bool (is_some (get_or olds at None))) [
+    | inl is ↦ absurd (cc (sym (left at is) ∙ ap (list_any (nat_eq at)) (drop_all i changed past)))
+    | inr is ↦ is
+  ]
 
--- one cell more has gone back to the old value that it keeps
-pub back_to_old : (kept : List (Option Value)) (before : List Value) (changed : List ℕ) (i d : ℕ)
-    (olds : List (Option Value)) (values : List Value) (old : Value)
-    → GoesBack kept before changed i olds values → i < length changed → get_or changed i d < length olds
-    → get_or olds (get_or changed i d) None ≡ Some old
-    → GoesBack kept before changed (i + 1) (set olds (get_or changed i d) None) (set values (get_or changed i d) old)
-back_to_old kept before changed i d olds values old back within there is =
-    let at : ℕ = get_or changed i d in
-    record {
-      same = at_mark-back olds values at old is ∙ back.same;
-      sized = length-set olds at None ∙ back.sized ∙ sym (length-set values at old);
-      as_many = length-set values at old ∙ back.as_many;
-      left = left_next olds changed i d within there back.left;
-    }
+  -- the first cells have gone back
+  pub record GoesBack (kept : List (Option T)) (before : List T) (changed : List ℕ) (i : ℕ)
+      (olds : List (Option T)) (values : List T) : Type 0 where
+    pub same : at_mark olds values ≡ at_mark kept before
+    pub sized : length olds ≡ length values
+    pub as_many : length values ≡ length before
+    pub left : AreLeft olds changed i
 
--- one cell more keeps no old value
-pub back_to_none : (kept : List (Option Value)) (before : List Value) (changed : List ℕ) (i d : ℕ)
-    (olds : List (Option Value)) (values : List Value)
-    → GoesBack kept before changed i olds values → i < length changed → get_or changed i d < length olds
-    → get_or olds (get_or changed i d) None ≡ None
-    → GoesBack kept before changed (i + 1) (set olds (get_or changed i d) None) values
-back_to_none kept before changed i d olds values back within there is =
-    let at : ℕ = get_or changed i d in
-    let stays : set olds at None ≡ olds = sym (ap (set olds at) is) ∙ set-get_or olds at None in
-    record {
-      same = ap (λ olds. at_mark olds values) stays ∙ back.same;
-      sized = ap length stays ∙ back.sized;
-      as_many = back.as_many;
-      left = left_next olds changed i d within there back.left;
-    }
+  -- one cell more has gone back to the old value that it keeps
+  pub back_to_old : (kept : List (Option T)) (before : List T) (changed : List ℕ) (i d : ℕ)
+      (olds : List (Option T)) (values : List T) (old : T)
+      → GoesBack kept before changed i olds values → i < length changed → get_or changed i d < length olds
+      → get_or olds (get_or changed i d) None ≡ Some old
+      → GoesBack kept before changed (i + 1) (set olds (get_or changed i d) None) (set values (get_or changed i d) old)
+  back_to_old kept before changed i d olds values old back within there is =
+      let at : ℕ = get_or changed i d in
+      record {
+        same = at_mark-back olds values at old is ∙ back.same;
+        sized = length-set olds at None ∙ back.sized ∙ sym (length-set values at old);
+        as_many = length-set values at old ∙ back.as_many;
+        left = left_next olds changed i d within there back.left;
+      }
 
--- a cell that is not among the changed ones has the value of the mark
-pub others_same : (olds : List (Option Value)) (values : List Value) (changed : List ℕ) (at : ℕ)
-    → length olds ≡ length values → AreNoted olds changed → (Contains changed at → ⊥)
-    → slice_get values at ≡ slice_get (at_mark olds values) at
-others_same olds values changed at sized noted other =
-    at_mark-slice olds values at sized (other_kept olds changed at noted other)
+  -- one cell more keeps no old value
+  pub back_to_none : (kept : List (Option T)) (before : List T) (changed : List ℕ) (i d : ℕ)
+      (olds : List (Option T)) (values : List T)
+      → GoesBack kept before changed i olds values → i < length changed → get_or changed i d < length olds
+      → get_or olds (get_or changed i d) None ≡ None
+      → GoesBack kept before changed (i + 1) (set olds (get_or changed i d) None) values
+  back_to_none kept before changed i d olds values back within there is =
+      let at : ℕ = get_or changed i d in
+      let stays : set olds at None ≡ olds = sym (ap (set olds at) is) ∙ set-get_or olds at None in
+      record {
+        same = ap (λ olds. at_mark olds values) stays ∙ back.same;
+        sized = ap length stays ∙ back.sized;
+        as_many = back.as_many;
+        left = left_next olds changed i d within there back.left;
+      }
+
+  -- a cell that is not among the changed ones has the value of the mark
+  pub others_same : (olds : List (Option T)) (values : List T) (changed : List ℕ) (at : ℕ)
+      → length olds ≡ length values → AreNoted olds changed → (Contains changed at → ⊥)
+      → slice_get values at ≡ slice_get (at_mark olds values) at
+  others_same olds values changed at sized noted other =
+      at_mark-slice olds values at sized (other_kept olds changed at noted other)

@@ -1,23 +1,24 @@
--- How cells keep the values of the mark: beside each cell that was written since, the value that it had.
+-- How the values of the mark are kept: beside each value that was written since, the one that stood there.
 use Rattle.std.specs.Prelude.{◌≡◌, ◌≢◌, ◌-◌, ◌<◌, ◌^◌, false, [], length, AllPairs, Some, None, vec_len, if◌then◌else◌}
 use Rattle.std.specs.Vec.{vec_capacity}
-use Rattle.px_cells.specs.declared.cells.Cells.TheInside.{Inside}
-use Rattle.px_cells.specs.Cells.{CellsData}
+use Rattle.px_cells.specs.declared.marked.Marked.TheInside.{Inside}
+use Rattle.px_cells.specs.Marked.{MarkedData}
 use Rattle.px_cells.specs.Marks.{at_mark, AreNoted}
 
-abbrev pub cells_data : Inside → CellsData
-cells_data c = record {
-  contents = record {
-    values = c.values.items;
-    marked = if c.is_marked then Some (at_mark c.olds.items c.values.items) else None;
-    changed = c.changed.items;
-  };
-  room = vec_capacity c.changed - vec_len c.changed;
-}
+module _ {T : Type 0} where
+  abbrev pub marked_data : Inside T → MarkedData T
+  marked_data m = record {
+    contents = record {
+      values = m.values.items;
+      marked = if m.is_marked then Some (at_mark m.olds.items m.values.items) else None;
+      changed = m.changed.items;
+    };
+    room = vec_capacity m.changed - vec_len m.changed;
+  }
 
-pub record IsKept (c : Inside) : Type 0 where
-  pub sized : length c.olds.items ≡ length c.values.items
-  pub small : length c.values.items < 2 ^ 32
-  pub noted : AreNoted c.olds.items c.changed.items
-  pub once : AllPairs (λ a b. a ≢ b) c.changed.items
-  pub unmarked : c.is_marked ≡ false → c.changed.items ≡ []
+  pub record IsKept (m : Inside T) : Type 0 where
+    pub sized : length m.olds.items ≡ length m.values.items
+    pub small : length m.values.items < 2 ^ 32
+    pub noted : AreNoted m.olds.items m.changed.items
+    pub once : AllPairs (λ a b. a ≢ b) m.changed.items
+    pub unmarked : m.is_marked ≡ false → m.changed.items ≡ []

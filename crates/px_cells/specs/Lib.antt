@@ -1,3 +1,4 @@
 pub mod Cells
 pub mod Keeping
+pub mod Marked
 pub mod Marks

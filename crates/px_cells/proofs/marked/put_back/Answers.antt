@@ -1,25 +1,28 @@
 use Rattle.std.proofs.Common.{◌≡◌, ◌<◌, length, get_or, Option, Some, None, arith, rules, refl, sym, ◌∙◌}
-use Rattle.px_value.specs.declared.value.Value.{Value}
 use Rattle.std.proofs.lemmas.List.{get_or_read}
-use Rattle.px_cells.proofs.Noting.{changed_within, back_to_old, back_to_none, left_none}
+use Rattle.px_cells.proofs.Noting.{changed_within, offset_fits, back_to_old, back_to_none, left_none}
 use Rattle.px_cells.proofs.Marking.{at_mark-none}
-use Rattle.px_cells.proofs.cells.put_back.Goals as goal
-use Rattle.px_cells.proofs.cells.put_back.Goals.{in-Some+in-Text-1, in-Some+in-Unknown-1, in_default}
+use Rattle.px_cells.proofs.marked.put_back.Goals as goal
+use Rattle.px_cells.proofs.marked.put_back.Goals.{in-Some, in_default}
 
-none_from : (o : Option Value) → ((x : Value) → o ≡ Some x → ⊥) → o ≡ None
+none_from : {T : Type 0} (o : Option T) → ((x : T) → o ≡ Some x → ⊥) → o ≡ None
 none_from None other = refl
 none_from (Some x) other = absurd (other x refl)
 
 pub bounds-olds-at : goal.bounds-olds-at
-bounds-olds-at c =
+bounds-olds-at g c =
     omega (
       arith,
       c.loop-at.auto.olds,
       changed_within c.args.olds.now c.args.changed.now c.loop-at.at-index 0 c.requires.noted c.loop-at-test.true,
     )
 
+pub offset_bounds-olds-at : goal.offset_bounds-olds-at
+offset_bounds-olds-at g c = offset_fits c.args.olds.now c.args.changed.now c.loop-at.at-index _ c.requires.noted c.loop-at-test.true
+    (length c.args.olds.now) refl c.well_formed.1.0.1
+
 pub bounds-values-at : goal.bounds-values-at
-bounds-values-at c =
+bounds-values-at g c =
     omega (
       arith,
       c.loop-at.auto.values,
@@ -27,8 +30,12 @@ bounds-values-at c =
       changed_within c.args.olds.now c.args.changed.now c.loop-at.at-index 0 c.requires.noted c.loop-at-test.true,
     )
 
+pub offset_bounds-values-at : goal.offset_bounds-values-at
+offset_bounds-values-at g c = offset_fits c.args.olds.now c.args.changed.now c.loop-at.at-index _ c.requires.noted c.loop-at-test.true
+    (length c.args.values.now) c.requires.sized c.well_formed.0.1
+
 pub loop-at-preserved : goal.loop-at-preserved
-loop-at-preserved c =
+loop-at-preserved g c =
     let changed = c.args.changed.now in
     let i = c.loop-at.at-index in
     let olds = c.loop-at.olds in
@@ -38,11 +45,7 @@ loop-at-preserved c =
     get_or_read olds (get_or changed i 0) c.index-olds-at.result within c.index-olds-at.is None in
     let gone : c.take.new.self ≡ None = search rules in
     rw gone (elim c.match-take.branch [
-      | in-Some+in-Text-1 w ↦
-          let is : get_or olds (get_or changed i 0) None ≡ Some w.in-Some.old = search rules in
-          rw w.values-is (back_to_old c.args.olds.now c.args.values.now changed i 0 olds c.loop-at.values w.in-Some.old
-          c.loop-at.invariant c.loop-at-test.true within is)
-      | in-Some+in-Unknown-1 w ↦
+      | in-Some w ↦
           let is : get_or olds (get_or changed i 0) None ≡ Some w.in-Some.old = search rules in
           rw w.values-is (back_to_old c.args.olds.now c.args.values.now changed i 0 olds c.loop-at.values w.in-Some.old
           c.loop-at.invariant c.loop-at-test.true within is)
@@ -54,7 +57,7 @@ loop-at-preserved c =
     ])
 
 pub returns-clause-values : goal.returns-clause-values
-returns-clause-values c =
+returns-clause-values g c =
     sym (at_mark-none c.loop-at.olds c.loop-at.values c.loop-at.invariant.sized
     (left_none c.loop-at.olds c.args.changed.now c.loop-at.at-index c.loop-at-test.false c.loop-at.invariant.left))
     ∙ c.loop-at.invariant.same

@@ -1,19 +1,19 @@
 use Rattle.std.proofs.Common.{◌≡◌, ◌<◌, ◌^◌, ◌∷◌, ◌++◌, [], length, get_or, set, Some, None, is_some, true, false, not, arith, rules, sym, ap, ◌∙◌, subst}
 use Rattle.std.proofs.lemmas.List.{length-set, get_or_read}
-use Rattle.px_cells.specs.Cells.{Contents, CellsData, written}
+use Rattle.px_cells.specs.Marked.{Contents, MarkedData, written}
 use Rattle.px_cells.proofs.Noting.{noted_first, once_first}
 use Rattle.px_cells.proofs.Writing.{held, first_write, later_write, free_write}
-use Rattle.px_cells.proofs.cells.Cells.put.Goals as goal
-use Rattle.px_cells.proofs.cells.Cells.put.Goals.{else-self-via-then-self+else-is_none, else-self-via-else-self}
+use Rattle.px_cells.proofs.marked.Marked.put.Goals as goal
+use Rattle.px_cells.proofs.marked.Marked.put.Goals.{else-self-via-then-self+else-is_none, else-self-via-else-self}
 
 pub invariant_of-self : goal.invariant_of-self
-invariant_of-self c =
+invariant_of-self g c =
     let olds = c.self.inside.olds.items in
     let values = c.self.inside.values.items in
     let changed = c.self.inside.changed.items in
     let none : is_some (get_or olds c.args.at None) ≡ false = search rules in
     let pushed : c.push.new.self.items ≡ changed ++ c.args.at ∷ [] = search rules in
-    let many : length c.args.self.now.contents.values ≡ length values = ap (λ (cells : CellsData). length cells.contents.values) (sym c.self.view_is) in
+    let many : length c.args.self.now.contents.values ≡ length values = ap (λ (m : MarkedData g.row.T.Denot). length m.contents.values) (sym c.self.view_is) in
     let within : c.args.at < length olds = omega (arith, many, c.self.invariant.sized, c.requires.within) in
     record {
       sized = length-set olds c.args.at (Some c.replace-old.result) ∙ c.self.invariant.sized
@@ -25,7 +25,7 @@ invariant_of-self c =
     }
 
 pub returns-then-is_none-clause-contents : goal.returns-then-is_none-clause-contents
-returns-then-is_none-clause-contents c =
+returns-then-is_none-clause-contents g c =
     let olds = c.self.inside.olds.items in
     let values = c.self.inside.values.items in
     let changed = c.self.inside.changed.items in
@@ -33,41 +33,41 @@ returns-then-is_none-clause-contents c =
     let pushed : c.push.new.self.items ≡ changed ++ c.args.at ∷ [] = search rules in
     let old : c.replace-old.result ≡ get_or values c.args.at c.replace-old.result = search rules in
     let new : c.replace-old.new.dest ≡ c.args.value = search rules in
-    let many : length c.args.self.now.contents.values ≡ length values = ap (λ (cells : CellsData). length cells.contents.values) (sym c.self.view_is) in
+    let many : length c.args.self.now.contents.values ≡ length values = ap (λ (m : MarkedData g.row.T.Denot). length m.contents.values) (sym c.self.view_is) in
     let within : c.args.at < length values = omega (arith, many, c.requires.within) in
     rw (pushed, new) (
-    (λ i. let contents : Contents =
+    (λ i. let contents : Contents g.row.T.Denot =
     held c.self.inside.is_marked (set olds c.args.at (Some (old i))) (set values c.args.at c.args.value) (changed ++ c.args.at ∷ [])
     in contents)
     ∙ first_write c.self.inside.is_marked olds values changed c.args.at c.args.value c.replace-old.result
     c.if-self.true c.self.invariant.noted within none
-    ∙ ap (λ (cells : CellsData). written cells.contents c.args.at c.args.value) c.self.view_is)
+    ∙ ap (λ (m : MarkedData g.row.T.Denot). written m.contents c.args.at c.args.value) c.self.view_is)
 
 pub returns-else-self-clause-contents : goal.returns-else-self-clause-contents
-returns-else-self-clause-contents c =
+returns-else-self-clause-contents g c =
     let olds = c.self.inside.olds.items in
     let values = c.self.inside.values.items in
     let changed = c.self.inside.changed.items in
     let new : c.replace-old.new.dest ≡ c.args.value = search rules in
     let many : length c.args.self.now.contents.values ≡ length values =
-    ap (λ (cells : CellsData). length cells.contents.values) (sym c.self.view_is) in
+    ap (λ (m : MarkedData g.row.T.Denot). length m.contents.values) (sym c.self.view_is) in
     let within : c.args.at < length olds = omega (arith, many, c.self.invariant.sized, c.requires.within) in
     let after : written (held c.self.inside.is_marked olds values changed) c.args.at c.args.value
     ≡ written c.args.self.now.contents c.args.at c.args.value =
-    ap (λ (cells : CellsData). written cells.contents c.args.at c.args.value) c.self.view_is in
+    ap (λ (m : MarkedData g.row.T.Denot). written m.contents c.args.at c.args.value) c.self.view_is in
     elim c.else-self.branch [
       | else-self-via-then-self+else-is_none w ↦
           let read : w.index.result.now ≡ get_or olds c.args.at None =
           get_or_read olds c.args.at w.index.result.now within w.index.ensures None in
           let kept : is_some (get_or olds c.args.at None) ≡ true =
           sym (ap is_some read) ∙ w.is_none.ensures ∙ ap not w.if-is_none.false in
-          ap (λ (cells : CellsData). cells.contents) w.self-is
+          ap (λ (m : MarkedData g.row.T.Denot). m.contents) w.self-is
           ∙ ap (λ value. held c.self.inside.is_marked olds (set values c.args.at value) changed) new
           ∙ later_write c.self.inside.is_marked olds values changed c.args.at c.args.value w.if-self.true
           c.self.invariant.noted kept
           ∙ after
       | else-self-via-else-self w ↦
-          ap (λ (cells : CellsData). cells.contents) w.self-is
+          ap (λ (m : MarkedData g.row.T.Denot). m.contents) w.self-is
           ∙ ap (λ value. held c.self.inside.is_marked olds (set values c.args.at value) changed) new
           ∙ free_write c.self.inside.is_marked olds values changed c.args.at c.args.value w.if-self.false
           ∙ after

@@ -1,5 +1,0 @@
-use Rattle.px_cells.proofs.Noting.{AreLeft}
-use Rattle.px_cells.proofs.cells.forget.Given as goal
-
-abbrev pub invariant-loop-at : goal.invariant-loop-at
-invariant-loop-at l = AreLeft l.olds l.changed l.at-index
