@@ -4,8 +4,8 @@ use Rattle.std.specs.Coded.{Coded, code_by, coded×, coded_ℕ, coded_list, code
 use Rattle.std.specs.List.{list_any}
 use Rattle.std.specs.Option.{unwrap_or}
 
--- The values, those at the mark or none where no mark stands, and the numbers of those that were written since the mark,
--- each once in the order of their first writes.
+-- The values, those at the mark or none where no mark stands, and the numbers of those that were written since the
+-- mark, each once in the order of their first writes.
 pub record Contents (T : Type 0) : Type 0 where
   pub values : List T
   pub marked : Option (List T)

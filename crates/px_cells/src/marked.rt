@@ -9,8 +9,8 @@ use std::alloc::Global;
 use std::marker::Model;
 use std::mem;
 
-/// Values by number from 0. Behind a mark the first write of each keeps its old value, so that going back costs what was
-/// written and not what there is.
+/// Values by number from 0. Behind a mark the first write of each keeps its old value, so that going back costs what
+/// was written and not what there is.
 #[derive(Debug, Drop)]
 pub struct Marked<T> {
     values: Vec<T>,

@@ -1,0 +1,153 @@
+-- Who goes first of those that want a variable, and so who stays.
+use Rattle.std.proofs.Common.{◌≡◌, ◌≢◌, ℕ, zero, suc, ◌+◌, ◌<◌, length, take, get_or, filter, Bool, true, false, not, ◌&&◌, ◌||◌, List, [], ◌∷◌, ◌++◌, Option, Some, None, refl, ap, sym, ◌∙◌, subst, arith, inl, inr, if◌then◌else◌}
+use Rattle.std.specs.Prelude.{nat_eq}
+use Rattle.std.specs.List.{list_any, All}
+use Rattle.std.proofs.lemmas.Bool.{and_parts, and_from, or_parts, or_from, or_cases, or_left, or_right, eqb-true, false_from_ne_true, false≢true}
+use Rattle.std.proofs.lemmas.Bool.Decides.{nat_tests}
+use Rattle.std.proofs.lemmas.List.Folds.{list_any-append}
+use Rattle.std.proofs.lemmas.List.{take_more}
+use Rattle.std.proofs.lemmas.List.Elements.{filter-append}
+use Rattle.px_core.specs.Plan.{Site}
+use Rattle.px_assign.specs.Conflicts.{of_variable, variable_of, writes, goes_before, is_kept_from, is_loser}
+use Rattle.px_assign.specs.Claims.{IsFirst, better, claimed, is_node, stays}
+
+-- ---- two writers, and three
+
+through : (plan : List Site) (a b c : ℕ) → goes_before plan a b ≡ true → goes_before plan b c ≡ true
+    → goes_before plan a c ≡ true
+through plan a b c ab bc = grind (arith, nat_tests)
+
+other_way : (plan : List Site) (a b : ℕ) → goes_before plan a b ≡ false → a ≢ b → goes_before plan b a ≡ true
+other_way plan a b fails apart = grind (arith, nat_tests)
+
+pub not_itself : (plan : List Site) (a : ℕ) → goes_before plan a a ≡ false
+not_itself plan a = grind (arith, nat_tests)
+
+pub same_itself : (n : ℕ) → nat_eq n n ≡ true
+same_itself n = grind (arith, nat_tests)
+
+-- ---- tests of lists
+
+none_weaker : (p q : ℕ → Bool) → ((n : ℕ) → p n ≡ true → q n ≡ true) → (ns : List ℕ) → list_any q ns ≡ false
+    → list_any p ns ≡ false
+none_weaker p q each [] h = refl
+none_weaker p q each (n ∷ ns) h =
+    let parts = or_parts (q n) (list_any q ns) h in
+    or_from (p n) (list_any p ns)
+    (false_from_ne_true (p n) (λ passes. false≢true (sym parts.0 ∙ each n passes))) (none_weaker p q each ns parts.1)
+
+pub found_among : (p : ℕ → Bool) (n : ℕ) (ns : List ℕ) → list_any (nat_eq n) ns ≡ true → p n ≡ true → list_any p ns ≡ true
+found_among p n [] h passes = h
+found_among p n (m ∷ ns) h passes = elim (or_cases (nat_eq n m) (list_any (nat_eq n) ns) h) [
+  | inl same ↦ or_left (p m) (list_any p ns) (subst (λ k. p k ≡ true) (eqb-true n m same) passes)
+  | inr later ↦ or_right (p m) (list_any p ns) (found_among p n ns later passes)
+]
+
+-- one more at the end
+any_more : (p : ℕ → Bool) (ns : List ℕ) (n : ℕ) (before now : Bool) → list_any p ns ≡ before → p n ≡ now
+    → list_any p (ns ++ n ∷ []) ≡ (before || (now || false))
+any_more p ns n before now h here = list_any-append p ns (n ∷ []) ∙ rw (h, here)
+
+-- ---- one more that wants the variable
+
+after : (plan : List Site) (variable : ℕ) (nodes : List ℕ) (node : ℕ) (first : Option ℕ) (is : Bool)
+    → writes plan variable node ≡ is → IsFirst plan variable nodes first
+    → IsFirst plan variable (nodes ++ node ∷ []) (if is then better plan node first else first)
+after plan variable nodes node None false fails first = any_more (writes plan variable) nodes node false false first fails
+after plan variable nodes node (Some other) false fails first = record {
+  among = any_more (nat_eq other) nodes node true (nat_eq other node) first.among refl;
+  writer = first.writer;
+  before = any_more (λ m. writes plan variable m && goes_before plan m other) nodes node false false first.before
+      (ap (λ w. w && goes_before plan node other) fails);
+}
+after plan variable nodes node None true passes first = record {
+  among = list_any-append (nat_eq node) nodes (node ∷ []) ∙ or_right (list_any (nat_eq node) nodes) (nat_eq node node || false) (or_left (nat_eq node node) false (same_itself node));
+  writer = passes;
+  before = any_more (λ m. writes plan variable m && goes_before plan m node) nodes node false false
+      (none_weaker (λ m. writes plan variable m && goes_before plan m node) (writes plan variable)
+      (λ m h. (and_parts (writes plan variable m) (goes_before plan m node) h).0) nodes first)
+      (rw (passes, not_itself plan node));
+}
+after plan variable nodes node (Some other) true passes first = by (goes_before plan node other) refl
+  where
+    by : (is : Bool) → goes_before plan node other ≡ is
+        → IsFirst plan variable (nodes ++ node ∷ []) (if is then Some node else Some other)
+    by true sooner = record {
+      among = list_any-append (nat_eq node) nodes (node ∷ []) ∙ or_right (list_any (nat_eq node) nodes) (nat_eq node node || false) (or_left (nat_eq node node) false (same_itself node));
+      writer = passes;
+      before = any_more (λ m. writes plan variable m && goes_before plan m node) nodes node false false
+          (none_weaker (λ m. writes plan variable m && goes_before plan m node) (λ m. writes plan variable m && goes_before plan m other)
+          (λ m h. let parts = and_parts (writes plan variable m) (goes_before plan m node) h in
+          and_from (writes plan variable m) (goes_before plan m other) parts.0 (through plan m node other parts.1 sooner)) nodes first.before)
+          (rw (passes, not_itself plan node));
+    }
+    by false later = record {
+      among = any_more (nat_eq other) nodes node true (nat_eq other node) first.among refl;
+      writer = first.writer;
+      before = any_more (λ m. writes plan variable m && goes_before plan m other) nodes node false false first.before
+          (rw (passes, later));
+    }
+
+pub one_more : (plan : List Site) (variable : ℕ) (nodes : List ℕ) (node : ℕ) (first : Option ℕ)
+    → IsFirst plan variable nodes first → IsFirst plan variable (nodes ++ node ∷ []) (claimed plan variable node first)
+one_more plan variable nodes node first is = after plan variable nodes node first (writes plan variable node) refl is
+
+-- ---- who stays
+
+first_or_kept : (plan : List Site) (variable node : ℕ) (wanting : List ℕ) (first : Option ℕ)
+    → IsFirst plan variable wanting first → list_any (nat_eq node) wanting ≡ true → writes plan variable node ≡ true
+    → not (is_node node first) ≡ list_any (λ other. writes plan variable other && goes_before plan other node) wanting
+first_or_kept plan variable node wanting None none among writer =
+    absurd (false≢true (sym none ∙ found_among (writes plan variable) node wanting among writer))
+first_or_kept plan variable node wanting (Some first) is among writer = by (nat_eq first node) refl
+  where
+    by : (same : Bool) → nat_eq first node ≡ same
+        → not same ≡ list_any (λ other. writes plan variable other && goes_before plan other node) wanting
+    by true same =
+        sym (subst (λ n. list_any (λ other. writes plan variable other && goes_before plan other n) wanting ≡ false)
+        (eqb-true first node same) is.before)
+    by false differ =
+        let later : goes_before plan node first ≡ false = false_from_ne_true (goes_before plan node first) (λ sooner.
+        false≢true (sym is.before ∙ found_among (λ other. writes plan variable other && goes_before plan other first) node wanting among
+        (and_from (writes plan variable node) (goes_before plan node first) writer sooner))) in
+        let apart : node ≢ first = λ same. false≢true (sym differ ∙ (ap (λ n. nat_eq first n) same ∙ same_itself first)) in
+        sym (found_among (λ other. writes plan variable other && goes_before plan other node) first wanting is.among
+        (and_from (writes plan variable first) (goes_before plan first node) is.writer (other_way plan node first later apart)))
+
+pub stays_as_loser : (plan : List Site) (wanting holding : List ℕ) (held : ℕ → Bool) (first : ℕ → Option ℕ) (node : ℕ)
+    → ((variable : ℕ) → held variable ≡ list_any (writes plan variable) holding)
+    → ((variable : ℕ) → IsFirst plan variable wanting (first variable))
+    → list_any (nat_eq node) wanting ≡ true
+    → stays held first node (variable_of plan node) ≡ is_loser plan wanting holding node
+stays_as_loser plan wanting holding held first node holders firsts among = by (variable_of plan node) refl
+  where
+    by : (variable : Option ℕ) → variable_of plan node ≡ variable
+        → stays held first node variable ≡ of_variable (is_kept_from plan wanting holding node) variable
+    by None is = refl
+    by (Some variable) is =
+        let writer : writes plan variable node ≡ true = ap (of_variable (nat_eq variable)) is ∙ same_itself variable in
+        rw (
+          holders variable,
+          first_or_kept plan variable node wanting (first variable) (firsts variable) among writer,
+        ) refl
+
+-- who goes first of the front of a list is a node where all of the list are
+pub first_within : (plan : List Site) (variable : ℕ) (nodes : List ℕ) (i first : ℕ) → All (λ node. node < length plan) nodes
+    → IsFirst plan variable (take i nodes) (Some first) → first < length plan
+first_within plan variable nodes i first all is = within nodes i all is.among
+  where
+    within : (nodes : List ℕ) (i : ℕ) → All (λ node. node < length plan) nodes
+        → list_any (nat_eq first) (take i nodes) ≡ true → first < length plan
+    within nodes zero all among = absurd (false≢true among)
+    within [] (suc i) all among = absurd (false≢true among)
+    within (node ∷ nodes) (suc i) all among = elim (or_cases (nat_eq first node) (list_any (nat_eq first) (take i nodes)) among) [
+      | inl same ↦ subst (λ n. n < length plan) (sym (eqb-true first node same)) (all 0 0 (omega arith))
+      | inr behind ↦ within nodes i (λ k d inside. all (suc k) d (omega arith)) behind
+    ]
+
+-- one more that was looked at stays or is no loser
+pub filter_more : (p : ℕ → Bool) (ns : List ℕ) (i : ℕ) (here : Bool) → i < length ns → p (get_or ns i 0) ≡ here
+    → filter p (take (i + 1) ns) ≡ filter p (take i ns) ++ (if here then get_or ns i 0 ∷ [] else [])
+filter_more p ns i here within is =
+    ap (filter p) (take_more ns i 0 within) ∙ filter-append p (take i ns) (get_or ns i 0 ∷ [])
+    ∙ ap (λ b. filter p (take i ns) ++ (if b then get_or ns i 0 ∷ [] else [])) is

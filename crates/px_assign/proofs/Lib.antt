@@ -1,0 +1,3 @@
+pub mod Firsts
+pub mod Ties
+pub mod Variables
