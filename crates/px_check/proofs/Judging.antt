@@ -1,0 +1,127 @@
+-- What expressions are at fault for, noted part by part.
+use Rattle.std.proofs.Common.{◌≡◌, ℕ, suc, ◌+◌, ◌<◌, ◌≤◌, Bool, not, ◌&&◌, List, [], ◌∷◌, ◌++◌, map, drop, length, get_or}
+use Rattle.std.proofs.Common.{Option, refl, sym, ap, ◌∙◌, if◌then◌else◌}
+use Rattle.std.proofs.lemmas.List.{drop-drop, drop_more, length-map}
+use Rattle.std.proofs.Math.ListN.{drop_of_length-le}
+use Rattle.px_syntax.specs.Expr.{Term, Terms, term_of, in_turn, More}
+use Rattle.px_syntax.specs.ExprFaults.{first_token, count_terms, count_faults, any_where_faulty, any_unless_allowed, answer_type, type_of, expr_faults, type_fault, alike_fault, argument_faults, parameters_of}
+use Rattle.px_syntax.specs.Fault.{Fault, fault_where}
+use Rattle.px_syntax.specs.Scope.{Scope, Global}
+use Rattle.px_syntax.specs.ValueType.{Signature, fits, differ}
+use Rattle.px_syntax.specs.declared.expr.Identifier.{Identifier}
+use Rattle.px_syntax.specs.declared.expr.SurfaceExpr.{SurfaceExpr}
+use Rattle.px_syntax.specs.declared.fault.FaultKind.TheVariants.{TypeDiffers}
+use Rattle.px_syntax.specs.declared.value_type.ValueType.{ValueType}
+use Rattle.px_syntax.specs.declared.value_type.ValueType.TheVariants.{Any}
+use Rattle.px_check.specs.Arguments.{allowed_next}
+use Rattle.px_check.specs.Found.{noted}
+use Rattle.px_check.proofs.Noting.{noted_append, noted_none, noted_then}
+
+-- an expression
+pub part_noted : (scope : Scope) (tree part : SurfaceExpr) (found new : Option Fault) → part ≡ tree
+    → new ≡ noted found (expr_faults scope (term_of part)) → new ≡ noted found (expr_faults scope (term_of tree))
+part_noted scope tree part found new part_is parts =
+    parts ∙ ap (λ tree. noted found (expr_faults scope (term_of tree))) part_is
+
+-- its type
+pub type_noted : (allowed given_allowed : List ValueType) (scope : Scope) (tree part shown : SurfaceExpr)
+    (given : ValueType) (found new : Option Fault) → part ≡ tree → shown ≡ tree → given_allowed ≡ allowed
+    → given ≡ type_of scope (term_of part)
+    → new ≡ noted found (fault_where (not (fits given_allowed given)) TypeDiffers (first_token (term_of shown)))
+    → new ≡ noted found (type_fault allowed scope (term_of tree))
+type_noted allowed given_allowed scope tree part shown given found new part_is shown_is allowed_is given_is own =
+    let type_is = given_is ∙ ap (λ tree. type_of scope (term_of tree)) part_is in
+    own ∙ (λ i. noted found
+    (fault_where (not (fits (allowed_is i) (type_is i))) TypeDiffers (first_token (term_of (shown_is i)))))
+
+-- two operands that have to be of one type
+pub alike_noted : (known given : Signature) (scope : Scope) (left left_part right right_part shown : SurfaceExpr)
+    (left_given right_given : ValueType) (found new : Option Fault)
+    → given ≡ known → left_part ≡ left → right_part ≡ right → shown ≡ right
+    → left_given ≡ type_of scope (term_of left_part) → right_given ≡ type_of scope (term_of right_part)
+    → new ≡ noted found (fault_where
+    (given.alike && differ (any_unless_allowed given.takes left_given) (any_unless_allowed given.takes right_given))
+    TypeDiffers (first_token (term_of shown)))
+    → new ≡ noted found (alike_fault known scope (term_of left) (term_of right))
+alike_noted known given scope left left_part right right_part shown left_given right_given found new known_is left_is right_is shown_is left_type right_type own =
+    let left_as = left_type ∙ ap (λ tree. type_of scope (term_of tree)) left_is in
+    let right_as = right_type ∙ ap (λ tree. type_of scope (term_of tree)) right_is in
+    own ∙ (λ i. noted found (fault_where
+    ((known_is i).alike && differ (any_unless_allowed (known_is i).takes (left_as i))
+    (any_unless_allowed (known_is i).takes (right_as i)))
+    TypeDiffers (first_token (term_of (shown_is i)))))
+
+-- ---- arguments
+
+count_in_turn : (terms : List Term) → count_terms (in_turn terms) ≡ length terms
+count_in_turn [] = refl
+count_in_turn (term ∷ terms) = ap suc (count_in_turn terms)
+
+pub counted_args : (args : List SurfaceExpr) (count : ℕ) → count ≡ length args
+    → count ≡ count_terms (in_turn (map term_of args))
+counted_args args count is = is ∙ sym (length-map args term_of) ∙ sym (count_in_turn (map term_of args))
+
+argument_step : (scope : Scope) (parameters : List ValueType) (first : Term) (rest : Terms)
+    → argument_faults scope parameters (More first rest)
+    ≡ expr_faults scope first ++ type_fault (allowed_next parameters) scope first
+    ++ argument_faults scope (drop 1 parameters) rest
+argument_step scope [] first rest = refl
+argument_step scope (parameter ∷ parameters) first rest = refl
+
+-- an argument more
+pub argument_noted : (scope : Scope) (args : List SurfaceExpr) (parameters : List ValueType) (place : ℕ) (arg : SurfaceExpr)
+    (allowed : List ValueType) (given : ValueType) (found between new : Option Fault)
+    → place < length args → arg ≡ get_or args place arg → allowed ≡ allowed_next (drop place parameters)
+    → given ≡ type_of scope (term_of arg) → between ≡ noted found (expr_faults scope (term_of arg))
+    → new ≡ noted between (fault_where (not (fits allowed given)) TypeDiffers (first_token (term_of arg)))
+    → noted new (argument_faults scope (drop (place + 1) parameters) (in_turn (map term_of (drop (place + 1) args))))
+    ≡ noted found (argument_faults scope (drop place parameters) (in_turn (map term_of (drop place args))))
+argument_noted scope args parameters place arg allowed given found between new within arg_is allowed_is given_is parts own =
+    let next = drop place parameters in
+    let rest = drop (place + 1) args in
+    let cut : drop place args ≡ arg ∷ rest =
+    drop_more args place arg within ∙ ap (λ first. first ∷ rest) (sym arg_is) in
+    let further : drop (place + 1) parameters ≡ drop 1 next = sym (drop-drop 1 place parameters) in
+    let typed = noted_then found between new (expr_faults scope (term_of arg)) (type_fault (allowed_next next) scope (term_of arg))
+    parts (type_noted (allowed_next next) allowed scope arg arg arg given between new refl refl allowed_is given_is own) in
+    (λ i. noted (typed i) (argument_faults scope (further i) (in_turn (map term_of rest))))
+    ∙ sym (noted_append found (expr_faults scope (term_of arg) ++ type_fault (allowed_next next) scope (term_of arg))
+    (argument_faults scope (drop 1 next) (in_turn (map term_of rest))))
+    ∙ ap (noted found) (sym (argument_step scope next (term_of arg) (in_turn (map term_of rest))))
+    ∙ ap (λ left. noted found (argument_faults scope next (in_turn (map term_of left)))) (sym cut)
+
+-- no arguments are left
+pub arguments_done : (scope : Scope) (args : List SurfaceExpr) (parameters : List ValueType) (place : ℕ)
+    (found : Option Fault) → length args ≤ place
+    → found ≡ noted found (argument_faults scope (drop place parameters) (in_turn (map term_of (drop place args))))
+arguments_done scope args parameters place found past =
+    sym (noted_none found)
+    ∙ ap (λ left. noted found (argument_faults scope (drop place parameters) (in_turn (map term_of left))))
+    (sym (drop_of_length-le args past))
+
+-- ---- lookups
+
+pub look_noted : (scope : Scope) (name : Identifier) (args items : List SurfaceExpr) (declared known : Option Global)
+    (parameters : List ValueType) (count : ℕ) (found between new : Option Fault)
+    → known ≡ declared → count ≡ length args → items ≡ args → parameters ≡ parameters_of known
+    → between ≡ noted found (count_faults known name count)
+    → new ≡ noted between (argument_faults scope parameters (in_turn (map term_of items)))
+    → new ≡ noted found (count_faults declared name (count_terms (in_turn (map term_of args)))
+    ++ argument_faults scope (parameters_of declared) (in_turn (map term_of args)))
+look_noted scope name args items declared known parameters count found between new known_is count_is items_is parameters_is first second =
+    let counted = counted_args args count count_is in
+    let types = parameters_is ∙ ap parameters_of known_is in
+    noted_then found between new (count_faults declared name (count_terms (in_turn (map term_of args))))
+    (argument_faults scope (parameters_of declared) (in_turn (map term_of args)))
+    (first ∙ (λ i. noted found (count_faults (known_is i) name (counted i))))
+    (second ∙ (λ i. noted between (argument_faults scope (types i) (in_turn (map term_of (items_is i))))))
+
+pub look_type : (name : Identifier) (args : List SurfaceExpr) (declared known : Option Global) (count : ℕ)
+    (is_right : Bool) (given : ValueType) → known ≡ declared → count ≡ length args
+    → ((own : ValueType) → any_where_faulty (count_faults known name count) own ≡ (if is_right then own else Any))
+    → given ≡ (if is_right then answer_type known else Any)
+    → given ≡ any_where_faulty (count_faults declared name (count_terms (in_turn (map term_of args)))) (answer_type declared)
+look_type name args declared known count is_right given known_is count_is right given_is =
+    let counted = counted_args args count count_is in
+    given_is ∙ sym (right (answer_type known))
+    ∙ (λ i. any_where_faulty (count_faults (known_is i) name (counted i)) (answer_type (known_is i)))

@@ -1,0 +1,16 @@
+pub mod Scoping
+pub mod Noting
+pub mod Naming
+pub mod Calling
+pub mod Places
+pub mod Terms
+pub mod Judging
+pub mod Walking
+pub mod ItemWalks
+pub mod Acting
+pub mod Repeating
+pub mod Trees
+pub mod Seeing
+pub mod Blocks
+pub mod Declaring
+pub mod Firsts

@@ -1,0 +1,161 @@
+-- What names mean by the kept names and by the definitions is the same.
+use Rattle.std.proofs.Common.{◌≡◌, ℕ, ◌-◌, Bool, true, false, cond, List, [], ◌∷◌, ◌++◌, map, length, drop, find, flat_map}
+use Rattle.std.proofs.Common.{Option, Some, None, option_map, refl, sym, ap, ◌∙◌, arith, append_assoc, length-append}
+use Rattle.std.specs.Str.{bytes_eq}
+use Rattle.std.proofs.lemmas.List.{map-append}
+use Rattle.std.proofs.lemmas.Grind.{flat_map-append}
+use Rattle.std.proofs.Math.Seq.{drop-append_seam}
+use Rattle.px_syntax.specs.Plan.{DeclarationData, declaration_data}
+use Rattle.px_syntax.specs.Scope.{Global, Head, Node, is_named, searched, declared}
+use Rattle.px_syntax.specs.declared.plan.Declaration.{Declaration}
+use Rattle.px_check.specs.Globals.{callable_data, callables_data, by_name}
+use Rattle.px_check.specs.Nodes.{named_head, named_heads, names_of}
+use Rattle.px_check.specs.Scope.{visibles, type_seen}
+use Rattle.px_check.specs.Scoped.{meaning_of, IsOver}
+use Rattle.px_check.specs.declared.globals.Callable.{Callable}
+use Rattle.px_check.specs.declared.scope.VariableType.{VariableType}
+
+-- ---- lists
+
+pub find_mapped : {X Y Z : Type 0} (p : Y → Bool) (f : X → Y) (g : Y → Z) (xs : List X)
+    → option_map g (find p (map f xs)) ≡ option_map (λ x. g (f x)) (find (λ x. p (f x)) xs)
+find_mapped p f g [] = refl
+find_mapped {X} {Y} {Z} p f g (x ∷ xs) = by (p (f x)) (find_mapped p f g xs)
+  where
+    by : (passes : Bool) → option_map g (find p (map f xs)) ≡ option_map (λ x. g (f x)) (find (λ x. p (f x)) xs)
+        → option_map g (cond passes (Some (f x)) (find p (map f xs)))
+        ≡ option_map (λ x. g (f x)) (cond passes (Some x) (find (λ x. p (f x)) xs))
+    by true rest = refl
+    by false rest = rest
+
+twice_mapped : {X Y Z : Type 0} (f : Y → Z) (g : X → Y) (o : Option X)
+    → option_map f (option_map g o) ≡ option_map (λ x. f (g x)) o
+twice_mapped f g None = refl
+twice_mapped f g (Some x) = refl
+
+same_mapped : {X : Type 0} (o : Option X) → option_map (λ x. x) o ≡ o
+same_mapped None = refl
+same_mapped (Some x) = refl
+
+-- what stands before a list again is dropped again
+pub dropped_over : {X : Type 0} (xs ys : List X) → drop (length (xs ++ ys) - length ys) (xs ++ ys) ≡ ys
+dropped_over xs ys =
+    let count : length (xs ++ ys) - length ys ≡ length xs = omega (arith, length-append xs ys) in
+    ap (λ n. drop n (xs ++ ys)) count ∙ drop-append_seam xs ys
+
+pub over_more : {T : Type 0} (one : List ℕ × T) (named more : List (List ℕ × T)) → IsOver (one ∷ named) more
+    → IsOver named more
+over_more one named more over = (over.0 ++ one ∷ [], over.1 ∙ sym (append_assoc over.0 (one ∷ []) named))
+
+-- ---- variables
+
+pub variable_meant : (name : List ℕ) (named : List (List ℕ × VariableType))
+    → meaning_of name named ≡ option_map type_seen (find (λ variable. bytes_eq name variable.name) (visibles named))
+variable_meant name named =
+    sym (find_mapped (λ variable. bytes_eq name variable.name)
+    (λ (one : List ℕ × VariableType). record { name = one.0; of_type = one.1.of_type; is_array = one.1.is_array })
+    type_seen named)
+
+-- ---- nodes
+
+head_by : (name label : List ℕ) (is_command same : Bool) (rest : List (List ℕ × Bool)) (heads : List Head)
+    → meaning_of name rest ≡ option_map (λ head. head.is_command) (find (is_named name) heads)
+    → option_map (λ (one : List ℕ × Bool). one.1)
+    (cond same (Some (label, is_command)) (find (λ one. bytes_eq name one.0) rest))
+    ≡ option_map (λ (head : Head). head.is_command)
+    (cond same (Some (record { label = Some label; is_command = is_command })) (find (is_named name) heads))
+head_by name label is_command true rest heads is = refl
+head_by name label is_command false rest heads is = is
+
+head_before : (name : List ℕ) (label : Option (List ℕ)) (is_command : Bool) (heads : List Head)
+    → meaning_of name (named_heads heads) ≡ option_map (λ head. head.is_command) (find (is_named name) heads)
+    → meaning_of name (named_heads (record { label = label; is_command = is_command } ∷ heads))
+    ≡ option_map (λ head. head.is_command) (find (is_named name) (record { label = label; is_command = is_command } ∷ heads))
+head_before name None is_command heads is = is
+head_before name (Some label) is_command heads is =
+    head_by name label is_command (bytes_eq name label) (named_heads heads) heads is
+
+pub head_meant : (name : List ℕ) (heads : List Head)
+    → meaning_of name (named_heads heads) ≡ option_map (λ head. head.is_command) (find (is_named name) heads)
+head_meant name [] = refl
+head_meant name (head ∷ heads) = head_before name head.label head.is_command heads (head_meant name heads)
+
+-- a node more
+pub names_more : (node : Node) (around : List Node)
+    → named_heads (node.children ++ node.head ∷ []) ++ names_of around ≡ names_of (node ∷ around)
+names_more node around = sym (flat_map-append named_head (node.children ++ node.head ∷ []) (searched around))
+
+-- the names of the nodes round one are left where its own are gone
+pub names_left : (names : List (List ℕ × Bool)) (node : Node) (around : List Node) (outer : ℕ)
+    → names ≡ names_of (node ∷ around)
+    → outer ≡ length names - length (named_heads (node.children ++ node.head ∷ []))
+    → drop (length names - outer) names ≡ names_of around
+names_left names node around outer is outer_is =
+    let inner = named_heads (node.children ++ node.head ∷ []) in
+    let rest = names_of around in
+    let whole : names ≡ inner ++ rest = is ∙ sym (names_more node around) in
+    let counts : outer ≡ length rest = omega (arith, ap length whole, length-append inner rest) in
+    (λ i. drop (length (whole i) - counts i) (whole i)) ∙ dropped_over inner rest
+
+-- so many names without those of a node and its children
+pub without_own : (children : List Head) (head : Head) (names : List (List ℕ × Bool)) (label : Option (List ℕ))
+    (all rest : ℕ) → head.label ≡ label → names ≡ named_heads children → rest ≡ all - length names
+    → rest - length (named_heads (record { label = label; is_command = head.is_command } ∷ []))
+    ≡ all - length (named_heads (children ++ head ∷ []))
+without_own children head names label all rest label_is names_is rest_is =
+    let own : List Head = head ∷ [] in
+    let same : length (named_heads (record { label = label; is_command = head.is_command } ∷ [])) ≡ length (named_heads own) =
+    ap (λ label. length (named_heads (record { label = label; is_command = head.is_command } ∷ []))) (sym label_is) in
+    omega (
+      arith,
+      same,
+      ap length names_is,
+      ap length (flat_map-append named_head children own),
+      length-append (named_heads children) (named_heads own),
+    )
+
+pub without_none : (children : List Head) (head : Head) (names : List (List ℕ × Bool)) (all rest : ℕ)
+    → head.label ≡ None → names ≡ named_heads children → rest ≡ all - length names
+    → rest ≡ all - length (named_heads (children ++ head ∷ []))
+without_none children head names all rest label_is names_is rest_is =
+    let own = without_own children head names None all rest label_is names_is rest_is in
+    omega (arith, own)
+
+-- ---- declarations
+
+pub callable_meant : (name : List ℕ) (named : List (List ℕ × Callable)) (globals : List Global)
+    → callables_data named ≡ by_name globals
+    → option_map callable_data (meaning_of name named) ≡ declared globals name
+callable_meant name named globals is =
+    twice_mapped callable_data (λ (one : List ℕ × Callable). one.1) (find (λ one. bytes_eq name one.0) named)
+    ∙ sym (find_mapped (λ one. bytes_eq name one.0) (λ (one : List ℕ × Callable). (one.0, callable_data one.1))
+    (λ one. one.1) named)
+    ∙ ap (meaning_of name) is
+    ∙ find_mapped (λ one. bytes_eq name one.0) (λ (known : Global). (known.name.name, known)) (λ one. one.1) globals
+    ∙ same_mapped (declared globals name)
+
+-- a declaration more, before the others, of either sort
+pub global_more : (sort : DeclarationData → List Global) (others : List Declaration) (first : Declaration)
+    (named : List (List ℕ × Global))
+    → by_name (flat_map sort (map declaration_data (others ++ first ∷ []))) ++ named
+    ≡ by_name (flat_map sort (map declaration_data others)) ++ (by_name (flat_map sort (declaration_data first ∷ [])) ++ named)
+global_more sort others first named =
+    let before = map declaration_data others in
+    let last = declaration_data first ∷ [] in
+    ap (λ declarations. by_name (flat_map sort declarations) ++ named) (map-append declaration_data others (first ∷ []))
+    ∙ ap (λ globals. by_name globals ++ named) (flat_map-append sort before last)
+    ∙ ap (λ globals. globals ++ named)
+    (map-append (λ (known : Global). (known.name.name, known)) (flat_map sort before) (flat_map sort last))
+    ∙ append_assoc (by_name (flat_map sort before)) (by_name (flat_map sort last)) named
+
+-- the invariant of the walk from the last declaration to the first: what is found, behind what the rest declares
+pub globals_more : (sort : DeclarationData → List Global) (all : List Global) (rest others : List Declaration)
+    (first : Declaration) (named more : List (List ℕ × Global)) → rest ≡ others ++ first ∷ []
+    → more ≡ by_name (flat_map sort (declaration_data first ∷ [])) ++ named
+    → by_name (flat_map sort (map declaration_data rest)) ++ named ≡ by_name all
+    → by_name (flat_map sort (map declaration_data others)) ++ more ≡ by_name all
+globals_more sort all rest others first named more split more_is invariant =
+    ap (λ more. by_name (flat_map sort (map declaration_data others)) ++ more) more_is
+    ∙ sym (global_more sort others first named)
+    ∙ ap (λ rest. by_name (flat_map sort (map declaration_data rest)) ++ named) (sym split)
+    ∙ invariant

@@ -1,0 +1,50 @@
+-- Names that stand twice, noted one after another.
+use Rattle.std.proofs.Common.{◌≡◌, ℕ, ◌+◌, ◌<◌, Bool, true, false, cond, ◌||◌, List, [], ◌∷◌, map, drop, length, get_or, find}
+use Rattle.std.proofs.Common.{Option, Some, is_some, option_map, bytes_eq, refl, sym, ap, ◌∙◌}
+use Rattle.std.specs.Borrow.{Bor}
+use Rattle.std.specs.List.{list_any}
+use Rattle.px_syntax.specs.BlockFaults.{repeated}
+use Rattle.px_syntax.specs.Fault.{Fault, fault_where}
+use Rattle.px_syntax.specs.declared.expr.Identifier.{Identifier}
+use Rattle.px_syntax.specs.declared.fault.FaultKind.TheVariants.{Redeclared}
+use Rattle.px_check.specs.Found.{noted}
+use Rattle.px_check.specs.Repeats.{spots}
+use Rattle.px_check.specs.Scoped.{meaning_of}
+use Rattle.px_check.proofs.Noting.{noted_append}
+use Rattle.px_check.proofs.Walking.{cut_at}
+
+-- a name is there where it is one of the names
+pub name_again : (name : List ℕ) (before : List (List ℕ × Unit {0}))
+    → is_some (meaning_of name before) ≡ list_any (bytes_eq name) (map (λ one. one.0) before)
+name_again name [] = refl
+name_again name (one ∷ before) = by (bytes_eq name one.0) (name_again name before)
+  where
+    by : (same : Bool) → is_some (meaning_of name before) ≡ list_any (bytes_eq name) (map (λ one. one.0) before)
+        → is_some (option_map (λ (one : List ℕ × Unit {0}). one.1) (cond same (Some one) (find (λ one. bytes_eq name one.0) before)))
+        ≡ (same || list_any (bytes_eq name) (map (λ one. one.0) before))
+    by true rest = refl
+    by false rest = rest
+
+-- one identifier more
+pub name_walked : (identifiers : List (Bor Identifier)) (place : ℕ) (identifier : Bor Identifier)
+    (before more : List (List ℕ × Unit {0})) (is_again : Bool) (found new : Option Fault)
+    → place < length identifiers → identifier ≡ get_or identifiers place identifier
+    → is_again ≡ list_any (bytes_eq identifier.now.name) (map (λ one. one.0) before)
+    → new ≡ noted found (fault_where is_again Redeclared identifier.now.token)
+    → more ≡ (identifier.now.name, tt) ∷ before
+    → noted new (repeated bytes_eq Redeclared (map (λ one. one.0) more)
+    (spots (map (λ one. one.now) (drop (place + 1) identifiers))))
+    ≡ noted found (repeated bytes_eq Redeclared (map (λ one. one.0) before)
+    (spots (map (λ one. one.now) (drop place identifiers))))
+name_walked identifiers place identifier before more is_again found new within is again own more_is =
+    let rest = spots (map (λ (one : Bor Identifier). one.now) (drop (place + 1) identifiers)) in
+    let name = identifier.now.name in
+    let first = fault_where (list_any (bytes_eq name) (map (λ (one : List ℕ × Unit {0}). one.0) before)) Redeclared
+    identifier.now.token in
+    let later = repeated bytes_eq Redeclared (name ∷ map (λ (one : List ℕ × Unit {0}). one.0) before) rest in
+    (λ i. noted ((own ∙ ap (λ again. noted found (fault_where again Redeclared identifier.now.token)) again) i)
+    (repeated bytes_eq Redeclared (map (λ (one : List ℕ × Unit {0}). one.0) (more_is i)) rest))
+    ∙ sym (noted_append found first later)
+    ∙ ap (λ (left : List (Bor Identifier)). noted found (repeated bytes_eq Redeclared
+    (map (λ (one : List ℕ × Unit {0}). one.0) before) (spots (map (λ (one : Bor Identifier). one.now) left))))
+    (sym (cut_at identifiers place identifier within is))

@@ -1,0 +1,11 @@
+pub mod Found
+pub mod Scoped
+pub mod Nodes
+pub mod Globals
+pub mod Scope
+pub mod Types
+pub mod Arguments
+pub mod Once
+pub mod Repeats
+pub mod Cells
+pub mod Checked

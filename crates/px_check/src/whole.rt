@@ -1,0 +1,60 @@
+// The check of a whole plan.
+ghost use Rattle.std.specs.Prelude.{◌≡◌, [], OnOk, IfErr};
+ghost use Rattle.px_syntax.specs.Block.{block_of};
+ghost use Rattle.px_syntax.specs.BlockFaults.{block_faults};
+ghost use Rattle.px_syntax.specs.Plan.{plan_of};
+ghost use Rattle.px_syntax.specs.PlanFaults.{faults, outermost, block_cells, passing_fault};
+ghost use Rattle.px_check.specs.Checked.{IsFirst, all_faults};
+ghost use Rattle.px_check.specs.Found.{noted};
+
+use crate::cells::CellCount;
+use crate::declarations::note_declarations;
+use crate::found::Found;
+use crate::globals::Globals;
+use crate::scope::Scope;
+use px_syntax::{Block, CheckFault, Surface};
+use px_value::NoMemory;
+use std::alloc::Global;
+
+/// Looks for what a plan's tree is at fault for.
+///
+/// An Err names the first fault by its token, and of several at one token that of the least kind, exactly where there is
+/// one; or memory has run out.
+pub fn check(alloc: Global, tree: &Surface) -> Result<(), CheckFault>
+    ensures ok { OnOk result (faults (plan_of tree.now) ≡ []) }
+    ensures fault { IfErr result (IsFirst (faults (plan_of tree.now))) }
+{
+    let mut found = Found::new();
+    note_tree(alloc, tree, &mut found)?;
+    match found.first() {
+        None => Ok(()),
+        Some(spot) => Err(spot.kind.at(spot.token)),
+    }
+}
+
+// Notes what a tree is at fault for.
+fn note_tree(alloc: Global, tree: &Surface, found: &mut Found) -> Result<(), NoMemory>
+    ensures { OnOk result (found.new ≡ noted found.old (all_faults (plan_of tree.now))) }
+{
+    note_declarations(alloc, &tree.declarations, found)?;
+    note_blocks(alloc, tree, found)?;
+    note_cells(&tree.root, found);
+    Ok(())
+}
+
+fn note_blocks(alloc: Global, tree: &Surface, found: &mut Found) -> Result<(), NoMemory>
+    ensures { OnOk result (found.new ≡ noted found.old
+        (block_faults (outermost (plan_of tree.now)) (plan_of tree.now).label (plan_of tree.now).root)) }
+{
+    let globals = Globals::new(alloc, &tree.declarations)?;
+    let mut scope = Scope::outermost(alloc, globals);
+    scope.block(alloc, &tree.label, &tree.root, found)
+}
+
+fn note_cells(root: &Block, found: &mut Found)
+    ensures { found.new ≡ noted found.old (passing_fault 0 (block_cells (block_of root.now))) }
+{
+    let mut cells = CellCount::new();
+    cells.block(root);
+    cells.note(found);
+}
