@@ -263,3 +263,15 @@ fn a_plan_of_4096_blocks_and_64_levels_runs(rt: HostRuntime) -> Result<(), Fail>
     }
     Ok(())
 }
+
+// The text is gathered, and emitted where at least 64 KiB of it stand ready: the second emit has the next piece.
+#[test]
+fn a_long_text_is_emitted_in_large_pieces(rt: HostRuntime) -> Result<(), Fail> {
+    let alloc = rt.alloc();
+    let files = vec![in alloc; file(alloc, "P", deep_plan(alloc, 100)?.as_bytes())?]?;
+    let host = host_with(alloc, &[], &[2], usize::MAX, files)?;
+    let (answered, emitted) = outcome(alloc, &["trace-start", "P"], host)?;
+    assert_eq!(rt; answered, 8);
+    assert!(rt; (65_536..131_072).contains(&emitted.len()));
+    Ok(())
+}

@@ -11,8 +11,6 @@ mod node;
 mod opening;
 mod operation;
 mod primary;
-#[cfg(test)]
-mod tests;
 pub mod token;
 
 pub use argument::{parse_arguments, parse_closed};

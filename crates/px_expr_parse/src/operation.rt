@@ -31,21 +31,6 @@ pub fn parse_expr(
     ensures read { IfOk result (λ read. IsRead 0 tokens.now from (term_of read.0) read.1) }
     ensures refused { IfErr result (λ fault. IsRefused 0 tokens.now from fault) }
 {
-    whole(alloc, tokens, from)
-}
-
-/// The same, however deep the tokens are.
-pub(crate) fn whole(
-    alloc: Global,
-    tokens: &[Token],
-    from: usize,
-) -> Result<(SurfaceExpr, usize), ParseFault>
-    requires { from ≤ length tokens.now }
-    ensures ok { IfOk result (λ read. IsExpression tokens.now from (term_of read.0) read.1) }
-    ensures fault { IfErr result (λ fault. IsNoExpression tokens.now from fault) }
-    ensures read { IfOk result (λ read. IsRead 0 tokens.now from (term_of read.0) read.1) }
-    ensures refused { IfErr result (λ fault. IsRefused 0 tokens.now from fault) }
-{
     let (tree, end) = operation(alloc, tokens, from, 0)?;
     if is_sign(tokens, end, Sign::OpenBracket) || is_sign(tokens, end, Sign::Dot) {
         return Err(ParseFault::SyntaxFault { token: end });

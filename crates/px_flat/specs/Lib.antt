@@ -1,4 +1,3 @@
-pub mod Example
 pub mod Extents
 pub mod FitPlan
 pub mod Flat

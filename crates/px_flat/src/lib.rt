@@ -23,8 +23,6 @@ mod numbered;
 mod numbering;
 mod row;
 mod slots;
-#[cfg(test)]
-mod tests;
 
 pub use act::{Abort, Act};
 pub use flat::Flat;

@@ -119,8 +119,9 @@ impl Walk {
     }
 }
 
-/// The first token that is too deep, if there is one.
-pub(crate) fn first_too_deep(tokens: &[Token]) -> Option<usize>
+/// The first token that is too deep: an opening bracket before which 64 are open, or the 65th operator of a statement. None
+/// exactly where there is none, which `parse_expr` asks for.
+pub fn first_too_deep(tokens: &[Token]) -> Option<usize>
     ensures { MatchOption result (too_deep tokens.now ≡ []) (λ token. IsFirstTooDeep tokens.now token) }
 {
     let mut walk = Walk {

@@ -19,8 +19,7 @@ mod named;
 mod number;
 mod plan;
 mod start;
-#[cfg(test)]
-mod tests;
 mod variable;
 
+pub use depth::first_too_deep;
 pub use plan::parse;

@@ -1,8 +1,9 @@
 // Expressions with all their parentheses and the numbers of their tokens, and the places of faults.
 mod show;
 
-use crate::operation::{parse_expr, whole};
+use px_expr_parse::parse_expr;
 use px_lex::lex;
+use px_plan_parse::first_too_deep;
 use px_syntax::ParseFault;
 use show::{numbered, show};
 use std::alloc::Global;
@@ -281,7 +282,10 @@ fn parsed(rt: &impl Abort, alloc: Global, text: &str, from: usize) -> Result<Str
     let tokens = lex(alloc, text)?;
     assert!(rt; from <= tokens.len());
     let mut out = String::new(alloc);
-    match whole(alloc, &tokens, from) {
+    if let Some(token) = first_too_deep(&tokens) {
+        return Ok(format!(in alloc; "deep {token}")?);
+    }
+    match parse_expr(alloc, &tokens, from) {
         Ok((tree, end)) => {
             show(alloc, &tree, &mut out)?;
             out.push_str(format!(in alloc; " {end}")?.as_str())?;
@@ -289,10 +293,7 @@ fn parsed(rt: &impl Abort, alloc: Global, text: &str, from: usize) -> Result<Str
         Err(ParseFault::SyntaxFault { token }) => {
             out.push_str(format!(in alloc; "fault {token}")?.as_str())?;
         }
-        Err(ParseFault::Deep { token }) => {
-            out.push_str(format!(in alloc; "deep {token}")?.as_str())?;
-        }
-        Err(ParseFault::NoMemory) => out.push_str("no memory")?,
+        Err(_) => out.push_str("no memory")?,
     }
     Ok(out)
 }
@@ -400,9 +401,17 @@ fn around(
     Ok(out)
 }
 
+fn is_too_deep(rt: &impl Abort, alloc: Global, text: &str, deep: &str) -> Result<(), Fail> {
+    let read = parsed(rt, alloc, text, 0)?;
+    assert_eq!(rt; read.as_str(), deep);
+    Ok(())
+}
+
 #[test]
-fn sixty_four_pairs_of_parentheses_and_one_more_are_read(rt: HostRuntime) -> Result<(), Fail> {
-    for (times, tree) in [(64, "x@64 129"), (65, "x@65 131")] {
+fn sixty_four_pairs_of_parentheses_are_read_and_one_more_is_too_deep(
+    rt: HostRuntime,
+) -> Result<(), Fail> {
+    for (times, tree) in [(64, "x@64 129"), (65, "deep 64")] {
         let text = around(rt.alloc(), "(", "x", ")", times)?;
         let read = parsed(&rt, rt.alloc(), text.as_str(), 0)?;
         assert_eq!(rt; read.as_str(), tree);
@@ -411,56 +420,56 @@ fn sixty_four_pairs_of_parentheses_and_one_more_are_read(rt: HostRuntime) -> Res
 }
 
 #[test]
-fn sixty_four_sums_and_one_more_group_to_the_left(rt: HostRuntime) -> Result<(), Fail> {
-    for (times, end) in [(64, " 129"), (65, " 131")] {
-        let text = around(rt.alloc(), "", "x", "+x", times)?;
-        let mut tree = around(rt.alloc(), "(", "x@0", "", times)?;
-        for sum in 0..times {
-            numbered(rt.alloc(), "+x", 2 * sum + 2, &mut tree)?;
-            tree.push_str(")")?;
-        }
-        tree.push_str(end)?;
-        let read = parsed(&rt, rt.alloc(), text.as_str(), 0)?;
-        assert_eq!(rt; read.as_str(), tree.as_str());
+fn sixty_four_sums_group_to_the_left_and_one_more_is_too_deep(rt: HostRuntime) -> Result<(), Fail> {
+    let deeper = around(rt.alloc(), "", "x", "+x", 65)?;
+    is_too_deep(&rt, rt.alloc(), deeper.as_str(), "deep 129")?;
+    let text = around(rt.alloc(), "", "x", "+x", 64)?;
+    let mut tree = around(rt.alloc(), "(", "x@0", "", 64)?;
+    for sum in 0..64 {
+        numbered(rt.alloc(), "+x", 2 * sum + 2, &mut tree)?;
+        tree.push_str(")")?;
     }
+    tree.push_str(" 129")?;
+    let read = parsed(&rt, rt.alloc(), text.as_str(), 0)?;
+    assert_eq!(rt; read.as_str(), tree.as_str());
     Ok(())
 }
 
 #[test]
-fn sixty_four_operators_before_an_operand_and_one_more_are_read(
+fn sixty_four_operators_before_an_operand_are_read_and_one_more_is_too_deep(
     rt: HostRuntime,
 ) -> Result<(), Fail> {
-    for (times, operand, end) in [(64, "x@64", " 65"), (65, "x@65", " 66")] {
-        let text = around(rt.alloc(), "-", "x", "", times)?;
-        let mut tree = String::new(rt.alloc());
-        for token in 0..times {
-            numbered(rt.alloc(), "(-", token, &mut tree)?;
-            tree.push_str(" ")?;
-        }
-        tree.push_str(operand)?;
-        repeat(&mut tree, ")", times)?;
-        tree.push_str(end)?;
-        let read = parsed(&rt, rt.alloc(), text.as_str(), 0)?;
-        assert_eq!(rt; read.as_str(), tree.as_str());
+    let deeper = around(rt.alloc(), "-", "x", "", 65)?;
+    is_too_deep(&rt, rt.alloc(), deeper.as_str(), "deep 64")?;
+    let text = around(rt.alloc(), "-", "x", "", 64)?;
+    let mut tree = String::new(rt.alloc());
+    for token in 0..64 {
+        numbered(rt.alloc(), "(-", token, &mut tree)?;
+        tree.push_str(" ")?;
     }
+    tree.push_str("x@64")?;
+    repeat(&mut tree, ")", 64)?;
+    tree.push_str(" 65")?;
+    let read = parsed(&rt, rt.alloc(), text.as_str(), 0)?;
+    assert_eq!(rt; read.as_str(), tree.as_str());
     Ok(())
 }
 
 #[test]
-fn sixty_four_indices_and_one_more_are_read(rt: HostRuntime) -> Result<(), Fail> {
-    for (times, index, end) in [(64, "x@128", " 193"), (65, "x@130", " 196")] {
-        let text = around(rt.alloc(), "a[", "x", "]", times)?;
-        let mut tree = String::new(rt.alloc());
-        for array in 0..times {
-            numbered(rt.alloc(), "a", 2 * array, &mut tree)?;
-            tree.push_str("[")?;
-        }
-        tree.push_str(index)?;
-        repeat(&mut tree, "]", times)?;
-        tree.push_str(end)?;
-        let read = parsed(&rt, rt.alloc(), text.as_str(), 0)?;
-        assert_eq!(rt; read.as_str(), tree.as_str());
+fn sixty_four_indices_are_read_and_one_more_is_too_deep(rt: HostRuntime) -> Result<(), Fail> {
+    let deeper = around(rt.alloc(), "a[", "x", "]", 65)?;
+    is_too_deep(&rt, rt.alloc(), deeper.as_str(), "deep 129")?;
+    let text = around(rt.alloc(), "a[", "x", "]", 64)?;
+    let mut tree = String::new(rt.alloc());
+    for array in 0..64 {
+        numbered(rt.alloc(), "a", 2 * array, &mut tree)?;
+        tree.push_str("[")?;
     }
+    tree.push_str("x@128")?;
+    repeat(&mut tree, "]", 64)?;
+    tree.push_str(" 193")?;
+    let read = parsed(&rt, rt.alloc(), text.as_str(), 0)?;
+    assert_eq!(rt; read.as_str(), tree.as_str());
     Ok(())
 }
 

@@ -3,8 +3,8 @@ use Rattle.std.proofs.lemmas.Result.{err_from_is_err_and}
 use Rattle.px_syntax.specs.Expr.{term_of}
 use Rattle.px_expr_parse.specs.Verdict.{GoesOn, index, attribute}
 use Rattle.px_expr_parse.proofs.Loops.{is_expression, is_followed, is_no_expression, is_refused}
-use Rattle.px_expr_parse.proofs.operation.whole.Goals as goal
-use Rattle.px_expr_parse.proofs.operation.whole.Goals.{then-is_sign-via-then-is_sign, then-is_sign-via-else-is_sign+then-is_sign-2}
+use Rattle.px_expr_parse.proofs.operation.parse_expr.Goals as goal
+use Rattle.px_expr_parse.proofs.operation.parse_expr.Goals.{then-is_sign-via-then-is_sign, then-is_sign-via-else-is_sign+then-is_sign-2}
 
 -- a test that failed
 not_true : false ≡ true → ⊥

@@ -1,8 +1,8 @@
 // Plans with the numbers of their tokens, and the places of faults.
 mod show;
 
-use crate::plan::parse;
 use px_lex::{LexFault, lex};
+use px_plan_parse::parse;
 use px_syntax::ParseFault;
 use show::show;
 use std::alloc::Global;
