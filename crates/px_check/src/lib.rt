@@ -1,4 +1,10 @@
 //! Whether a plan's tree has faults, and which is the first.
+//!
+//! `whole` has `check`, which notes the faults of a tree in one walk: `found` keeps the first of those that are noted.
+//! `declarations` looks at what stands before the root, and `globals` keeps it. `block` walks blocks with what stands in
+//! them (`heads`, `items`, `actions`, `branches`, `calls`); `scope` keeps what is visible there, variables in `scoped` and
+//! nodes in `nodes`, and `entering` goes into a block and back. `expression` judges expressions by the tables of `types`,
+//! and `token` has their first tokens. `once` and `repeats` find what is said twice, and `cells` counts declared cells.
 #![tactic(auto)]
 
 mod actions;
@@ -22,18 +28,4 @@ mod token;
 mod types;
 mod whole;
 
-pub use calls::{
-    ARGUMENT_LIMIT, allowed_at, answer_type, gives_none_of, note_count, parameters_of,
-};
-pub use cells::{CELL_LIMIT, CellCount};
-pub use declarations::note_declarations;
-pub use expression::judge;
-pub use found::Found;
-pub use globals::{Callable, Globals};
-pub use items::ELEMENT_LIMIT;
-pub use nodes::{NodeHead, Nodes, OpenNode};
-pub use once::{Once, note_repeated};
-pub use repeats::note_redeclared;
-pub use scope::{Mark, Scope, VariableType};
-pub use scoped::Scoped;
 pub use whole::check;
