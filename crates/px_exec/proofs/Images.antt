@@ -1,0 +1,91 @@
+-- What each image since some moment stands for, from one post to the next.
+use Rattle.std.proofs.Common.{◌≡◌, inl, ⊎_elim, ℕ, List, [], ◌∷◌, ◌++◌, Some, length, take, refl, sym, ◌∙◌, ap, subst, arith, append_assoc, append-nil}
+use Rattle.std.proofs.lemmas.List.{take_all}
+use Rattle.px_event.specs.declared.entry.Entry.{Entry}
+use Rattle.px_journal.specs.Crash.{WithOrWithout, LeavesOnly}
+use Rattle.px_journal.specs.Journal.{IsReady}
+use Rattle.px_journal.specs.Layout.{Stands}
+use Rattle.px_journal.specs.declared.journal.Journal.{Journal}
+use Rattle.px_journal.proofs.Moments.{grows_on, left_before_or_after}
+use Rattle.px_ports.specs.Moment.{Images, LeftSince}
+use Rattle.px_ports.specs.declared.disk.Disk
+use Rattle.px_ports.specs.declared.moment.Moment.{Moment}
+use Rattle.px_exec.specs.Crash.{AddsAtMost}
+use Rattle.px_exec.specs.Executive.{StandsWithin}
+
+-- where no moment passes, an image since then is one now
+left_now : (images : Images) (moments : List Moment) (image : List ℕ) → LeftSince images moments (length moments) image → images moments image
+left_now images moments image left = subst (λ (ms : List Moment). images ms image) (take_all (left.0) moments (left.1)) (left.3)
+
+nothing_passes : (moments : List Moment) → take (length moments) moments ≡ moments
+nothing_passes moments = take_all (length moments) moments (omega arith)
+
+-- what a ready journal leaves at a crash now
+pub ready_leaves : {D : Type 0} (members : Disk.Ghosts D) (journal : Journal D) (text told : List ℕ) (history : List Entry) (left : List ℕ → Type 0)
+    → IsReady members journal text history → members.content journal.disk ≡ Some told → ((bytes : List ℕ) → Stands bytes text history → left bytes)
+    → LeavesOnly members.images left (members.moments journal.disk) (members.moments journal.disk)
+ready_leaves members journal text told history left ready is to = record {
+  grows = nothing_passes (members.moments journal.disk);
+  each = λ image since.
+      let same : image ≡ told = ready.settled told is image (left_now members.images (members.moments journal.disk) image since) in
+      to image (subst (λ (bytes : List ℕ). Stands bytes text history) (sym same) (ready.stands told is));
+}
+
+-- a call that doesn't reach the journal
+pub adds_nothing : {D : Type 0} (members : Disk.Ghosts D) (entry : Entry) (journal : Journal D) → AddsAtMost members entry journal journal
+adds_nothing members entry journal = record {
+  whole_or_not = λ text history ready told is. ready_leaves members journal text told history (WithOrWithout text history entry) ready is (λ bytes stands. inl stands);
+  keeps = λ told is t early text front since. since;
+  moments = nothing_passes (members.moments journal.disk);
+  name = refl;
+  faults = omega arith;
+}
+
+-- a front of a history is one of a longer history
+within_longer : (text : List ℕ) (first history : List Entry) (entry : Entry) (bytes : List ℕ) → StandsWithin text first history bytes
+    → StandsWithin text first (history ++ entry ∷ []) bytes
+within_longer text first history entry bytes within = record {
+  more = within.more;
+  rest = within.rest ++ entry ∷ [];
+  front = ap (λ (h : List Entry). h ++ entry ∷ []) within.front ∙ append_assoc (first ++ within.more) within.rest (entry ∷ []);
+  stands = within.stands;
+}
+
+-- the history with an entry or without it is such a front
+either_within : (text : List ℕ) (first history since : List Entry) (entry : Entry) (bytes : List ℕ) → history ≡ first ++ since
+    → WithOrWithout text history entry bytes → StandsWithin text first (history ++ entry ∷ []) bytes
+either_within text first history since entry bytes grown = ⊎_elim
+    (λ without. record {
+      more = since;
+      rest = entry ∷ [];
+      front = ap (λ (h : List Entry). h ++ entry ∷ []) grown;
+      stands = subst (Stands bytes text) grown without;
+    })
+    (λ with.
+    let longer : history ++ entry ∷ [] ≡ first ++ (since ++ entry ∷ []) = ap (λ (h : List Entry). h ++ entry ∷ []) grown ∙ append_assoc first since (entry ∷ []) in
+    record {
+      more = since ++ entry ∷ [];
+      rest = [];
+      front = longer ∙ sym (append-nil (first ++ (since ++ entry ∷ [])));
+      stands = subst (Stands bytes text) longer with;
+    })
+
+pub within_at_once : (text : List ℕ) (history : List Entry) (bytes : List ℕ) → Stands bytes text history → StandsWithin text history history bytes
+within_at_once text history bytes stands = record {
+  more = [];
+  rest = [];
+  front = sym (append-nil (history ++ []) ∙ append-nil history);
+  stands = subst (Stands bytes text) (sym (append-nil history)) stands;
+}
+
+-- one call that adds an entry at most, behind those since the opening
+pub within_more : (images : Images) (text : List ℕ) (first history since : List Entry) (entry : Entry) (old mid new : List Moment) → history ≡ first ++ since
+    → LeavesOnly images (StandsWithin text first history) old mid → LeavesOnly images (WithOrWithout text history entry) mid new
+    → LeavesOnly images (StandsWithin text first (history ++ entry ∷ [])) old new
+within_more images text first history since entry old mid new grown before after = record {
+  grows = grows_on old mid new before.grows after.grows;
+  each = λ image left. ⊎_elim
+      (λ early. within_longer text first history entry image (before.each image early))
+      (λ late. either_within text first history since entry image grown (after.each image late))
+      (left_before_or_after images mid new (length old) image after.grows left);
+}

@@ -1,0 +1,247 @@
+-- What an executive keeps, at its opening and after each answer of a post.
+use Rattle.std.proofs.Common.{◌≡◌, ◌≤◌, ◌<◌, ◌^◌, ℕ, List, [], ◌∷◌, ◌++◌, Option, Some, None, IsSome, length, refl, sym, ◌∙◌, ap, subst, arith, append_assoc, append-nil, IsTrue, IsFalse}
+use Rattle.std.proofs.lemmas.List.{length-map, map-append, take_all}
+use Rattle.px_core.specs.Plan.{Site}
+use Rattle.px_event.specs.Fit.{is_fit_entry}
+use Rattle.px_event.specs.declared.entry.Entry.{Entry}
+use Rattle.px_event.specs.declared.reply.Reply.{Reply}
+use Rattle.px_event.specs.declared.reply.Reply.TheVariants as replies
+use Rattle.px_journal.specs.Journal.{IsReady}
+use Rattle.px_journal.specs.declared.journal.Journal.{Journal}
+use Rattle.px_journal.proofs.Moments.{grows_on, left_now}
+use Rattle.px_ports.specs.Host.{Rose}
+use Rattle.px_ports.specs.declared.disk.Disk
+use Rattle.px_sem.specs.Log.{Log, is_accepted, accepted, events_of, answer, world_after, AnswersEach}
+use Rattle.px_sem.specs.Run.{run}
+use Rattle.px_sem.specs.Stepper.{State, settled_state}
+use Rattle.px_sem.specs.declared.stepper.Stepper
+use Rattle.px_exec.specs.declared.failed.Failed.{Failed}
+use Rattle.px_exec.specs.Answers.{answer_now, logged}
+use Rattle.px_exec.specs.Crash.{AddsAtMost}
+use Rattle.px_exec.specs.Executive.{Opening, Executive, Keeps, KeepsDisk, IsOpen, IsClosed, KeepsSinceOpening, plan_of, world_of}
+use Rattle.px_exec.proofs.Growing.{accepted_more, answers_more, run_after, some_run}
+use Rattle.px_exec.proofs.Images.{ready_leaves, within_at_once, within_more}
+
+pub told_of : {T : Type 0} (o : Option T) → IsSome o → (told : T) × (o ≡ Some told)
+told_of None some = absurd (cc)
+told_of (Some told) some = (told, refl)
+
+-- the executive with other parts, of the same opening
+abbrev pub with_parts : {S D : Type 0} → Executive S D → S → Journal D → List Entry → Log → Option Failed → Executive S D
+with_parts exec stepper journal history log failed =
+    record { stepper = stepper; journal = journal; history = history; log = log; failed = failed; opening = exec.opening }
+
+-- an executive that no post has reached
+abbrev pub opened : {S D : Type 0} → S → Journal D → List Entry → Log → Opening S D → Executive S D
+opened stepper journal history log opening =
+    record { stepper = stepper; journal = journal; history = history; log = log; failed = None; opening = opening }
+
+-- the opening keeps what it was handed
+pub opening_of : {S D : Type 0} {stepper first : S} {kept journal : Journal D} {front history : List Entry} (limit : ℕ) → stepper ≡ first → kept ≡ journal → front ≡ history
+    → ◌≡◌ {A = Opening S D} (record { stepper = stepper; journal = kept; history = front; limit = limit }) (record { stepper = first; journal = journal; history = history; limit = limit })
+opening_of {S} {D} {stepper} {first} {kept} {journal} {front} {history} limit s j h =
+    ap (λ (x : S). let o : Opening S D = record { stepper = x; journal = kept; history = front; limit = limit } in o) s
+    ∙ ap (λ (x : Journal D). let o : Opening S D = record { stepper = first; journal = x; history = front; limit = limit } in o) j
+    ∙ ap (λ (x : List Entry). let o : Opening S D = record { stepper = first; journal = journal; history = x; limit = limit } in o) h
+
+module _ {S D : Type 0} (runs : Stepper.Ghosts S) (members : Disk.Ghosts D) where
+  pub open_of : (exec : Executive S D) → Keeps runs members exec → exec.failed ≡ None → IsOpen members exec
+  open_of exec keeps unfailed = subst (KeepsDisk runs members exec) unfailed keeps.disk
+
+  pub closed_of : (exec : Executive S D) (failed : Failed) → Keeps runs members exec → exec.failed ≡ Some failed → IsClosed runs members exec failed
+  closed_of exec failed keeps closed = subst (KeepsDisk runs members exec) closed keeps.disk
+
+  -- ---- the journal after a reply
+
+  module _ (old : Executive S D) (stepper : S) (journal : Journal D) (entry : Entry) where
+    accepted_open : (history : List Entry) (log : Log) → Keeps runs members old → old.failed ≡ None → history ≡ old.history ++ entry ∷ []
+        → ((text : List ℕ) (h : List Entry) → IsReady members old.journal text h → IsReady members journal text (h ++ entry ∷ []))
+        → AddsAtMost members entry old.journal journal → IsOpen members (with_parts old stepper journal history log None)
+    accepted_open history log keeps unfailed grows kept adds = record {
+      stands = λ text is. subst (IsReady members journal text) (sym grows) (kept text old.history ((open_of old keeps unfailed).stands text is));
+      since = subst (λ (h : List Entry). KeepsSinceOpening members (with_parts old stepper journal h log None) h) (sym grows) (λ tells text is.
+          let told = told_of (members.content old.journal.disk) (tells old.journal.disk) in
+          within_more members.images text old.opening.history old.history (accepted old.log) entry _ _ _ keeps.grown ((open_of old keeps unfailed).since tells text is)
+          (adds.whole_or_not text old.history ((open_of old keeps unfailed).stands text is) (told.0) (told.1)));
+    }
+
+    refused_open : (history : List Entry) (log : Log) → Keeps runs members old → old.failed ≡ None → history ≡ old.history → journal ≡ old.journal
+        → IsOpen members (with_parts old stepper journal history log None)
+    refused_open history log keeps unfailed same still =
+        subst (λ (h : List Entry). IsOpen members (with_parts old stepper journal h log None)) (sym same)
+        (subst (λ (j : Journal D). IsOpen members (with_parts old stepper j old.history log None)) (sym still)
+        (let was = open_of old keeps unfailed in record { stands = was.stands; since = was.since }))
+
+    pub replied_open : (history : List Entry) (log : Log) (reply : Reply) → Keeps runs members old → old.failed ≡ None
+        → history ≡ old.history ++ accepted (logged entry reply ∷ [])
+        → (IsTrue (is_accepted reply) → (text : List ℕ) (h : List Entry) → IsReady members old.journal text h → IsReady members journal text (h ++ entry ∷ []))
+        → (IsFalse (is_accepted reply) → journal ≡ old.journal)
+        → AddsAtMost members entry old.journal journal → IsOpen members (with_parts old stepper journal history log None)
+    replied_open history log (replies.Accepted position) keeps unfailed grows kept still adds = accepted_open history log keeps unfailed grows (kept refl) adds
+    replied_open history log replies.PlanFinished keeps unfailed grows kept still adds = refused_open history log keeps unfailed (grows ∙ append-nil old.history) (still refl)
+    replied_open history log replies.Full keeps unfailed grows kept still adds = refused_open history log keeps unfailed (grows ∙ append-nil old.history) (still refl)
+    replied_open history log replies.Runaway keeps unfailed grows kept still adds = refused_open history log keeps unfailed (grows ∙ append-nil old.history) (still refl)
+
+  -- the events of the history, as the log has them
+  events_grown : (first since : List Entry) (history : List Entry) → history ≡ first ++ since → events_of history ≡ events_of first ++ events_of since
+  events_grown first since history grown = ap events_of grown ∙ map-append (λ e. e.event) first since
+
+  count_of : (history : List Entry) → length (events_of history) ≡ length history
+  count_of history = length-map history (λ e. e.event)
+
+  -- ---- after a reply
+  pub keeps_replied : (old : Executive S D) (stepper : S) (journal : Journal D) (history : List Entry) (log : Log) (entry : Entry) (reply : Reply)
+      → Keeps runs members old → old.failed ≡ None → reply ≡ answer_now runs old entry
+      → log ≡ old.log ++ logged entry reply ∷ [] → history ≡ old.history ++ accepted (logged entry reply ∷ []) → length log < 2 ^ 32
+      → runs.state stepper ≡ settled_state (plan_of runs old) (world_after (plan_of runs old) (world_of runs old) entry.event reply)
+      → (IsTrue (is_accepted reply) → (text : List ℕ) (h : List Entry) → IsReady members old.journal text h → IsReady members journal text (h ++ entry ∷ []))
+      → (IsFalse (is_accepted reply) → journal ≡ old.journal)
+      → AddsAtMost members entry old.journal journal → Keeps runs members (with_parts old stepper journal history log None)
+  keeps_replied old stepper journal history log entry reply keeps unfailed due logs grows few moved kept still adds = record {
+    text = keeps.text;
+    least = keeps.least;
+    most = keeps.most;
+    legal = record {
+      runs = keeps.legal.runs;
+      answers = subst (AnswersEach plan old.opening.limit (events_of old.opening.history)) (sym logs)
+          (answers_more plan old.opening.limit (events_of old.opening.history) old.log (logged entry reply) (world_of runs old) keeps.legal.answers
+          (ap (run plan) (sym events) ∙ keeps.runs_to)
+          (due ∙ ap (λ n. answer plan old.opening.limit n (world_of runs old) entry.event) (sym (count_of old.history) ∙ ap length events)));
+    };
+    grown = grows ∙ ap (λ h. h ++ accepted (logged entry reply ∷ [])) keeps.grown
+        ∙ append_assoc old.opening.history (accepted old.log) (accepted (logged entry reply ∷ []))
+        ∙ ap (λ h. old.opening.history ++ h) (sym (accepted_more old.log (logged entry reply)) ∙ ap accepted (sym logs));
+    few = few;
+    settled = moved ∙ ap (settled_state plan) (sym world_is);
+    runs_to = ap (λ h. run plan (events_of h)) grows ∙ run_after plan old.opening.limit old.history (world_of runs old) entry reply keeps.runs_to due ∙ ap Some (sym world_is);
+    name = adds.name ∙ keeps.name;
+    moments = grows_on _ _ _ keeps.moments adds.moments;
+    faults = omega (arith, keeps.faults, adds.faults);
+    disk = replied_open old stepper journal entry history log reply keeps unfailed grows kept still adds;
+  }
+    where
+      plan : List Site
+      plan = plan_of runs old
+
+      events : events_of old.history ≡ events_of old.opening.history ++ events_of (accepted old.log)
+      events = events_grown old.opening.history (accepted old.log) old.history keeps.grown
+
+      world_is : (runs.state stepper).world ≡ world_after plan (world_of runs old) entry.event reply
+      world_is = ap (λ (s : State). s.world) moved
+
+  -- ---- after a failed append
+  pub keeps_failed : (old : Executive S D) (stepper : S) (journal : Journal D) (entry : Entry) (position : ℕ)
+      → Keeps runs members old → old.failed ≡ None → IsTrue (is_fit_entry entry) → answer_now runs old entry ≡ replies.Accepted position
+      → runs.state stepper ≡ runs.state old.stepper → Rose (members.faults old.journal.disk) (members.faults journal.disk)
+      → AddsAtMost members entry old.journal journal
+      → Keeps runs members (with_parts old stepper journal old.history old.log (Some (record { entry = entry; faults = members.faults journal.disk })))
+  keeps_failed old stepper journal entry position keeps unfailed fit due same rose adds = record {
+    text = keeps.text;
+    least = keeps.least;
+    most = keeps.most;
+    legal = keeps.legal;
+    grown = keeps.grown;
+    few = keeps.few;
+    settled = same ∙ keeps.settled ∙ ap (settled_state (plan_of runs old)) (sym world_is);
+    runs_to = keeps.runs_to ∙ ap Some (sym world_is);
+    name = adds.name ∙ keeps.name;
+    moments = grows_on _ _ _ keeps.moments adds.moments;
+    faults = omega (arith, keeps.faults, adds.faults);
+    disk = record {
+      fit = fit;
+      settles = some_run (plan_of runs old) (events_of (old.history ++ entry ∷ [])) _
+          (run_after (plan_of runs old) old.opening.limit old.history (world_of runs old) entry (replies.Accepted position) keeps.runs_to (sym due));
+      rose = rose_on _ _ _ keeps.faults rose;
+      counted = omega arith;
+      now = λ tells text is image left.
+          let told = told_of (members.content old.journal.disk) (tells old.journal.disk) in
+          (adds.whole_or_not text old.history (was.stands text is) (told.0) (told.1)).each image (left_now members.images _ _ image adds.moments left);
+      since = λ tells text is.
+          let told = told_of (members.content old.journal.disk) (tells old.journal.disk) in
+          within_more members.images text old.opening.history old.history (accepted old.log) entry _ _ _ keeps.grown (was.since tells text is)
+          (adds.whole_or_not text old.history (was.stands text is) (told.0) (told.1));
+    };
+  }
+    where
+      was : IsOpen members old
+      was = open_of old keeps unfailed
+
+      world_is : (runs.state stepper).world ≡ world_of runs old
+      world_is = ap (λ (s : State). s.world) same
+
+      rose_on : (first before now : ℕ) → first ≤ before → Rose before now → Rose first now
+      rose_on first before now later rose = omega (arith, rose)
+
+  -- ---- where nothing happened but room was made
+  pub keeps_as_before : (old : Executive S D) (stepper : S) (journal : Journal D) (history : List Entry) (log : Log) (failed : Option Failed)
+      → Keeps runs members old → runs.state stepper ≡ runs.state old.stepper → journal ≡ old.journal → history ≡ old.history → log ≡ old.log
+      → failed ≡ old.failed → Keeps runs members (with_parts old stepper journal history log failed)
+  keeps_as_before old stepper journal history log failed keeps same still h l f =
+      subst (λ (f : Option Failed). Keeps runs members (with_parts old stepper journal history log f)) (sym f)
+      (subst (λ (l : Log). Keeps runs members (with_parts old stepper journal history l old.failed)) (sym l)
+      (subst (λ (h : List Entry). Keeps runs members (with_parts old stepper journal h old.log old.failed)) (sym h)
+      (subst (λ (j : Journal D). Keeps runs members (with_parts old stepper j old.history old.log old.failed)) (sym still)
+      (record {
+        text = keeps.text;
+        least = keeps.least;
+        most = keeps.most;
+        legal = keeps.legal;
+        grown = keeps.grown;
+        few = keeps.few;
+        settled = same ∙ keeps.settled ∙ ap (settled_state (plan_of runs old)) (sym (ap (λ (s : State). s.world) same));
+        runs_to = keeps.runs_to ∙ ap Some (sym (ap (λ (s : State). s.world) same));
+        name = keeps.name;
+        moments = keeps.moments;
+        faults = keeps.faults;
+        disk = moved old.failed keeps.disk;
+      }))))
+    where
+      moved : (f : Option Failed) → KeepsDisk runs members old f
+          → KeepsDisk runs members (with_parts old stepper old.journal old.history old.log old.failed) f
+      moved None unfailed = record { stands = unfailed.stands; since = unfailed.since }
+      moved (Some f) closed = record {
+        fit = closed.fit;
+        settles = closed.settles;
+        rose = closed.rose;
+        counted = closed.counted;
+        now = closed.now;
+        since = closed.since;
+      }
+
+  -- ---- at the opening
+
+  at_once : (stepper first : S) (journal : Journal D) (history : List Entry) (limit : ℕ) → (text : List ℕ) × IsReady members journal text history
+      → 1 ≤ limit → limit ≤ 100000 → runs.state stepper ≡ settled_state (runs.state first).nodes (runs.state stepper).world
+      → run (runs.state first).nodes (events_of history) ≡ Some (runs.state stepper).world
+      → Keeps runs members (opened stepper journal history [] (record { stepper = first; journal = journal; history = history; limit = limit }))
+  at_once stepper first journal history limit ready least most settled runs_to = record {
+    text = ready;
+    least = least;
+    most = most;
+    legal = record { runs = some_run (runs.state first).nodes (events_of history) _ runs_to; answers = tt };
+    grown = sym (append-nil history);
+    few = omega arith;
+    settled = settled;
+    runs_to = runs_to;
+    name = refl;
+    moments = take_all (length (members.moments journal.disk)) (members.moments journal.disk) (omega arith);
+    faults = omega arith;
+    disk = record {
+      stands = λ text is. is;
+      since = λ tells text is.
+          let told = told_of (members.content journal.disk) (tells journal.disk) in
+          ready_leaves members journal text (told.0) history _ is (told.1) (within_at_once text history);
+    };
+  }
+
+  -- the same, with what the opening keeps of what it was handed
+  pub keeps_at_once : (stepper first : S) (journal : Journal D) (history : List Entry) (limit : ℕ) (kept_stepper : S) (kept_journal : Journal D)
+      (kept_history : List Entry) (log : Log) → kept_stepper ≡ first → kept_journal ≡ journal → kept_history ≡ history → log ≡ []
+      → (text : List ℕ) × IsReady members journal text history
+      → 1 ≤ limit → limit ≤ 100000 → runs.state stepper ≡ settled_state (runs.state first).nodes (runs.state stepper).world
+      → run (runs.state first).nodes (events_of history) ≡ Some (runs.state stepper).world
+      → Keeps runs members (opened stepper journal history log (record { stepper = kept_stepper; journal = kept_journal; history = kept_history; limit = limit }))
+  keeps_at_once stepper first journal history limit kept_stepper kept_journal kept_history log s j h l ready least most settled runs_to =
+      subst (λ (o : Opening S D). Keeps runs members (opened stepper journal history log o)) (sym (opening_of limit s j h))
+      (subst (λ (l : Log). Keeps runs members (opened stepper journal history l (record { stepper = first; journal = journal; history = history; limit = limit }))) (sym l)
+      (at_once stepper first journal history limit ready least most settled runs_to))

@@ -1,0 +1,5 @@
+pub mod Growing
+pub mod Running
+pub mod Images
+pub mod Keeping
+pub mod Tellings

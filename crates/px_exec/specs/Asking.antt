@@ -1,0 +1,11 @@
+-- What a condition of a script asks.
+use Rattle.std.specs.Prelude.{◌≡◌, ◌≤◌, List, length, Some}
+use Rattle.px_event.specs.declared.cond.Cond.{Cond}
+use Rattle.px_event.specs.declared.cond.Cond.TheVariants.{State, Events}
+use Rattle.px_event.specs.declared.entry.Entry.{Entry}
+use Rattle.px_sem.specs.World.{World, known_state}
+
+-- the condition holds of a history and the run over it
+abbrev pub Holds : List Entry → World → Cond → Type 0
+Holds history world (State node state) = known_state world node ≡ Some state
+Holds history world (Events least) = least ≤ length history

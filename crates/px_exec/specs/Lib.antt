@@ -1,0 +1,5 @@
+pub mod Executive
+pub mod Opening
+pub mod Answers
+pub mod Crash
+pub mod Asking

@@ -1,0 +1,23 @@
+//! The executive: a plan that runs, and a journal that has each event before it is acknowledged.
+//!
+//! `Exec::open` runs a journal's history, and `post` takes one event more: it advances the stepper, appends the entry
+//! to the journal, and settles. So after a crash at any moment the history that is recovered has each acknowledged
+//! event. `specs/Executive.antt` says what the type keeps from its opening on, `specs/Answers.antt` what a post answers.
+#![tactic(auto)]
+
+mod answering;
+mod asking;
+mod exec;
+mod failed;
+mod fault;
+mod logging;
+mod opening;
+mod parts;
+mod posting;
+mod receipt;
+mod room;
+
+pub use exec::Exec;
+pub use fault::{OpenFault, OpenWhy, PostFault};
+pub use parts::Parts;
+pub use receipt::Receipt;

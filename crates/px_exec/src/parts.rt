@@ -1,0 +1,39 @@
+// What is left of an executive.
+ghost use Rattle.std.specs.Prelude.{◌≡◌};
+
+use crate::exec::Exec;
+use px_event::Entry;
+use px_journal::Journal;
+use px_ports::Disk;
+use px_sem::{LogEntry, Stepper};
+
+/// The parts of an executive that outlive it.
+#[derive(Drop)]
+pub struct Parts<D: Disk> {
+    pub journal: Journal<D>,
+    pub history: Vec<Entry>,
+    pub log: Vec<LogEntry>,
+}
+
+impl<S: Stepper, D: Disk> Exec<S, D> {
+    /// The journal, the history and the log. The world is left.
+    pub fn into_parts(self) -> Parts<D>
+        ensures journal { result.journal ≡ self.journal }
+        ensures history { result.history.items ≡ self.history }
+        ensures log { result.log.items ≡ self.log }
+    {
+        let Exec {
+            stepper: _,
+            journal,
+            history,
+            log,
+            failed: _,
+            opening: _,
+        } = self;
+        Parts {
+            journal,
+            history,
+            log,
+        }
+    }
+}
