@@ -16,8 +16,6 @@ mod layout;
 mod put;
 mod record;
 mod recover;
-#[cfg(test)]
-mod tests;
 mod window;
 
 pub use fault::{CreateFault, CreateWhy, RecoverFault, RecoverWhy};

@@ -1,8 +1,8 @@
 // Journals over a disk in memory: their bytes, each place of damage, and a stop at each device call.
 ghost use Rattle.std.specs.Prelude.{◌<◌, IfOk, IsTrue};
 
-use super::*;
 use px_event::{Entry, Event};
+use px_journal::{CreateWhy, Journal, RECORD_LIMIT, RecoverWhy};
 use px_ports::{Disk, MemDisk, Pick};
 use px_value::{Handle, Path};
 use std::alloc::Global;
