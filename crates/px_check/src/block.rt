@@ -162,9 +162,11 @@ impl<'a> Scope<'a> {
         found: &mut Found,
     ) -> Result<(), NoMemory>
         ensures scope { OnOk result (self.new ≡ inside_last self.old
-            (else_ifs_in_turn (map guarded_of others.now)) (else_child (else_of (option_map branch_of otherwise.now)))) }
+            (else_ifs_in_turn (map guarded_of others.now))
+            (else_child (else_of (option_map branch_of otherwise.now)))) }
         ensures found { OnOk result (found.new ≡ noted found.old (else_if_faults self.old
-            (else_ifs_in_turn (map guarded_of others.now)) (else_child (else_of (option_map branch_of otherwise.now))))) }
+            (else_ifs_in_turn (map guarded_of others.now))
+            (else_child (else_of (option_map branch_of otherwise.now))))) }
     {
         for (place, next) in others.iter().enumerate() {
             let later = &others[place + 1..];

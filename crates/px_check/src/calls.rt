@@ -1,4 +1,4 @@
-// What calls of declared commands and lookups are at fault for, apart from what their arguments are at fault for themselves.
+// What calls of declared commands and lookups are at fault for, their arguments apart.
 ghost use Rattle.std.specs.Prelude.{◌≡◌, ◌==◌, true, false, drop, length, option_map, if◌then◌else◌};
 ghost use Rattle.std.specs.Option.{option_map_or};
 ghost use Rattle.px_syntax.specs.BlockFaults.{is_without};
@@ -19,7 +19,8 @@ use px_syntax::{FaultKind, Identifier, Parameter, ValueType};
 pub const ARGUMENT_LIMIT: usize = 8;
 
 fn has_count(callable: Option<Callable>, count: usize) -> bool
-    ensures { result ≡ option_map_or (λ global. length global.parameters == count) (option_map callable_data callable.entry) true }
+    ensures { result ≡ option_map_or (λ global. length global.parameters == count)
+        (option_map callable_data callable.entry) true }
 {
     match callable {
         Some(callable) => callable.parameters.len() == count,
@@ -35,8 +36,10 @@ pub fn note_count(
     count: usize,
     found: &mut Found,
 ) -> bool
-    ensures found { found.new ≡ noted found.old (count_faults (option_map callable_data callable.entry) name.now count) }
-    ensures right { (own : TypeOfValue) → any_where_faulty (count_faults (option_map callable_data callable.entry) name.now count) own
+    ensures found { found.new
+        ≡ noted found.old (count_faults (option_map callable_data callable.entry) name.now count) }
+    ensures right { (own : TypeOfValue)
+        → any_where_faulty (count_faults (option_map callable_data callable.entry) name.now count) own
         ≡ (if result then own else Any) }
 {
     let is_right = has_count(callable, count);

@@ -122,7 +122,8 @@ impl<'a> Scope<'a> {
         otherwise: &Option<Branch>,
     ) -> Result<(), NoMemory>
         ensures { OnOk result (self.new ≡ inside_if self.old label.now (guarded_of first.now)
-            (else_ifs_in_turn (map guarded_of others.now)) (else_child (else_of (option_map branch_of otherwise.now)))) }
+            (else_ifs_in_turn (map guarded_of others.now))
+            (else_child (else_of (option_map branch_of otherwise.now)))) }
     {
         let children = if_children(alloc, first, others, otherwise)?;
         self.enter_list(alloc, label, children)

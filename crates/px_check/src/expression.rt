@@ -42,7 +42,8 @@ fn judge_alike(
     found: &mut Found,
 )
     ensures { found.new ≡ noted found.old (fault_where
-        (signature.alike && differ (any_unless_allowed (types_of signature.takes) left) (any_unless_allowed (types_of signature.takes) right))
+        (signature.alike && differ (any_unless_allowed (types_of signature.takes) left)
+        (any_unless_allowed (types_of signature.takes) right))
         TypeDiffers (first_token (term_of right_term.now))) }
 {
     found.note_where(

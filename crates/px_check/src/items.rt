@@ -85,7 +85,8 @@ fn note_variable(of_type: TypeName, variable: &Variable, found: &mut Found)
 }
 
 fn note_variables(of_type: TypeName, variables: &[Variable], found: &mut Found)
-    ensures { found.new ≡ noted found.old (flat_map (variable_faults (named_type of_type)) (map variable_data variables.now)) }
+    ensures { found.new ≡ noted found.old
+        (flat_map (variable_faults (named_type of_type)) (map variable_data variables.now)) }
 {
     for variable in variables {
         note_variable(of_type, variable, found);

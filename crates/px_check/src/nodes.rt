@@ -191,8 +191,8 @@ impl Nodes {
         Some(self.at(up)?.head.is_command)
     }
 
-    /// Whether the child of this name of the node so many nodes outside the innermost is a Command; None exactly where there
-    /// is none.
+    /// Whether the child of this name of the node so many nodes outside the innermost is a Command; None exactly where
+    /// there is none.
     pub fn child_at(&self, up: usize, name: &Name) -> Option<bool>
         ensures { result ≡ option_map (λ head. head.is_command)
             (option_and_then (child_named name.now) (slice_get self.now up)) }

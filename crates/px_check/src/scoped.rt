@@ -120,8 +120,8 @@ impl<T: Copy> Scoped<T> {
         }
     }
 
-    /// Takes the nearest names away, down to this many. So names that were put nearest are gone again, without a need of
-    /// memory.
+    /// Takes the nearest names away, down to this many. So names that were put nearest are gone again, without a need
+    /// of memory.
     pub fn truncate(&mut self, len: usize)
         ensures { self.new ≡ drop (length self.old - len) self.old }
     {

@@ -18,8 +18,8 @@ use std::alloc::Global;
 
 /// Looks for what a plan's tree is at fault for.
 ///
-/// An Err names the first fault by its token, and of several at one token that of the least kind, exactly where there is
-/// one; or memory has run out.
+/// An Err names the first fault by its token, and of several at one token that of the least kind, exactly where there
+/// is one; or memory has run out.
 pub fn check(alloc: Global, tree: &Surface) -> Result<(), CheckFault>
     ensures ok { OnOk result (faults (plan_of tree.now) ≡ []) }
     ensures fault { IfErr result (IsFirst (faults (plan_of tree.now))) }
