@@ -1,5 +1,6 @@
 -- What a post does, by what the stepper, the journal, the history and the log do.
 use Rattle.std.proofs.Common.{◌≡◌, ◌≢◌, ◌<◌, ◌+◌, ◌^◌, ℕ, List, [], ◌∷◌, ◌++◌, Option, Some, None, IsTrue, IsFalse, length, refl, sym, ◌∙◌, ap, subst, arith, length-append}
+use Rattle.std.specs.Option.{option_map}
 use Rattle.px_event.specs.Fit.{is_fit_entry}
 use Rattle.px_event.specs.declared.entry.Entry.{Entry}
 use Rattle.px_event.specs.declared.reply.Reply.{Reply}
@@ -22,6 +23,18 @@ use Rattle.px_exec.proofs.Keeping.{with_parts, open_of, keeps_replied, keeps_fai
 pub none_of : {T : Type 0} (o : Option T) → ((x : T) → o ≢ Some x) → o ≡ None
 none_of None other = refl
 none_of (Some x) other = absurd (other x refl)
+
+-- which append had failed, by its count of faults
+pub unfailed_of : (failed : Option Failed) (count : Option ℕ) → count ≡ option_map (λ f. f.faults) failed → count ≡ None → failed ≡ None
+unfailed_of None count is none = refl
+unfailed_of (Some failed) count is none = absurd (cc)
+
+pub failed_of : (failed : Option Failed) (count : Option ℕ) (n : ℕ) → count ≡ option_map (λ f. f.faults) failed → count ≡ Some n
+    → (entry : Entry) × (failed ≡ Some (record { entry = entry; faults = n }))
+failed_of None count n is some = absurd (cc)
+failed_of (Some failed) count n is some =
+    let same : failed.faults ≡ n = cc in
+    (failed.entry, ap (λ k. let f : Option Failed = Some (record { entry = failed.entry; faults = k }) in f) same)
 
 pub closes_with : (failed : Option Failed) (a b : Entry) (m n : ℕ) → failed ≡ Some (record { entry = a; faults = m }) → a ≡ b → m ≡ n
     → failed ≡ Some (record { entry = b; faults = n })

@@ -16,6 +16,8 @@ mod parts;
 mod posting;
 mod receipt;
 mod room;
+#[cfg(test)]
+mod tests;
 
 pub use exec::Exec;
 pub use fault::{OpenFault, OpenWhy, PostFault};

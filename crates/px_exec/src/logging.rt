@@ -3,6 +3,7 @@
 // All that takes memory comes first: two copies of the entry, and the room for them. So behind an append nothing can
 // fail.
 ghost use Rattle.std.specs.Prelude.{◌≡◌, ◌<◌, ◌+◌, ◌^◌, [], ◌∷◌, ◌++◌, Some, IfOk, OnOk, vec_len, vec_capacity};
+ghost use Rattle.std.specs.Option.{option_map};
 ghost use Rattle.px_sem.specs.Log.{accepted};
 ghost use Rattle.px_exec.specs.Answers.{entry_of, logged};
 
@@ -96,4 +97,14 @@ pub(crate) fn close(failed: &mut Option<Failed>, copies: Copies, faults: u64)
         entry: copies.for_history,
         faults,
     });
+}
+
+/// The count of faults with which an append failed, where one did.
+pub(crate) fn closed_after(failed: &Option<Failed>) -> Option<u64>
+    ensures { result ≡ option_map (λ failed. failed.faults) failed.now }
+{
+    match failed {
+        Some(failed) => Some(failed.faults),
+        None => None,
+    }
 }

@@ -7,7 +7,7 @@ ghost use Rattle.px_exec.specs.Crash.{AddsAtMost};
 use crate::answering::{Unanswered, answer};
 use crate::exec::Exec;
 use crate::fault::PostFault;
-use crate::logging::{close, log_reply, prepare};
+use crate::logging::{close, closed_after, log_reply, prepare};
 use crate::receipt::Receipt;
 use px_event::{Event, Reply};
 use px_ports::Disk;
@@ -34,10 +34,8 @@ impl<S: Stepper, D: Disk> Exec<S, D> {
         ensures answers { Posts S.Stepper D.Disk self.old self.new (entry_of thread line event.now) result }
         ensures crash { AddsAtMost D.Disk (entry_of thread line event.now) self.old.journal self.new.journal }
     {
-        if let Some(failed) = &self.failed {
-            return Err(PostFault::Closed {
-                faults: failed.faults,
-            });
+        if let Some(faults) = closed_after(&self.failed) {
+            return Err(PostFault::Closed { faults });
         }
         let copies = prepare(alloc, thread, line, event, &mut self.history, &mut self.log)?;
         match answer(

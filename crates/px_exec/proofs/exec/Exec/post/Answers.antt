@@ -5,14 +5,14 @@ use Rattle.px_event.specs.declared.entry.Entry.{Entry}
 use Rattle.px_event.specs.declared.reply.Reply.{Reply}
 use Rattle.px_exec.specs.declared.answering.Unanswered.{Unanswered}
 use Rattle.px_exec.proofs.Images.{adds_nothing}
-use Rattle.px_exec.proofs.Tellings.{none_of, closes_with, grows_from, length_more, at_rest, ready_now, keeps_reply, posts_reply, keeps_fault, posts_fault, keeps_out, posts_out}
+use Rattle.px_exec.proofs.Tellings.{none_of, unfailed_of, failed_of, closes_with, grows_from, length_more, at_rest, ready_now, keeps_reply, posts_reply, keeps_fault, posts_fault, keeps_out, posts_out}
 use Rattle.px_exec.proofs.exec.Exec.post.Goals as goal
 
 pub same-self : goal.same-self
 same-self g c = refl
 
 pub returns-in-Some-clause-answers : goal.returns-in-Some-clause-answers
-returns-in-Some-clause-answers g c = rw (← c.self.view_is) (record { same = refl; failed = (c.in-Some.failed.entry, c.in-Some.is) })
+returns-in-Some-clause-answers g c = rw (← c.self.view_is) (record { same = refl; failed = failed_of _ _ _ c.closed_after.ensures c.in-Some.is })
 
 pub returns-in-Some-clause-crash : goal.returns-in-Some-clause-crash
 returns-in-Some-clause-crash g c = adds_nothing g.D.Disk _ _
@@ -21,13 +21,13 @@ returns-in-Some-clause-crash g c = adds_nothing g.D.Disk _ _
 
 pub invariant_of-self : goal.invariant_of-self
 invariant_of-self g c =
-    keeps_out g.S.Stepper g.D.Disk _ c.self.invariant (none_of _ c.in_default.not-Some) _ _ _ _ refl refl c.in_err-copies.ensures.history c.in_err-copies.ensures.log
+    keeps_out g.S.Stepper g.D.Disk _ c.self.invariant (unfailed_of _ _ c.closed_after.ensures (none_of _ c.in_default.not-Some)) _ _ _ _ refl refl c.in_err-copies.ensures.history c.in_err-copies.ensures.log
 
 pub returns-in_err-copies-clause-answers : goal.returns-in_err-copies-clause-answers
 returns-in_err-copies-clause-answers g c =
     let p = err_from_is_err_and c.from_residual.result c.from_residual.ensures.1 in
     rw (p.1, p.2, ← c.self.view_is)
-    (posts_out g.S.Stepper g.D.Disk _ c.self.invariant (none_of _ c.in_default.not-Some) _ _ _ _ refl refl c.in_err-copies.ensures.history c.in_err-copies.ensures.log)
+    (posts_out g.S.Stepper g.D.Disk _ c.self.invariant (unfailed_of _ _ c.closed_after.ensures (none_of _ c.in_default.not-Some)) _ _ _ _ refl refl c.in_err-copies.ensures.history c.in_err-copies.ensures.log)
 
 pub returns-in_err-copies-clause-crash : goal.returns-in_err-copies-clause-crash
 returns-in_err-copies-clause-crash g c = rw (← c.self.view_is) (adds_nothing g.D.Disk _ _)
@@ -36,7 +36,7 @@ returns-in_err-copies-clause-crash g c = rw (← c.self.view_is) (adds_nothing g
 
 pub overflow_cast-len : goal.overflow_cast-len
 overflow_cast-len g c =
-    let ready = ready_now g.S.Stepper g.D.Disk _ c.self.invariant (none_of _ c.in_default.not-Some) in
+    let ready = ready_now g.S.Stepper g.D.Disk _ c.self.invariant (unfailed_of _ _ c.closed_after.ensures (none_of _ c.in_default.not-Some)) in
     omega (arith, c.len.ensures, ap length c.in_ok-copies.ensures.history, ready.few)
 
 pub answer-requires-clause-nothing : goal.answer-requires-clause-nothing
@@ -50,11 +50,11 @@ answer-requires-clause-within g c κs within = c.self.invariant.most
 
 pub answer-requires-clause-ready : goal.answer-requires-clause-ready
 answer-requires-clause-ready g c κs within =
-    (c.self.invariant.text.0, _, ready_now g.S.Stepper g.D.Disk _ c.self.invariant (none_of _ c.in_default.not-Some))
+    (c.self.invariant.text.0, _, ready_now g.S.Stepper g.D.Disk _ c.self.invariant (unfailed_of _ _ c.closed_after.ensures (none_of _ c.in_default.not-Some)))
 
 pub answer-requires-clause-count : goal.answer-requires-clause-count
 answer-requires-clause-count g c κs within =
-    let ready = ready_now g.S.Stepper g.D.Disk _ c.self.invariant (none_of _ c.in_default.not-Some) in
+    let ready = ready_now g.S.Stepper g.D.Disk _ c.self.invariant (unfailed_of _ _ c.closed_after.ensures (none_of _ c.in_default.not-Some)) in
     omega (arith, c.len.ensures, c.prepare.new.history.ok.0, ap length c.in_ok-copies.ensures.history, ready.count)
 
 -- ---- a reply
@@ -72,7 +72,7 @@ pub invariant_of-self-in-Ok : goal.invariant_of-self-in-Ok
 invariant_of-self-in-Ok g c =
     let before = c.in_ok-copies.ensures in
     let done = c.in-Ok.ensures in
-    keeps_reply g.S.Stepper g.D.Disk _ c.self.invariant (none_of _ c.in_default.not-Some) c.in_ok-copies.copies.for_log c.answer.new.stepper c.answer.new.journal
+    keeps_reply g.S.Stepper g.D.Disk _ c.self.invariant (unfailed_of _ _ c.closed_after.ensures (none_of _ c.in_default.not-Some)) c.in_ok-copies.copies.for_log c.answer.new.stepper c.answer.new.journal
     _ (omega (arith, c.len.ensures, c.prepare.new.history.ok.0, ap length before.history)) _ _ c.in-Ok.reply done.due done.state
     (grows_from _ _ _ _ c.log_reply.ensures.log before.log) (grows_from _ _ _ _ c.log_reply.ensures.history before.history) done.kept done.refused
     (length_more _ _ _ (2 ^ 32) c.log_reply.ensures.log (omega (arith, before.few, c.prepare.new.log.ok.0))) done.crash
@@ -82,7 +82,7 @@ returns-in-Ok-clause-answers g c =
     let before = c.in_ok-copies.ensures in
     let done = c.in-Ok.ensures in
     rw (c.told.ensures, ← before.for_log, ← c.self.view_is)
-    (posts_reply g.S.Stepper g.D.Disk _ c.self.invariant (none_of _ c.in_default.not-Some) c.in_ok-copies.copies.for_log c.answer.new.stepper c.answer.new.journal
+    (posts_reply g.S.Stepper g.D.Disk _ c.self.invariant (unfailed_of _ _ c.closed_after.ensures (none_of _ c.in_default.not-Some)) c.in_ok-copies.copies.for_log c.answer.new.stepper c.answer.new.journal
     _ (omega (arith, c.len.ensures, c.prepare.new.history.ok.0, ap length before.history)) _ _ c.in-Ok.reply done.due done.state
     (grows_from _ _ _ _ c.log_reply.ensures.log before.log) (grows_from _ _ _ _ c.log_reply.ensures.history before.history) done.kept done.refused
     c.standing.result c.standing.ensures)
@@ -97,7 +97,7 @@ invariant_of-self-in-Err-DiskFault g c =
     let before = c.in_ok-copies.ensures in
     let done = c.in-Err-DiskFault.ensures in
     let is = ap (λ fault. let r : Result Reply Unanswered = Err fault in r) c.in-Err-DiskFault.field-0-is in
-    keeps_fault g.S.Stepper g.D.Disk _ c.self.invariant (none_of _ c.in_default.not-Some) c.in_ok-copies.copies.for_log c.answer.new.stepper c.answer.new.journal
+    keeps_fault g.S.Stepper g.D.Disk _ c.self.invariant (unfailed_of _ _ c.closed_after.ensures (none_of _ c.in_default.not-Some)) c.in_ok-copies.copies.for_log c.answer.new.stepper c.answer.new.journal
     _ (omega (arith, c.len.ensures, c.prepare.new.history.ok.0, ap length before.history)) _ _ _ before.history before.log
     (closes_with _ _ _ _ _ c.close.ensures (before.for_history ∙ sym before.for_log) c.faults.ensures) (done.was_due is) done.err (done.cause is)
     (subst (λ (e : Entry). IsTrue (is_fit_entry e)) (sym before.for_log) c.requires.fit) done.crash
@@ -108,7 +108,7 @@ returns-in-Err-DiskFault-clause-answers g c =
     let done = c.in-Err-DiskFault.ensures in
     let is = ap (λ fault. let r : Result Reply Unanswered = Err fault in r) c.in-Err-DiskFault.field-0-is in
     rw (← before.for_log, ← c.self.view_is)
-    (posts_fault g.S.Stepper g.D.Disk _ c.self.invariant (none_of _ c.in_default.not-Some) c.in_ok-copies.copies.for_log c.answer.new.stepper c.answer.new.journal
+    (posts_fault g.S.Stepper g.D.Disk _ c.self.invariant (unfailed_of _ _ c.closed_after.ensures (none_of _ c.in_default.not-Some)) c.in_ok-copies.copies.for_log c.answer.new.stepper c.answer.new.journal
     _ (omega (arith, c.len.ensures, c.prepare.new.history.ok.0, ap length before.history)) _ _ _ before.history before.log
     (closes_with _ _ _ _ _ c.close.ensures (before.for_history ∙ sym before.for_log) c.faults.ensures) (done.was_due is) done.err (done.cause is))
 
@@ -121,14 +121,14 @@ pub invariant_of-self-in-Err-NoMemory : goal.invariant_of-self-in-Err-NoMemory
 invariant_of-self-in-Err-NoMemory g c =
     let done = c.in-Err-NoMemory.ensures in
     let is = ap (λ fault. let r : Result Reply Unanswered = Err fault in r) c.in-Err-NoMemory.field-0-is in
-    keeps_out g.S.Stepper g.D.Disk _ c.self.invariant (none_of _ c.in_default.not-Some) _ _ _ _ done.err (done.no_memory is) c.in_ok-copies.ensures.history c.in_ok-copies.ensures.log
+    keeps_out g.S.Stepper g.D.Disk _ c.self.invariant (unfailed_of _ _ c.closed_after.ensures (none_of _ c.in_default.not-Some)) _ _ _ _ done.err (done.no_memory is) c.in_ok-copies.ensures.history c.in_ok-copies.ensures.log
 
 pub returns-in-Err-NoMemory-clause-answers : goal.returns-in-Err-NoMemory-clause-answers
 returns-in-Err-NoMemory-clause-answers g c =
     let done = c.in-Err-NoMemory.ensures in
     let is = ap (λ fault. let r : Result Reply Unanswered = Err fault in r) c.in-Err-NoMemory.field-0-is in
     rw (← c.self.view_is)
-    (posts_out g.S.Stepper g.D.Disk _ c.self.invariant (none_of _ c.in_default.not-Some) _ _ _ _ done.err (done.no_memory is) c.in_ok-copies.ensures.history c.in_ok-copies.ensures.log)
+    (posts_out g.S.Stepper g.D.Disk _ c.self.invariant (unfailed_of _ _ c.closed_after.ensures (none_of _ c.in_default.not-Some)) _ _ _ _ done.err (done.no_memory is) c.in_ok-copies.ensures.history c.in_ok-copies.ensures.log)
 
 pub returns-in-Err-NoMemory-clause-crash : goal.returns-in-Err-NoMemory-clause-crash
 returns-in-Err-NoMemory-clause-crash g c = rw (← c.in_ok-copies.ensures.for_log, ← c.self.view_is) c.in-Err-NoMemory.ensures.crash
