@@ -16,8 +16,6 @@ mod parts;
 mod posting;
 mod receipt;
 mod room;
-#[cfg(test)]
-mod tests;
 
 pub use exec::Exec;
 pub use fault::{OpenFault, OpenWhy, PostFault};
