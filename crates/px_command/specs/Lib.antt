@@ -1,0 +1,4 @@
+pub mod Actions
+pub mod Counting
+pub mod Results
+pub mod Taking
