@@ -11,8 +11,8 @@ use px_value::NoMemory;
 use std::alloc::Global;
 
 /// The nodes of `wanting` that must stay WAITING, in their order: a node of `holding` writes the same variable, or
-/// another node of `wanting` does and goes before, by the lower priority number or by the earlier place (PLEXIL reference
-/// manual, "Assignment Nodes").
+/// another node of `wanting` does and goes before, by the lower priority number or by the earlier place (PLEXIL
+/// reference manual, "Assignment Nodes").
 pub fn losers(
     alloc: Global,
     flat: &Flat,

@@ -97,8 +97,9 @@ fn aborted(act: &Act) -> Act
 }
 
 impl Actions {
-    /// Takes an event: what is told of a command or of an update that is at work (PLEXIL reference manual, "Commands" and
-    /// "Updates"). Where it doesn't count, where the plan doesn't have the node, and where it is a report it changes nothing.
+    /// Takes an event: what is told of a command or of an update that is at work (PLEXIL reference manual, "Commands"
+    /// and "Updates"). Where it doesn't count, where the plan doesn't have the node, and where it is a report it changes
+    /// nothing.
     pub fn take(
         &mut self,
         alloc: Global,
@@ -134,7 +135,8 @@ impl Actions {
     ) -> Result<(), NoMemory>
         requires node { node < length (plan_of flat.now) }
         requires parts { IsParts (plan_of flat.now) cells.old.contents.values self.now.contents.values }
-        ensures ok { OnOk result (IsTaken (plan_of flat.now) (events.Handle (site_in (plan_of flat.now) node).path handle)
+        ensures ok { OnOk result (IsTaken (plan_of flat.now)
+            (events.Handle (site_in (plan_of flat.now) node).path handle)
             cells.old.contents self.now.contents cells.new.contents self.now.contents) }
         ensures err { OnErr result (cells.new.contents ≡ cells.old.contents) }
     {
@@ -154,7 +156,8 @@ impl Actions {
     ) -> Result<(), NoMemory>
         requires node { node < length (plan_of flat.now) }
         requires parts { IsParts (plan_of flat.now) cells.old.contents.values self.now.contents.values }
-        ensures ok { OnOk result (IsTaken (plan_of flat.now) (events.Return (site_in (plan_of flat.now) node).path value.now)
+        ensures ok { OnOk result (IsTaken (plan_of flat.now)
+            (events.Return (site_in (plan_of flat.now) node).path value.now)
             cells.old.contents self.now.contents cells.new.contents self.now.contents) }
         ensures err { OnErr result (cells.new.contents ≡ cells.old.contents) }
     {
@@ -176,7 +179,8 @@ impl Actions {
     ) -> Result<(), NoMemory>
         requires node { node < length (plan_of flat.now) }
         requires parts { IsParts (plan_of flat.now) cells.now.contents.values self.old.contents.values }
-        ensures ok { OnOk result (IsTaken (plan_of flat.now) (events.AbortDone (site_in (plan_of flat.now) node).path)
+        ensures ok { OnOk result (IsTaken (plan_of flat.now)
+            (events.AbortDone (site_in (plan_of flat.now) node).path)
             cells.now.contents self.old.contents cells.now.contents self.new.contents) }
         ensures err { OnErr result (self.new.contents ≡ self.old.contents) }
     {
@@ -198,7 +202,8 @@ impl Actions {
     ) -> Result<(), NoMemory>
         requires node { node < length (plan_of flat.now) }
         requires parts { IsParts (plan_of flat.now) cells.old.contents.values self.old.contents.values }
-        ensures ok { OnOk result (IsTaken (plan_of flat.now) (events.Acknowledged (site_in (plan_of flat.now) node).path)
+        ensures ok { OnOk result (IsTaken (plan_of flat.now)
+            (events.Acknowledged (site_in (plan_of flat.now) node).path)
             cells.old.contents self.old.contents cells.new.contents self.new.contents) }
         ensures err_acts { OnErr result (self.new.contents ≡ self.old.contents) }
         ensures err_cells { OnErr result (cells.new.contents ≡ cells.old.contents) }
