@@ -1,0 +1,56 @@
+-- Which kind of node a block and an action are, and what the node does.
+use Rattle.std.specs.Prelude.{List, map, Option, Some, None}
+use Rattle.std.specs.Option.{option_map, option_map_or}
+use Rattle.px_syntax.specs.declared.word.BlockForm.TheVariants as forms
+use Rattle.px_syntax.specs.Block.{TargetData, CallData, PairData, BlockTree, Braces, NoActions, BodyTree, Assign, CallInto, Call, Update}
+use Rattle.px_syntax.specs.Scope.{own_action}
+use Rattle.px_core.specs.declared.node.Kind.{Kind}
+use Rattle.px_core.specs.declared.node.Kind.TheVariants as kinds
+use Rattle.px_core.specs.Plan as plan
+use Rattle.px_core.specs.Plan.{BodyData}
+use Rattle.px_expand.specs.Resolving.{resolved, resolved_each}
+use Rattle.px_expand.specs.Scope.{Scope, owner_of}
+
+-- ---- blocks
+
+-- an Empty node, one node with its only action, or a List
+pub data Shape : Type 0 where
+  Rest : Shape
+  OneAction : (body : BodyTree) → Shape
+  Children : Shape
+
+-- A plain block without actions is Empty. Its only action is one node with it where that is an assignment, a command or an
+-- update without a label. Every other block is a List.
+abbrev pub shape_of : BlockTree → Shape
+shape_of (Braces forms.Plain items NoActions) = Rest
+shape_of block = option_map_or OneAction (own_action block) Children
+
+-- ---- simple actions
+
+abbrev pub kind_of : BodyTree → Kind
+kind_of (Assign target value) = kinds.Assignment
+kind_of (CallInto target call) = kinds.Command
+kind_of (Call call) = kinds.Command
+kind_of (Update token pairs) = kinds.Update
+kind_of body = kinds.List
+
+abbrev pub target_of : Scope → TargetData → plan.TargetData
+target_of scope target = record {
+  owner = owner_of scope target.name.name;
+  name = target.name.name;
+  index = option_map (resolved scope) target.index;
+}
+
+abbrev pub pair_of : Scope → PairData → plan.PairData
+pair_of scope pair = record { name = pair.name.name; value = resolved scope pair.value }
+
+abbrev pub command_of : Scope → CallData → Option plan.TargetData → BodyData
+command_of scope call result = plan.Command call.name.name (resolved_each scope call.args) result
+
+-- what a simple action does, in the scope inside its node
+abbrev pub body_of : Scope → BodyTree → BodyData
+body_of scope (Assign target value) = plan.Assign (target_of scope target) (resolved scope value)
+body_of scope (CallInto target call) = command_of scope call (Some (target_of scope target))
+body_of scope (Call call) = command_of scope call None
+body_of scope (Update token pairs) = plan.Update (map (pair_of scope) pairs)
+body_of scope body = plan.Nothing

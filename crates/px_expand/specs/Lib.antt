@@ -1,0 +1,11 @@
+pub mod Names
+pub mod Scope
+pub mod Resolving
+pub mod Joining
+pub mod Conditions
+pub mod Adding
+pub mod Items
+pub mod Kinds
+pub mod Nodes
+pub mod Forms
+pub mod Core

@@ -1,0 +1,2 @@
+//! Expands the tree of a plan into its core plan.
+#![tactic(auto)]
