@@ -1,5 +1,5 @@
 -- Plans with their core plans, both written by hand.
-use Rattle.std.proofs.Common.{◌≡◌, refl, ℕ, ℤ, pos, List, [], ◌∷◌, ◌++◌, Option, Some, None, codes}
+use Rattle.std.proofs.Common.{◌≡◌, refl, ℕ, ℤ, pos, List, [], ◌∷◌, Option, Some, None, codes}
 use Rattle.std.specs.Prelude.{true, false}
 use Rattle.std.specs.Fmt.{digits}
 use Rattle.px_value.specs.declared.comparison.CompareOp.TheVariants as compare
@@ -23,7 +23,7 @@ use Rattle.px_core.specs.declared.expr.UnaryOp.TheVariants as unary
 use Rattle.px_core.specs.declared.node.Kind.{Kind}
 use Rattle.px_core.specs.declared.node.Kind.TheVariants as kinds
 use Rattle.px_core.specs.declared.variable.VarKind.TheVariants as var_kinds
-use Rattle.px_core.specs.Expr.{Term, Literal, Var, StateOf, OutcomeOf, Unary, Binary, Acknowledged, HandleOf}
+use Rattle.px_core.specs.Expr.{Term, Literal, Var, StateOf, OutcomeOf, Unary, Binary}
 use Rattle.px_core.specs.Joined.{joined}
 use Rattle.px_core.specs.Plan as plan
 use Rattle.px_core.specs.Plan.{Head, Tree, NoNode, Branch, ConditionTerms, BodyData, VariableData}
@@ -179,7 +179,7 @@ list_node name conditions variables children rest = Branch (node name kinds.List
 -- R: UncheckedSequence { Boolean g; A: { Start g; } { Start g; } L: { } }
 an_unchecked_sequence :
     core (the (codes "R") (block forms.UncheckedSequence (boolean (codes "g") ∷ [])
-      (labelled (codes "A") (empty_with (given_g which.Start ∷ [])) ∷ unlabelled (empty_with (given_g which.Start ∷ [])) ∷ labelled (codes "L") empty ∷ [])))
+    (labelled (codes "A") (empty_with (given_g which.Start ∷ [])) ∷ unlabelled (empty_with (given_g which.Start ∷ [])) ∷ labelled (codes "L") empty ∷ [])))
     ≡ list_node (codes "R") (plain (both (done (codes "R.A")) (both (done (codes "R.#2")) (done (codes "R.L"))))) (scalar_boolean (codes "g") ∷ [])
     (empty_node (codes "A") (record (plain yes) { start = g })
     (empty_node (codes "#2") (record (plain yes) { start = both g (done (codes "R.A")) })
@@ -190,7 +190,7 @@ an_unchecked_sequence = refl
 -- R: { Boolean g; Invariant g; A: { } B: { } }
 a_sequence :
     core (the (codes "R") (block forms.Plain (boolean (codes "g") ∷ given_g which.Invariant ∷ [])
-      (labelled (codes "A") empty ∷ labelled (codes "B") empty ∷ [])))
+    (labelled (codes "A") empty ∷ labelled (codes "B") empty ∷ [])))
     ≡ list_node (codes "R") (record (plain (both (done (codes "R.A")) (done (codes "R.B")))) { invariant = both g (no_not (either (failed (codes "R.A")) (failed (codes "R.B")))) }) (scalar_boolean (codes "g") ∷ [])
     (empty_node (codes "A") (plain yes)
     (empty_node (codes "B") (record (plain yes) { start = done (codes "R.A") }) NoNode)) NoNode
@@ -254,7 +254,7 @@ skipped list set = record (plain yes) { start = both (done set) (no_not (test_at
 -- R: Concurrence { Boolean g; if (g) A: { Start g; Skip g; } else B: { } }
 an_if :
     core (the (codes "R") (block forms.Concurrence (boolean (codes "g") ∷ [])
-      (unlabelled (text.If (text.Guarded (variable (codes "g")) (branch_of (Some (id (codes "A"))) (given_g which.Start ∷ given_g which.Skip ∷ []))) text.NoElseIfs (text.Else (branch_of (Some (id (codes "B"))) []))) ∷ [])))
+    (unlabelled (text.If (text.Guarded (variable (codes "g")) (branch_of (Some (id (codes "A"))) (given_g which.Start ∷ given_g which.Skip ∷ []))) text.NoElseIfs (text.Else (branch_of (Some (id (codes "B"))) []))) ∷ [])))
     ≡ list_node (codes "R") (plain (done (codes "R.#1"))) (scalar_boolean (codes "g") ∷ [])
     (list_node (codes "#1") (plain (both (done (codes "R.#1.#set")) (both (done (codes "R.#1.A")) (done (codes "R.#1.B"))))) (a_test ∷ [])
     (set_node (codes "R.#1") g
@@ -266,8 +266,8 @@ an_if = refl
 -- R: Concurrence { Boolean g; L: if (g) { } elseif (!g) { } else { } }
 an_else_if :
     core (the (codes "R") (block forms.Concurrence (boolean (codes "g") ∷ [])
-      (labelled (codes "L") (text.If (text.Guarded (variable (codes "g")) (branch_of None []))
-      (text.ElseIf (text.Guarded (variable (codes "g")) (branch_of None [])) text.NoElseIfs) (text.Else (branch_of None []))) ∷ [])))
+    (labelled (codes "L") (text.If (text.Guarded (variable (codes "g")) (branch_of None []))
+    (text.ElseIf (text.Guarded (variable (codes "g")) (branch_of None [])) text.NoElseIfs) (text.Else (branch_of None []))) ∷ [])))
     ≡ list_node (codes "R") (plain (done (codes "R.L"))) (scalar_boolean (codes "g") ∷ [])
     (list_node (codes "L") (plain (both (done (codes "R.L.#set")) (both (done (codes "R.L.#then")) (done (codes "R.L.#else"))))) (a_test ∷ [])
     (set_node (codes "R.L") g
@@ -282,7 +282,7 @@ an_else_if = refl
 -- R: Concurrence { Boolean g; if (g) { } }
 an_if_without_else :
     core (the (codes "R") (block forms.Concurrence (boolean (codes "g") ∷ [])
-      (unlabelled (text.If (text.Guarded (variable (codes "g")) (branch_of None [])) text.NoElseIfs text.NoElse) ∷ [])))
+    (unlabelled (text.If (text.Guarded (variable (codes "g")) (branch_of None [])) text.NoElseIfs text.NoElse) ∷ [])))
     ≡ list_node (codes "R") (plain (done (codes "R.#1"))) (scalar_boolean (codes "g") ∷ [])
     (list_node (codes "#1") (plain (both (done (codes "R.#1.#set")) (done (codes "R.#1.#then")))) (a_test ∷ [])
     (set_node (codes "R.#1") g (empty_node (codes "#then") (started (codes "R.#1") (codes "R.#1.#set")) NoNode)) NoNode) NoNode
@@ -294,7 +294,7 @@ an_if_without_else = refl
 -- R: { Boolean g; while (g) { } B: { } }, a Sequence
 a_while :
     core (the (codes "R") (block forms.Plain (boolean (codes "g") ∷ [])
-      (unlabelled (text.While (text.Guarded (variable (codes "g")) (branch_of None []))) ∷ labelled (codes "B") empty ∷ [])))
+    (unlabelled (text.While (text.Guarded (variable (codes "g")) (branch_of None []))) ∷ labelled (codes "B") empty ∷ [])))
     ≡ list_node (codes "R") (record (plain (both (done (codes "R.#1")) (done (codes "R.B")))) { invariant = no_not (either (failed (codes "R.#1")) (failed (codes "R.B"))) }) (scalar_boolean (codes "g") ∷ [])
     (list_node (codes "#1") (record (plain (both (done (codes "R.#1.#set")) (done (codes "R.#1.#body")))) { repeat = test_at (codes "R.#1") }) (a_test ∷ [])
     (set_node (codes "R.#1") g (empty_node (codes "#body") (started (codes "R.#1") (codes "R.#1.#set")) NoNode))
@@ -308,8 +308,8 @@ number n = Literal (values.Integer n)
 -- R: Concurrence { F: for (Integer i = 3; i; Self) A: { Start Parent.state; } }, though no test is a number
 a_for :
     core (the (codes "R") (block forms.Concurrence []
-      (labelled (codes "F") (text.For (id (codes "i")) (pos 3) (variable (codes "i")) (expr.Attribute (nodes.Child 0 (id (codes "A"))) attributes.State)
-      (branch_of (Some (id (codes "A"))) (condition which.Start (expr.Attribute (nodes.Parent 0) attributes.State) ∷ []))) ∷ [])))
+    (labelled (codes "F") (text.For (id (codes "i")) (pos 3) (variable (codes "i")) (expr.Attribute (nodes.Child 0 (id (codes "A"))) attributes.State)
+    (branch_of (Some (id (codes "A"))) (condition which.Start (expr.Attribute (nodes.Parent 0) attributes.State) ∷ []))) ∷ [])))
     ≡ list_node (codes "R") (plain (done (codes "R.F"))) []
     (list_node (codes "F") (plain (done (codes "R.F.#loop"))) (record { name = codes "i"; kind = var_kinds.Integer; size = None; init = values.Integer (pos 3) ∷ [] } ∷ [])
     (list_node (codes "#loop") (record (plain (both (done (codes "R.F.#loop.#set")) (both (done (codes "R.F.#loop.A")) (done (codes "R.F.#loop.#step"))))) { repeat = test_at (codes "R.F.#loop") }) (a_test ∷ [])
@@ -321,4 +321,3 @@ unfolding joined digits
 a_for = refl
 
 -- ---- names
-

@@ -1,6 +1,5 @@
 -- What is added to the conditions of a node.
 use Rattle.std.specs.Prelude.{Option, Some, None}
-use Rattle.std.specs.Option.{option_map_or}
 use Rattle.px_core.specs.declared.expr.BinaryOp.{BinaryOp}
 use Rattle.px_core.specs.declared.expr.BinaryOp.TheVariants.{And, Or}
 use Rattle.px_core.specs.Expr.{Term, Binary}

@@ -1,26 +1,23 @@
 -- THE TABLE OF DERIVED FORMS, a row each: UncheckedSequence, Sequence, Try, `if`, `while` and `for`.
-use Rattle.std.specs.Prelude.{ℕ, ℤ, Bool, true, false, List, [], ◌∷◌, ◌++◌, map, Option, Some, None, unwrap_or, if◌then◌else◌}
+use Rattle.std.specs.Prelude.{ℕ, ℤ, List, [], ◌∷◌, map, Option, Some, None, unwrap_or}
 use Rattle.px_value.specs.Path.{below}
 use Rattle.px_value.specs.declared.comparison.CompareOp.TheVariants as compare
 use Rattle.px_value.specs.declared.enums.Outcome.{Outcome}
 use Rattle.px_value.specs.declared.enums.Outcome.TheVariants as outcomes
 use Rattle.px_value.specs.declared.value.Value.TheVariants as values
-use Rattle.px_syntax.specs.declared.word.BlockForm.{BlockForm}
-use Rattle.px_syntax.specs.declared.word.BlockForm.TheVariants as forms
 use Rattle.px_core.specs.declared.expr.BinaryOp.TheVariants.{And, Or, Compare}
 use Rattle.px_core.specs.declared.expr.UnaryOp.TheVariants.{Not, IsKnown}
 use Rattle.px_core.specs.declared.node.Kind.TheVariants as kinds
 use Rattle.px_core.specs.declared.variable.VarKind.TheVariants as types
 use Rattle.px_core.specs.Defaults.{is_finished}
 use Rattle.px_core.specs.Expr.{Term, Literal, Var, OutcomeOf, Unary, Binary}
-use Rattle.px_core.specs.Plan.{VariableData, Assign, Tree, NoNode}
+use Rattle.px_core.specs.Plan.{VariableData, Assign, Tree}
 use Rattle.px_expand.specs.Adding.{Added, nothing, adds}
 use Rattle.px_expand.specs.Conditions.{Given, none_given}
 use Rattle.px_expand.specs.Items.{default_priority}
 use Rattle.px_expand.specs.Joining.{all, some}
 use Rattle.px_expand.specs.Names.{test_name, set_name, step_name, loop_name}
-use Rattle.px_expand.specs.Nodes.{Place, Node, leaf, list, before, alone, child_place}
-use Rattle.px_expand.specs.Scope.{Scope, outermost}
+use Rattle.px_expand.specs.Nodes.{Place, Node, leaf, list, before, alone, child}
 
 -- ---- what the rows say of a child, by its path
 
@@ -28,8 +25,8 @@ abbrev pub done : List ℕ → Term
 done = is_finished
 
 abbrev pub ended : Outcome → List ℕ → Term
-ended outcome child =
-    Binary And (done child) (Binary (Compare compare.Equal) (OutcomeOf child) (Literal (values.Outcome outcome)))
+ended outcome path =
+    Binary And (done path) (Binary (Compare compare.Equal) (OutcomeOf path) (Literal (values.Outcome outcome)))
 
 abbrev pub failed : List ℕ → Term
 failed = ended outcomes.Failure
@@ -42,7 +39,7 @@ won = ended outcomes.Success
 -- UncheckedSequence: that the child before is done adds to the Start of each child but the first
 abbrev pub after : Option (List ℕ) → Added
 after None = nothing
-after (Some child) = record { start = Some (done child); skip = None }
+after (Some path) = record { start = Some (done path); skip = None }
 
 -- Sequence: that no child has failed adds to the Invariant
 abbrev pub sequence : List (List ℕ) → Given → Given
@@ -83,7 +80,7 @@ where_not_found path = record { start = Some (not_found path); skip = Some (foun
 -- an Assignment that the text doesn't have, of a scalar of the node `owner`
 abbrev pub assignment : List ℕ → List ℕ → Given → List ℕ → List ℕ → Term → Node
 assignment parent name given owner variable value =
-    leaf (child_place outermost parent None name nothing) kinds.Assignment given default_priority []
+    leaf (child parent name nothing) kinds.Assignment given default_priority []
     (Assign (record { owner = owner; name = variable; index = None }) value)
 
 -- `#set`: the Assignment `#test = isKnown(t) && t`
@@ -118,18 +115,18 @@ loop_path path = below path loop_name
 
 -- `#step`: it starts once A is done, where the test was found true, and is skipped where it was not
 abbrev pub step : List ℕ → List ℕ → List ℕ → Term → Node
-step path child variable next =
+step path body variable next =
     assignment (loop_path path) step_name
     (record none_given {
-      start = Some (Binary And (done child) (test_of (loop_path path)));
+      start = Some (Binary And (done body) (test_of (loop_path path)));
       skip = Some (not_found (loop_path path));
     })
     path variable next
 
 abbrev pub counted : Place → List ℕ → ℤ → Term → Term → List ℕ → Node → Node
-counted place variable first test next child branch =
+counted place variable first test next body branch =
     list place (loop_path place.path ∷ []) none_given default_priority (counter variable first ∷ [])
     (alone
-    (repeated (child_place outermost place.path None loop_name nothing) test
-    (child ∷ below (loop_path place.path) step_name ∷ [])
-    (before branch (alone (step place.path child variable next)))))
+    (repeated (child place.path loop_name nothing) test
+    (body ∷ below (loop_path place.path) step_name ∷ [])
+    (before branch (alone (step place.path body variable next)))))

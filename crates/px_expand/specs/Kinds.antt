@@ -1,5 +1,5 @@
 -- Which kind of node a block and an action are, and what the node does.
-use Rattle.std.specs.Prelude.{List, map, Option, Some, None}
+use Rattle.std.specs.Prelude.{map, Option, Some, None}
 use Rattle.std.specs.Option.{option_map, option_map_or}
 use Rattle.px_syntax.specs.declared.word.BlockForm.TheVariants as forms
 use Rattle.px_syntax.specs.Block.{TargetData, CallData, PairData, BlockTree, Braces, NoActions, BodyTree, Assign, CallInto, Call, Update}

@@ -1,47 +1,42 @@
 -- Nodes of the core plan in their places.
-use Rattle.std.specs.Prelude.{ℕ, List, [], map, Option}
+use Rattle.std.specs.Prelude.{ℕ, List, [], ◌∷◌, map}
 use Rattle.px_value.specs.Path.{below}
-use Rattle.px_syntax.specs.declared.expr.Identifier.{Identifier}
 use Rattle.px_core.specs.declared.node.Kind.{Kind}
 use Rattle.px_core.specs.declared.node.Kind.TheVariants as kinds
 use Rattle.px_core.specs.Plan.{VariableData, BodyData, Nothing, Head, Tree, NoNode, Branch}
-use Rattle.px_expand.specs.Adding.{Added, nothing, with_added}
+use Rattle.px_expand.specs.Adding.{Added, with_added}
 use Rattle.px_expand.specs.Conditions.{Given, conditions}
-use Rattle.px_expand.specs.Names.{named}
-use Rattle.px_expand.specs.Scope.{Scope, Seen, seen_as, inside}
+use Rattle.px_expand.specs.Scope.{Scope, Table, table, each_once}
 
 -- ---- places
 
--- Where a node of the text stands: in the scope round it, with its label, at its path and of its name; and what the form
--- round it adds to its conditions.
+-- where a node stands: its path and its name, and what the form round it adds to its conditions
 pub record Place : Type 0 where
-  pub scope : Scope
-  pub label : Option Identifier
   pub path : List ℕ
   pub name : List ℕ
   pub added : Added
 
--- a child of the node at this path, by its label and the name that it has without one
-abbrev pub child_place : Scope → List ℕ → Option Identifier → List ℕ → Added → Place
-child_place scope parent label unlabelled added = record {
-  scope = scope;
-  label = label;
-  path = below parent (named label unlabelled);
-  name = named label unlabelled;
-  added = added;
-}
+-- a child of the node at a path
+abbrev pub child : List ℕ → List ℕ → Added → Place
+child parent name added = record { path = below parent name; name = name; added = added }
 
--- what is seen of it
-abbrev pub child_seen : List ℕ → Option Identifier → List ℕ → Seen
-child_seen parent label unlabelled = seen_as label (below parent (named label unlabelled))
+-- its name and its path
+abbrev pub seen : List ℕ → List ℕ → List ℕ × List ℕ
+seen parent name = (name, below parent name)
 
-abbrev pub paths_of : List Seen → List (List ℕ)
-paths_of = map (λ seen. seen.path)
+abbrev pub paths_of : Table → List (List ℕ)
+paths_of = map (λ child. child.1)
 
--- the scope inside the node of a place, which has these children and declares variables of these names
-abbrev pub inside_place : Place → List Seen → List (List ℕ) → Scope
-inside_place place children names =
-    inside place.scope (record { seen = seen_as place.label place.path; children = children }) names
+-- the scope inside a node of the text with these children and with variables of these names
+abbrev pub inside : Scope → Place → Table → List (List ℕ) → Scope
+inside scope place children names =
+    record {
+      name = place.name;
+      path = place.path;
+      children = table children;
+      variables = each_once names;
+    }
+    ∷ scope
 
 -- ---- nodes
 

@@ -1,83 +1,88 @@
 -- Which variable and which node a name means somewhere in a plan: the paths of both in the core plan.
-use Rattle.std.specs.Prelude.{ℕ, Bool, false, List, [], ◌∷◌, ◌++◌, map, slice_get, Option, unwrap_or}
-use Rattle.std.specs.List.{find, flat_map}
+use Rattle.std.specs.Prelude.{ℕ, Bool, List, [], ◌∷◌, fold, slice_get, unwrap_or, Option, Some, None, if◌then◌else◌}
+use Rattle.std.specs.List.{find, list_any}
+use Rattle.std.specs.Map.{lookup}
 use Rattle.std.specs.Option.{option_map, option_map_or, option_and_then}
-use Rattle.std.specs.Str.{bytes_eq}
-use Rattle.px_syntax.specs.declared.expr.Identifier.{Identifier}
+use Rattle.indexmap.specs.IndexMap.{insert_entry}
+use Rattle.indexmap.specs.IndexSet.{insert_key}
 use Rattle.px_syntax.specs.declared.expr.NodeReference.{NodeReference}
 use Rattle.px_syntax.specs.declared.expr.NodeReference.TheVariants as nodes
+use Rattle.px_core.specs.Plan.{is_same}
 
 -- ---- what is visible
 
--- a variable, and the path of the node that declares it
-pub record Visible : Type 0 where
+-- paths by names
+abbrev pub Table : Type 0
+Table = List (List ℕ × List ℕ)
+
+-- Names with their paths as a table. Of two paths of one name the last counts; a tree without faults has none such.
+abbrev pub table : Table → Table
+table = fold (λ known child. insert_entry is_same known child.0 child.1) []
+
+-- names, each once
+abbrev pub each_once : List (List ℕ) → List (List ℕ)
+each_once = fold (insert_key is_same) []
+
+-- A node of the text, as it is seen from inside: its name and its path, the paths of its children by their names, and the
+-- names of its variables. A generated name begins with `#`, so no name of the text means it.
+pub record Frame : Type 0 where
   pub name : List ℕ
-  pub owner : List ℕ
-
--- what is seen of a node: its label, where it has one, and its path
-pub record Seen : Type 0 where
-  pub label : Option (List ℕ)
   pub path : List ℕ
+  pub children : Table
+  pub variables : List (List ℕ)
 
-abbrev pub seen_as : Option Identifier → List ℕ → Seen
-seen_as label path = record { label = option_map (λ identifier. identifier.name) label; path = path }
+-- the nodes of the text round an expression, from the one that it belongs to out
+abbrev pub Scope : Type 0
+Scope = List Frame
 
--- a node of the text, and what is seen of its children
-pub record Node : Type 0 where
-  pub seen : Seen
-  pub children : List Seen
-
--- The visible variables, the nearest first; and the nodes of the text round an expression, from the one that it belongs to
--- out.
-pub record Scope : Type 0 where
-  pub variables : List Visible
-  pub nodes : List Node
-
--- the scope round a root
-abbrev pub outermost : Scope
-outermost = record { variables = []; nodes = [] }
-
--- the scope inside a further node, which declares variables of these names
-abbrev pub inside : Scope → Node → List (List ℕ) → Scope
-inside scope node names = record {
-  variables = map (λ name. record { name = name; owner = node.seen.path }) names ++ scope.variables;
-  nodes = node ∷ scope.nodes;
-}
+-- the path of the node that an expression belongs to
+abbrev pub here : Scope → List ℕ
+here [] = []
+here (frame ∷ outer) = frame.path
 
 -- ---- variables
 
--- the path of the node that declares the nearest variable of a name; a tree without faults has one
+abbrev pub declares : List ℕ → Frame → Bool
+declares name frame = list_any (is_same name) frame.variables
+
+-- the path of the innermost node that declares a variable; in a tree without faults there is one
 abbrev pub owner_of : Scope → List ℕ → List ℕ
-owner_of scope name =
-    option_map_or (λ variable. variable.owner) (find (λ variable. bytes_eq name variable.name) scope.variables) []
+owner_of scope name = option_map_or (λ frame. frame.path) (find (declares name) scope) (here scope)
 
 -- ---- nodes
 
-abbrev pub is_labelled : List ℕ → Seen → Bool
-is_labelled name seen = option_map_or (bytes_eq name) seen.label false
+abbrev pub child_named : List ℕ → Frame → Option (List ℕ)
+child_named name frame = lookup (is_same name) frame.children
 
--- what a name is looked for in: from the innermost node out, the children of each and then itself
-abbrev pub searched : List Node → List Seen
-searched = flat_map (λ node. node.children ++ node.seen ∷ [])
+abbrev pub itself_named : List ℕ → Frame → Option (List ℕ)
+itself_named name frame = if is_same name frame.name then Some frame.path else None
 
-abbrev pub child_labelled : List ℕ → Node → Option Seen
-child_labelled name node = find (is_labelled name) node.children
+-- a path, or else another
+abbrev pub or_else : Option (List ℕ) → Option (List ℕ) → Option (List ℕ)
+or_else None other = other
+or_else (Some path) other = Some path
+
+-- the first node of a name: from the innermost node out, among the children of each and then itself
+abbrev pub named_from : List ℕ → Scope → Option (List ℕ)
+named_from name [] = None
+named_from name (frame ∷ outer) =
+    or_else (child_named name frame) (or_else (itself_named name frame) (named_from name outer))
 
 -- the node that an expression belongs to, and the node of the text round that one
-abbrev pub self_of : Scope → Option Node
-self_of scope = slice_get scope.nodes 0
+abbrev pub self_of : Scope → Option Frame
+self_of scope = slice_get scope 0
 
-abbrev pub parent_of : Scope → Option Node
-parent_of scope = slice_get scope.nodes 1
+abbrev pub parent_of : Scope → Option Frame
+parent_of scope = slice_get scope 1
 
--- the node that a reference means, if it is there
-abbrev pub meant : Scope → NodeReference → Option Seen
-meant scope (nodes.Named name) = find (is_labelled name.name) (searched scope.nodes)
-meant scope (nodes.SelfNode token) = option_map (λ node. node.seen) (self_of scope)
-meant scope (nodes.Parent token) = option_map (λ node. node.seen) (parent_of scope)
-meant scope (nodes.Sibling token name) = option_and_then (child_labelled name.name) (parent_of scope)
-meant scope (nodes.Child token name) = option_and_then (child_labelled name.name) (self_of scope)
+-- the path of the node that a reference means, if it is there
+abbrev pub meant : Scope → NodeReference → Option (List ℕ)
+meant scope (nodes.Named name) = named_from name.name scope
+meant scope (nodes.SelfNode token) = option_map (λ frame. frame.path) (self_of scope)
+meant scope (nodes.Parent token) = option_map (λ frame. frame.path) (parent_of scope)
+meant scope (nodes.Sibling token name) = option_and_then (child_named name.name) (parent_of scope)
+meant scope (nodes.Child token name) = option_and_then (child_named name.name) (self_of scope)
 
--- its path; a tree without faults has one
+-- in a tree without faults it is there
 abbrev pub path_meant : Scope → NodeReference → List ℕ
-path_meant scope node = option_map_or (λ seen. seen.path) (meant scope node) []
+path_meant scope node = unwrap_or (meant scope node) (here scope)
