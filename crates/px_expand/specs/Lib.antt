@@ -9,3 +9,10 @@ pub mod Kinds
 pub mod Nodes
 pub mod Forms
 pub mod Core
+pub mod Said
+pub mod Shown
+pub mod Bound
+pub mod Size
+pub mod Labels
+pub mod Typed
+pub mod Verdict

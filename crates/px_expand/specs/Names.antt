@@ -2,6 +2,8 @@
 use Rattle.std.specs.Prelude.{ℕ, List, codes, Option, None, Some}
 use Rattle.px_value.specs.Name.{generated_name}
 use Rattle.px_syntax.specs.declared.expr.Identifier.{Identifier}
+use Rattle.px_expand.specs.declared.names.Generated.{Generated}
+use Rattle.px_expand.specs.declared.names.Generated.TheVariants as which
 
 -- the label of a node, or the name that it has without one
 abbrev pub named : Option Identifier → List ℕ → List ℕ
@@ -41,3 +43,14 @@ step_name = codes "#step"
 
 abbrev pub loop_name : List ℕ
 loop_name = codes "#loop"
+
+-- each of these names
+abbrev pub generated : Generated → List ℕ
+generated (which.Action place) = action_name place
+generated which.Then = then_name
+generated which.Body = body_name
+generated which.Else = else_name
+generated which.Test = test_name
+generated which.Set = set_name
+generated which.Step = step_name
+generated which.Loop = loop_name

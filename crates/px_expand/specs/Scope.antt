@@ -42,12 +42,25 @@ here (frame ∷ outer) = frame.path
 
 -- ---- variables
 
+-- a path, or else another
+abbrev pub or_else : Option (List ℕ) → Option (List ℕ) → Option (List ℕ)
+or_else None other = other
+or_else (Some path) other = Some path
+
 abbrev pub declares : List ℕ → Frame → Bool
 declares name frame = list_any (is_same name) frame.variables
 
--- the path of the innermost node that declares a variable; in a tree without faults there is one
+abbrev pub declared_in : List ℕ → Frame → Option (List ℕ)
+declared_in name frame = if declares name frame then Some frame.path else None
+
+-- the first node from the innermost one out that declares a variable
+abbrev pub declared_from : List ℕ → Scope → Option (List ℕ)
+declared_from name [] = None
+declared_from name (frame ∷ outer) = or_else (declared_in name frame) (declared_from name outer)
+
+-- in a tree without faults there is one
 abbrev pub owner_of : Scope → List ℕ → List ℕ
-owner_of scope name = option_map_or (λ frame. frame.path) (find (declares name) scope) (here scope)
+owner_of scope name = unwrap_or (declared_from name scope) (here scope)
 
 -- ---- nodes
 
@@ -57,16 +70,15 @@ child_named name frame = lookup (is_same name) frame.children
 abbrev pub itself_named : List ℕ → Frame → Option (List ℕ)
 itself_named name frame = if is_same name frame.name then Some frame.path else None
 
--- a path, or else another
-abbrev pub or_else : Option (List ℕ) → Option (List ℕ) → Option (List ℕ)
-or_else None other = other
-or_else (Some path) other = Some path
+-- the node of a name among the children of one, and then itself
+abbrev pub named_in : List ℕ → Frame → Option (List ℕ)
+named_in name frame = or_else (child_named name frame) (itself_named name frame)
 
--- the first node of a name: from the innermost node out, among the children of each and then itself
+-- the first node of a name from the innermost one out
 abbrev pub named_from : List ℕ → Scope → Option (List ℕ)
 named_from name [] = None
 named_from name (frame ∷ outer) =
-    or_else (child_named name frame) (or_else (itself_named name frame) (named_from name outer))
+    or_else (named_in name frame) (named_from name outer)
 
 -- the node that an expression belongs to, and the node of the text round that one
 abbrev pub self_of : Scope → Option Frame

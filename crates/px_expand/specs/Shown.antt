@@ -1,0 +1,22 @@
+-- What the code has of conditions and places, with terms in place of expressions.
+use Rattle.std.specs.Option.{option_map}
+use Rattle.px_core.specs.Expr.{term_of}
+use Rattle.px_expand.specs.declared.conditions.Added.{Added as AddedExprs}
+use Rattle.px_expand.specs.declared.conditions.Given.{Given as GivenExprs}
+use Rattle.px_expand.specs.Adding.{Added}
+use Rattle.px_expand.specs.Conditions.{Given}
+
+abbrev pub given_terms : GivenExprs → Given
+given_terms given = record {
+  start = option_map term_of given.start;
+  end = option_map term_of given.end;
+  exit = option_map term_of given.exit;
+  skip = option_map term_of given.skip;
+  repeat = option_map term_of given.repeat;
+  pre = option_map term_of given.pre;
+  post = option_map term_of given.post;
+  invariant = option_map term_of given.invariant;
+}
+
+abbrev pub added_terms : AddedExprs → Added
+added_terms added = record { start = option_map term_of added.start; skip = option_map term_of added.skip }

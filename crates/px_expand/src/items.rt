@@ -1,0 +1,140 @@
+// What the items of a block give: conditions, the priority and variables.
+ghost use Rattle.std.specs.Prelude.{◌≡◌, ◌<◌, length, map, option_map, IfOk};
+ghost use Rattle.px_syntax.specs.Block.{initial_data, item_data, variable_data as text_variable};
+ghost use Rattle.px_core.specs.Expr.{term_of};
+ghost use Rattle.px_core.specs.Plan.{variable_data};
+ghost use Rattle.px_expand.specs.Items.{first_values, given_by, given_for, priority_of, var_kind, variable_of, variables_of};
+ghost use Rattle.px_expand.specs.Shown.{given_terms};
+
+use crate::conditions::Given;
+use crate::resolve::resolved;
+use crate::scope::Scope;
+use crate::words::literal_value;
+use px_core::{Expr, VarKind, Variable};
+use px_syntax::{Condition, Initial, Item, TypeName};
+use px_value::{NoMemory, Value};
+use std::alloc::Global;
+
+/// The priority of a node for which the text gives none (PLEXIL reference manual, "Assignment Nodes").
+pub(crate) const DEFAULT_PRIORITY: u32 = 100000;
+
+/// The conditions that the items give, in the scope inside their block.
+pub(crate) fn given_by(alloc: Global, scope: &Scope, items: &[Item]) -> Result<Given, NoMemory>
+    requires { 0 < length scope.now }
+    ensures { IfOk result (λ made. given_terms made ≡ given_by scope.now (map item_data items.now)) }
+{
+    Ok(Given {
+        start: given_for(alloc, scope, Condition::Start, items)?,
+        end: given_for(alloc, scope, Condition::End, items)?,
+        exit: given_for(alloc, scope, Condition::Exit, items)?,
+        skip: given_for(alloc, scope, Condition::Skip, items)?,
+        repeat: given_for(alloc, scope, Condition::Repeat, items)?,
+        pre: given_for(alloc, scope, Condition::Pre, items)?,
+        post: given_for(alloc, scope, Condition::Post, items)?,
+        invariant: given_for(alloc, scope, Condition::Invariant, items)?,
+    })
+}
+
+/// What the items give for a condition.
+fn given_for(
+    alloc: Global,
+    scope: &Scope,
+    condition: Condition,
+    mut items: &[Item],
+) -> Result<Option<Expr>, NoMemory>
+    requires { 0 < length scope.now }
+    ensures { IfOk result
+        (λ made. option_map term_of made ≡ given_for scope.now condition (map item_data items.entry.now)) }
+{
+    while let Some((item, others)) = items.split_first() {
+        if let Item::Condition {
+            condition: given,
+            test,
+            ..
+        } = item
+        {
+            if *given == condition {
+                return Ok(Some(resolved(alloc, scope, test)?));
+            }
+        }
+        items = others;
+    }
+    Ok(None)
+}
+
+/// The priority that the items give, or the default.
+pub(crate) fn priority_of(mut items: &[Item]) -> u32
+    ensures { result ≡ priority_of (map item_data items.entry.now) }
+{
+    while let Some((item, others)) = items.split_first() {
+        if let Item::Priority { priority, .. } = item {
+            return *priority;
+        }
+        items = others;
+    }
+    DEFAULT_PRIORITY
+}
+
+/// The variables that the items declare, in the order of the text.
+pub(crate) fn variables_of(alloc: Global, items: &[Item]) -> Result<Vec<Variable>, NoMemory>
+    ensures { IfOk result
+        (λ made. map variable_data made.items ≡ variables_of (map item_data items.now)) }
+{
+    let mut made = Vec::new(alloc);
+    for item in items {
+        if let Item::Variables { of_type, variables } = item {
+            for variable in variables {
+                made.push(variable_of(alloc, *of_type, variable)?)?;
+            }
+        }
+    }
+    Ok(made)
+}
+
+fn variable_of(
+    alloc: Global,
+    of_type: TypeName,
+    variable: &px_syntax::Variable,
+) -> Result<Variable, NoMemory>
+    ensures { IfOk result (λ made. variable_data made ≡ variable_of of_type (text_variable variable.now)) }
+{
+    Ok(Variable {
+        name: variable.name.name.copy(alloc)?,
+        kind: var_kind(of_type),
+        size: variable.size,
+        init: match &variable.initial {
+            Some(initial) => first_values(alloc, initial)?,
+            None => Vec::new(alloc),
+        },
+    })
+}
+
+/// The values at first.
+fn first_values(alloc: Global, initial: &Initial) -> Result<Vec<Value>, NoMemory>
+    ensures { IfOk result (λ made. made.items ≡ first_values (initial_data initial.now)) }
+{
+    match initial {
+        Initial::Value { value, .. } => {
+            let mut made = Vec::with_capacity(alloc, 1)?;
+            made.push(literal_value(alloc, value)?)?;
+            Ok(made)
+        }
+        Initial::List { values, .. } => {
+            let mut made = Vec::with_capacity(alloc, values.len())?;
+            for listed in values {
+                made.push(literal_value(alloc, &listed.value)?)?;
+            }
+            Ok(made)
+        }
+    }
+}
+
+pub(crate) fn var_kind(of_type: TypeName) -> VarKind
+    ensures { result ≡ var_kind of_type }
+{
+    match of_type {
+        TypeName::Integer => VarKind::Integer,
+        TypeName::Boolean => VarKind::Boolean,
+        TypeName::String => VarKind::Text,
+    }
+}

@@ -1,0 +1,69 @@
+// The names of nodes.
+ghost use Rattle.std.specs.Prelude.{◌≡◌, IfOk, IsTrue};
+ghost use Rattle.px_value.specs.Name.{is_name};
+ghost use Rattle.px_expand.specs.Names.{generated, named};
+
+use px_syntax::Identifier;
+use px_value::{Name, NameFault, NoMemory};
+use std::alloc::{AllocError, Global};
+
+/// A name that the text doesn't have.
+#[derive(Clone, Copy, Debug, PartialEq, Eq)]
+pub(crate) enum Generated {
+    /// Of the action with this place in its block, counted from 1; a root is the first.
+    Action(u32),
+    /// Of a branch of an `if`, of a loop, and after `else`.
+    Then,
+    Body,
+    Else,
+    /// Of the variable that a test is kept in.
+    Test,
+    /// Of the nodes of tests and loops.
+    Set,
+    Step,
+    Loop,
+}
+
+impl Generated {
+    /// The name itself.
+    pub(crate) fn name(self, alloc: Global) -> Result<Name, NoMemory>
+        ensures { IfOk result (λ name. name ≡ generated self) }
+    {
+        match self {
+            Generated::Action(place) => Name::generated(alloc, place),
+            Generated::Then => fixed(alloc, "#then"),
+            Generated::Body => fixed(alloc, "#body"),
+            Generated::Else => fixed(alloc, "#else"),
+            Generated::Test => fixed(alloc, "#test"),
+            Generated::Set => fixed(alloc, "#set"),
+            Generated::Step => fixed(alloc, "#step"),
+            Generated::Loop => fixed(alloc, "#loop"),
+        }
+    }
+}
+
+/// The name that a text spells.
+fn fixed(alloc: Global, text: &str) -> Result<Name, NoMemory>
+    requires { IsTrue (is_name text.now) }
+    ensures { IfOk result (λ name. name ≡ text.now) }
+{
+    match Name::new(alloc, text) {
+        Ok(name) => Ok(name),
+        Err(NameFault::NoMemory) => Err(AllocError),
+        Err(NameFault::NotAName) => unreachable!(),
+    }
+}
+
+/// The label of a node, or the name that it has without one.
+pub(crate) fn named(
+    alloc: Global,
+    label: &Option<Identifier>,
+    unlabelled: Generated,
+) -> Result<Name, NoMemory>
+    ensures { IfOk result (λ name. name ≡ named label.now (generated unlabelled)) }
+{
+    match label {
+        Some(label) => label.name.copy(alloc),
+        None => unlabelled.name(alloc),
+    }
+}
