@@ -9,6 +9,7 @@ use Rattle.px_value.specs.declared.value.Value.TheVariants as values
 use Rattle.px_syntax.specs.declared.expr.Attribute.TheVariants as attributes
 use Rattle.px_syntax.specs.declared.expr.Identifier.{Identifier}
 use Rattle.px_syntax.specs.declared.expr.Literal.TheVariants as literals
+use Rattle.px_syntax.specs.declared.expr.NodeReference.{NodeReference}
 use Rattle.px_syntax.specs.declared.expr.NodeReference.TheVariants as nodes
 use Rattle.px_syntax.specs.declared.word.BlockForm.{BlockForm}
 use Rattle.px_syntax.specs.declared.word.BlockForm.TheVariants as forms
@@ -23,7 +24,7 @@ use Rattle.px_core.specs.declared.expr.UnaryOp.TheVariants as unary
 use Rattle.px_core.specs.declared.node.Kind.{Kind}
 use Rattle.px_core.specs.declared.node.Kind.TheVariants as kinds
 use Rattle.px_core.specs.declared.variable.VarKind.TheVariants as var_kinds
-use Rattle.px_core.specs.Expr.{Term, Literal, Var, StateOf, OutcomeOf, Unary, Binary}
+use Rattle.px_core.specs.Expr.{Term, Literal, Var, StateOf, OutcomeOf, HandleOf, Acknowledged, Unary, Binary}
 use Rattle.px_core.specs.Joined.{joined}
 use Rattle.px_core.specs.Plan as plan
 use Rattle.px_core.specs.Plan.{Head, Tree, NoNode, Branch, ConditionTerms, BodyData, VariableData}
@@ -321,3 +322,96 @@ unfolding joined digits
 a_for = refl
 
 -- ---- names
+
+-- ---- names of nodes
+
+-- the Start of the first child of the first child
+abbrev inner_start : Tree → Term
+inner_start (Branch root (Branch outer (Branch inner children rest) others) more) = inner.conditions.start
+inner_start tree = no
+
+-- R: Concurrence { N: Concurrence { X: { Start NODE.state; } Y: { } } Y: { } }
+abbrev start_at : NodeReference → Term
+start_at node =
+    inner_start
+    (core
+    (the (codes "R")
+    (block forms.Concurrence []
+    (labelled (codes "N")
+    (text.Inner
+    (block forms.Concurrence []
+    (labelled (codes "X") (empty_with (condition which.Start (expr.Attribute node attributes.State) ∷ []))
+    ∷ labelled (codes "Y") empty ∷ [])))
+    ∷ labelled (codes "Y") empty ∷ []))))
+
+a_child_of_the_parent_is_nearest : start_at (nodes.Named (id (codes "Y"))) ≡ StateOf (codes "R.N.Y")
+unfolding joined digits
+a_child_of_the_parent_is_nearest = refl
+
+an_ancestor : start_at (nodes.Named (id (codes "R"))) ≡ StateOf (codes "R")
+unfolding joined digits
+an_ancestor = refl
+
+itself_by_name : start_at (nodes.Named (id (codes "X"))) ≡ StateOf (codes "R.N.X")
+unfolding joined digits
+itself_by_name = refl
+
+itself : start_at (nodes.SelfNode 0) ≡ StateOf (codes "R.N.X")
+unfolding joined digits
+itself = refl
+
+the_parent : start_at (nodes.Parent 0) ≡ StateOf (codes "R.N")
+unfolding joined digits
+the_parent = refl
+
+a_sibling : start_at (nodes.Sibling 0 (id (codes "Y"))) ≡ StateOf (codes "R.N.Y")
+unfolding joined digits
+a_sibling = refl
+
+-- ---- names of variables, commands and updates
+
+-- R: Concurrence { Integer x; Priority 7; { Integer x = 5; x = Drive(x); } U: Update a = x; }
+a_command_with_a_result :
+    core
+    (the (codes "R")
+    (block forms.Concurrence
+    (text.Variables types.Integer (record { name = id (codes "x"); size = None; initial = None } ∷ [])
+    ∷ text.Priority 0 7 ∷ [])
+    (unlabelled
+    (text.Inner
+    (block forms.Plain
+    (text.Variables types.Integer
+    (record {
+      name = id (codes "x");
+      size = None;
+      initial = Some (text.Value (literals.Integer (pos 5)) 0);
+    }
+    ∷ [])
+    ∷ [])
+    (unlabelled
+    (text.CallInto (record { name = id (codes "x"); index = None })
+    (record { name = id (codes "Drive"); args = expr.More (variable (codes "x")) expr.NoTerms }))
+    ∷ [])))
+    ∷ labelled (codes "U") (text.Update 0 (record { name = id (codes "a"); value = variable (codes "x") } ∷ [])) ∷ [])))
+    ≡ Branch
+    (record {
+      name = codes "R";
+      kind = kinds.List;
+      conditions = plain (both (done (codes "R.#1")) (done (codes "R.U")));
+      priority = 7;
+      variables = record { name = codes "x"; kind = var_kinds.Integer; size = None; init = [] } ∷ [];
+      body = plan.Nothing;
+    })
+    (Branch
+    (node (codes "#1") kinds.Command (plain (Unary unary.IsKnown (HandleOf (codes "R.#1"))))
+    (record { name = codes "x"; kind = var_kinds.Integer; size = None; init = values.Integer (pos 5) ∷ [] } ∷ [])
+    (plan.Command (codes "Drive") (Var (codes "R.#1") (codes "x") ∷ [])
+    (Some (record { owner = codes "R.#1"; name = codes "x"; index = None }))))
+    NoNode
+    (Branch
+    (node (codes "U") kinds.Update (plain (Acknowledged (codes "R.U"))) []
+    (plan.Update (record { name = codes "a"; value = Var (codes "R") (codes "x") } ∷ [])))
+    NoNode NoNode))
+    NoNode
+unfolding joined digits
+a_command_with_a_result = refl

@@ -1,3 +1,5 @@
 mod Examples
-pub mod Resolved
+pub mod Counts
 pub mod Halves
+pub mod Resolved
+pub mod Shapes

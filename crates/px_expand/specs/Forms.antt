@@ -62,12 +62,15 @@ test_variable = record { name = test_name; kind = types.Boolean; size = None; in
 abbrev pub test_of : List ℕ → Term
 test_of path = Var path test_name
 
+abbrev pub set_is_done : List ℕ → Term
+set_is_done path = done (below path set_name)
+
 -- the test was found true, or was not
 abbrev pub found : List ℕ → Term
-found path = Binary And (done (below path set_name)) (test_of path)
+found path = Binary And (set_is_done path) (test_of path)
 
 abbrev pub not_found : List ℕ → Term
-not_found path = Binary And (done (below path set_name)) (Unary Not (test_of path))
+not_found path = Binary And (set_is_done path) (Unary Not (test_of path))
 
 -- A: that the test was found true adds to Start, and that it was not to Skip
 abbrev pub where_found : List ℕ → Added

@@ -1,9 +1,9 @@
 -- Which kind of node a block and an action are, and what the node does.
-use Rattle.std.specs.Prelude.{map, Option, Some, None}
-use Rattle.std.specs.Option.{option_map, option_map_or}
+use Rattle.std.specs.Prelude.{map, Option, Some, None, if◌then◌else◌}
+use Rattle.std.specs.Option.{option_map}
 use Rattle.px_syntax.specs.declared.word.BlockForm.TheVariants as forms
-use Rattle.px_syntax.specs.Block.{TargetData, CallData, PairData, BlockTree, Braces, NoActions, BodyTree, Assign, CallInto, Call, Update}
-use Rattle.px_syntax.specs.Scope.{own_action}
+use Rattle.px_syntax.specs.Block.{TargetData, CallData, PairData, BlockTree, Braces, Actions, NoActions, More, ActionTree, Labelled, BodyTree, Assign, CallInto, Call, Update}
+use Rattle.px_syntax.specs.Scope.{is_simple}
 use Rattle.px_core.specs.declared.node.Kind.{Kind}
 use Rattle.px_core.specs.declared.node.Kind.TheVariants as kinds
 use Rattle.px_core.specs.Plan as plan
@@ -19,11 +19,21 @@ pub data Shape : Type 0 where
   OneAction : (body : BodyTree) → Shape
   Children : Shape
 
+-- a plain block with this action alone
+abbrev pub alone : ActionTree → Shape
+alone (Labelled None body) = if is_simple body then OneAction body else Children
+alone (Labelled (Some label) body) = Children
+
 -- A plain block without actions is Empty. Its only action is one node with it where that is an assignment, a command or an
 -- update without a label. Every other block is a List.
+abbrev pub plain_shape : Actions → Shape
+plain_shape NoActions = Rest
+plain_shape (More action NoActions) = alone action
+plain_shape (More first (More second rest)) = Children
+
 abbrev pub shape_of : BlockTree → Shape
-shape_of (Braces forms.Plain items NoActions) = Rest
-shape_of block = option_map_or OneAction (own_action block) Children
+shape_of (Braces forms.Plain items actions) = plain_shape actions
+shape_of block = Children
 
 -- ---- simple actions
 

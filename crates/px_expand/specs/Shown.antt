@@ -1,10 +1,14 @@
--- What the code has of conditions and places, with terms in place of expressions.
+-- What the code has of conditions and shapes, with terms in place of expressions.
 use Rattle.std.specs.Option.{option_map}
+use Rattle.px_syntax.specs.Block.{body_of}
 use Rattle.px_core.specs.Expr.{term_of}
 use Rattle.px_expand.specs.declared.conditions.Added.{Added as AddedExprs}
 use Rattle.px_expand.specs.declared.conditions.Given.{Given as GivenExprs}
+use Rattle.px_expand.specs.declared.shape.Shape.{Shape as ShapeData}
+use Rattle.px_expand.specs.declared.shape.Shape.TheVariants as shapes
 use Rattle.px_expand.specs.Adding.{Added}
 use Rattle.px_expand.specs.Conditions.{Given}
+use Rattle.px_expand.specs.Kinds.{Shape, Rest, OneAction, Children}
 
 abbrev pub given_terms : GivenExprs → Given
 given_terms given = record {
@@ -20,3 +24,8 @@ given_terms given = record {
 
 abbrev pub added_terms : AddedExprs → Added
 added_terms added = record { start = option_map term_of added.start; skip = option_map term_of added.skip }
+
+abbrev pub shape_data : ShapeData → Shape
+shape_data shapes.Rest = Rest
+shape_data (shapes.OneAction body) = OneAction (body_of body.now)
+shape_data shapes.Children = Children

@@ -19,7 +19,7 @@ pub record IsChecked (tree : PlanTree) : Type 0 where
 
 -- the plan is the core plan of the tree, it can be run, and its variables begin with values of their types
 pub record IsExpanded (tree : PlanTree) (plan : Plan) : Type 0 where
-  pub core : tree_of plan ≡ core tree
+  pub same : tree_of plan ≡ core tree
   pub within : is_too_large (core tree) ≡ false
   pub fit : IsFit (tree_of plan)
   pub typed : IsTrue (has_typed_values (tree_of plan))

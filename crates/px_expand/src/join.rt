@@ -25,12 +25,7 @@ pub(crate) fn done(alloc: Global, path: &Path) -> Result<Expr, NoMemory>
 {
     let state = Expr::StateOf(path.copy(alloc)?);
     let finished = Expr::Literal(Value::State(NodeState::Finished));
-    binary(
-        alloc,
-        BinaryOp::Compare(CompareOp::Equal),
-        state,
-        finished,
-    )
+    binary(alloc, BinaryOp::Compare(CompareOp::Equal), state, finished)
 }
 
 /// The node at a path is FINISHED with an outcome.

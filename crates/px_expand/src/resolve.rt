@@ -49,7 +49,9 @@ pub(crate) fn resolved(alloc: Global, scope: &Scope, expr: &SurfaceExpr) -> Resu
             tolerance: tolerance.map(|allowed| allowed.distance),
         }),
         SurfaceExpr::UnaryCall {
-            function, argument, ..
+            function,
+            argument,
+            ..
         } => {
             let argument = resolved(alloc, scope, argument)?;
             unary(alloc, unary_function_op(*function), argument)
@@ -65,7 +67,9 @@ pub(crate) fn resolved(alloc: Global, scope: &Scope, expr: &SurfaceExpr) -> Resu
             binary(alloc, binary_function_op(*function), first, second)
         }
         SurfaceExpr::Unary {
-            operator, operand, ..
+            operator,
+            operand,
+            ..
         } => {
             let operand = resolved(alloc, scope, operand)?;
             unary(alloc, unary_op(*operator), operand)

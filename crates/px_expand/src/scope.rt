@@ -26,10 +26,10 @@ impl Model for Frame {
     ghost Value = { spec.Frame };
 
     ghost view = { λ frame. record {
-        name = frame.name;
-        path = frame.path;
-        children = frame.children.entries;
-        variables = frame.variables.keys;
+      name = frame.name;
+      path = frame.path;
+      children = frame.children.entries;
+      variables = frame.variables.keys;
     } };
 }
 

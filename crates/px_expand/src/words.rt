@@ -3,7 +3,9 @@ ghost use Rattle.std.specs.Prelude.{◌≡◌, IfOk};
 ghost use Rattle.px_expand.specs.Resolving.{binary_function_op, binary_op, enumerated_value, literal_value, look_word, unary_function_op, unary_op};
 
 use px_core::{BinaryOp, LookWord, UnaryOp};
-use px_syntax::{BinaryFunction, BinaryOperator, Enumerated, Literal, UnaryFunction, UnaryOperator};
+use px_syntax::{
+    BinaryFunction, BinaryOperator, Enumerated, Literal, UnaryFunction, UnaryOperator,
+};
 use px_value::{ArithOp, CompareOp, NoMemory, Value};
 use std::alloc::Global;
 

@@ -1,0 +1,19 @@
+-- The shape of a plain block, by the number of its actions.
+use Rattle.std.proofs.Common.{◌≡◌, ℕ, ◌<◌, ◌≤◌, List, [], ◌∷◌, length, map, slice_index_or, get_or, refl, ap, sym, ◌∙◌, arith}
+use Rattle.px_syntax.specs.declared.block.Action.{Action}
+use Rattle.px_syntax.specs.Block.{action_of, actions_in_turn}
+use Rattle.px_expand.specs.Kinds.{Children, alone, plain_shape}
+
+pub one :
+    (actions : List Action) (action : Action)
+    → length actions < 2 → get_or actions 0 action ≡ action → 1 ≤ length actions
+    → plain_shape (actions_in_turn (map action_of actions)) ≡ alone (action_of action)
+one [] action short is some = absurd (omega arith)
+one (first ∷ []) action short is some = ap (λ a. alone (action_of a)) is
+one (first ∷ second ∷ rest) action short is some = absurd (omega arith)
+
+pub several :
+    (actions : List Action) → 2 ≤ length actions → plain_shape (actions_in_turn (map action_of actions)) ≡ Children
+several [] long = absurd (omega arith)
+several (action ∷ []) long = absurd (omega arith)
+several (first ∷ second ∷ rest) long = refl

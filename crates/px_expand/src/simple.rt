@@ -1,0 +1,103 @@
+// Assignments, commands and updates.
+ghost use Rattle.std.specs.Prelude.{◌≡◌, ◌<◌, length, option_map, map, IfOk};
+ghost use Rattle.px_syntax.specs.Block.{body_of as text_of, target_data as text_target, call_data, pair_data as text_pair};
+ghost use Rattle.px_core.specs.Plan.{body_data, pair_data, target_data};
+ghost use Rattle.px_expand.specs.Kinds.{body_of, command_of, kind_of, pair_of, target_of};
+
+use crate::resolve::{resolved, resolved_each};
+use crate::scope::Scope;
+use px_core::{Body, Kind, Pair, Target};
+use px_syntax::Call;
+use px_value::NoMemory;
+use std::alloc::Global;
+
+/// The kind of the node that an action is.
+pub(crate) fn kind_of(body: &px_syntax::Body) -> Kind
+    ensures { result ≡ kind_of (text_of body.now) }
+{
+    match body {
+        px_syntax::Body::Assign { .. } => Kind::Assignment,
+        px_syntax::Body::CallInto { .. } | px_syntax::Body::Call(_) => Kind::Command,
+        px_syntax::Body::Update { .. } => Kind::Update,
+        px_syntax::Body::Block(_)
+        | px_syntax::Body::If { .. }
+        | px_syntax::Body::While(_)
+        | px_syntax::Body::For { .. } => Kind::List,
+    }
+}
+
+/// What a simple action does, in the scope inside its node.
+pub(crate) fn body_of(
+    alloc: Global,
+    scope: &Scope,
+    body: &px_syntax::Body,
+) -> Result<Body, NoMemory>
+    requires { 0 < length scope.now }
+    ensures { IfOk result (λ made. body_data made ≡ body_of scope.now (text_of body.now)) }
+{
+    match body {
+        px_syntax::Body::Assign { target, value } => Ok(Body::Assign {
+            target: target_of(alloc, scope, target)?,
+            value: resolved(alloc, scope, value)?,
+        }),
+        px_syntax::Body::CallInto { target, call } => {
+            let target = target_of(alloc, scope, target)?;
+            command(alloc, scope, call, Some(target))
+        }
+        px_syntax::Body::Call(call) => command(alloc, scope, call, None),
+        px_syntax::Body::Update { pairs, .. } => Ok(Body::Update {
+            pairs: pairs_of(alloc, scope, pairs)?,
+        }),
+        px_syntax::Body::Block(_)
+        | px_syntax::Body::If { .. }
+        | px_syntax::Body::While(_)
+        | px_syntax::Body::For { .. } => Ok(Body::Nothing),
+    }
+}
+
+fn target_of(alloc: Global, scope: &Scope, target: &px_syntax::Target) -> Result<Target, NoMemory>
+    requires { 0 < length scope.now }
+    ensures { IfOk result (λ made. target_data made ≡ target_of scope.now (text_target target.now)) }
+{
+    let index = match &target.index {
+        Some(index) => Some(resolved(alloc, scope, index)?),
+        None => None,
+    };
+    Ok(Target {
+        owner: scope.owner(&target.name.name).copy(alloc)?,
+        name: target.name.name.copy(alloc)?,
+        index,
+    })
+}
+
+fn command(
+    alloc: Global,
+    scope: &Scope,
+    call: &Call,
+    written: Option<Target>,
+) -> Result<Body, NoMemory>
+    requires { 0 < length scope.now }
+    ensures { IfOk result (λ made. body_data made
+        ≡ command_of scope.now (call_data call.now) (option_map target_data written)) }
+{
+    Ok(Body::Command {
+        name: call.name.name.copy(alloc)?,
+        args: resolved_each(alloc, scope, &call.args)?,
+        result: written,
+    })
+}
+
+fn pairs_of(alloc: Global, scope: &Scope, pairs: &[px_syntax::Pair]) -> Result<Vec<Pair>, NoMemory>
+    requires { 0 < length scope.now }
+    ensures { IfOk result (λ made. map pair_data made.items
+        ≡ map (pair_of scope.now) (map text_pair pairs.now)) }
+{
+    let mut made = Vec::with_capacity(alloc, pairs.len())?;
+    for pair in pairs {
+        made.push(Pair {
+            name: pair.name.name.copy(alloc)?,
+            value: resolved(alloc, scope, &pair.value)?,
+        })?;
+    }
+    Ok(made)
+}
