@@ -89,7 +89,8 @@ KeepsDisk runs members exec None = IsOpen members exec
 KeepsDisk runs members exec (Some failed) = IsClosed runs members exec failed
 
 -- WHAT AN EXECUTIVE KEEPS OF ITS OPENING, as long as it is there
-pub record Keeps {S D : Type 0} (runs : Stepper.Ghosts S) (members : Disk.Ghosts D) (exec : Executive S D) : Type 0 where
+pub record Keeps {S D : Type 0} (runs : Stepper.Ghosts S) (members : Disk.Ghosts D) (exec : Executive S D) :
+    Type 0 where
   -- the journal stood for a text and the history then
   pub text : (text : List ℕ) × IsTextOf members exec text
   pub least : 1 ≤ exec.opening.limit
