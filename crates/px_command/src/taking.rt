@@ -98,8 +98,8 @@ fn aborted(act: &Act) -> Act
 
 impl Actions {
     /// Takes an event: what is told of a command or of an update that is at work (PLEXIL reference manual, "Commands"
-    /// and "Updates"). Where it doesn't count, where the plan doesn't have the node, and where it is a report it changes
-    /// nothing.
+    /// and "Updates"). Where it doesn't count, where the plan doesn't have the node, and where it is a report it
+    /// changes nothing.
     pub fn take(
         &mut self,
         alloc: Global,
