@@ -72,8 +72,8 @@ simple scope place body =
 abbrev pub branch_name : List ℕ → BranchTree → List ℕ
 branch_name unlabelled (Branch label block) = named label unlabelled
 
--- What stands after `else`, whichever `if` it belongs to: its name, if it is there, and its node in the scope inside that `if`
--- at its path.
+-- What stands after `else`, whichever `if` it belongs to: its name, if it is there, and its node in the scope inside
+-- that `if` at its path.
 pub record Otherwise : Type 0 where
   pub name : Option (List ℕ)
   pub nodes : Scope → List ℕ → Tree

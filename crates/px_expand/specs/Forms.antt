@@ -106,8 +106,8 @@ conditional place = tested place none_given
 abbrev pub repeated : Place → Term → List (List ℕ) → Tree → Node
 repeated place = tested place (record none_given { repeat = Some (test_of place.path) })
 
--- ---- `for (Integer i = c; t; u) A`: the List with the variable i, and the child `#loop`, a List as for `while (t) A` with
--- a third child `#step`, the Assignment `i = u`
+-- ---- `for (Integer i = c; t; u) A`: the List with the variable i, and the child `#loop`, a List as for `while (t) A`
+-- with a third child `#step`, the Assignment `i = u`
 
 abbrev pub counter : List ℕ → ℤ → VariableData
 counter name first = record { name = name; kind = types.Integer; size = None; init = values.Integer first ∷ [] }

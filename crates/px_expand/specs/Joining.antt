@@ -1,5 +1,5 @@
--- Terms joined in halves by `&&` and by `||`; px_core's relation `Joins` says what is joined to what, and its law `joining`
--- that there is one such term.
+-- Terms joined in halves by `&&` and by `||`; px_core's relation `Joins` says what is joined to what, and its law
+-- `joining` that there is one such term.
 use Rattle.std.specs.Prelude.{true, false, List}
 use Rattle.px_core.specs.declared.expr.BinaryOp.TheVariants.{And, Or}
 use Rattle.px_core.specs.Expr.{Term}

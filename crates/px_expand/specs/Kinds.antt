@@ -24,8 +24,8 @@ abbrev pub alone : ActionTree → Shape
 alone (Labelled None body) = if is_simple body then OneAction body else Children
 alone (Labelled (Some label) body) = Children
 
--- A plain block without actions is Empty. Its only action is one node with it where that is an assignment, a command or an
--- update without a label. Every other block is a List.
+-- A plain block without actions is Empty. Its only action is one node with it where that is an assignment, a command or
+-- an update without a label. Every other block is a List.
 abbrev pub plain_shape : Actions → Shape
 plain_shape NoActions = Rest
 plain_shape (More action NoActions) = alone action

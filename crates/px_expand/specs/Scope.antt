@@ -23,8 +23,8 @@ table = fold (λ known child. insert_entry is_same known child.0 child.1) []
 abbrev pub each_once : List (List ℕ) → List (List ℕ)
 each_once = fold (insert_key is_same) []
 
--- A node of the text, as it is seen from inside: its name and its path, the paths of its children by their names, and the
--- names of its variables. A generated name begins with `#`, so no name of the text means it.
+-- A node of the text, as it is seen from inside: its name and its path, the paths of its children by their names, and
+-- the names of its variables. A generated name begins with `#`, so no name of the text means it.
 pub record Frame : Type 0 where
   pub name : List ℕ
   pub path : List ℕ

@@ -1,4 +1,5 @@
--- How many nodes a tree of the text has when it is expanded, and how long the paths of these nodes are, without the core plan.
+-- How many nodes a tree of the text has when it is expanded, and how long the paths of these nodes are, without the
+-- core plan.
 use Rattle.std.specs.Prelude.{ℕ, suc, ◌+◌, max, List, length, Option, Some, None}
 use Rattle.px_syntax.specs.Block.{BlockTree, Braces, Actions, NoActions, More, ActionTree, Labelled, BranchTree, Branch, GuardedTree, Guarded, ElseIfs, NoElseIfs, ElseIf, ElseTree, NoElse, Else, BodyTree, Inner, Assign, CallInto, Call, Update, If, While, For}
 use Rattle.px_syntax.specs.Plan.{PlanTree}
