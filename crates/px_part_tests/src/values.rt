@@ -15,6 +15,7 @@ use px_flat::{Flat, NumberedExpr, flatten};
 use px_lookup::Reports;
 use px_value::{ArithOp, CompareOp, Failure, Handle, NodeState, Outcome, Text, Value};
 use std::alloc::Global;
+use std::process::Abort;
 use std::test::Fail;
 
 fn text(alloc: Global, content: &str) -> Result<Value, Fail> {
@@ -91,7 +92,7 @@ fn of_node(which: Attribute, node: u32) -> NumberedExpr
 
 // The cells of the sample plan. R's array holds 10 and 20. The node 5, R.L.C, is FAILING for INTERRUPTED and EXITED; its
 // command was accepted, and its acknowledgement cell is false.
-fn cells(alloc: Global) -> Result<Cells, Fail> {
+fn cells(rt: &impl Abort, alloc: Global) -> Result<Cells, Fail> {
     let mut values = Vec::new(alloc);
     values.push(Value::Integer(10))?;
     values.push(Value::Integer(20))?;
@@ -106,6 +107,7 @@ fn cells(alloc: Global) -> Result<Cells, Fail> {
     for _ in 36..51 {
         values.push(Value::Unknown)?;
     }
+    assert_eq!(rt; values.len(), 51);
     Ok(Cells::new(alloc, values)?)
 }
 
@@ -131,7 +133,7 @@ fn reports(alloc: Global) -> Result<Reports, Fail> {
 fn an_operation_of_one_operand_is_unknown_but_for_its_type(rt: HostRuntime) -> Result<(), Fail> {
     let alloc = rt.alloc();
     let flat = flatten(alloc, &sample(alloc)?)?;
-    let (cells, reports) = (cells(alloc)?, reports(alloc)?);
+    let (cells, reports) = (cells(&rt, alloc)?, reports(alloc)?);
     assert!(rt; cells.count() == flat.all_cells());
     for (op, arg, wanted) in [
         (UnaryOp::Not, Value::Boolean(true), Value::Boolean(false)),
@@ -173,7 +175,7 @@ fn an_operation_of_one_operand_is_unknown_but_for_its_type(rt: HostRuntime) -> R
 fn an_operation_of_two_operands_takes_the_left_one_first(rt: HostRuntime) -> Result<(), Fail> {
     let alloc = rt.alloc();
     let flat = flatten(alloc, &sample(alloc)?)?;
-    let (cells, reports) = (cells(alloc)?, reports(alloc)?);
+    let (cells, reports) = (cells(&rt, alloc)?, reports(alloc)?);
     assert!(rt; cells.count() == flat.all_cells());
     for (op, left, right, wanted) in [
         (
@@ -241,7 +243,7 @@ fn an_operation_of_two_operands_takes_the_left_one_first(rt: HostRuntime) -> Res
 fn an_element_is_unknown_where_the_array_has_none(rt: HostRuntime) -> Result<(), Fail> {
     let alloc = rt.alloc();
     let flat = flatten(alloc, &sample(alloc)?)?;
-    let (cells, reports) = (cells(alloc)?, reports(alloc)?);
+    let (cells, reports) = (cells(&rt, alloc)?, reports(alloc)?);
     assert!(rt; cells.count() == flat.all_cells());
     assert!(rt; flat.variable_cells() > 1);
     for (index, wanted) in [
@@ -262,7 +264,7 @@ fn an_element_is_unknown_where_the_array_has_none(rt: HostRuntime) -> Result<(),
 fn a_lookup_is_of_its_arguments_by_type_and_value(rt: HostRuntime) -> Result<(), Fail> {
     let alloc = rt.alloc();
     let flat = flatten(alloc, &sample(alloc)?)?;
-    let (cells, reports) = (cells(alloc)?, reports(alloc)?);
+    let (cells, reports) = (cells(&rt, alloc)?, reports(alloc)?);
     assert!(rt; cells.count() == flat.all_cells());
     assert!(rt; flat.lookups() == 2);
     for (arg, wanted) in [
@@ -282,7 +284,7 @@ fn a_lookup_is_of_its_arguments_by_type_and_value(rt: HostRuntime) -> Result<(),
 fn what_is_so_of_a_node_stands_in_its_cells(rt: HostRuntime) -> Result<(), Fail> {
     let alloc = rt.alloc();
     let flat = flatten(alloc, &sample(alloc)?)?;
-    let (cells, reports) = (cells(alloc)?, reports(alloc)?);
+    let (cells, reports) = (cells(&rt, alloc)?, reports(alloc)?);
     assert!(rt; cells.count() == flat.all_cells());
     assert!(rt; flat.nodes() > 5);
     for (which, wanted) in [
