@@ -1,5 +1,5 @@
 -- The core plan of a tree has as many nodes as its size says.
-use Rattle.std.proofs.Common.{◌≡◌, ℕ, suc, ◌+◌, List, [], ◌∷◌, Option, Some, None, refl, ap, sym, ◌∙◌, arith}
+use Rattle.std.proofs.Common.{◌≡◌, ℕ, suc, ◌+◌, List, [], Option, Some, None, refl, arith}
 use Rattle.px_syntax.specs.declared.word.BlockForm.{BlockForm}
 use Rattle.px_syntax.specs.Block.{ItemData, BlockTree, Braces, Actions, NoActions, More, ActionTree, Labelled, BranchTree, Branch, GuardedTree, Guarded, ElseIfs, NoElseIfs, ElseIf, ElseTree, NoElse, Else, BodyTree, Inner, Assign, CallInto, Call, Update, If, While, For}
 use Rattle.px_syntax.specs.Plan.{PlanTree}
@@ -9,7 +9,7 @@ use Rattle.px_expand.specs.Core.{Otherwise, name_of, branch_name, follows, shape
 use Rattle.px_expand.specs.Forms.{where_found, where_not_found, loop_path}
 use Rattle.px_expand.specs.Kinds.{Shape, Rest, OneAction, Children, shape_of}
 use Rattle.px_expand.specs.Names.{then_name, body_name, else_name}
-use Rattle.px_expand.specs.Nodes.{Place, Node, child, alone}
+use Rattle.px_expand.specs.Nodes.{Place, child, alone}
 use Rattle.px_expand.specs.Scope.{Scope}
 use Rattle.px_expand.specs.Size.{shaped_nodes, block_nodes, actions_nodes, action_nodes, body_nodes, guarded_nodes, else_if_nodes, else_nodes, branch_nodes}
 

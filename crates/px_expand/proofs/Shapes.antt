@@ -1,5 +1,5 @@
 -- The shape of a plain block, by the number of its actions.
-use Rattle.std.proofs.Common.{◌≡◌, ℕ, ◌<◌, ◌≤◌, List, [], ◌∷◌, length, map, slice_index_or, get_or, refl, ap, sym, ◌∙◌, arith}
+use Rattle.std.proofs.Common.{◌≡◌, ◌<◌, ◌≤◌, List, [], ◌∷◌, length, map, get_or, refl, ap, arith}
 use Rattle.px_syntax.specs.declared.block.Action.{Action}
 use Rattle.px_syntax.specs.Block.{action_of, actions_in_turn}
 use Rattle.px_expand.specs.Kinds.{Children, alone, plain_shape}

@@ -1,8 +1,8 @@
 -- Which variable and which node a name means somewhere in a plan: the paths of both in the core plan.
 use Rattle.std.specs.Prelude.{ℕ, Bool, List, [], ◌∷◌, fold, slice_get, unwrap_or, Option, Some, None, if◌then◌else◌}
-use Rattle.std.specs.List.{find, list_any}
+use Rattle.std.specs.List.{list_any}
 use Rattle.std.specs.Map.{lookup}
-use Rattle.std.specs.Option.{option_map, option_map_or, option_and_then}
+use Rattle.std.specs.Option.{option_map, option_and_then}
 use Rattle.indexmap.specs.IndexMap.{insert_entry}
 use Rattle.indexmap.specs.IndexSet.{insert_key}
 use Rattle.px_syntax.specs.declared.expr.NodeReference.{NodeReference}

@@ -1,10 +1,10 @@
 -- How many nodes a tree of the text has when it is expanded, and how long the paths of these nodes are, without the
 -- core plan.
-use Rattle.std.specs.Prelude.{ℕ, suc, ◌+◌, max, List, length, Option, Some, None}
-use Rattle.px_syntax.specs.Block.{BlockTree, Braces, Actions, NoActions, More, ActionTree, Labelled, BranchTree, Branch, GuardedTree, Guarded, ElseIfs, NoElseIfs, ElseIf, ElseTree, NoElse, Else, BodyTree, Inner, Assign, CallInto, Call, Update, If, While, For}
+use Rattle.std.specs.Prelude.{ℕ, suc, ◌+◌, max, List, length}
+use Rattle.px_syntax.specs.Block.{BlockTree, Braces, Actions, NoActions, More, ActionTree, Labelled, BranchTree, Branch, GuardedTree, Guarded, ElseIfs, NoElseIfs, ElseIf, ElseTree, NoElse, Else, BodyTree, Inner, If, While, For}
 use Rattle.px_syntax.specs.Plan.{PlanTree}
-use Rattle.px_expand.specs.Core.{name_of, branch_name}
-use Rattle.px_expand.specs.Kinds.{Shape, Rest, OneAction, Children, shape_of}
+use Rattle.px_expand.specs.Core.{name_of}
+use Rattle.px_expand.specs.Kinds.{Shape, Children, shape_of}
 use Rattle.px_expand.specs.Names.{named, root_name, then_name, body_name, else_name, set_name, step_name, loop_name}
 
 -- ---- nodes

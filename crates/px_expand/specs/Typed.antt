@@ -5,7 +5,7 @@ use Rattle.px_value.specs.declared.value.Value.{Value}
 use Rattle.px_value.specs.declared.value.Value.TheVariants as values
 use Rattle.px_core.specs.declared.variable.VarKind.{VarKind}
 use Rattle.px_core.specs.declared.variable.VarKind.TheVariants as kinds
-use Rattle.px_core.specs.Plan.{VariableData, Site, Tree, sites}
+use Rattle.px_core.specs.Plan.{VariableData, Tree, sites}
 
 abbrev pub is_of_kind : VarKind → Value → Bool
 is_of_kind kinds.Boolean (values.Boolean truth) = true

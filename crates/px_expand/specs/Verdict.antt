@@ -1,5 +1,5 @@
 -- WHAT `expand` PROMISES.
-use Rattle.std.specs.Prelude.{◌≡◌, ℕ, Bool, true, false, List, [], IsTrue, Result, Ok, Err}
+use Rattle.std.specs.Prelude.{◌≡◌, true, false, [], IsTrue}
 use Rattle.px_syntax.specs.declared.fault.ExpandFault.{ExpandFault}
 use Rattle.px_syntax.specs.declared.fault.ExpandFault.TheVariants.{TooMany, NoMemory}
 use Rattle.px_syntax.specs.Plan.{PlanTree}

@@ -1,9 +1,9 @@
 // What the items of a block give: conditions, the priority and each variable.
-ghost use Rattle.std.specs.Prelude.{◌≡◌, ◌<◌, length, map, option_map, IfOk};
+ghost use Rattle.std.specs.Prelude.{◌≡◌, ◌<◌, length, map, option_map, IfOk, OnOk, ◌++◌};
 ghost use Rattle.px_syntax.specs.Block.{initial_data, item_data, variable_data as text_variable};
 ghost use Rattle.px_core.specs.Expr.{term_of};
 ghost use Rattle.px_core.specs.Plan.{variable_data};
-ghost use Rattle.px_expand.specs.Items.{first_values, given_by, given_for, priority_of, var_kind, variable_of};
+ghost use Rattle.px_expand.specs.Items.{first_values, given_by, given_for, priority_of, var_kind, variable_of, variables_in, variables_of};
 ghost use Rattle.px_expand.specs.Shown.{given_terms};
 
 use crate::conditions::Given;
@@ -75,8 +75,32 @@ pub(crate) fn priority_of(mut items: &[Item]) -> u32
     DEFAULT_PRIORITY
 }
 
+/// The variables that the items declare, in the order of the text.
+pub(crate) fn variables_of(alloc: Global, items: &[Item]) -> Result<Vec<Variable>, NoMemory>
+    ensures { IfOk result
+        (λ made. map variable_data made.items ≡ variables_of (map item_data items.now)) }
+{
+    let mut made = Vec::new(alloc);
+    for item in items {
+        add_variables(alloc, item, &mut made)?;
+    }
+    Ok(made)
+}
+
+fn add_variables(alloc: Global, item: &Item, made: &mut Vec<Variable>) -> Result<(), NoMemory>
+    ensures { OnOk result (map variable_data made.new.items
+        ≡ map variable_data made.old.items ++ variables_in (item_data item.now)) }
+{
+    if let Item::Variables { of_type, variables } = item {
+        for variable in variables {
+            made.push(variable_of(alloc, *of_type, variable)?)?;
+        }
+    }
+    Ok(())
+}
+
 /// A variable that an item declares.
-pub(crate) fn variable_of(
+fn variable_of(
     alloc: Global,
     of_type: TypeName,
     variable: &px_syntax::Variable,
