@@ -3,3 +3,4 @@ pub mod Counts
 pub mod Halves
 pub mod Resolved
 pub mod Shapes
+pub mod Trees

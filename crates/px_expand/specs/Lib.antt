@@ -16,3 +16,4 @@ pub mod Size
 pub mod Labels
 pub mod Typed
 pub mod Verdict
+pub mod Placed

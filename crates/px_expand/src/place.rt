@@ -1,0 +1,93 @@
+// Where nodes of the core plan stand.
+ghost use Rattle.std.specs.Prelude.{◌≡◌, ◌+◌, ◌<◌, length, map, IfOk};
+ghost use Rattle.px_core.specs.Plan.{Branch, NoNode, body_data, condition_terms, tree_of_node, variable_data};
+ghost use Rattle.px_expand.specs.Names.{generated};
+ghost use Rattle.px_expand.specs.Nodes.{child};
+ghost use Rattle.px_expand.specs.Placed.{place_terms, trees_of};
+ghost use Rattle.px_expand.specs.Shown.{added_terms};
+
+use crate::conditions::Added;
+use crate::names::Generated;
+use px_core::{Body, Conditions, CoreNode, Kind, Variable};
+use px_value::{Name, NoMemory, PATH_LIMIT, Path};
+use std::alloc::Global;
+
+/// Where a node stands: its path and its name, and what the form round it adds to its conditions.
+#[derive(Drop)]
+pub(crate) struct Place {
+    pub(crate) path: Path,
+    pub(crate) name: Name,
+    pub(crate) added: Added,
+}
+
+impl Place {
+    /// A child of the node at a path.
+    pub(crate) fn child(
+        alloc: Global,
+        parent: &Path,
+        name: Name,
+        added: Added,
+    ) -> Result<Place, NoMemory>
+        requires { length parent.now + length name < PATH_LIMIT }
+        ensures { IfOk result (λ made. place_terms made ≡ child parent.now name (added_terms added)) }
+    {
+        Ok(Place {
+            path: parent.child(alloc, &name)?,
+            name,
+            added,
+        })
+    }
+
+    /// A child with a name that the text doesn't have.
+    pub(crate) fn generated(
+        alloc: Global,
+        parent: &Path,
+        name: Generated,
+        added: Added,
+    ) -> Result<Place, NoMemory>
+        requires { length parent.now + length (generated name) < PATH_LIMIT }
+        ensures { IfOk result
+            (λ made. place_terms made ≡ child parent.now (generated name) (added_terms added)) }
+    {
+        Place::child(alloc, parent, name.name(alloc)?, added)
+    }
+}
+
+/// What a node has beside its conditions and its children.
+#[derive(Drop)]
+pub(crate) struct Own {
+    pub(crate) priority: u32,
+    pub(crate) variables: Vec<Variable>,
+    pub(crate) body: Body,
+}
+
+impl Own {
+    /// The node of these parts.
+    #[tactic(none)]
+    pub(crate) fn node(
+        self,
+        name: Name,
+        kind: Kind,
+        conditions: Conditions,
+        children: Vec<CoreNode>,
+    ) -> CoreNode
+        ensures { tree_of_node result ≡ Branch (record {
+          name = name;
+          kind = kind;
+          conditions = condition_terms conditions;
+          priority = self.priority;
+          variables = map variable_data self.variables.items;
+          body = body_data self.body;
+        }) (trees_of children.items) NoNode }
+    {
+        CoreNode {
+            name,
+            kind,
+            conditions,
+            priority: self.priority,
+            variables: self.variables,
+            body: self.body,
+            children,
+        }
+    }
+}
