@@ -6,6 +6,7 @@ use px_value::{NoMemory, Value};
 use std::alloc::Global;
 use std::borrow::Cow;
 
+/// The value, wherever it stands.
 pub fn read<'a>(value: &'a Cow<'_, Value>) -> &'a Value
     ensures { result.now ≡ cow_value value.now }
 {
@@ -15,6 +16,7 @@ pub fn read<'a>(value: &'a Cow<'_, Value>) -> &'a Value
     }
 }
 
+/// The value as one's own, which is a copy where it is lent.
 pub fn into_owned(alloc: Global, value: Cow<'_, Value>) -> Result<Value, NoMemory>
     ensures { IfOk result (λ owned. owned ≡ cow_value value.entry) }
 {
