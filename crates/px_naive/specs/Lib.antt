@@ -1,12 +1,1 @@
-pub mod Above
 pub mod Begun
-pub mod Children
-pub mod Guarded
-pub mod Laying
-pub mod Moving
-pub mod Numbers
-pub mod Places
-pub mod Reports
-pub mod Sight
-pub mod Standing
-pub mod Truths

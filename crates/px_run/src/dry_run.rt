@@ -2,7 +2,6 @@
 ghost use Rattle.std.specs.Prelude.{Some};
 ghost use Rattle.px_core.specs.Fit.{IsFit};
 ghost use Rattle.px_core.specs.Plan.{tree_of, sites};
-ghost use Rattle.px_core.specs.Simple.{IsSimple};
 ghost use Rattle.px_run.specs.Ending.{DryRunEnds};
 ghost use Rattle.px_run.specs.File.{After};
 ghost use Rattle.px_run.specs.Headline.{CommandCallsFor};
@@ -45,7 +44,6 @@ fn dry_run_plan<H: Host, S: Stepper>(
     host: &mut H,
 ) -> Result<(), Stop>
     requires fit { IsFit (tree_of plan.now) }
-    requires simple { IsSimple (sites (tree_of plan.now)) }
     ensures performs { Performs (view H.Host host.old) (view H.Host host.new)
         (After script_file (view H.Host host.old) (view H.Host host.new) script.now (DryRunEnds (tree_of plan.now)))
         result }

@@ -4,7 +4,6 @@ ghost use Rattle.std.specs.Prelude.{◌≡◌, ℕ, ◌<◌, ◌^◌, ◌++◌, 
 ghost use Rattle.std.specs.List.{list_all};
 ghost use Rattle.px_core.specs.Fit.{IsFit};
 ghost use Rattle.px_core.specs.Plan.{tree_of, sites};
-ghost use Rattle.px_core.specs.Simple.{IsSimple};
 ghost use Rattle.px_event.specs.Fit.{is_fit_entry};
 ghost use Rattle.px_event.specs.declared.entry.Entry.{Entry as Posted};
 ghost use Rattle.px_sem.specs.Log.{events_of, accepted};
@@ -32,7 +31,6 @@ pub fn print_log<H: Host, S: Stepper>(
     host: &mut H,
 ) -> Result<(), PrintFault>
     requires fit { IsFit (tree_of plan.now) }
-    requires simple { IsSimple (sites (tree_of plan.now)) }
     requires events { IsTrue (list_all is_fit_entry history.now) }
     requires within { length history.now < 2 ^ 32 }
     requires runs { IsSome (run (sites (tree_of plan.now)) (events_of history.now)) }

@@ -2,8 +2,7 @@
 ghost use Rattle.std.specs.Prelude.{◌≡◌, IfOk, IfErr, IsTrue};
 ghost use Rattle.std.specs.List.{list_all};
 ghost use Rattle.px_core.specs.Fit.{IsFit};
-ghost use Rattle.px_core.specs.Plan.{tree_of, sites};
-ghost use Rattle.px_core.specs.Simple.{IsSimple};
+ghost use Rattle.px_core.specs.Plan.{tree_of};
 ghost use Rattle.px_script.specs.Fit.{IsFitScript};
 ghost use Rattle.px_run.specs.File.{Content, Shows, Reads};
 ghost use Rattle.px_run.specs.Kinds.{plan_file, script_file};
@@ -25,7 +24,6 @@ pub fn fetch_plan<H: Host>(alloc: Global, name: &str, host: &mut H) -> Result<Pl
     ensures ok { IfOk result (λ plan.
         Reads plan_file (view H.Host host.old) (view H.Host host.new) name.now (tree_of plan)) }
     ensures fit { IfOk result (λ plan. IsFit (tree_of plan)) }
-    ensures simple { IfOk result (λ plan. IsSimple (sites (tree_of plan))) }
     ensures err { IfErr result
         (StopsReading plan_file (view H.Host host.old) (view H.Host host.new) name.now) }
     ensures only { OnlyReads (view H.Host host.old) (view H.Host host.new) }

@@ -2,7 +2,6 @@
 ghost use Rattle.std.specs.Prelude.{◌≡◌, ℕ, None, Some, IsTrue, IfOk, OnOk, OnErr, IsErrOf};
 ghost use Rattle.px_core.specs.Fit.{IsFit};
 ghost use Rattle.px_core.specs.Plan.{tree_of, sites};
-ghost use Rattle.px_core.specs.Simple.{IsSimple};
 ghost use Rattle.px_sem.specs.declared.settling.StepFault.TheVariants.{NoMemory as OutOfMemory};
 ghost use Rattle.px_sem.specs.Conflicts.{is_quiet};
 ghost use Rattle.px_sem.specs.Run.{started, settled};
@@ -37,7 +36,6 @@ impl From<NoMemory> for StepFault {
 /// `Runaway` comes exactly where none of the first `STEP_LIMIT` micro steps leads to a quiet world.
 pub fn start<S: Stepper>(alloc: Global, plan: &Plan) -> Result<S, StepFault>
     requires fit { IsFit (tree_of plan.now) }
-    requires simple { IsSimple (sites (tree_of plan.now)) }
     ensures settled { IfOk result (λ s.
         ((k : ℕ) × (started (sites (tree_of plan.now)) ≡ Some ((S.state s).world, k)))) }
     ensures rest { IfOk result (λ s. S.state s ≡ settled_state (sites (tree_of plan.now)) (S.state s).world) }

@@ -2,7 +2,6 @@
 ghost use Rattle.std.specs.Prelude.{◌≡◌, ℕ, List, [], Some, None, IsTrue, IfOk, OnOk, OnErr, IsErrOf};
 ghost use Rattle.px_core.specs.Fit.{IsFit};
 ghost use Rattle.px_core.specs.Plan.{tree_of, sites};
-ghost use Rattle.px_core.specs.Simple.{IsSimple};
 ghost use Rattle.px_event.specs.Fit.{is_fit_event};
 ghost use Rattle.px_sem.specs.declared.moves.Move.{Move};
 ghost use Rattle.px_sem.specs.Conflicts.{is_quiet};
@@ -28,7 +27,6 @@ pub trait Stepper: Sized + Send + Drop {
     /// The world before the start; event 0, which is the start, is begun.
     fn fresh(alloc: Global, plan: &Plan) -> Result<Self, NoMemory>
         requires fit { IsFit (tree_of plan.now) }
-        requires simple { IsSimple (sites (tree_of plan.now)) }
         ensures fresh { IfOk result (λ s. state s ≡ fresh (sites (tree_of plan.now))) }
         ensures moves { IfOk result (λ s. last_moves s ≡ []) };
 

@@ -1,0 +1,140 @@
+-- The values of variables, by their cells one after another.
+use Rattle.std.proofs.Common.{◌≡◌, ◌≢◌, ℕ, suc, zero, ◌+◌, ◌<◌, ◌≤◌, true, List, [], ◌∷◌, ◌++◌, length, get_or, set, take, drop, fold, map, sum, nat_le, ◌-◌, replicate, refl, ap, sym, ◌∙◌, arith, length-drop}
+use Rattle.std.specs.List.{flat_map, list_all}
+use Rattle.std.proofs.lemmas.Bool.{and_parts, leb-true}
+use Rattle.std.proofs.lemmas.List.{ext_get_or, get_or-take, get_or-drop, get_or-set_same, get_or-set_other, get_or_append_left, get_or-append-add, length-append, length-replicate, length-set, length-take-le, drop-drop}
+use Rattle.std.proofs.lemmas.List.Sums.{fold-append, sum_by-cons}
+use Rattle.px_value.specs.declared.value.Value.{Value}
+use Rattle.px_value.specs.declared.value.Value.TheVariants as values
+use Rattle.px_core.specs.Fit.{cells_of, has_right_cells, has_right_size}
+use Rattle.px_core.specs.Plan.{VariableData}
+use Rattle.px_sem.specs.Effects.{initial_values}
+use Rattle.px_flat.specs.Numbered.{held}
+use Rattle.px_flat.specs.Parts.{values_in}
+use Rattle.px_micro.specs.declared.turns.CellValue.{CellValue}
+use Rattle.px_micro.specs.Moving.{put_value}
+use Rattle.px_micro.specs.Turns.{from_cell}
+
+-- ---- blocks of cells
+
+pub block_is : (n first : ℕ) (cells block : List Value) → length block ≡ n → first + n ≤ length cells
+    → ((i : ℕ) → i < n → held cells (first + i) ≡ get_or block i values.Unknown)
+    → take n (drop first cells) ≡ block
+block_is n first cells block long room same =
+    let sized : length (take n (drop first cells)) ≡ n =
+    length-take-le n (drop first cells) (omega (arith, length-drop first cells, room)) in
+    ext_get_or values.Unknown (take n (drop first cells)) block (sized ∙ sym long) (λ i within.
+    let inside : i < n = omega (arith, within, sized) in
+    get_or-take n (drop first cells) i values.Unknown inside ∙ get_or-drop first cells i values.Unknown ∙ same i inside)
+
+-- where the cells of variables are the same, their values are
+pub values_in-same : (variables : List VariableData) (first : ℕ) (a b : List Value) → length a ≡ length b
+    → first + sum (map cells_of variables) ≤ length a
+    → ((i : ℕ) → i < sum (map cells_of variables) → held a (first + i) ≡ held b (first + i))
+    → values_in variables (drop first a) ≡ values_in variables (drop first b)
+values_in-same [] first a b long room same = refl
+values_in-same (variable ∷ variables) first a b long room same =
+    let n : ℕ = cells_of variable in
+    let total : sum (map cells_of (variable ∷ variables)) ≡ n + sum (map cells_of variables) =
+    sum_by-cons (λ n. n) n (map cells_of variables) in
+    let sized : length (take n (drop first b)) ≡ n =
+    length-take-le n (drop first b) (omega (arith, length-drop first b, room, total, long)) in
+    let head : take n (drop first a) ≡ take n (drop first b) =
+    block_is n first a (take n (drop first b)) sized (omega (arith, room, total)) (λ i within.
+    same i (omega (arith, within, total))
+    ∙ sym (get_or-take n (drop first b) i values.Unknown within ∙ get_or-drop first b i values.Unknown)) in
+    let rest : values_in variables (drop (first + n) a) ≡ values_in variables (drop (first + n) b) =
+    values_in-same variables (first + n) a b long (omega (arith, room, total)) (λ i within.
+    let there : first + n + i ≡ first + (n + i) = omega arith in
+    ap (held a) there ∙ same (n + i) (omega (arith, within, total)) ∙ ap (held b) (sym there)) in
+    λ i. head i ∷ (ap (values_in variables) (drop-drop n first a) ∙ rest ∙ ap (values_in variables) (sym (drop-drop n first b))) i
+
+-- ---- initial values
+
+initial_size : (variable : VariableData) → has_right_cells variable ≡ true
+    → length (initial_values variable) ≡ cells_of variable
+initial_size variable right =
+    let few : length variable.init ≤ cells_of variable = leb-true (length variable.init) (cells_of variable)
+    (and_parts (has_right_size variable.size) (nat_le (length variable.init) (cells_of variable)) right).1 in
+    omega (
+      arith,
+      few,
+      length-append variable.init (replicate (cells_of variable - length variable.init) values.Unknown),
+      length-replicate (cells_of variable - length variable.init) values.Unknown,
+    )
+
+pub initial_total : (variables : List VariableData) → list_all has_right_cells variables ≡ true
+    → length (flat_map initial_values variables) ≡ sum (map cells_of variables)
+initial_total [] right = refl
+initial_total (variable ∷ variables) right =
+    let both = and_parts (has_right_cells variable) (list_all has_right_cells variables) right in
+    omega (
+      arith,
+      length-append (initial_values variable) (flat_map initial_values variables),
+      initial_size variable both.0,
+      initial_total variables both.1,
+      sum_by-cons (λ n. n) (cells_of variable) (map cells_of variables),
+    )
+
+pub values_in-initial : (variables : List VariableData) (first : ℕ) (cells : List Value)
+    → list_all has_right_cells variables ≡ true → first + sum (map cells_of variables) ≤ length cells
+    → ((i : ℕ) → i < sum (map cells_of variables)
+    → held cells (first + i) ≡ get_or (flat_map initial_values variables) i values.Unknown)
+    → values_in variables (drop first cells) ≡ map initial_values variables
+values_in-initial [] first cells right room same = refl
+values_in-initial (variable ∷ variables) first cells right room same =
+    let n : ℕ = cells_of variable in
+    let both = and_parts (has_right_cells variable) (list_all has_right_cells variables) right in
+    let own : List Value = initial_values variable in
+    let others : List Value = flat_map initial_values variables in
+    let sized : length own ≡ n = initial_size variable both.0 in
+    let total : sum (map cells_of (variable ∷ variables)) ≡ n + sum (map cells_of variables) =
+    sum_by-cons (λ n. n) n (map cells_of variables) in
+    let head : take n (drop first cells) ≡ own =
+    block_is n first cells own sized (omega (arith, room, total)) (λ i within.
+    same i (omega (arith, within, total))
+    ∙ get_or_append_left own others values.Unknown i (omega (arith, within, sized))) in
+    let rest : values_in variables (drop (first + n) cells) ≡ map initial_values variables =
+    values_in-initial variables (first + n) cells both.1 (omega (arith, room, total)) (λ i within.
+    let there : first + n + i ≡ first + (n + i) = omega arith in
+    ap (held cells) there ∙ same (n + i) (omega (arith, within, total))
+    ∙ ap (λ n. get_or (own ++ others) (n + i) values.Unknown) (sym sized)
+    ∙ get_or-append-add own others i values.Unknown) in
+    λ i. head i ∷ (ap (values_in variables) (drop-drop n first cells) ∙ rest) i
+
+-- ---- values into cells one after another
+
+pub begun_off : (given : List Value) (from : ℕ) (cells : List Value) (cell : ℕ)
+    → ((i : ℕ) → i < length given → cell ≢ from + i)
+    → held (fold put_value cells (from_cell from given)) cell ≡ held cells cell
+begun_off [] from cells cell apart = refl
+begun_off (value ∷ given) from cells cell apart =
+    begun_off given (from + 1) (set cells from value) cell
+    (λ i within same. apart (suc i) (omega (arith, within)) (omega (arith, same)))
+    ∙ get_or-set_other cells from cell value values.Unknown (λ same. apart 0 (omega arith) (omega (arith, same)))
+
+pub begun_at : (given : List Value) (from : ℕ) (cells : List Value) (i : ℕ) → i < length given
+    → from + length given ≤ length cells
+    → held (fold put_value cells (from_cell from given)) (from + i) ≡ get_or given i values.Unknown
+begun_at [] from cells i within room = absurd (omega arith)
+begun_at (value ∷ given) from cells zero within room =
+    let here : from + 0 ≡ from = omega arith in
+    ap (held (fold put_value (set cells from value) (from_cell (from + 1) given))) here
+    ∙ begun_off given (from + 1) (set cells from value) from (λ i inside same. absurd (omega (arith, same)))
+    ∙ get_or-set_same cells from value values.Unknown (omega (arith, room))
+begun_at (value ∷ given) from cells (suc i) within room =
+    let there : from + suc i ≡ from + 1 + i = omega arith in
+    ap (held (fold put_value (set cells from value) (from_cell (from + 1) given))) there
+    ∙ begun_at given (from + 1) (set cells from value) i (omega (arith, within)) (omega (arith, room, length-set cells from value))
+
+pub begun_length : (initial : List CellValue) (cells : List Value) → length (fold put_value cells initial) ≡ length cells
+begun_length [] cells = refl
+begun_length (one ∷ initial) cells =
+    begun_length initial (set cells one.cell one.value) ∙ length-set cells one.cell one.value
+
+-- what is done with the items of each is done with each in turn
+pub fold-flat_map : {A B S : Type 0} (step : S → B → S) (f : A → List B) (items : List A) (s : S)
+    → fold step s (flat_map f items) ≡ fold (λ s item. fold step s (f item)) s items
+fold-flat_map step f [] s = refl
+fold-flat_map step f (item ∷ items) s =
+    fold-append step s (f item) (flat_map f items) ∙ fold-flat_map step f items (fold step s (f item))

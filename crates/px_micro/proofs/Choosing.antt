@@ -1,0 +1,315 @@
+-- Which candidates go.
+use Rattle.std.proofs.Common.{◌≡◌, ℕ, ◌<◌, Bool, true, false, not, ◌&&◌, cond, List, [], ◌∷◌, ◌++◌, ◌+◌, length, map, filter, get_or, take, refl, ap, sym, ◌∙◌, subst, arith, Option, Some, None, is_some, IsSome, Contains, All, AllPairs, nat_eq}
+use Rattle.std.specs.Cmp.{nat_eq_equiv}
+use Rattle.std.specs.List.{list_any, filter_map, cons_option, range_with_len}
+use Rattle.std.proofs.lemmas.Bool.{and_parts, eqb-true}
+use Rattle.std.proofs.lemmas.List.{get_or-map, length-map, take_more}
+use Rattle.std.proofs.lemmas.List.Elements.{All-cons, All-nil, All-head, All-tail, All-filter, filter_map-append}
+use Rattle.std.proofs.lemmas.List.FromFn.{length-range_with_len, get_or-range_with_len}
+use Rattle.std.proofs.lemmas.List.Kept.{AllPairs-filter}
+use Rattle.std.proofs.lemmas.Map.Views.{any-filter_same, list_any-from_Contains, Contains-from_any}
+use Rattle.px_core.specs.Plan.{Site, TargetData}
+use Rattle.px_sem.specs.declared.guards.Arrival.{Arrival}
+use Rattle.px_sem.specs.Conflicts.{destination, transition, would_start, holds_variable, target_of, keeps_back, is_loser}
+use Rattle.px_sem.specs.Guards.{is_waiting, is_executing, is_active}
+use Rattle.px_sem.specs.World.{World, state_at}
+use Rattle.px_flat.specs.Row.{site_in}
+use Rattle.px_assign.specs.Conflicts.{AreWriters, is_loser_in}
+use Rattle.px_micro.specs.declared.sight.Going.{Going}
+use Rattle.px_micro.specs.Candidates.{AreCandidates}
+use Rattle.px_micro.specs.Going.{with_node, wanted, wanting, holding, going, AreAllGoing}
+use Rattle.px_micro.proofs.Lists.{in_range}
+
+-- ---- those that would start
+
+-- whether a node would start, by where it goes
+abbrev starts_to : World → Site → Option Arrival → Bool
+starts_to now site None = false
+starts_to now site (Some to) = is_waiting (state_at now site.path) && is_executing to.to
+
+never : (b : Bool) → b && false ≡ false
+never true = refl
+never false = refl
+
+would_start_is : (plan : List Site) (now : World) (site : Site)
+    → would_start plan now site ≡ starts_to now site (destination plan now site)
+would_start_is plan now site = by (destination plan now site) refl
+  where
+    by : (to : Option Arrival) → destination plan now site ≡ to → would_start plan now site ≡ starts_to now site to
+    by None is = rw is (never (is_waiting (state_at now site.path)))
+    by (Some to) is = rw is refl
+
+abbrev starting : List Site → World → ℕ → Bool
+starting plan now node = would_start plan now (site_in plan node)
+
+pub wanting_are : (plan : List Site) (now : World) (nodes : List ℕ)
+    → wanting plan now (wanted plan now nodes) ≡ filter (starting plan now) nodes
+wanting_are plan now [] = refl
+wanting_are plan now (node ∷ nodes) =
+    step (destination plan now site) (wanting_are plan now nodes)
+    ∙ ap (λ b. cond b (node ∷ filter (starting plan now) nodes) (filter (starting plan now) nodes))
+    (sym (would_start_is plan now site))
+  where
+    site : Site
+    site = site_in plan node
+
+    step : (to : Option Arrival) → wanting plan now (wanted plan now nodes) ≡ filter (starting plan now) nodes
+        → wanting plan now (cons_option (with_node node to) (wanted plan now nodes))
+        ≡ cond (starts_to now site to) (node ∷ filter (starting plan now) nodes) (filter (starting plan now) nodes)
+    step None rest = rest
+    step (Some to) rest = test (starts_to now site (Some to))
+      where
+        one : Going
+        one = record { node = node; arrival = to }
+
+        test : (b : Bool)
+            → map (λ (one : Going). one.node)
+            (cond b (one ∷ filter (λ one. starts_to now (site_in plan one.node) (Some one.arrival)) (wanted plan now nodes))
+            (filter (λ one. starts_to now (site_in plan one.node) (Some one.arrival)) (wanted plan now nodes)))
+            ≡ cond b (node ∷ filter (starting plan now) nodes) (filter (starting plan now) nodes)
+        test true = ap (λ rest. node ∷ rest) rest
+        test false = rest
+
+-- ---- who writes
+
+both_true : (a b : Bool) → a ≡ true → b ≡ true → a && b ≡ true
+both_true a b first second = rw first second
+
+-- the candidates that would start are all nodes that would
+among_starting : (plan : List Site) (now : World) (nodes : List ℕ) (node : ℕ)
+    → list_any (nat_eq node) (filter (starting plan now) nodes)
+    ≡ (starting plan now node && list_any (nat_eq node) nodes)
+among_starting plan now nodes node =
+    any-filter_same (nat_eq node) (starting plan now) (starting plan now node)
+    (λ other same. ap (starting plan now) (sym (eqb-true node other same))) nodes
+
+start_goes : (plan : List Site) (now : World) (site : Site) → would_start plan now site ≡ true
+    → IsSome (destination plan now site)
+start_goes plan now site starts = by (destination plan now site) (sym (would_start_is plan now site) ∙ starts)
+  where
+    by : (to : Option Arrival) → starts_to now site to ≡ true → IsSome to
+    by None never = absurd (cc never)
+    by (Some to) starts = refl
+
+starts_among : (plan : List Site) (now : World) (nodes : List ℕ) (node : ℕ) → AreCandidates plan now nodes
+    → node < length plan → starting plan now node ≡ true
+    → list_any (nat_eq node) (filter (starting plan now) nodes) ≡ true
+starts_among plan now nodes node are here starts =
+    among_starting plan now nodes node
+    ∙ both_true (starting plan now node) (list_any (nat_eq node) nodes) starts
+    (list_any-from_Contains nat_eq_equiv node nodes (are.all node here (start_goes plan now (site_in plan node) starts)))
+
+holds_among : (plan : List Site) (now : World) (node : ℕ) → node < length plan
+    → list_any (nat_eq node) (holding plan now) ≡ holds_variable now (site_in plan node)
+holds_among plan now node here =
+    any-filter_same (nat_eq node) held (held node) (λ other same. ap held (sym (eqb-true node other same)))
+    (range_with_len 0 (length plan))
+    ∙ ap (λ b. held node && b) (in_range (length plan) node here) ∙ always (held node)
+  where
+    held : ℕ → Bool
+    held node = is_active (state_at now (site_in plan node).path)
+
+    always : (b : Bool) → b && true ≡ b
+    always true = refl
+    always false = refl
+
+pub writers_are : (plan : List Site) (now : World) (nodes : List ℕ) → AreCandidates plan now nodes
+    → AreWriters plan now (wanting plan now (wanted plan now nodes)) (holding plan now)
+writers_are plan now nodes are =
+    subst (λ wanting. AreWriters plan now wanting (holding plan now)) (sym (wanting_are plan now nodes)) (record {
+      starts = λ node here found.
+          (and_parts (starting plan now node) (list_any (nat_eq node) nodes) (sym (among_starting plan now nodes node) ∙ found)).0;
+      wants = λ node here writer starts. starts_among plan now nodes node are here starts;
+      holds = λ node here writer. holds_among plan now node here;
+    })
+
+pub wanting_within : (plan : List Site) (now : World) (nodes : List ℕ) → AreCandidates plan now nodes
+    → All (λ node. node < length plan) (wanting plan now (wanted plan now nodes))
+wanting_within plan now nodes are =
+    subst (All (λ node. node < length plan)) (sym (wanting_are plan now nodes))
+    (All-filter (starting plan now) (λ node. node < length plan) nodes are.within)
+
+pub holding_within : (plan : List Site) (now : World) → All (λ node. node < length plan) (holding plan now)
+holding_within plan now =
+    All-filter (λ node. is_active (state_at now (site_in plan node).path)) (λ node. node < length plan)
+    (range_with_len 0 (length plan)) (λ k d within.
+    let small : k < length plan = omega (arith, within, length-range_with_len 0 (length plan)) in
+    omega (arith, get_or-range_with_len 0 (length plan) k d small, small))
+
+-- ---- the losers
+
+-- those that lose, of the candidates
+abbrev pub losing : List Site → World → List ℕ → List ℕ
+losing plan now nodes = filter (is_loser_in plan now) (filter (starting plan now) nodes)
+
+pub losers_are : (plan : List Site) (now : World) (nodes wants losers : List ℕ)
+    → wants ≡ wanting plan now (wanted plan now nodes) → losers ≡ filter (is_loser_in plan now) wants
+    → losers ≡ losing plan now nodes
+losers_are plan now nodes wants losers from are =
+    are ∙ ap (filter (is_loser_in plan now)) (from ∙ wanting_are plan now nodes)
+
+pub losers_rise : (plan : List Site) (now : World) (nodes : List ℕ) → AreCandidates plan now nodes
+    → AllPairs (λ a b. a < b) (losing plan now nodes)
+losers_rise plan now nodes are =
+    AllPairs-filter (λ a b. a < b) (is_loser_in plan now) (filter (starting plan now) nodes)
+    (AllPairs-filter (λ a b. a < b) (starting plan now) nodes are.rise)
+
+-- a loser would start
+loser_starts : (plan : List Site) (now : World) (site : Site) → is_loser plan now site ≡ true
+    → would_start plan now site ≡ true
+loser_starts plan now site = by (target_of site.head.body) refl
+  where
+    by : (target : Option TargetData) → target_of site.head.body ≡ target → is_loser plan now site ≡ true
+        → would_start plan now site ≡ true
+    by None is loses = absurd (cc (rw is at loses))
+    by (Some variable) is loses =
+        (and_parts (would_start plan now site) (list_any (keeps_back plan now variable site) plan) (rw is at loses)).0
+
+lost : (plan : List Site) (now : World) (nodes : List ℕ) (node : ℕ) → AreCandidates plan now nodes → node < length plan
+    → list_any (nat_eq node) (losing plan now nodes) ≡ is_loser_in plan now node
+lost plan now nodes node are here =
+    any-filter_same (nat_eq node) (is_loser_in plan now) (is_loser_in plan now node)
+    (λ other same. ap (is_loser_in plan now) (sym (eqb-true node other same))) (filter (starting plan now) nodes)
+    ∙ by (is_loser_in plan now node) refl
+  where
+    by : (loses : Bool) → is_loser_in plan now node ≡ loses
+        → (loses && list_any (nat_eq node) (filter (starting plan now) nodes)) ≡ loses
+    by true is = starts_among plan now nodes node are here (loser_starts plan now (site_in plan node) is)
+    by false is = refl
+
+-- ---- those that go
+
+going_are : (plan : List Site) (now : World) (losers nodes : List ℕ)
+    → All (λ node. list_any (nat_eq node) losers ≡ is_loser_in plan now node) nodes
+    → filter (λ (one : Going). not (list_any (nat_eq one.node) losers)) (wanted plan now nodes) ≡ going plan now nodes
+going_are plan now losers [] each = refl
+going_are plan now losers (node ∷ nodes) each =
+    step (destination plan now (site_in plan node)) (is_loser_in plan now node)
+    (All-head (λ node. list_any (nat_eq node) losers ≡ is_loser_in plan now node) node nodes each)
+    (going_are plan now losers nodes
+    (All-tail (λ node. list_any (nat_eq node) losers ≡ is_loser_in plan now node) node nodes each))
+  where
+    kept : List Going → List Going
+    kept some = filter (λ (one : Going). not (list_any (nat_eq one.node) losers)) some
+
+    step : (to : Option Arrival) (loses : Bool) → list_any (nat_eq node) losers ≡ loses
+        → kept (wanted plan now nodes) ≡ going plan now nodes
+        → kept (cons_option (with_node node to) (wanted plan now nodes))
+        ≡ cons_option (with_node node (cond loses None to)) (going plan now nodes)
+    step None true is rest = rest
+    step None false is rest = rest
+    step (Some to) true is rest = rw is rest
+    step (Some to) false is rest =
+        let one : Going = record { node = node; arrival = to } in
+        rw is (ap (λ rest. one ∷ rest) rest)
+
+numbers_are : (plan : List Site) (now : World) (nodes : List ℕ)
+    → map (λ (one : Going). one.node) (going plan now nodes)
+    ≡ filter (λ node. is_some (transition plan now (site_in plan node))) nodes
+numbers_are plan now [] = refl
+numbers_are plan now (node ∷ nodes) = step (transition plan now (site_in plan node)) (numbers_are plan now nodes)
+  where
+    goes : ℕ → Bool
+    goes node = is_some (transition plan now (site_in plan node))
+
+    step : (to : Option Arrival) → map (λ (one : Going). one.node) (going plan now nodes) ≡ filter goes nodes
+        → map (λ (one : Going). one.node) (cons_option (with_node node to) (going plan now nodes))
+        ≡ cond (is_some to) (node ∷ filter goes nodes) (filter goes nodes)
+    step None rest = rest
+    step (Some to) rest = ap (λ rest. node ∷ rest) rest
+
+each_goes : (plan : List Site) (now : World) (nodes : List ℕ)
+    → All (λ (one : Going). transition plan now (site_in plan one.node) ≡ Some one.arrival) (going plan now nodes)
+each_goes plan now [] = All-nil (λ (one : Going). transition plan now (site_in plan one.node) ≡ Some one.arrival)
+each_goes plan now (node ∷ nodes) = step (transition plan now (site_in plan node)) refl (each_goes plan now nodes)
+  where
+    Goes : Going → Type 0
+    Goes one = transition plan now (site_in plan one.node) ≡ Some one.arrival
+
+    step : (to : Option Arrival) → transition plan now (site_in plan node) ≡ to → All Goes (going plan now nodes)
+        → All Goes (cons_option (with_node node to) (going plan now nodes))
+    step None is rest = rest
+    step (Some to) is rest = All-cons Goes (record { node = node; arrival = to }) (going plan now nodes) is rest
+
+-- where a node goes it has a destination
+goes_somewhere : (loses : Bool) (to : Option Arrival) → IsSome (cond loses None to) → IsSome to
+goes_somewhere true to some = absurd (cc some)
+goes_somewhere false to some = some
+
+all_going : (plan : List Site) (now : World) (nodes : List ℕ) → AreCandidates plan now nodes
+    → AreAllGoing plan now (going plan now nodes)
+all_going plan now nodes are = record {
+  rise = λ i j d before within.
+      let both = rise i j d.node before (omega (arith, within, long)) in
+      omega (arith, both, at i d (omega (arith, before, within)), at j d within);
+  within = λ k d inside.
+      let small = inside_plan k d.node (omega (arith, inside, long)) in
+      omega (arith, small, at k d inside);
+  each = each_goes plan now nodes;
+  all = λ node here some.
+      subst (λ numbers. Contains numbers node) (sym (numbers_are plan now nodes))
+      (Contains-from_any (λ x y same. eqb-true x y same) node (filter goes nodes)
+      (any-filter_same (nat_eq node) goes (goes node) (λ other same. ap goes (sym (eqb-true node other same))) nodes
+      ∙ both_true (goes node) (list_any (nat_eq node) nodes) some
+      (list_any-from_Contains nat_eq_equiv node nodes
+      (are.all node here (goes_somewhere (is_loser_in plan now node) (destination plan now (site_in plan node)) some)))));
+}
+  where
+    ones : List Going
+    ones = going plan now nodes
+
+    goes : ℕ → Bool
+    goes node = is_some (transition plan now (site_in plan node))
+
+    long : length (map (λ (one : Going). one.node) ones) ≡ length ones
+    long = length-map ones (λ (one : Going). one.node)
+
+    at : (k : ℕ) (d : Going) → k < length ones
+        → get_or (map (λ (one : Going). one.node) ones) k d.node ≡ (get_or ones k d).node
+    at k d inside = get_or-map (λ (one : Going). one.node) ones k d d.node inside
+
+    rise : AllPairs (λ a b. a < b) (map (λ (one : Going). one.node) ones)
+    rise = subst (AllPairs (λ a b. a < b)) (sym (numbers_are plan now nodes))
+        (AllPairs-filter (λ a b. a < b) goes nodes are.rise)
+
+    inside_plan : All (λ node. node < length plan) (map (λ (one : Going). one.node) ones)
+    inside_plan = subst (All (λ node. node < length plan)) (sym (numbers_are plan now nodes))
+        (All-filter goes (λ node. node < length plan) nodes are.within)
+
+-- the candidates that have a destination and are no losers are all that go
+pub staying_go : (plan : List Site) (now : World) (nodes losers : List ℕ) → AreCandidates plan now nodes
+    → losers ≡ losing plan now nodes
+    → AreAllGoing plan now (filter (λ (one : Going). not (list_any (nat_eq one.node) losers)) (wanted plan now nodes))
+staying_go plan now nodes losers are is =
+    subst (AreAllGoing plan now) (sym (going_are plan now losers nodes (λ k d within.
+    ap (list_any (nat_eq (get_or nodes k d))) is
+    ∙ lost plan now nodes (get_or nodes k d) are (are.within k d within))))
+    (all_going plan now nodes are)
+
+-- one more candidate
+pub wanted_more : (plan : List Site) (now : World) (nodes : List ℕ) (i : ℕ) (to : Option Arrival) → i < length nodes
+    → to ≡ destination plan now (site_in plan (get_or nodes i 0))
+    → wanted plan now (take i nodes) ++ cons_option (with_node (get_or nodes i 0) to) []
+    ≡ wanted plan now (take (i + 1) nodes)
+wanted_more plan now nodes i to within is =
+    ap (λ to. wanted plan now (take i nodes) ++ cons_option (with_node (get_or nodes i 0) to) []) is
+    ∙ sym (filter_map-append (λ node. with_node node (destination plan now (site_in plan node))) (take i nodes)
+    (get_or nodes i 0 ∷ []))
+    ∙ ap (wanted plan now) (sym (take_more nodes i 0 within))
+
+pub wanted_within : (plan : List Site) (now : World) (nodes : List ℕ) → All (λ node. node < length plan) nodes
+    → All (λ (one : Going). one.node < length plan) (wanted plan now nodes)
+wanted_within plan now [] all = All-nil (λ (one : Going). one.node < length plan)
+wanted_within plan now (node ∷ nodes) all =
+    step (destination plan now (site_in plan node))
+    (wanted_within plan now nodes (All-tail (λ node. node < length plan) node nodes all))
+  where
+    Within : Going → Type 0
+    Within one = one.node < length plan
+
+    step : (to : Option Arrival) → All Within (wanted plan now nodes)
+        → All Within (cons_option (with_node node to) (wanted plan now nodes))
+    step None rest = rest
+    step (Some to) rest =
+        All-cons Within (record { node = node; arrival = to }) (wanted plan now nodes)
+        (All-head (λ node. node < length plan) node nodes all) rest

@@ -1,0 +1,92 @@
+-- A fold of which at most one item has to do with what is looked at.
+use Rattle.std.proofs.Common.{◌≡◌, suc, Bool, true, false, cond, List, [], ◌∷◌, fold, map, refl, ap, ◌∙◌, subst, arith, Option, Some, None, All, AllPairs}
+use Rattle.std.specs.List.{find}
+use Rattle.std.specs.Option.{option_map}
+use Rattle.std.proofs.lemmas.List.Elements.{All-cons, All-head, All-nil, All-tail}
+
+-- what is seen after the item that was found, where one was
+abbrev pub hit_by : {A V : Type 0} → (A → V → V) → V → Option A → V
+hit_by f old None = old
+hit_by f old (Some item) = f item old
+
+-- what holds of a state holds after all items
+pub fold_keeps : {A S : Type 0} (step : S → A → S) (Ok : S → Type 0) (Fits : A → Type 0)
+    → ((s : S) (item : A) → Fits item → Ok s → Ok (step s item))
+    → (items : List A) (s : S) → All Fits items → Ok s → Ok (fold step s items)
+fold_keeps step Ok Fits keeps [] s fit ok = ok
+fold_keeps step Ok Fits keeps (item ∷ items) s fit ok =
+    fold_keeps step Ok Fits keeps items (step s item) (All-tail Fits item items fit)
+    (keeps s item (All-head Fits item items fit) ok)
+
+-- no item has to do with it
+pub none_hit : {A S V : Type 0} (step : S → A → S) (see : S → V) (hits : A → Bool) (Ok : S → Type 0) (Fits : A → Type 0)
+    → ((s : S) (item : A) → Fits item → Ok s → Ok (step s item))
+    → ((s : S) (item : A) → Fits item → Ok s → hits item ≡ false → see (step s item) ≡ see s)
+    → (items : List A) (s : S) → All Fits items → Ok s → All (λ item. hits item ≡ false) items
+    → see (fold step s items) ≡ see s
+none_hit step see hits Ok Fits keeps missed [] s fit ok none = refl
+none_hit step see hits Ok Fits keeps missed (item ∷ items) s fit ok none =
+    none_hit step see hits Ok Fits keeps missed items (step s item) (All-tail Fits item items fit)
+    (keeps s item (All-head Fits item items fit) ok) (All-tail (λ item. hits item ≡ false) item items none)
+    ∙ missed s item (All-head Fits item items fit) ok (All-head (λ item. hits item ≡ false) item items none)
+
+-- at most one has
+pub one_hit : {A S V : Type 0} (step : S → A → S) (see : S → V) (hits : A → Bool) (Ok : S → Type 0) (Fits : A → Type 0)
+    (f : A → V → V)
+    → ((s : S) (item : A) → Fits item → Ok s → Ok (step s item))
+    → ((s : S) (item : A) → Fits item → Ok s → hits item ≡ false → see (step s item) ≡ see s)
+    → ((s : S) (item : A) → Fits item → Ok s → hits item ≡ true → see (step s item) ≡ f item (see s))
+    → (items : List A) (s : S) → All Fits items → Ok s → AllPairs (λ a b. hits a ≡ true → hits b ≡ false) items
+    → see (fold step s items) ≡ hit_by f (see s) (find hits items)
+one_hit step see hits Ok Fits f keeps missed hit [] s fit ok apart = refl
+one_hit step see hits Ok Fits f keeps missed hit (item ∷ items) s fit ok apart =
+    by (hits item) refl
+    (one_hit step see hits Ok Fits f keeps missed hit items (step s item) (All-tail Fits item items fit) (keeps s item here ok)
+    (λ i j d before within. apart (suc i) (suc j) d (omega arith) (omega arith)))
+  where
+    here : Fits item
+    here = All-head Fits item items fit
+
+    by : (b : Bool) → hits item ≡ b → see (fold step (step s item) items) ≡ hit_by f (see (step s item)) (find hits items)
+        → see (fold step (step s item) items) ≡ hit_by f (see s) (cond b (Some item) (find hits items))
+    by true is rest =
+        none_hit step see hits Ok Fits keeps missed items (step s item) (All-tail Fits item items fit) (keeps s item here ok)
+        (λ k d within. apart 0 (suc k) d (omega arith) (omega (arith, within)) is)
+        ∙ hit s item here ok is
+    by false is rest = rest ∙ ap (λ old. hit_by f old (find hits items)) (missed s item here ok is)
+
+-- ---- what is found
+
+-- what is found passes, and has what all have
+pub found_has : {A : Type 0} (P : A → Type 0) (p : A → Bool) (items : List A) (item : A) → All P items
+    → find p items ≡ Some item → P item × (p item ≡ true)
+found_has P p [] item all is = absurd (cc is)
+found_has P p (first ∷ items) item all is =
+    by (p first) refl is (found_has P p items item (All-tail P first items all))
+  where
+    by : (b : Bool) → p first ≡ b → cond b (Some first) (find p items) ≡ Some item
+        → (find p items ≡ Some item → P item × (p item ≡ true)) → P item × (p item ≡ true)
+    by true passes is rest =
+        let same : first ≡ item = cc is in
+        (subst P same (All-head P first items all), subst (λ item. p item ≡ true) same passes)
+    by false passes is rest = rest is
+
+-- where none is found none passes
+pub none_found : {A : Type 0} (p : A → Bool) (items : List A) → find p items ≡ None → All (λ item. p item ≡ false) items
+none_found p [] is = All-nil (λ item. p item ≡ false)
+none_found p (first ∷ items) is = by (p first) refl is (none_found p items)
+  where
+    by : (b : Bool) → p first ≡ b → cond b (Some first) (find p items) ≡ None
+        → (find p items ≡ None → All (λ item. p item ≡ false) items) → All (λ item. p item ≡ false) (first ∷ items)
+    by true passes is rest = absurd (cc is)
+    by false fails is rest = All-cons (λ item. p item ≡ false) first items fails (rest is)
+
+pub find-map : {A B : Type 0} (p : B → Bool) (f : A → B) (items : List A)
+    → find p (map f items) ≡ option_map f (find (λ item. p (f item)) items)
+find-map p f [] = refl
+find-map p f (item ∷ items) = by (p (f item)) (find-map p f items)
+  where
+    by : (b : Bool) → find p (map f items) ≡ option_map f (find (λ item. p (f item)) items)
+        → cond b (Some (f item)) (find p (map f items)) ≡ option_map f (cond b (Some item) (find (λ item. p (f item)) items))
+    by true rest = refl
+    by false rest = rest

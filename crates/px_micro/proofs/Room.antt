@@ -1,0 +1,131 @@
+-- How many cells a step puts.
+use Rattle.std.proofs.Common.{◌≡◌, ℕ, zero, suc, ◌+◌, ◌*◌, ◌^◌, ◌<◌, ◌≤◌, Bool, true, false, List, [], ◌∷◌, ◌++◌, length, map, sum, fold, get_or, refl, ap, sym, ◌∙◌, arith, length-append, if◌then◌else◌, Option, Some, None, All, AllPairs, nat_eq}
+use Rattle.std.specs.List.{flat_map, filter_map, cons_option, list_any}
+use Rattle.std.specs.Option.{option_map}
+use Rattle.std.proofs.lemmas.List.{length-map}
+use Rattle.std.proofs.lemmas.List.Elements.{All-head, All-tail}
+use Rattle.std.proofs.lemmas.List.Sums.{AllPass-from_list_all}
+use Rattle.px_value.specs.declared.value.Value.{Value}
+use Rattle.px_core.specs.Fit.{cells_of, cells_of_site, has_right_variables}
+use Rattle.px_core.specs.Plan.{Site, no_site}
+use Rattle.px_sem.specs.Effects.{move_kind, is_initializing, initial_values}
+use Rattle.px_sem.specs.World.{World}
+use Rattle.px_flat.specs.Layout.{first_cell, variable_cells}
+use Rattle.px_flat.specs.Row.{site_in}
+use Rattle.px_flat.proofs.Tables.{flat_sound}
+use Rattle.px_command.proofs.Writes.{cells_within}
+use Rattle.px_micro.specs.declared.effects.CellWrite.{CellWrite}
+use Rattle.px_parts.specs.declared.parts.Parts.{Parts}
+use Rattle.px_micro.specs.declared.sight.Going.{Going}
+use Rattle.px_micro.specs.declared.turns.CellValue.{CellValue}
+use Rattle.px_micro.specs.declared.turns.Turn.{Turn}
+use Rattle.px_micro.specs.declared.turns.Turns.{Turns}
+use Rattle.px_micro.specs.Going.{AreAllGoing}
+use Rattle.px_parts.specs.Parts.{plan_in, world_in, record_of}
+use Rattle.px_micro.specs.Turns.{in_cells, effects_in, from_cell, initial_in, with_write, first_writes, AreTurns}
+use Rattle.px_micro.proofs.Initial.{as_many_of_each}
+
+-- ---- no more nodes go than there are
+
+rising_at : (ones : List Going) → AllPairs (λ a b. a.node < b.node) ones → (k : ℕ) (d : Going) → k < length ones
+    → k ≤ (get_or ones k d).node
+rising_at ones rise zero d within = omega arith
+rising_at ones rise (suc k) d within =
+    omega (arith, rising_at ones rise k d (omega arith), rise k (suc k) d (omega arith) within)
+
+pub few_go : (n : ℕ) (ones : List Going) → AllPairs (λ a b. a.node < b.node) ones → All (λ one. one.node < n) ones
+    → length ones ≤ n
+few_go n [] rise within = omega arith
+few_go n (one ∷ ones) rise within =
+    omega (
+      arith,
+      rising_at (one ∷ ones) rise (length ones) one (omega arith),
+      within (length ones) one (omega arith),
+    )
+
+-- ---- their writes
+
+length-filter_map : {A B : Type 0} (f : A → Option B) (xs : List A) → length (filter_map f xs) ≤ length xs
+length-filter_map f [] = omega arith
+length-filter_map {A} {B} f (x ∷ xs) = by (f x) (length-filter_map f xs)
+  where
+    by : (y : Option B) → length (filter_map f xs) ≤ length xs
+        → length (cons_option y (filter_map f xs)) ≤ suc (length xs)
+    by None rest = omega arith
+    by (Some y) rest = omega arith
+
+with_write_few : (writes : List CellWrite) (write : CellWrite) → length (with_write writes write) ≤ length writes + 1
+with_write_few writes write = by (list_any (λ (other : CellWrite). nat_eq write.variable other.variable) writes)
+  where
+    by : (b : Bool) → length (if b then writes else writes ++ write ∷ []) ≤ length writes + 1
+    by true = omega arith
+    by false = omega (arith, length-append writes (write ∷ []))
+
+writes_few : (before writes : List CellWrite) → length (fold with_write before writes) ≤ length before + length writes
+writes_few before [] = omega arith
+writes_few before (write ∷ writes) =
+    omega (arith, writes_few (with_write before write) writes, with_write_few before write)
+
+-- ---- their initial values
+
+from_cell_long : (cell : ℕ) (values : List Value) → length (from_cell cell values) ≡ length values
+from_cell_long cell [] = refl
+from_cell_long cell (value ∷ values) = ap suc (from_cell_long (cell + 1) values)
+
+initial_few : (parts : Parts) (one : Going) → one.node < length (plan_in parts) → length (initial_in parts one) ≤ 131072
+initial_few parts one here = by (is_initializing (move_kind (record_of parts one.node).state one.arrival.to))
+  where
+    plan : List Site
+    plan = plan_in parts
+
+    given : List Value
+    given = flat_map initial_values (site_in plan one.node).head.variables
+
+    long : length given ≡ cells_of_site (site_in plan one.node)
+    long = as_many_of_each (site_in plan one.node).head.variables
+        (AllPass-from_list_all has_right_variables plan (flat_sound parts.flat).arrays one.node no_site here)
+
+    few : variable_cells plan ≤ 131072
+    few = (flat_sound parts.flat).cells
+
+    by : (b : Bool) → length (if b then from_cell (first_cell plan one.node) given else []) ≤ 131072
+    by true = omega (arith, from_cell_long (first_cell plan one.node) given, long, cells_within plan one.node here, few)
+    by false = omega arith
+
+initials_few : (parts : Parts) (ones : List Going) → All (λ one. one.node < length (plan_in parts)) ones
+    → length (flat_map (initial_in parts) ones) ≤ 131072 * length ones
+initials_few parts [] within = omega arith
+initials_few parts (one ∷ ones) within =
+    omega (
+      arith,
+      length-append (initial_in parts one) (flat_map (initial_in parts) ones),
+      initial_few parts one (All-head (λ one. one.node < length (plan_in parts)) one ones within),
+      initials_few parts ones (All-tail (λ one. one.node < length (plan_in parts)) one ones within),
+    )
+
+-- ---- all cells that are put
+
+pub turns_small : (parts : Parts) (ones : List Going) (made : Turns) → AreAllGoing (plan_in parts) (world_in parts) ones
+    → AreTurns parts ones made
+    → length made.writes.items + length made.initial.items + 5 * length made.turns.items < 2 ^ 32
+turns_small parts ones made go are =
+    omega (
+      arith,
+      few_go (length (plan_in parts)) ones go.rise go.within,
+      (flat_sound parts.flat).few,
+      writes,
+      initial,
+      turns,
+    )
+  where
+    written : Going → Option CellWrite
+    written one = option_map (in_cells (plan_in parts)) (effects_in parts one).write
+
+    writes : length made.writes.items ≤ length ones
+    writes = omega (arith, ap length are.writes, writes_few [] (filter_map written ones), length-filter_map written ones)
+
+    initial : length made.initial.items ≤ 131072 * length ones
+    initial = omega (arith, ap length are.initial, initials_few parts ones go.within)
+
+    turns : length made.turns.items ≡ length ones
+    turns = sym (length-map made.turns.items (λ (turn : Turn). turn.going)) ∙ ap length are.goers

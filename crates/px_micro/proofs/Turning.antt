@@ -1,0 +1,71 @@
+-- The turns of one more node that goes.
+use Rattle.std.proofs.Common.{◌≡◌, ℕ, List, [], ◌∷◌, ◌++◌, fold, map, append-nil, refl, ap, sym, ◌∙◌, subst, Option}
+use Rattle.std.specs.List.{filter_map, flat_map, cons_option, All}
+use Rattle.std.specs.Option.{option_map}
+use Rattle.std.proofs.lemmas.Grind.{flat_map-append}
+use Rattle.std.proofs.lemmas.List.{map-append}
+use Rattle.std.proofs.lemmas.List.Elements.{All-push, filter_map-append}
+use Rattle.std.proofs.lemmas.List.Sums.{fold-append}
+use Rattle.px_value.specs.declared.value.Value.{Value}
+use Rattle.px_sem.specs.declared.moves.Move.{Move}
+use Rattle.px_sem.specs.Step.{move_of}
+use Rattle.px_cells.specs.Marked.{MarkedData}
+use Rattle.px_flat.specs.declared.act.Act.{Act}
+use Rattle.px_flat.specs.Row.{site_in}
+use Rattle.px_micro.specs.declared.effects.CellWrite.{CellWrite}
+use Rattle.px_parts.specs.declared.parts.Parts.{Parts}
+use Rattle.px_micro.specs.declared.sight.Going.{Going}
+use Rattle.px_micro.specs.declared.turns.CellValue.{CellValue}
+use Rattle.px_micro.specs.declared.turns.Turn.{Turn}
+use Rattle.px_micro.specs.declared.turns.Turns.{Turns}
+use Rattle.px_parts.specs.Parts.{plan_in, world_in}
+use Rattle.px_micro.specs.Turns.{in_cells, effects_in, initial_in, with_write, IsTurn, AreTurns, IsAdded}
+
+pub turns_more : (parts : Parts) (going : List Going) (one : Going) (old new : Turns) → AreTurns parts going old
+    → IsAdded parts one old new → AreTurns parts (going ++ one ∷ []) new
+turns_more parts going one old new are added = record {
+  writes = added.writes
+      ∙ ap (λ before. fold with_write before (cons_option (written one) [])) are.writes
+      ∙ sym (fold-append with_write [] (filter_map written going) (cons_option (written one) []))
+      ∙ ap (fold with_write []) (sym (filter_map-append written going (one ∷ [])));
+  initial = added.initial ∙ ap (λ before. before ++ initial_in parts one) are.initial
+      ∙ ap (λ more. flat_map (initial_in parts) going ++ more) (sym (append-nil (initial_in parts one)))
+      ∙ sym (flat_map-append (initial_in parts) going (one ∷ []));
+  goers = ap (map (λ (turn : Turn). turn.going)) added.turns
+      ∙ map-append (λ (turn : Turn). turn.going) old.turns.items (added.turn ∷ [])
+      ∙ (λ i. are.goers i ++ added.goes i ∷ []);
+  each = subst (All (IsTurn parts)) (sym added.turns)
+      (All-push (IsTurn parts) old.turns.items added.turn are.each added.is);
+  moves = added.moves ∙ ap (λ before. before ++ told one ∷ []) are.moves
+      ∙ sym (map-append told going (one ∷ []));
+}
+  where
+    written : Going → Option CellWrite
+    written one = option_map (in_cells (plan_in parts)) (effects_in parts one).write
+
+    told : Going → Move
+    told one = move_of (plan_in parts) (world_in parts) (site_in (plan_in parts) one.node) one.arrival
+
+-- ---- what the turns are does not change with the room
+
+-- parts with other room
+abbrev pub with_room : Parts → MarkedData Value → MarkedData Act → Parts
+with_room parts cells acts =
+    record { flat = parts.flat; cells = cells; reports = parts.reports; actions = acts; moves = parts.moves }
+
+pub turns_stay : (parts : Parts) (cells : MarkedData Value) (acts : MarkedData Act) (going : List Going) (made : Turns)
+    → cells.contents ≡ parts.cells.contents → acts.contents ≡ parts.actions.contents → AreTurns parts going made
+    → AreTurns (with_room parts cells acts) going made
+turns_stay parts cells acts going made cells_same acts_same are =
+    subst (λ parts. AreTurns parts going made)
+    (λ i. with_room parts (record { contents = sym cells_same i; room = cells.room })
+    (record { contents = sym acts_same i; room = acts.room }))
+    (record {
+      writes = are.writes;
+      initial = are.initial;
+      goers = are.goers;
+      each = λ k d within.
+          let turn = are.each k d within in
+          record { within = turn.within; action = turn.action; fits = turn.fits };
+      moves = are.moves;
+    })

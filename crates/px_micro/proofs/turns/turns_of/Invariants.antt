@@ -1,0 +1,9 @@
+use Rattle.std.proofs.Common.{take}
+use Rattle.px_micro.specs.Turns.{AreTurns, KnowsWritten}
+use Rattle.px_micro.proofs.turns.turns_of.Given as goal
+
+abbrev pub invariant-loop-one : goal.invariant-loop-one
+invariant-loop-one l = record {
+  so_far : AreTurns l.parts (take l.one-index l.going) l.turns;
+  known : KnowsWritten l.turns;
+}

@@ -1,0 +1,11 @@
+pub mod Above
+pub mod Candidates
+pub mod Doing
+pub mod Going
+pub mod Guarded
+pub mod Moving
+pub mod Places
+pub mod Records
+pub mod Stepping
+pub mod Truths
+pub mod Turns

@@ -1,0 +1,28 @@
+-- What one micro step leaves.
+use Rattle.std.specs.Prelude.{◌≡◌, Bool, true, false, []}
+use Rattle.px_sem.specs.Conflicts.{is_quiet}
+use Rattle.px_sem.specs.Step.{micro, moves}
+use Rattle.px_parts.specs.declared.parts.Parts.{Parts}
+use Rattle.px_parts.specs.Parts.{plan_in, world_in, AreOfOnePlan, AreSame}
+
+-- the world was not quiet, and took one micro step with these moves
+pub record HaveStepped (old new : Parts) : Type 0 where
+  pub one_plan : AreOfOnePlan old new
+  pub loud : is_quiet (plan_in old) (world_in old) ≡ false
+  pub world : world_in new ≡ micro (plan_in old) (world_in old)
+  pub moves : new.moves.items ≡ moves (plan_in old) (world_in old)
+
+-- the world is quiet, and nothing changed
+pub record AreQuiet (old new : Parts) : Type 0 where
+  pub same : AreSame old new
+  pub quiet : is_quiet (plan_in old) (world_in old) ≡ true
+  pub moves : new.moves.items ≡ []
+
+abbrev pub Steps : Parts → Parts → Bool → Type 0
+Steps old new true = HaveStepped old new
+Steps old new false = AreQuiet old new
+
+-- all is as before
+pub record AreLeft (old new : Parts) : Type 0 where
+  pub same : AreSame old new
+  pub moves : new.moves.items ≡ old.moves.items

@@ -1,0 +1,117 @@
+-- What is gathered of a step: the turns of the nodes that go, and their moves.
+use Rattle.std.specs.Prelude.{◌≡◌, ℕ, ◌+◌, ◌<◌, false, nat_eq, List, [], ◌∷◌, ◌++◌, fold, map, length, Option, Some, None, IsTrue, if◌then◌else◌}
+use Rattle.std.specs.BTreeSet.{contains}
+use Rattle.std.specs.List.{flat_map, filter_map, cons_option, list_any, All}
+use Rattle.std.specs.Ordering.{nat_cmp}
+use Rattle.std.specs.Option.{option_map}
+use Rattle.px_value.specs.declared.value.Value.{Value}
+use Rattle.px_value.specs.declared.value.Value.TheVariants as values
+use Rattle.px_core.specs.Plan.{Site}
+use Rattle.px_sem.specs.declared.moves.Move.{Move}
+use Rattle.px_sem.specs.Effects as sem
+use Rattle.px_sem.specs.Effects.{Write, move_kind, is_initializing, initial_values, cell_of}
+use Rattle.px_sem.specs.Step.{move_of}
+use Rattle.px_sem.specs.World.{Action}
+use Rattle.px_flat.specs.declared.act.Abort.TheVariants as aborts
+use Rattle.px_flat.specs.declared.act.Act.{Act}
+use Rattle.px_flat.specs.declared.act.Act.TheVariants as acts
+use Rattle.px_flat.specs.Layout.{first_cell, handle_cell, acknowledgement_cell}
+use Rattle.px_flat.specs.Numbered.{held, place_of}
+use Rattle.px_flat.specs.Parts.{action_in, act_of, fits}
+use Rattle.px_flat.specs.Row.{site_in}
+use Rattle.px_micro.specs.declared.effects.CellWrite.{CellWrite}
+use Rattle.px_micro.specs.declared.effects.Effects.{Effects}
+use Rattle.px_micro.specs.declared.effects.UnderWay.{UnderWay}
+use Rattle.px_micro.specs.declared.effects.UnderWay.TheVariants as under_way
+use Rattle.px_parts.specs.declared.parts.Parts.{Parts}
+use Rattle.px_micro.specs.declared.sight.Going.{Going}
+use Rattle.px_micro.specs.declared.turns.CellValue.{CellValue}
+use Rattle.px_micro.specs.declared.turns.Turn.{Turn}
+use Rattle.px_micro.specs.declared.turns.Turns.{Turns}
+use Rattle.px_parts.specs.Parts.{plan_in, world_in, record_of}
+
+-- a write in cells: the first cell of the variable, the cell that is written, and the value
+abbrev pub in_cells : List Site → Write → CellWrite
+in_cells plan write = record {
+  variable = (place_of plan write.owner write.name).first;
+  cell = (place_of plan write.owner write.name).first + cell_of write.place;
+  value = write.value;
+}
+
+-- what a node has under way after its move
+abbrev pub act_after : Parts → ℕ → UnderWay → Act
+act_after parts node under_way.Kept = act_of parts.actions.contents.values node
+act_after parts node (under_way.Begun act) = act
+act_after parts node (under_way.Aborting index) = acts.Sent index aborts.Sent
+
+-- nothing was said so far of what has begun
+abbrev pub action_after : Parts → ℕ → UnderWay → Action
+action_after parts node (under_way.Begun act) = action_in act values.Unknown (values.Boolean false)
+action_after parts node other = action_in (act_after parts node other)
+    (held parts.cells.contents.values (handle_cell (plan_in parts) node))
+    (held parts.cells.contents.values (acknowledgement_cell (plan_in parts) node))
+
+abbrev pub effects_in : Parts → Going → sem.Effects
+effects_in parts going = sem.effects_of (plan_in parts) (world_in parts) (site_in (plan_in parts) going.node) going.arrival
+
+-- these are the effects of a node's move
+pub record AreEffects (parts : Parts) (going : Going) (made : Effects) : Type 0 where
+  pub write : made.write ≡ option_map (in_cells (plan_in parts)) (effects_in parts going).write
+  pub action : action_after parts going.node made.under_way ≡ (effects_in parts going).action
+  pub fits : IsTrue (fits (plan_in parts) (site_in (plan_in parts) going.node).head.body
+      (act_after parts going.node made.under_way))
+  pub told : made.told ≡ (effects_in parts going).told
+
+-- the initial values of a node that begins to wait, cell by cell
+abbrev pub from_cell : ℕ → List Value → List CellValue
+from_cell cell [] = []
+from_cell cell (value ∷ values) = record { cell = cell; value = value } ∷ from_cell (cell + 1) values
+
+abbrev pub initial_in : Parts → Going → List CellValue
+initial_in parts going =
+    if is_initializing (move_kind (record_of parts going.node).state going.arrival.to)
+    then from_cell (first_cell (plan_in parts) going.node)
+    (flat_map initial_values (site_in (plan_in parts) going.node).head.variables)
+    else []
+
+-- of the writes of one variable the first counts
+abbrev pub with_write : List CellWrite → CellWrite → List CellWrite
+with_write writes write =
+    if list_any (λ other. nat_eq write.variable other.variable) writes then writes else writes ++ write ∷ []
+
+abbrev pub first_writes : List CellWrite → List CellWrite
+first_writes writes = fold with_write [] writes
+
+-- it is known which variables are written
+abbrev pub KnowsWritten : Turns → Type 0
+KnowsWritten made = (variable : ℕ) → contains nat_cmp made.written variable
+    ≡ list_any (λ other. nat_eq variable other.variable) made.writes.items
+
+-- one turn does what a node's move does, its variables apart
+pub record IsTurn (parts : Parts) (turn : Turn) : Type 0 where
+  pub within : turn.going.node < length (plan_in parts)
+  pub action : action_after parts turn.going.node turn.under_way ≡ (effects_in parts turn.going).action
+  pub fits : IsTrue (fits (plan_in parts) (site_in (plan_in parts) turn.going.node).head.body
+      (act_after parts turn.going.node turn.under_way))
+
+-- these are the turns of the nodes that go, with their moves
+pub record AreTurns (parts : Parts) (going : List Going) (made : Turns) : Type 0 where
+  pub writes : made.writes.items
+      ≡ first_writes (filter_map (λ one. option_map (in_cells (plan_in parts)) (effects_in parts one).write) going)
+  pub initial : made.initial.items ≡ flat_map (initial_in parts) going
+  pub goers : map (λ turn. turn.going) made.turns.items ≡ going
+  pub each : All (IsTurn parts) made.turns.items
+  pub moves : made.moves.items
+      ≡ map (λ one. move_of (plan_in parts) (world_in parts) (site_in (plan_in parts) one.node) one.arrival) going
+
+-- one more node goes
+pub record IsAdded (parts : Parts) (going : Going) (old new : Turns) : Type 0 where
+  pub turn : Turn
+  pub is : IsTurn parts turn
+  pub goes : turn.going ≡ going
+  pub turns : new.turns.items ≡ old.turns.items ++ turn ∷ []
+  pub writes : new.writes.items ≡ fold with_write old.writes.items
+      (cons_option (option_map (in_cells (plan_in parts)) (effects_in parts going).write) [])
+  pub initial : new.initial.items ≡ old.initial.items ++ initial_in parts going
+  pub moves : new.moves.items ≡ old.moves.items
+      ++ move_of (plan_in parts) (world_in parts) (site_in (plan_in parts) going.node) going.arrival ∷ []

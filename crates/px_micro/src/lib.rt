@@ -1,0 +1,30 @@
+//! One micro step over a list of candidate nodes: who goes, who loses, and what those that go do, all at once.
+//!
+//! The modules are in the order of the data. `records` is what the parts say of a command or an update.
+//! `truths`, `asked` and `children` look in at a node's conditions, up at its ancestors and down at its children; `sight` has
+//! the guards from them and where each candidate goes. `wanting` drops the losers of conflicts. `effects` is what a move
+//! does, `starting` and `failing` say it by the body of a node, and `doing` by the kind of the move too, which is from
+//! `kinds`. `turns` gathers what those that go do, in the world before the step, and `moving` does it, which takes no
+//! memory. `step` is the list of these phases.
+//!
+//! `specs/Candidates.antt` says which nodes a step has to be given, and `specs/Stepping.antt` what it leaves.
+#![tactic(auto)]
+
+mod asked;
+mod children;
+mod doing;
+mod effects;
+mod failing;
+mod kinds;
+mod moving;
+mod places;
+mod records;
+mod sight;
+mod starting;
+mod states;
+mod step;
+mod truths;
+mod turns;
+mod wanting;
+
+pub use step::micro;

@@ -1,0 +1,4 @@
+pub mod Beginning
+pub mod Found
+pub mod Integers
+pub mod Scalars

@@ -1,0 +1,20 @@
+-- The cells of a plan that has not begun.
+use Rattle.std.specs.Prelude.{ℕ, zero, suc, false, List, [], ◌∷◌, ◌++◌, replicate, length}
+use Rattle.px_value.specs.declared.enums.NodeState.TheVariants.{Inactive}
+use Rattle.px_value.specs.declared.value.Value.{Value}
+use Rattle.px_value.specs.declared.value.Value.TheVariants as values
+use Rattle.px_core.specs.Plan.{Site}
+use Rattle.px_flat.specs.Layout.{variable_cells}
+
+-- the cells of a node that has not begun: its state, outcome, failure, handle and acknowledgement
+abbrev pub at_rest : List Value
+at_rest = values.State Inactive ∷ values.Unknown ∷ values.Unknown ∷ values.Unknown ∷ values.Boolean false ∷ []
+
+-- those of so many nodes
+abbrev pub all_at_rest : ℕ → List Value
+all_at_rest zero = []
+all_at_rest (suc nodes) = at_rest ++ all_at_rest nodes
+
+-- no variable has a value
+abbrev pub first_cells : List Site → List Value
+first_cells plan = replicate (variable_cells plan) values.Unknown ++ all_at_rest (length plan)

@@ -1,0 +1,4 @@
+pub mod Parts
+pub mod Fresh
+pub mod Marks
+pub mod Readings
