@@ -19,6 +19,7 @@ pub enum MoveKind {
     Other,
 }
 
+/// The kind of a move from one state to another.
 pub fn move_kind(from: NodeState, to: NodeState) -> MoveKind
     ensures { kind_data result ≡ sem.move_kind from to }
 {

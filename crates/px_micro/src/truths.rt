@@ -27,6 +27,7 @@ pub struct Truths {
     pub invariant: Option<bool>,
 }
 
+/// The truth of a condition now; None is UNKNOWN.
 pub fn truth(alloc: Global, parts: &Parts, expr: &NumberedExpr) -> Result<Option<bool>, NoMemory>
     requires stand { AreStanding parts.now }
     requires within { IsWithin (plan_in parts.now) (expr_data expr.now) }

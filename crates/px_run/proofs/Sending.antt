@@ -101,12 +101,19 @@ numbered_node_send =
 
 tables_send : IsSend tables.the_row
 tables_send =
-    declared_send tables.the_type
-    (search (sendable, crosses, as_row_send, row_send) depth 12,
-    (search (sendable, crosses, extents.the_send) depth 12,
-    (search (sendable, crosses, sets.the_send, paths.the_send) depth 12,
-    (search (sendable, crosses, slots.the_send) depth 12,
-    (search (sendable, crosses, sets.the_send, names.the_send) depth 12, tt)))))
+    declared_send tables.the_type (
+      search (sendable, crosses, as_row_send, row_send) depth 12,
+      (
+        search (sendable, crosses, extents.the_send) depth 12,
+        (
+          search (sendable, crosses, sets.the_send, paths.the_send) depth 12,
+          (
+            search (sendable, crosses, slots.the_send) depth 12,
+            (search (sendable, crosses, sets.the_send, names.the_send) depth 12, tt),
+          ),
+        ),
+      ),
+    )
 
 flat_send : IsSend flat.the_row
 flat_send =
@@ -114,12 +121,19 @@ flat_send =
 
 parts_send : IsSend parts.the_row
 parts_send =
-    declared_send parts.the_type
-    (search flat_send,
-    (search (sendable, crosses, marked.the_send, values.the_send) depth 24,
-    (search (sendable, reports.the_send),
-    (search (sendable, actions.the_send),
-    (search (sendable, crosses, moves.the_send) depth 12, tt)))))
+    declared_send parts.the_type (
+      search flat_send,
+      (
+        search (sendable, crosses, marked.the_send, values.the_send) depth 24,
+        (
+          search (sendable, reports.the_send),
+          (
+            search (sendable, actions.the_send),
+            (search (sendable, crosses, moves.the_send) depth 12, tt),
+          ),
+        ),
+      ),
+    )
 
 pub naive_send : IsSend naive.the_row
 naive_send =
