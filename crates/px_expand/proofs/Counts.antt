@@ -27,7 +27,7 @@ mutual
       (scope : Scope) (place : Place) (block : BlockTree)
       → count_of (alone (block_core scope place block)) ≡ block_nodes block
   block_count scope place (Braces form items actions) =
-      let inner : Scope = block_scope scope place items actions in
+      let inner : Scope = block_scope scope place (Braces form items actions) in
       shaped_count place (shape_of (Braces form items actions)) inner form items _
       (actions_core inner place.path form None 1 actions) (actions_nodes actions)
       (actions_count inner place.path form None 1 actions)

@@ -7,7 +7,7 @@ use Rattle.px_core.specs.declared.node.CoreNode.TheFolds.{fold-CoreNode, fold-ro
 use Rattle.px_core.specs.Plan as plan
 use Rattle.px_core.specs.Plan.{Head, Tree, NoNode, Branch, tree_of_node}
 use Rattle.px_expand.specs.Nodes.{Node, before, alone}
-use Rattle.px_expand.specs.Placed.{trees_of}
+use Rattle.px_expand.specs.Placed.{node_of, trees_of}
 
 -- a node is made of its head and the nodes in it
 pub node_made :
@@ -29,17 +29,23 @@ abbrev one_before : Tree → Tree → Tree
 one_before NoNode rest = rest
 one_before (Branch head children more) rest = Branch head children rest
 
-known_before :
+joined_before :
     (node : CoreNode) (rest : Tree)
     → fold-CoreNode (Tree → Tree) plan.branch node rest ≡ one_before (tree_of_node node) rest
-known_before node rest = unrolled node rest ∙ ap (λ tree. one_before tree rest) (sym (unrolled node NoNode))
+joined_before node rest = unrolled node rest ∙ ap (λ tree. one_before tree rest) (sym (unrolled node NoNode))
 
 -- a node that is known stands before others
-pub first_tree :
-    (node : CoreNode) (nodes : List CoreNode) (known : Node) (rest : Tree)
-    → tree_of_node node ≡ alone known → trees_of nodes ≡ rest
-    → trees_of (node ∷ nodes) ≡ before known rest
-first_tree node nodes known rest is others =
-    known_before node (trees_of nodes)
-    ∙ ap (λ tree. one_before tree (trees_of nodes)) is
-    ∙ ap (before known) others
+pub known_before :
+    (node : CoreNode) (known : Node) (rest : Tree)
+    → tree_of_node node ≡ alone known
+    → fold-CoreNode (Tree → Tree) plan.branch node rest ≡ before known rest
+known_before node known rest is = joined_before node rest ∙ ap (λ tree. one_before tree rest) is
+
+-- the first of nodes side by side, or another where there is none
+abbrev first_of : Node → Tree → Node
+first_of other NoNode = other
+first_of other (Branch head children rest) = record { head = head; children = children }
+
+-- and a node that is known is that node
+pub known_node : (node : CoreNode) (known : Node) → tree_of_node node ≡ alone known → node_of node ≡ known
+known_node node known is = ap (first_of known) (sym (unrolled node NoNode) ∙ is)

@@ -48,9 +48,27 @@ abbrev pub actions_seen : List ℕ → ℕ → Actions → Table
 actions_seen path place NoActions = []
 actions_seen path place (More first rest) = seen path (name_of place first) ∷ actions_seen path (suc place) rest
 
-abbrev pub block_scope : Scope → Place → List ItemData → Actions → Scope
-block_scope scope place items actions =
-    inside scope place (actions_seen place.path 1 actions) (map (λ variable. variable.name) (variables_of items))
+-- the children that the text has of a block at a path; a block that is a single node has none
+abbrev pub children_seen : Shape → List ℕ → Actions → Table
+children_seen Children path actions = actions_seen path 1 actions
+children_seen _ _ _ = []
+
+abbrev pub form_of : BlockTree → BlockForm
+form_of (Braces form _ _) = form
+
+abbrev pub items_of : BlockTree → List ItemData
+items_of (Braces _ items _) = items
+
+abbrev pub actions_in : BlockTree → Actions
+actions_in (Braces _ _ actions) = actions
+
+abbrev pub block_seen : List ℕ → BlockTree → Table
+block_seen path (Braces form items actions) = children_seen (shape_of (Braces form items actions)) path actions
+
+abbrev pub block_scope : Scope → Place → BlockTree → Scope
+block_scope scope place (Braces form items actions) =
+    inside scope place (block_seen place.path (Braces form items actions))
+    (map (λ variable. variable.name) (variables_of items))
 
 -- a block of each shape, with what its items give in the scope inside it
 abbrev pub shaped : Place → Shape → Scope → BlockForm → List ItemData → List (List ℕ) → Tree → Node
@@ -60,6 +78,10 @@ shaped place (OneAction body) scope form items paths children =
     leaf place (kind_of body) (given_by scope items) (priority_of items) (variables_of items) (body_of scope body)
 shaped place Children scope form items paths children =
     list place paths (formed form paths (given_by scope items)) (priority_of items) (variables_of items) children
+
+abbrev pub shaped_as : Place → Scope → BlockTree → List (List ℕ) → Tree → Node
+shaped_as place scope (Braces form items actions) =
+    shaped place (shape_of (Braces form items actions)) scope form items
 
 -- an assignment, a command or an update that is a node of its own
 abbrev pub simple : Scope → Place → BodyTree → Node
@@ -101,9 +123,9 @@ abbrev mutual
   -- a block in its place
   pub block_core : Scope → Place → BlockTree → Node
   block_core scope place (Braces form items actions) =
-      shaped place (shape_of (Braces form items actions)) (block_scope scope place items actions) form items
-      (paths_of (actions_seen place.path 1 actions))
-      (actions_core (block_scope scope place items actions) place.path form None 1 actions)
+      shaped place (shape_of (Braces form items actions)) (block_scope scope place (Braces form items actions)) form items
+      (paths_of (block_seen place.path (Braces form items actions)))
+      (actions_core (block_scope scope place (Braces form items actions)) place.path form None 1 actions)
 
   -- the actions of the block at a path, from the one with this place on, behind the one at another path
   pub actions_core : Scope → List ℕ → BlockForm → Option (List ℕ) → ℕ → Actions → Tree

@@ -117,14 +117,15 @@ abbrev pub loop_path : List ℕ → List ℕ
 loop_path path = below path loop_name
 
 -- `#step`: it starts once A is done, where the test was found true, and is skipped where it was not
+abbrev pub step_given : List ℕ → List ℕ → Given
+step_given path body = record none_given {
+  start = Some (Binary And (done body) (test_of path));
+  skip = Some (not_found path);
+}
+
 abbrev pub step : List ℕ → List ℕ → List ℕ → Term → Node
 step path body variable next =
-    assignment (loop_path path) step_name
-    (record none_given {
-      start = Some (Binary And (done body) (test_of (loop_path path)));
-      skip = Some (not_found (loop_path path));
-    })
-    path variable next
+    assignment (loop_path path) step_name (step_given (loop_path path) body) path variable next
 
 abbrev pub counted : Place → List ℕ → ℤ → Term → Term → List ℕ → Node → Node
 counted place variable first test next body branch =

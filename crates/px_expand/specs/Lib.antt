@@ -17,3 +17,4 @@ pub mod Labels
 pub mod Typed
 pub mod Verdict
 pub mod Placed
+pub mod Chain

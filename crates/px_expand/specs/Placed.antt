@@ -1,10 +1,12 @@
 -- What the code has of places and nodes, with terms in place of expressions and lists in place of vectors.
-use Rattle.std.specs.Prelude.{List, map}
-use Rattle.px_core.specs.Plan.{Tree, in_order, branch}
+use Rattle.std.specs.Prelude.{ℕ, List, ◌∷◌, map}
+use Rattle.px_core.specs.Plan.{Tree, in_order, branch, head_of}
 use Rattle.px_core.specs.declared.node.CoreNode.{CoreNode}
 use Rattle.px_core.specs.declared.node.CoreNode.TheFolds.{fold-CoreNode}
+use Rattle.px_core.specs.declared.node.CoreNode.TheViews.{out-CoreNode}
 use Rattle.px_expand.specs.declared.place.Place.{Place as PlaceData}
-use Rattle.px_expand.specs.Nodes.{Place}
+use Rattle.px_expand.specs.Nodes.{Place, Node}
+use Rattle.px_expand.specs.Scope.{Scope, Table}
 use Rattle.px_expand.specs.Shown.{added_terms}
 
 abbrev pub place_terms : PlaceData → Place
@@ -13,3 +15,12 @@ place_terms place = record { path = place.path; name = place.name; added = added
 -- nodes side by side
 abbrev pub trees_of : List CoreNode → Tree
 trees_of nodes = in_order (map (fold-CoreNode (Tree → Tree) branch) nodes)
+
+-- a node without those beside it
+abbrev pub node_of : CoreNode → Node
+node_of node = record { head = head_of (out-CoreNode node); children = trees_of (out-CoreNode node).children.items }
+
+-- the scope inside the node of a place, with this table of its children and with these variables
+abbrev pub entered : Scope → Place → Table → List (List ℕ) → Scope
+entered scope place children variables =
+    record { name = place.name; path = place.path; children = children; variables = variables } ∷ scope

@@ -82,6 +82,22 @@ impl Given {
         Ok(self.filled(defaults))
     }
 
+    /// The conditions of a node of this kind at a path, with children at these, and with what the form round it adds.
+    pub(crate) fn within(
+        mut self,
+        alloc: Global,
+        added: Added,
+        kind: Kind,
+        path: &Path,
+        children: &[Path],
+    ) -> Result<Conditions, NoMemory>
+        ensures { IfOk result (λ made. condition_terms made
+            ≡ conditions kind path.now children.now (with_added (added_terms added) (given_terms self))) }
+    {
+        self.add(alloc, added)?;
+        self.conditions(alloc, kind, path, children)
+    }
+
     /// A default where nothing is given.
     fn filled(self, defaults: Conditions) -> Conditions
         ensures { condition_terms result ≡ filled (given_terms self) (condition_terms defaults) }

@@ -1,19 +1,27 @@
 // The table of derived forms, a row each: UncheckedSequence, Sequence, Try, `if`, `while` and `for`.
-ghost use Rattle.std.specs.Prelude.{◌≡◌, ◌+◌, ◌≤◌, length, IfOk, OnOk};
+ghost use Rattle.std.specs.Prelude.{◌≡◌, ◌+◌, ◌<◌, ◌≤◌, ◌∷◌, [], length, map, IfOk, OnOk};
 ghost use Rattle.std.specs.Option.{option_copied};
 ghost use Rattle.px_core.specs.Expr.{term_of};
+ghost use Rattle.px_value.specs.Path.{below};
+ghost use Rattle.px_core.specs.Plan.{Nothing, body_data, tree_of_node, variable_data};
+ghost use Rattle.px_expand.specs.Adding.{nothing};
 ghost use Rattle.px_expand.specs.Core.{follows, formed};
 ghost use Rattle.px_expand.specs.Forms as rows;
+ghost use Rattle.px_expand.specs.Items.{default_priority};
+ghost use Rattle.px_expand.specs.Names.{generated, loop_name, step_name};
+ghost use Rattle.px_expand.specs.Nodes.{alone, child};
+ghost use Rattle.px_expand.specs.Placed.{node_of, place_terms, trees_of};
 ghost use Rattle.px_expand.specs.Shown.{added_terms, given_terms};
 
 use crate::conditions::{Added, Given, adds};
+use crate::items::DEFAULT_PRIORITY;
 use crate::join::{Said, all, done, some};
 use crate::names::Generated;
-use crate::place::Place;
+use crate::place::{Own, Place};
 use crate::resolve::{binary, unary};
-use px_core::{BinaryOp, Expr, UnaryOp};
+use px_core::{BinaryOp, Body, CoreNode, Expr, Kind, Target, UnaryOp, VarKind, Variable};
 use px_syntax::BlockForm;
-use px_value::{NoMemory, Outcome, PATH_LIMIT, Path};
+use px_value::{Name, NoMemory, Outcome, PATH_LIMIT, Path, Value};
 use std::alloc::Global;
 
 /// What a block's form adds to the conditions of the List.
@@ -89,8 +97,17 @@ fn set_is_done(alloc: Global, path: &Path) -> Result<Expr, NoMemory>
     requires { length path.now + 5 ≤ PATH_LIMIT }
     ensures { IfOk result (λ made. term_of made ≡ rows.set_is_done path.now) }
 {
-    let set = Place::generated(alloc, path, Generated::Set, Added::nothing())?;
-    done(alloc, &set.path)
+    let set = child_path(alloc, path, Generated::Set)?;
+    done(alloc, &set)
+}
+
+/// The path of a child with a name that the text doesn't have.
+fn child_path(alloc: Global, parent: &Path, name: Generated) -> Result<Path, NoMemory>
+    requires { length parent.now + length (generated name) < PATH_LIMIT }
+    ensures { IfOk result (λ path. path ≡ below parent.now (generated name)) }
+{
+    let name = name.name(alloc)?;
+    parent.child(alloc, &name)
 }
 
 /// The test was found true.
@@ -131,5 +148,228 @@ pub(crate) fn where_not_found(alloc: Global, path: &Path) -> Result<Added, NoMem
     Ok(Added {
         start: Some(not_found(alloc, path)?),
         skip: Some(found(alloc, path)?),
+    })
+}
+
+/// An Assignment that the text doesn't have, of a scalar of the node `owner`.
+fn assignment(
+    alloc: Global,
+    parent: &Path,
+    name: Generated,
+    given: Given,
+    owner: &Path,
+    variable: Name,
+    value: Expr,
+) -> Result<CoreNode, NoMemory>
+    requires { length parent.now + length (generated name) < PATH_LIMIT }
+    ensures { IfOk result (λ node. tree_of_node node
+        ≡ alone (rows.assignment parent.now (generated name) (given_terms given) owner.now variable (term_of value))) }
+{
+    let place = Place::generated(alloc, parent, name, Added::nothing())?;
+    let target = Target {
+        owner: owner.copy(alloc)?,
+        name: variable,
+        index: None,
+    };
+    let own = Own {
+        priority: DEFAULT_PRIORITY,
+        variables: Vec::new(alloc),
+        body: Body::Assign { target, value },
+    };
+    place.node(alloc, Kind::Assignment, &[], given, own, Vec::new(alloc))
+}
+
+/// `#set`: the Assignment `#test = isKnown(t) && t`.
+fn set(alloc: Global, path: &Path, test: Expr) -> Result<CoreNode, NoMemory>
+    requires { length path.now + 5 ≤ PATH_LIMIT }
+    ensures { IfOk result (λ node. tree_of_node node ≡ alone (rows.set path.now (term_of test))) }
+{
+    let known = unary(alloc, UnaryOp::IsKnown, test.copy(alloc)?)?;
+    let value = binary(alloc, BinaryOp::And, known, test)?;
+    let variable = Generated::Test.name(alloc)?;
+    assignment(
+        alloc,
+        path,
+        Generated::Set,
+        Given::none(),
+        path,
+        variable,
+        value,
+    )
+}
+
+/// A List that keeps a test, with `#set` before the other children, which stand at these paths.
+fn tested(
+    alloc: Global,
+    place: Place,
+    given: Given,
+    test: Expr,
+    others: Vec<Path>,
+    children: Vec<CoreNode>,
+) -> Result<CoreNode, NoMemory>
+    requires { length place.path + 5 ≤ PATH_LIMIT }
+    ensures { IfOk result (λ node. tree_of_node node ≡ alone
+        (rows.tested (place_terms place) (given_terms given) (term_of test) others.items (trees_of children.items))) }
+{
+    let first = set(alloc, &place.path, test)?;
+    let set = child_path(alloc, &place.path, Generated::Set)?;
+    let mut paths = others;
+    paths.insert(0, set)?;
+    let mut children = children;
+    children.insert(0, first)?;
+    let own = testing(alloc)?;
+    place.node(alloc, Kind::List, &paths, given, own, children)
+}
+
+/// What the List of a test has: the variable that keeps it.
+fn testing(alloc: Global) -> Result<Own, NoMemory>
+    ensures priority { IfOk result (λ own. own.priority ≡ default_priority) }
+    ensures variables { IfOk result (λ own. map variable_data own.variables.items ≡ rows.test_variable ∷ []) }
+    ensures body { IfOk result (λ own. body_data own.body ≡ Nothing) }
+{
+    let variable = Variable {
+        name: Generated::Test.name(alloc)?,
+        kind: VarKind::Boolean,
+        size: None,
+        init: Vec::new(alloc),
+    };
+    Ok(Own {
+        priority: DEFAULT_PRIORITY,
+        variables: vec![in alloc; variable]?,
+        body: Body::Nothing,
+    })
+}
+
+/// `if (t) A else B`: the children are A and, where there is an else, B.
+pub(crate) fn conditional(
+    alloc: Global,
+    place: Place,
+    test: Expr,
+    paths: Vec<Path>,
+    children: Vec<CoreNode>,
+) -> Result<CoreNode, NoMemory>
+    requires { length place.path + 5 ≤ PATH_LIMIT }
+    ensures { IfOk result (λ node. tree_of_node node ≡ alone
+        (rows.conditional (place_terms place) (term_of test) paths.items (trees_of children.items))) }
+{
+    tested(alloc, place, Given::none(), test, paths, children)
+}
+
+/// `while (t) A`: the child is A, with others behind it in a `for`.
+pub(crate) fn repeated(
+    alloc: Global,
+    place: Place,
+    test: Expr,
+    paths: Vec<Path>,
+    children: Vec<CoreNode>,
+) -> Result<CoreNode, NoMemory>
+    requires { length place.path + 5 ≤ PATH_LIMIT }
+    ensures { IfOk result (λ node. tree_of_node node ≡ alone
+        (rows.repeated (place_terms place) (term_of test) paths.items (trees_of children.items))) }
+{
+    let mut given = Given::none();
+    given.repeat = Some(test_of(alloc, &place.path)?);
+    tested(alloc, place, given, test, paths, children)
+}
+
+/// The conditions of `#step`: it starts once A is done, where the test was found true, and is skipped where it was not.
+fn step_given(alloc: Global, path: &Path, body: &Path) -> Result<Given, NoMemory>
+    requires { length path.now + 5 ≤ PATH_LIMIT }
+    ensures { IfOk result (λ made. given_terms made ≡ rows.step_given path.now body.now) }
+{
+    let done = done(alloc, body)?;
+    let mut given = Given::none();
+    given.start = Some(binary(alloc, BinaryOp::And, done, test_of(alloc, path)?)?);
+    given.skip = Some(not_found(alloc, path)?);
+    Ok(given)
+}
+
+/// `#step` of the loop at a path, whose variable the node `owner` has.
+fn step(
+    alloc: Global,
+    path: &Path,
+    body: &Path,
+    owner: &Path,
+    variable: Name,
+    next: Expr,
+) -> Result<CoreNode, NoMemory>
+    requires room { length path.now + 6 ≤ PATH_LIMIT }
+    requires path { path.now ≡ rows.loop_path owner.now }
+    ensures { IfOk result
+        (λ node. tree_of_node node ≡ alone (rows.step owner.now body.now variable (term_of next))) }
+{
+    let given = step_given(alloc, path, body)?;
+    assignment(alloc, path, Generated::Step, given, owner, variable, next)
+}
+
+/// The test and the step of a `for`, resolved.
+#[derive(Drop)]
+pub(crate) struct Turn {
+    pub(crate) test: Expr,
+    pub(crate) next: Expr,
+}
+
+/// `for (Integer i = c; t; u) A`: `inner` is where `#loop` stands, and A stands in it at the path `body`.
+pub(crate) fn counted(
+    alloc: Global,
+    place: Place,
+    inner: Place,
+    variable: &Name,
+    first: i32,
+    turn: Turn,
+    body: Path,
+    branch: CoreNode,
+) -> Result<CoreNode, NoMemory>
+    requires room { length place.path + 12 ≤ PATH_LIMIT }
+    requires inner { place_terms inner ≡ child place.path loop_name nothing }
+    ensures { IfOk result (λ node. tree_of_node node ≡ alone (rows.counted (place_terms place) variable.now first
+        (term_of turn.test) (term_of turn.next) body (node_of branch))) }
+{
+    let Turn { test, next } = turn;
+    let name = variable.copy(alloc)?;
+    let step = step(alloc, &inner.path, &body, &place.path, name, next)?;
+    let paths = vec![in alloc; inner.path.copy(alloc)?]?;
+    let turns = turns(alloc, inner, test, body, branch, step)?;
+    let children = vec![in alloc; turns]?;
+    let own = counting(alloc, variable, first)?;
+    place.node(alloc, Kind::List, &paths, Given::none(), own, children)
+}
+
+/// `#loop` in its place, with A and `#step`.
+fn turns(
+    alloc: Global,
+    inner: Place,
+    test: Expr,
+    body: Path,
+    branch: CoreNode,
+    step: CoreNode,
+) -> Result<CoreNode, NoMemory>
+    requires { length inner.path + 6 ≤ PATH_LIMIT }
+    ensures { IfOk result (λ node. tree_of_node node ≡ alone (rows.repeated (place_terms inner) (term_of test)
+        (body ∷ below inner.path step_name ∷ []) (trees_of (branch ∷ step ∷ [])))) }
+{
+    let behind = child_path(alloc, &inner.path, Generated::Step)?;
+    let paths = vec![in alloc; body, behind]?;
+    let children = vec![in alloc; branch, step]?;
+    repeated(alloc, inner, test, paths, children)
+}
+
+/// What the List of a `for` has: its variable.
+fn counting(alloc: Global, variable: &Name, first: i32) -> Result<Own, NoMemory>
+    ensures priority { IfOk result (λ own. own.priority ≡ default_priority) }
+    ensures variables { IfOk result (λ own.
+        map variable_data own.variables.items ≡ rows.counter variable.now first ∷ []) }
+    ensures body { IfOk result (λ own. body_data own.body ≡ Nothing) }
+{
+    let counter = Variable {
+        name: variable.copy(alloc)?,
+        kind: VarKind::Integer,
+        size: None,
+        init: vec![in alloc; Value::Integer(first)]?,
+    };
+    Ok(Own {
+        priority: DEFAULT_PRIORITY,
+        variables: vec![in alloc; counter]?,
+        body: Body::Nothing,
     })
 }

@@ -2,11 +2,11 @@
 ghost use Rattle.std.specs.Prelude.{◌≡◌, ◌+◌, ◌<◌, length, map, IfOk};
 ghost use Rattle.px_core.specs.Plan.{Branch, NoNode, body_data, condition_terms, tree_of_node, variable_data};
 ghost use Rattle.px_expand.specs.Names.{generated};
-ghost use Rattle.px_expand.specs.Nodes.{child};
+ghost use Rattle.px_expand.specs.Nodes.{alone, child, node_at};
 ghost use Rattle.px_expand.specs.Placed.{place_terms, trees_of};
-ghost use Rattle.px_expand.specs.Shown.{added_terms};
+ghost use Rattle.px_expand.specs.Shown.{added_terms, given_terms};
 
-use crate::conditions::Added;
+use crate::conditions::{Added, Given};
 use crate::names::Generated;
 use px_core::{Body, Conditions, CoreNode, Kind, Variable};
 use px_value::{Name, NoMemory, PATH_LIMIT, Path};
@@ -51,6 +51,25 @@ impl Place {
     {
         Place::child(alloc, parent, name.name(alloc)?, added)
     }
+
+    /// The node that stands here, with children at these paths.
+    pub(crate) fn node(
+        self,
+        alloc: Global,
+        kind: Kind,
+        paths: &[Path],
+        given: Given,
+        own: Own,
+        children: Vec<CoreNode>,
+    ) -> Result<CoreNode, NoMemory>
+        ensures { IfOk result (λ node. tree_of_node node
+            ≡ alone (node_at (place_terms self) kind paths.now (given_terms given) own.priority
+            (map variable_data own.variables.items) (body_data own.body) (trees_of children.items))) }
+    {
+        let Place { path, name, added } = self;
+        let conditions = given.within(alloc, added, kind, &path, paths)?;
+        Ok(own.node(name, kind, conditions, children))
+    }
 }
 
 /// What a node has beside its conditions and its children.
@@ -64,7 +83,7 @@ pub(crate) struct Own {
 impl Own {
     /// The node of these parts.
     #[tactic(none)]
-    pub(crate) fn node(
+    fn node(
         self,
         name: Name,
         kind: Kind,

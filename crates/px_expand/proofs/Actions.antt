@@ -1,0 +1,203 @@
+-- The actions of a block, one after another: how far their paths reach, what is seen of them, and their nodes.
+use Rattle.std.proofs.Common.{◌≡◌, ℕ, zero, suc, ◌+◌, ◌<◌, ◌≤◌, max, List, [], ◌∷◌, ◌++◌, length, map, drop, get_or, Option, Some, None, fold}
+use Rattle.std.proofs.Common.{refl, ap, sym, ◌∙◌, subst, arith, add-one, append_assoc}
+use Rattle.std.proofs.lemmas.List.{drop_more}
+use Rattle.std.proofs.Math.ListN.{drop_of_length-le}
+use Rattle.indexmap.specs.IndexMap.{insert_entry}
+use Rattle.px_value.specs.Path.{below}
+use Rattle.px_syntax.specs.declared.block.Action.{Action, out-Action, fold_out-Action}
+use Rattle.px_syntax.specs.declared.word.BlockForm.{BlockForm}
+use Rattle.px_syntax.specs.Block as text
+use Rattle.px_syntax.specs.Block.{Actions, More, Labelled, BlockTree, BodyTree, ActionTree, BranchTree, GuardedTree, body_step, action_step, block_step, branch_step, guarded_step, action_of, actions_in_turn, body_of}
+use Rattle.px_core.specs.declared.node.CoreNode.{CoreNode}
+use Rattle.px_core.specs.declared.node.CoreNode.TheFolds.{fold-CoreNode}
+use Rattle.px_core.specs.Plan.{Tree, NoNode, branch, is_same, tree_of_node}
+use Rattle.px_expand.specs.Core.{actions_core, actions_seen, action_core, body_core, name_of, follows}
+use Rattle.px_expand.specs.Nodes.{Place, alone, before, child, paths_of}
+use Rattle.px_expand.specs.Placed.{trees_of}
+use Rattle.px_expand.specs.Scope.{Scope, Table, table}
+use Rattle.px_expand.specs.Size.{through, action_nodes, action_reach, actions_nodes, actions_reach, body_nodes, body_reach}
+use Rattle.px_expand.proofs.Trees.{known_before}
+
+abbrev pub in_turn : List Action → Actions
+in_turn actions = actions_in_turn (map action_of actions)
+
+pub action_is : (action : Action) → action_of action ≡ Labelled (out-Action action).label (body_of (out-Action action).body)
+action_is =
+    fold_out-Action
+    BodyTree ActionTree BlockTree BranchTree GuardedTree
+    body_step action_step block_step branch_step guarded_step
+
+-- the actions that are left at a place that one stands at
+pub left_at : (actions : List Action) (place : ℕ) (action : Action)
+    → place < length actions → action ≡ get_or actions place action
+    → in_turn (drop place actions) ≡ More (action_of action) (in_turn (drop (place + 1) actions))
+left_at actions place action within is =
+    ap in_turn (drop_more actions place action within ∙ ap (λ first. first ∷ drop (place + 1) actions) (sym is))
+
+-- a function of a place and of what is left there
+at_next : {Y : Type 0} (F : ℕ → Actions → Y) (actions : List Action) (place : ℕ) (action : Action)
+    → place < length actions → action ≡ get_or actions place action
+    → F (place + 1) (in_turn (drop place actions))
+    ≡ F (place + 1) (More (action_of action) (in_turn (drop (place + 1) actions)))
+at_next F actions place action within is = ap (F (place + 1)) (left_at actions place action within is)
+
+-- ---- paths
+
+-- the paths of an action and of those behind it are short
+pub record Room (path : List ℕ) (actions : List Action) (place : ℕ) (action : Action) : Type 0 where
+  pub name : length path + length (name_of (place + 1) (action_of action)) < 5000
+  pub body : length path + through (name_of (place + 1) (action_of action)) (body_reach (body_of (out-Action action).body)) ≤ 5000
+  pub rest : length path + actions_reach (place + 1 + 1) (in_turn (drop (place + 1) actions)) ≤ 5000
+
+pub room : (path : List ℕ) (actions : List Action) (place : ℕ) (action : Action)
+    → place < length actions → action ≡ get_or actions place action
+    → length path + actions_reach (place + 1) (in_turn (drop place actions)) ≤ 5000
+    → Room path actions place action
+room path actions place action within is short =
+    let name : List ℕ = name_of (place + 1) (action_of action) in
+    let body : ℕ = body_reach (body_of (out-Action action).body) in
+    let rest : Actions = in_turn (drop (place + 1) actions) in
+    let reach : actions_reach (place + 1) (in_turn (drop place actions))
+    ≡ max (1 + length name + body) (actions_reach (place + 1 + 1) rest) =
+    at_next actions_reach actions place action within is
+    ∙ ap (λ tree. max (1 + length name + action_reach tree) (actions_reach (suc (place + 1)) rest)) (action_is action)
+    ∙ ap (λ n. max (1 + length name + body) (actions_reach n rest)) (sym (add-one (place + 1))) in
+    record {
+      name = omega (arith, reach, short);
+      body = omega (arith, reach, short);
+      rest = omega (arith, reach, short);
+    }
+
+-- ---- nodes
+
+fewer_behind : (place : ℕ) (actions : List Action) → actions_nodes (in_turn (drop place actions)) ≤ actions_nodes (in_turn actions)
+fewer_behind zero [] = omega arith
+fewer_behind zero (first ∷ rest) = omega arith
+fewer_behind (suc place) [] = omega arith
+fewer_behind (suc place) (first ∷ rest) = omega (arith, fewer_behind place rest)
+
+-- an action has no more nodes than all
+pub fewer_left : (actions : List Action) (place : ℕ) (action : Action)
+    → place < length actions → action ≡ get_or actions place action
+    → body_nodes (body_of (out-Action action).body) ≤ actions_nodes (in_turn actions)
+fewer_left actions place action within is =
+    omega (arith, ap actions_nodes (left_at actions place action within is), ap action_nodes (action_is action), fewer_behind place actions)
+
+-- ---- what is seen of them
+
+abbrev pub inserted : Table → Table → Table
+inserted = fold (λ known child. insert_entry is_same known child.0 child.1)
+
+pub record SeenLeft (path : List ℕ) (actions : List Action) (place : ℕ) (entries : Table) (listed : List (List ℕ)) : Type 0 where
+  pub room : length path + actions_reach (place + 1) (in_turn (drop place actions)) ≤ 5000
+  pub by_name : inserted entries (actions_seen path (place + 1) (in_turn (drop place actions)))
+      ≡ table (actions_seen path 1 (in_turn actions))
+  pub paths : listed ++ paths_of (actions_seen path (place + 1) (in_turn (drop place actions)))
+      ≡ paths_of (actions_seen path 1 (in_turn actions))
+
+pub seen_more : (path : List ℕ) (actions : List Action) (place : ℕ) (action : Action) (entries more : Table)
+    (paths longer : List (List ℕ)) (name : List ℕ)
+    → place < length actions → action ≡ get_or actions place action
+    → name ≡ name_of (place + 1) (action_of action)
+    → more ≡ insert_entry is_same entries name (below path name)
+    → longer ≡ paths ++ (below path name ∷ [])
+    → SeenLeft path actions place entries paths
+    → SeenLeft path actions (place + 1) more longer
+seen_more path actions place action entries more paths longer name within is named more_is longer_is left =
+    let own : List ℕ = name_of (place + 1) (action_of action) in
+    let rest : Actions = in_turn (drop (place + 1) actions) in
+    let seen : actions_seen path (place + 1) (in_turn (drop place actions))
+    ≡ (own, below path own) ∷ actions_seen path (place + 1 + 1) rest =
+    at_next (actions_seen path) actions place action within is
+    ∙ ap (λ n. (own, below path own) ∷ actions_seen path n rest) (sym (add-one (place + 1))) in
+    record {
+      room = (room path actions place action within is left.room).rest;
+      by_name =
+          ap (λ known. inserted known (actions_seen path (place + 1 + 1) rest))
+          (more_is ∙ ap (λ n. insert_entry is_same entries n (below path n)) named)
+          ∙ ap (inserted entries) (sym seen)
+          ∙ left.by_name;
+      paths =
+          ap (λ known. known ++ paths_of (actions_seen path (place + 1 + 1) rest))
+          (longer_is ∙ ap (λ n. paths ++ (below path n ∷ [])) named)
+          ∙ append_assoc paths (below path own ∷ []) (paths_of (actions_seen path (place + 1 + 1) rest))
+          ∙ ap (λ table. paths ++ paths_of table) (sym seen)
+          ∙ left.paths;
+    }
+
+-- ---- their nodes
+
+-- nodes before others
+abbrev pub onto : List CoreNode → Tree → Tree
+onto [] rest = rest
+onto (node ∷ nodes) rest = fold-CoreNode (Tree → Tree) branch node (onto nodes rest)
+
+pub onto_none : (nodes : List CoreNode) → onto nodes NoNode ≡ trees_of nodes
+onto_none [] = refl
+onto_none (node ∷ nodes) = ap (fold-CoreNode (Tree → Tree) branch node) (onto_none nodes)
+
+pub onto_more : (nodes : List CoreNode) (node : CoreNode) (rest : Tree)
+    → onto (nodes ++ (node ∷ [])) rest ≡ onto nodes (fold-CoreNode (Tree → Tree) branch node rest)
+onto_more [] node rest = refl
+onto_more (first ∷ nodes) node rest = ap (fold-CoreNode (Tree → Tree) branch first) (onto_more nodes node rest)
+
+pub record NodesLeft (scope : Scope) (path : List ℕ) (form : BlockForm) (actions : List Action) (place : ℕ)
+    (behind : Option (List ℕ)) (made : List CoreNode) : Type 0 where
+  pub room : length path + actions_reach (place + 1) (in_turn (drop place actions)) ≤ 5000
+  pub nodes : onto made (actions_core scope path form behind (place + 1) (in_turn (drop place actions)))
+      ≡ actions_core scope path form None 1 (in_turn actions)
+
+pub nodes_none : (scope : Scope) (path : List ℕ) (form : BlockForm) (actions : List Action) (nodes : List CoreNode)
+    → nodes ≡ []
+    → length path + actions_reach 1 (in_turn actions) ≤ 5000
+    → NodesLeft scope path form actions 0 None nodes
+nodes_none scope path form actions nodes none room = record {
+  room = room;
+  nodes = ap (λ nodes. onto nodes (actions_core scope path form None 1 (in_turn actions))) none;
+}
+
+pub nodes_more : (scope : Scope) (path : List ℕ) (form : BlockForm) (actions : List Action) (place : ℕ) (action : Action)
+    (behind next : Option (List ℕ)) (nodes more : List CoreNode) (node : CoreNode) (at : Place)
+    → place < length actions → action ≡ get_or actions place action
+    → at ≡ child path (name_of (place + 1) (action_of action)) (follows form behind)
+    → tree_of_node node ≡ alone (body_core scope at (body_of (out-Action action).body))
+    → next ≡ Some at.path
+    → more ≡ nodes ++ (node ∷ [])
+    → NodesLeft scope path form actions place behind nodes
+    → NodesLeft scope path form actions (place + 1) next more
+nodes_more scope path form actions place action behind next nodes more node at within is at_is node_is next_is more_is left =
+    let own : List ℕ = name_of (place + 1) (action_of action) in
+    let here : Place = child path own (follows form behind) in
+    let rest : Actions = in_turn (drop (place + 1) actions) in
+    let others : Tree = actions_core scope path form (Some (below path own)) (place + 1 + 1) rest in
+    let known : tree_of_node node ≡ alone (action_core scope here (action_of action)) =
+    node_is ∙ ap (λ at. alone (body_core scope at (body_of (out-Action action).body))) at_is
+    ∙ ap (λ tree. alone (action_core scope here tree)) (sym (action_is action)) in
+    let split : actions_core scope path form behind (place + 1) (in_turn (drop place actions))
+    ≡ before (action_core scope here (action_of action)) others =
+    at_next (actions_core scope path form behind) actions place action within is
+    ∙ ap (λ n. before (action_core scope here (action_of action)) (actions_core scope path form (Some (below path own)) n rest))
+    (sym (add-one (place + 1))) in
+    record {
+      room = (room path actions place action within is left.room).rest;
+      nodes =
+          ap (λ known. onto more (actions_core scope path form known (place + 1 + 1) rest))
+          (next_is ∙ ap (λ (at : Place). Some at.path) at_is)
+          ∙ ap (λ nodes. onto nodes others) more_is
+          ∙ onto_more nodes node others
+          ∙ ap (onto nodes) (known_before node (action_core scope here (action_of action)) others known)
+          ∙ ap (onto nodes) (sym split)
+          ∙ left.nodes;
+    }
+
+-- no action is left
+pub nodes_done : (scope : Scope) (path : List ℕ) (form : BlockForm) (actions : List Action) (place : ℕ)
+    (behind : Option (List ℕ)) (nodes : List CoreNode)
+    → length actions ≤ place
+    → NodesLeft scope path form actions place behind nodes
+    → trees_of nodes ≡ actions_core scope path form None 1 (in_turn actions)
+nodes_done scope path form actions place behind nodes past left =
+    sym (onto_none nodes)
+    ∙ ap (λ left. onto nodes (actions_core scope path form behind (place + 1) (in_turn left))) (sym (drop_of_length-le actions past))
+    ∙ left.nodes

@@ -1,0 +1,36 @@
+-- What a tree without faults has none of.
+use Rattle.std.proofs.Common.{◌≡◌, ℕ, Bool, true, false, List, [], ◌∷◌, ◌++◌, cond, refl}
+use Rattle.std.specs.List.{fold}
+use Rattle.px_syntax.specs.declared.fault.FaultKind.{FaultKind}
+use Rattle.px_syntax.specs.Fault.{Fault, fault_where, is_before, placed, in_order}
+
+pub neither : {X : Type 0} (xs ys : List X) → xs ++ ys ≡ [] → (xs ≡ []) × (ys ≡ [])
+neither [] ys none = (refl, none)
+neither (x ∷ xs) ys none = cc
+
+pub where_none : (holds : Bool) (kind : FaultKind) (token : ℕ) → fault_where holds kind token ≡ [] → holds ≡ false
+where_none true kind token none = cc
+where_none false kind token none = refl
+
+-- ---- faults in their order
+
+one_of_three : (first second : Bool) (x y z : Fault) (xs ys zs : List Fault)
+    → cond first (x ∷ xs) (cond second (y ∷ ys) (z ∷ zs)) ≡ [] → ⊥
+one_of_three true second x y z xs ys zs none = cc
+one_of_three false true x y z xs ys zs none = cc
+one_of_three false false x y z xs ys zs none = cc
+
+placed_some : (known : List Fault) (fault : Fault) → placed known fault ≡ [] → ⊥
+placed_some [] fault none = cc
+placed_some (other ∷ others) fault none =
+    one_of_three (is_before fault other) (is_before other fault) fault other other (other ∷ others) (placed others fault) others
+    none
+
+order_some : (faults known : List Fault) → (known ≡ [] → ⊥) → fold placed known faults ≡ [] → ⊥
+order_some [] known some none = some none
+order_some (fault ∷ faults) known some none =
+    order_some faults (placed known fault) (placed_some known fault) none
+
+pub in_order_none : (faults : List Fault) → in_order faults ≡ [] → faults ≡ []
+in_order_none [] none = refl
+in_order_none (fault ∷ faults) none = absurd (order_some faults (placed [] fault) (placed_some [] fault) none)

@@ -1,0 +1,84 @@
+-- How far the paths of actions and of `else if`s reach, one after another.
+use Rattle.std.proofs.Common.{◌≡◌, ℕ, zero, suc, ◌+◌, ◌<◌, ◌≤◌, max, min, List, [], ◌∷◌, map, drop, length, get_or, Option, Some, None, Global, option_map, sym, ap, ◌∙◌, add-one, arith}
+use Rattle.std.proofs.lemmas.List.{drop_more}
+use Rattle.std.specs.declared.vec.Vec.{Vec}
+use Rattle.px_value.specs.Name.{generated_name}
+use Rattle.px_syntax.specs.declared.block.Action.{Action, out-Action, fold_out-Action}
+use Rattle.px_syntax.specs.declared.block.Body.TheFolds.{fold-roll-Body}
+use Rattle.px_syntax.specs.declared.block.Body.TheOpen.{Body-F}
+use Rattle.px_syntax.specs.declared.block.Body.TheVariants as bodies
+use Rattle.px_syntax.specs.declared.block.Branch.{Branch}
+use Rattle.px_syntax.specs.declared.block.Guarded.{Guarded}
+use Rattle.px_syntax.specs.Block as trees
+use Rattle.px_syntax.specs.Block.{BlockTree, ActionTree, BranchTree, GuardedTree, BodyTree, ElseIfs, NoElseIfs, ElseIf, actions_in_turn, else_ifs_in_turn, else_of, body_of, action_of, branch_of, guarded_of, body_step, action_step, block_step, branch_step, guarded_step}
+use Rattle.px_expand.specs.Core.{name_of}
+use Rattle.px_expand.specs.Names.{named}
+use Rattle.px_expand.specs.Size.{actions_nodes, action_nodes, body_nodes, guarded_nodes, else_if_nodes, through, actions_reach, action_reach, body_reach, else_if_reach}
+
+action_is : (action : Action) → action_of action ≡ trees.Labelled (out-Action action).label (body_of (out-Action action).body)
+action_is = fold_out-Action BodyTree ActionTree BlockTree BranchTree GuardedTree body_step action_step block_step branch_step guarded_step
+
+pub if_is : (first : Guarded) (others : Vec Guarded Global) (otherwise : Option Branch)
+    → body_of (bodies.If first others otherwise)
+    ≡ trees.If (guarded_of first) (else_ifs_in_turn (map guarded_of others.items)) (else_of (option_map branch_of otherwise))
+if_is first others None =
+    ap body_of (sym (bodies.rolls-If first others None))
+    ∙ fold-roll-Body BodyTree ActionTree BlockTree BranchTree GuardedTree body_step action_step block_step branch_step guarded_step
+    (Body-F.If first others None)
+if_is first others (Some branch) =
+    ap body_of (sym (bodies.rolls-If first others (Some branch)))
+    ∙ fold-roll-Body BodyTree ActionTree BlockTree BranchTree GuardedTree body_step action_step block_step branch_step guarded_step
+    (Body-F.If first others (Some branch))
+
+-- ---- one action more
+
+module _ (actions : List Action) (index : ℕ) (action : Action) (within : index < length actions)
+    (is : action ≡ get_or actions index action) where
+  cut : drop index actions ≡ action ∷ drop (index + 1) actions
+  cut = drop_more actions index action within ∙ ap (λ first. first ∷ drop (index + 1) actions) (sym is)
+
+  pub action_counted :
+      actions_nodes (actions_in_turn (map action_of (drop index actions)))
+      ≡ body_nodes (body_of (out-Action action).body)
+      + actions_nodes (actions_in_turn (map action_of (drop (index + 1) actions)))
+  action_counted =
+      ap (λ left. actions_nodes (actions_in_turn (map action_of left))) cut
+      ∙ ap (λ tree. action_nodes tree + actions_nodes (actions_in_turn (map action_of (drop (index + 1) actions))))
+      (action_is action)
+
+  pub action_reached : (place : ℕ)
+      → actions_reach (suc place) (actions_in_turn (map action_of (drop index actions)))
+      ≡ max
+      (through (named (out-Action action).label (generated_name (place + 1))) (body_reach (body_of (out-Action action).body)))
+      (actions_reach (suc (place + 1)) (actions_in_turn (map action_of (drop (index + 1) actions))))
+  action_reached place =
+      let rest = actions_in_turn (map action_of (drop (index + 1) actions)) in
+      ap (λ left. actions_reach (suc place) (actions_in_turn (map action_of left))) cut
+      ∙ ap (λ tree. max (through (name_of (suc place) tree) (action_reach tree)) (actions_reach (suc (suc place)) rest))
+      (action_is action)
+      ∙ ap
+      (λ number.
+      max (through (named (out-Action action).label (generated_name number)) (body_reach (body_of (out-Action action).body)))
+      (actions_reach (suc number) rest))
+      (sym (add-one place))
+
+-- ---- `else if`s
+
+pub one_of_else_ifs : (others : List Guarded) (place : ℕ) (guarded : Guarded) → place < length others
+    → guarded ≡ get_or others place guarded
+    → guarded_nodes (guarded_of guarded) ≤ else_if_nodes (else_ifs_in_turn (map guarded_of others))
+one_of_else_ifs [] place guarded within is = absurd (omega arith)
+one_of_else_ifs (first ∷ rest) zero guarded within is =
+    let same = ap (λ one. guarded_nodes (guarded_of one)) is in
+    omega (arith, same)
+one_of_else_ifs (first ∷ rest) (suc place) guarded within is =
+    let others = one_of_else_ifs rest place guarded (omega arith) is in
+    omega (arith, others)
+
+-- beyond the limit it is the same how far
+pub far_is_far : (last : ℕ) (others : ElseIfs)
+    → min (else_if_reach (min last 5001) others) 5001 ≡ min (else_if_reach last others) 5001
+far_is_far last NoElseIfs = omega arith
+far_is_far last (ElseIf guarded others) =
+    let more = far_is_far last others in
+    omega (arith, more)

@@ -1,0 +1,174 @@
+-- What is found in the table of the children of a node, and among the names of its variables.
+use Rattle.std.proofs.Common.{◌≡◌, ℕ, suc, Bool, true, false, cond, List, [], ◌∷◌, ◌++◌, map, Some, None, refl, sym, ap, ◌∙◌}
+use Rattle.std.specs.Prelude.{◌||◌}
+use Rattle.std.specs.List.{list_any, fold}
+use Rattle.std.specs.Map.{lookup}
+use Rattle.std.proofs.lemmas.List.Folds.{list_any-append}
+use Rattle.indexmap.specs.IndexMap.{insert_entry}
+use Rattle.indexmap.specs.IndexSet.{insert_key}
+use Rattle.px_value.specs.Path.{below}
+use Rattle.px_syntax.specs.Block.{Actions, NoActions, More}
+use Rattle.px_core.specs.Plan.{is_same}
+use Rattle.px_expand.specs.Core.{name_of, actions_seen, children_seen}
+use Rattle.px_expand.specs.Kinds.{Shape, Rest, OneAction, Children}
+use Rattle.px_expand.specs.Nodes.{seen}
+use Rattle.px_expand.specs.Scope.{table, each_once}
+use Rattle.px_expand.proofs.Apart.{same_is_equal}
+use Rattle.px_expand.proofs.Naming.{names_from}
+
+or_swap : (a b c : Bool) → ((a || b) || c) ≡ (a || (b || c))
+or_swap true b c = refl
+or_swap false b c = refl
+
+-- ---- children
+
+-- a name is put to others, where it isn't one of them
+abbrev put : List (List ℕ) → List ℕ → List (List ℕ)
+put [] name = name ∷ []
+put (first ∷ names) name = cond (is_same name first) (first ∷ names) (first ∷ put names name)
+
+entry_put : (parent : List ℕ) (known : List (List ℕ)) (name : List ℕ)
+    → insert_entry is_same (map (seen parent) known) name (below parent name) ≡ map (seen parent) (put known name)
+entry_put parent [] name = refl
+entry_put parent (first ∷ known) name =
+    of_test (is_same name first) (same_is_equal name first) (entry_put parent known name)
+  where
+    of_test : (test : Bool) → (test ≡ true → name ≡ first)
+        → insert_entry is_same (map (seen parent) known) name (below parent name) ≡ map (seen parent) (put known name)
+        → cond test ((first, below parent name) ∷ map (seen parent) known)
+        (seen parent first ∷ insert_entry is_same (map (seen parent) known) name (below parent name))
+        ≡ map (seen parent) (cond test (first ∷ known) (first ∷ put known name))
+    of_test true same more = ap (λ text. (first, below parent text) ∷ map (seen parent) known) (same refl)
+    of_test false same more = ap (λ rest. seen parent first ∷ rest) more
+
+put_among : (name : List ℕ) (known : List (List ℕ)) (added : List ℕ)
+    → list_any (is_same name) (put known added) ≡ (list_any (is_same name) known || is_same name added)
+put_among name [] added = or_none (is_same name added)
+  where
+    or_none : (test : Bool) → (test || false) ≡ (false || test)
+    or_none true = refl
+    or_none false = refl
+put_among name (first ∷ known) added =
+    of_test (is_same added first) (λ same. ap (is_same name) (same_is_equal added first same)) (put_among name known added)
+  where
+    twice : (a b : Bool) → (a || b) ≡ ((a || b) || a)
+    twice true b = refl
+    twice false true = refl
+    twice false false = refl
+
+    of_test : (test : Bool) → (test ≡ true → is_same name added ≡ is_same name first)
+        → list_any (is_same name) (put known added) ≡ (list_any (is_same name) known || is_same name added)
+        → list_any (is_same name) (cond test (first ∷ known) (first ∷ put known added))
+        ≡ ((is_same name first || list_any (is_same name) known) || is_same name added)
+    of_test true same more =
+        twice (is_same name first) (list_any (is_same name) known)
+        ∙ ap (λ test. (is_same name first || list_any (is_same name) known) || test) (sym (same refl))
+    of_test false same more =
+        ap (λ rest. is_same name first || rest) more
+        ∙ sym (or_swap (is_same name first) (list_any (is_same name) known) (is_same name added))
+
+all_put : (parent : List ℕ) (known names : List (List ℕ))
+    → fold (λ entries child. insert_entry is_same entries child.0 child.1) (map (seen parent) known) (map (seen parent) names)
+    ≡ map (seen parent) (fold put known names)
+all_put parent known [] = refl
+all_put parent known (name ∷ names) =
+    ap (λ entries. fold (λ entries child. insert_entry is_same entries child.0 child.1) entries (map (seen parent) names))
+    (entry_put parent known name)
+    ∙ all_put parent (put known name) names
+
+all_among : (name : List ℕ) (known names : List (List ℕ))
+    → list_any (is_same name) (fold put known names) ≡ (list_any (is_same name) known || list_any (is_same name) names)
+all_among name known [] = or_nothing (list_any (is_same name) known)
+  where
+    or_nothing : (test : Bool) → test ≡ (test || false)
+    or_nothing true = refl
+    or_nothing false = refl
+all_among name known (first ∷ names) =
+    all_among name (put known first) names
+    ∙ ap (λ test. test || list_any (is_same name) names) (put_among name known first)
+    ∙ or_swap (list_any (is_same name) known) (is_same name first) (list_any (is_same name) names)
+
+found_below : (parent name : List ℕ) (known : List (List ℕ))
+    → lookup (is_same name) (map (seen parent) known) ≡ cond (list_any (is_same name) known) (Some (below parent name)) None
+found_below parent name [] = refl
+found_below parent name (first ∷ known) =
+    of_test (is_same name first) (same_is_equal name first) (found_below parent name known)
+  where
+    of_test : (test : Bool) → (test ≡ true → name ≡ first)
+        → lookup (is_same name) (map (seen parent) known) ≡ cond (list_any (is_same name) known) (Some (below parent name)) None
+        → cond test (Some (below parent first)) (lookup (is_same name) (map (seen parent) known))
+        ≡ cond (test || list_any (is_same name) known) (Some (below parent name)) None
+    of_test true same more = ap (λ text. Some (below parent text)) (sym (same refl))
+    of_test false same more = more
+
+-- the child of a name is below its parent, if there is one
+pub child_found : (parent name : List ℕ) (names : List (List ℕ))
+    → lookup (is_same name) (table (map (seen parent) names))
+    ≡ cond (list_any (is_same name) names) (Some (below parent name)) None
+child_found parent name names =
+    ap (lookup (is_same name)) (all_put parent [] names)
+    ∙ found_below parent name (fold put [] names)
+    ∙ ap (λ test. cond test (Some (below parent name)) None) (all_among name [] names)
+
+pub actions_named_so : (path : List ℕ) (place : ℕ) (actions : Actions)
+    → actions_seen path place actions ≡ map (seen path) (names_from place actions)
+actions_named_so path place NoActions = refl
+actions_named_so path place (More first rest) =
+    ap (λ others. seen path (name_of place first) ∷ others) (actions_named_so path (suc place) rest)
+
+-- the names of the children that the text has of a block
+abbrev pub names_in : Shape → Actions → List (List ℕ)
+names_in Children all = names_from 1 all
+names_in _ all = []
+
+pub children_named_so : (shape : Shape) (path : List ℕ) (all : Actions)
+    → children_seen shape path all ≡ map (seen path) (names_in shape all)
+children_named_so Rest path all = refl
+children_named_so (OneAction body) path all = refl
+children_named_so Children path all = actions_named_so path 1 all
+
+-- ---- variables
+
+once_among : (name : List ℕ) (known names : List (List ℕ))
+    → list_any (is_same name) (fold (insert_key is_same) known names)
+    ≡ (list_any (is_same name) known || list_any (is_same name) names)
+once_among name known [] = or_nothing (list_any (is_same name) known)
+  where
+    or_nothing : (test : Bool) → test ≡ (test || false)
+    or_nothing true = refl
+    or_nothing false = refl
+once_among name known (first ∷ names) =
+    once_among name (insert_key is_same known first) names
+    ∙ ap (λ test. test || list_any (is_same name) names)
+    (of_test (list_any (is_same first) known) (λ is. already is))
+    ∙ or_swap (list_any (is_same name) known) (is_same name first) (list_any (is_same name) names)
+  where
+    absorbed : (a b : Bool) → (b ≡ true → a ≡ true) → a ≡ (a || b)
+    absorbed true b implied = refl
+    absorbed false true implied = implied refl
+    absorbed false false implied = refl
+
+    present : (others : List (List ℕ)) → list_any (is_same first) others ≡ true → is_same name first ≡ true
+        → list_any (is_same name) others ≡ true
+    present others is same = ap (λ text. list_any (is_same text) others) (same_is_equal name first same) ∙ is
+
+    already : list_any (is_same first) known ≡ true
+        → list_any (is_same name) known ≡ (list_any (is_same name) known || is_same name first)
+    already is = absorbed (list_any (is_same name) known) (is_same name first) (present known is)
+
+    pushed : list_any (is_same name) (known ++ first ∷ []) ≡ (list_any (is_same name) known || is_same name first)
+    pushed = list_any-append (is_same name) known (first ∷ []) ∙ ap (λ test. list_any (is_same name) known || test) (or_none (is_same name first))
+      where
+        or_none : (test : Bool) → (test || false) ≡ test
+        or_none true = refl
+        or_none false = refl
+
+    of_test : (test : Bool) → (test ≡ true → list_any (is_same name) known ≡ (list_any (is_same name) known || is_same name first))
+        → list_any (is_same name) (cond test known (known ++ first ∷ []))
+        ≡ (list_any (is_same name) known || is_same name first)
+    of_test true same = same refl
+    of_test false same = pushed
+
+pub variable_found : (name : List ℕ) (names : List (List ℕ))
+    → list_any (is_same name) (each_once names) ≡ list_any (is_same name) names
+variable_found name names = once_among name [] names

@@ -1,0 +1,74 @@
+-- Nodes that stand among those of a whole plan.
+use Rattle.std.proofs.Common.{◌≡◌, ℕ, Bool, true, false, List, [], ◌∷◌, ◌++◌, refl, sym, ap, ◌∙◌, subst}
+use Rattle.std.specs.Prelude.{◌&&◌, ◌||◌}
+use Rattle.std.specs.List.{list_any}
+use Rattle.std.proofs.lemmas.Bool.{and_from, and_parts, or_left, or_right, false≢true}
+use Rattle.std.proofs.lemmas.List.{append-nil}
+use Rattle.std.proofs.lemmas.List.Folds.{list_any-append}
+use Rattle.px_core.specs.Fit.{has_site}
+use Rattle.px_core.specs.Plan.{Head, Site, Tree, NoNode, Branch, is_same, path_under, site_under, sites_under}
+use Rattle.px_expand.proofs.Apart.{same_as_itself}
+
+-- what one of some nodes passes, one of the whole plan passes
+pub record IsWithin (part whole : List Site) : Type 0 where
+  pub any : (holds : Site → Bool) → list_any holds part ≡ true → list_any holds whole ≡ true
+
+pub within_itself : (whole : List Site) → IsWithin whole whole
+within_itself whole = record { any = λ holds passes. passes }
+
+pub front_within : (front back whole : List Site) → IsWithin (front ++ back) whole → IsWithin front whole
+front_within front back whole within = record {
+  any = λ holds passes. within.any holds (list_any-append holds front back ∙ or_left (list_any holds front) _ passes);
+}
+
+pub back_within : (front back whole : List Site) → IsWithin (front ++ back) whole → IsWithin back whole
+back_within front back whole within = record {
+  any = λ holds passes. within.any holds (list_any-append holds front back ∙ or_right (list_any holds front) _ passes);
+}
+
+rest_within : (first : Site) (rest whole : List Site) → IsWithin (first ∷ rest) whole → IsWithin rest whole
+rest_within first rest whole within = record { any = λ holds passes. within.any holds (or_right (holds first) _ passes) }
+
+-- ---- of a node, its children and what stands beside it
+
+module _ (above : List (List ℕ)) (head : Head) (children rest : Tree) (whole : List Site)
+    (within : IsWithin (sites_under above (Branch head children rest)) whole) where
+  pub own_within : (holds : Site → Bool) → holds (site_under above head) ≡ true
+      → has_site holds (path_under above head.name) whole ≡ true
+  own_within holds passes =
+      within.any (λ site. is_same site.path (path_under above head.name) && holds site)
+      (or_left _ _ (and_from _ _ (same_as_itself (path_under above head.name)) passes))
+
+  pub children_within : IsWithin (sites_under (path_under above head.name ∷ above) children) whole
+  children_within =
+      front_within _ (sites_under above rest) whole (rest_within (site_under above head) _ whole within)
+
+  pub others_within : IsWithin (sites_under above rest) whole
+  others_within =
+      back_within (sites_under (path_under above head.name ∷ above) children) _ whole
+      (rest_within (site_under above head) _ whole within)
+
+-- a node is within without what stands beside it
+pub alone_within : (above : List (List ℕ)) (head : Head) (children rest : Tree) (whole : List Site)
+    → IsWithin (sites_under above (Branch head children rest)) whole
+    → IsWithin (sites_under above (Branch head children NoNode)) whole
+alone_within above head children rest whole within =
+    let inside = sites_under (path_under above head.name ∷ above) children in
+    let split = front_within (site_under above head ∷ inside) (sites_under above rest) whole within in
+    subst (λ part. IsWithin part whole) (ap (λ part. site_under above head ∷ part) (sym (append-nil inside))) split
+
+or_weaker : (a b c d : Bool) → (a ≡ true → c ≡ true) → (b ≡ true → d ≡ true) → (a || b) ≡ true → (c || d) ≡ true
+or_weaker true b c d first second either = or_left c d (first refl)
+or_weaker false b c d first second either = or_right c d (second either)
+
+-- a node that passes a test passes a weaker one
+pub site_weaker : (strong weak : Site → Bool) → ((site : Site) → strong site ≡ true → weak site ≡ true)
+    → (path : List ℕ) (plan : List Site) → has_site strong path plan ≡ true → has_site weak path plan ≡ true
+site_weaker strong weak weaker path [] passes = absurd (false≢true passes)
+site_weaker strong weak weaker path (site ∷ plan) passes =
+    or_weaker (is_same site.path path && strong site) (has_site strong path plan)
+    (is_same site.path path && weak site) (has_site weak path plan)
+    (λ own.
+    let parts = and_parts (is_same site.path path) (strong site) own in
+    and_from _ _ parts.0 (weaker site parts.1))
+    (site_weaker strong weak weaker path plan) passes

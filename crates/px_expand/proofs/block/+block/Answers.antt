@@ -1,0 +1,349 @@
+use Rattle.std.proofs.Common.{◌≡◌, ◌+◌, ◌≤◌, ℕ, ℤ, List, ◌∷◌, length, map, drop, option_map, refl, ap, sym, ◌∙◌, arith, rules, None, Some, Result, Ok, Err, subst, true, length-append}
+use Rattle.std.specs.Result.{IfOk, OnOk}
+use Rattle.std.proofs.lemmas.Int.{to_z-of_z}
+use mir.Syntax.{w32}
+use mir.Val.{SFits, of_z, to_z}
+use Rattle.std.proofs.lemmas.Result.{IfOk-weaker, on_ok_weaker}
+use Rattle.px_syntax.specs.declared.block.Action.{out-Action}
+use Rattle.px_syntax.specs.declared.block.Block.{out-Block}
+use Rattle.px_syntax.specs.declared.block.Guarded.{out-Guarded}
+use Rattle.px_syntax.specs.Block as text
+use Rattle.px_syntax.specs.Block.{action_of, block_of, body_of, branch_of, else_ifs_in_turn, else_of, guarded_of, item_data}
+use Rattle.px_syntax.specs.Expr.{term_of as text_of}
+use Rattle.px_core.specs.Expr.{term_of}
+use Rattle.px_core.specs.Plan.{tree_of_node}
+use Rattle.px_expand.specs.Chain.{all_closed, branch_in}
+use Rattle.px_expand.specs.Core.{actions_core, actions_in, body_core, branch_core, branch_name, follows, form_of, name_of}
+use Rattle.px_expand.specs.Forms.{counted, loop_path, where_found, where_not_found}
+use Rattle.px_expand.specs.Kinds.{Children, shape_of}
+use Rattle.px_expand.specs.Names.{body_name, else_name, loop_name, then_name}
+use Rattle.px_expand.specs.Nodes.{Place, alone, child}
+use Rattle.px_expand.specs.Placed.{node_of, place_terms, trees_of}
+use Rattle.px_expand.specs.Size.{actions_nodes, actions_reach, block_nodes, block_reach, body_nodes, body_reach}
+use Rattle.px_expand.proofs.Actions.{fewer_left, in_turn, nodes_done, nodes_more, nodes_none, room}
+use Rattle.px_expand.proofs.Blocks.{block_inside, block_made, child_room, list_count, list_reach}
+use Rattle.px_expand.proofs.Bodies as trees
+use Rattle.px_expand.proofs.Chains.{chain_more, chain_opened, count_else, else_room, guarded_made, is_opened, room_before, room_for_set}
+use Rattle.px_expand.proofs.Loops.{branch_count, branch_made, branch_room, for_made, guarded_branch, guarded_count, guarded_room, while_made}
+use Rattle.px_expand.proofs.block.+block.Goals as goal
+
+holds : {T E P : Type 0} (r : Result T E) → P → OnOk r P
+holds (Ok value) is = is
+holds (Err error) is = tt
+
+pub actions-action_place-requires : goal.actions-action_place-requires
+actions-action_place-requires t c =
+    (room c.args.path.now c.args.actions.now c.loop-number.number c.index-actions-number.result c.loop-number-test.true
+    c.index-actions-number.is c.loop-number.invariant.left.room).name
+
+pub actions-loop-number-preserved : goal.actions-loop-number-preserved
+actions-loop-number-preserved t c =
+    let path = c.args.path.now in
+    let form = c.args.form in
+    let n = c.loop-number.number in
+    let action = c.index-actions-number.result in
+    let place = c.in_ok-place.place in
+    record {
+      scope = c.in_ok-body.ensures.scope ∙ c.loop-number.invariant.scope;
+      left =
+          nodes_more c.args.scope.now path form c.args.actions.now n action c.loop-number.behind _ c.loop-number.nodes.items _
+          c.in_ok-body.field-0 (place_terms place) c.loop-number-test.true c.index-actions-number.is
+          (c.in_ok-place.ensures ∙ ap (λ behind. child path (name_of (n + 1) (action_of action)) (follows form behind)) c.as_ref.ensures.value)
+          (c.in_ok-body.ensures.node
+          ∙ ap (λ scope. alone (body_core scope (place_terms place) (body_of (out-Action action).body))) c.loop-number.invariant.scope)
+          (ap Some c.in_ok-copy.ensures) c.in_ok-push.ensures.items c.loop-number.invariant.left;
+    }
+
+pub actions-returns-clause-nodes : goal.actions-returns-clause-nodes
+actions-returns-clause-nodes t c =
+    nodes_done c.args.scope.now c.args.path.now c.args.form c.args.actions.now c.loop-number.number c.loop-number.behind
+    c.loop-number.nodes.items c.loop-number-test.false c.loop-number.invariant.left
+
+pub actions-loop-number-init : goal.actions-loop-number-init
+actions-loop-number-init t c = record {
+  scope = refl;
+  left =
+      nodes_none c.args.scope.now c.args.path.now c.args.form c.args.actions.now c.new-nodes.result.items c.new-nodes.ensures.items
+      c.requires;
+}
+
+pub actions-body-requires : goal.actions-body-requires
+actions-body-requires t c =
+    let action = c.index-actions-number.result in (
+      omega (arith, c.decreases, fewer_left c.args.actions.now c.loop-number.number action c.loop-number-test.true c.index-actions-number.is),
+      child_room (place_terms c.in_ok-place.place) c.args.path.now (name_of (c.loop-number.number + 1) (action_of action)) _
+          (body_reach (body_of (out-Action action).body)) c.in_ok-place.ensures
+          (room c.args.path.now c.args.actions.now c.loop-number.number action c.loop-number-test.true c.index-actions-number.is
+          c.loop-number.invariant.left.room).body,
+    )
+
+pub nodes_in-actions-requires : goal.nodes_in-actions-requires
+nodes_in-actions-requires t c =
+    let block = c.args.block.now in
+    let reach : block_reach (block_of block) ≡ actions_reach 1 (in_turn c.deref.result.now) =
+    list_reach (block_of block) c.in-Children.ensures ∙ ap (λ tree. actions_reach 1 (actions_in tree)) (trees.block_is block)
+    ∙ ap (λ actions. actions_reach 1 (in_turn actions)) (sym c.deref.ensures.value) in
+    let count : block_nodes (block_of block) ≡ 1 + actions_nodes (in_turn c.deref.result.now) =
+    list_count (block_of block) c.in-Children.ensures ∙ ap (λ tree. 1 + actions_nodes (actions_in tree)) (trees.block_is block)
+    ∙ ap (λ actions. 1 + actions_nodes (in_turn actions)) (sym c.deref.ensures.value) in
+    (omega (arith, c.decreases, count), subst (λ n. length c.args.path.now + n ≤ 5000) reach c.requires)
+
+pub nodes_in-returns-in-Children-clause-nodes : goal.nodes_in-returns-in-Children-clause-nodes
+nodes_in-returns-in-Children-clause-nodes t c =
+    let block = c.args.block.now in
+    let scope = c.args.scope.now in
+    let path = c.args.path.now in
+    let is : text.Braces (out-Block block).form (map item_data (out-Block block).items.items) (in_turn c.deref.result.now) ≡ block_of block =
+    ap (λ actions. text.Braces (out-Block block).form (map item_data (out-Block block).items.items) (in_turn actions)) c.deref.ensures.value
+    ∙ sym (trees.block_is block) in
+    IfOk-weaker c.actions.result
+    (λ nodes. trees_of nodes.items ≡ actions_core scope path (out-Block block).form None 1 (in_turn c.deref.result.now))
+    (λ nodes. Children ≡ shape_of (block_of block)
+    → trees_of nodes.items ≡ actions_core scope path (form_of (block_of block)) None 1 (actions_in (block_of block)))
+    (λ nodes same list. same ∙ ap (λ tree. actions_core scope path (form_of tree) None 1 (actions_in tree)) is)
+    c.actions.ensures.nodes
+
+pub block-nodes_in-requires : goal.block-nodes_in-requires
+block-nodes_in-requires t c = (omega (arith, c.decreases), c.requires)
+
+pub block-shaped-requires-clause-scope : goal.block-shaped-requires-clause-scope
+block-shaped-requires-clause-scope t c =
+    (block_inside c.args.scope.now c.nodes_in.new.scope (place_terms c.args.place) (block_of c.args.block.now)
+    (c.in_ok-nodes.ensures.scope ∙ c.in_ok-inside.ensures.scope)).0
+
+pub block-returns-clause-scope : goal.block-returns-clause-scope
+block-returns-clause-scope t c =
+    c.leave.ensures
+    ∙ (block_inside c.args.scope.now c.nodes_in.new.scope (place_terms c.args.place) (block_of c.args.block.now)
+    (c.in_ok-nodes.ensures.scope ∙ c.in_ok-inside.ensures.scope)).1
+
+pub block-returns-clause-node : goal.block-returns-clause-node
+block-returns-clause-node t c =
+    let tree = block_of c.args.block.now in
+    let path = c.args.place.path in
+    c.in_ok-node.ensures
+    ∙ ap alone (block_made c.args.scope.now c.nodes_in.new.scope (place_terms c.args.place) tree c.in_ok-inside.inside.paths.items
+    (trees_of c.in_ok-nodes.nodes.items) (c.in_ok-nodes.ensures.scope ∙ c.in_ok-inside.ensures.scope) c.in_ok-inside.ensures.paths
+    (λ list. c.in_ok-nodes.ensures.nodes list
+    ∙ ap (λ scope. actions_core scope path (form_of tree) None 1 (actions_in tree)) (sym c.in_ok-nodes.ensures.scope)))
+
+pub body-block-requires : goal.body-block-requires
+body-block-requires t c =
+    let tree : body_of c.args.body.now ≡ text.Inner (block_of c.in-Block.inner) = ap body_of c.in-Block.is ∙ trees.inner c.in-Block.inner in
+    (omega (arith, c.decreases, ap body_nodes tree), subst (λ tree. length c.args.place.path + body_reach tree ≤ 5000) tree c.requires)
+
+pub body-returns-in-Block-clause-node : goal.body-returns-in-Block-clause-node
+body-returns-in-Block-clause-node t c =
+    let tree : body_of c.args.body.now ≡ text.Inner (block_of c.in-Block.inner) = ap body_of c.in-Block.is ∙ trees.inner c.in-Block.inner in
+    subst (λ tree. IfOk c.block.result (λ node. tree_of_node node ≡ alone (body_core c.args.scope.now (place_terms c.args.place) tree)))
+    (sym tree) c.block.ensures.node
+
+pub body-while_loop-requires : goal.body-while_loop-requires
+body-while_loop-requires t c =
+    let tree : body_of c.args.body.now ≡ text.While (guarded_of c.in-While.guarded) =
+    ap body_of c.in-While.is ∙ trees.while_loop c.in-While.guarded in
+    (omega (arith, c.decreases, ap body_nodes tree), subst (λ tree. length c.args.place.path + body_reach tree ≤ 5000) tree c.requires)
+
+pub body-returns-in-While-clause-node : goal.body-returns-in-While-clause-node
+body-returns-in-While-clause-node t c =
+    let tree : body_of c.args.body.now ≡ text.While (guarded_of c.in-While.guarded) =
+    ap body_of c.in-While.is ∙ trees.while_loop c.in-While.guarded in
+    subst (λ tree. IfOk c.while_loop.result (λ node. tree_of_node node ≡ alone (body_core c.args.scope.now (place_terms c.args.place) tree)))
+    (sym tree) c.while_loop.ensures.node
+
+pub body-for_loop-requires : goal.body-for_loop-requires
+body-for_loop-requires t c =
+    let own = c.in-For in
+    let tree = ap body_of own.is ∙ trees.for_loop own.variable own.first own.test own.step own.branch in
+    (omega (arith, c.decreases, ap body_nodes tree), subst (λ tree. length c.args.place.path + body_reach tree ≤ 5000) tree c.requires)
+
+pub body-returns-in-For-clause-node : goal.body-returns-in-For-clause-node
+body-returns-in-For-clause-node t c =
+    let own = c.in-For in
+    let fits : SFits w32 own.first = search rules in
+    let tree = ap body_of own.is ∙ trees.for_loop own.variable own.first own.test own.step own.branch in
+    let same = ap (λ (first : ℤ). text.For own.variable first (text_of own.test) (text_of own.step) (branch_of own.branch))
+    (to_z-of_z w32 own.first fits) in
+    subst (λ tree. IfOk c.for_loop.result (λ node. tree_of_node node ≡ alone (body_core c.args.scope.now (place_terms c.args.place) tree)))
+    (same ∙ sym tree) c.for_loop.ensures.node
+
+pub body-chain-requires : goal.body-chain-requires
+body-chain-requires t c =
+    let own = c.in-If in
+    let tree : body_of c.args.body.now
+    ≡ text.If (guarded_of own.first) (else_ifs_in_turn (map guarded_of c.deref.result.now)) (else_of (option_map branch_of own.otherwise)) =
+    ap body_of own.is ∙ trees.if_chain own.first own.others own.otherwise
+    ∙ ap (λ others. text.If (guarded_of own.first) (else_ifs_in_turn (map guarded_of others)) (else_of (option_map branch_of own.otherwise)))
+    (sym c.deref.ensures.value) in
+    (omega (arith, c.decreases, ap body_nodes tree), subst (λ tree. length c.args.place.path + body_reach tree ≤ 5000) tree c.requires)
+
+pub body-returns-in-If-clause-node : goal.body-returns-in-If-clause-node
+body-returns-in-If-clause-node t c =
+    let own = c.in-If in
+    let tree : body_of c.args.body.now
+    ≡ text.If (guarded_of own.first) (else_ifs_in_turn (map guarded_of c.deref.result.now)) (else_of (option_map branch_of own.otherwise)) =
+    ap body_of own.is ∙ trees.if_chain own.first own.others own.otherwise
+    ∙ ap (λ others. text.If (guarded_of own.first) (else_ifs_in_turn (map guarded_of others)) (else_of (option_map branch_of own.otherwise)))
+    (sym c.deref.ensures.value) in
+    subst (λ tree. IfOk c.chain.result (λ node. tree_of_node node ≡ alone (body_core c.args.scope.now (place_terms c.args.place) tree)))
+    (sym tree) c.chain.ensures.node
+
+pub while_loop-block-requires : goal.while_loop-block-requires
+while_loop-block-requires t c = (
+  omega (arith, c.decreases, guarded_count c.args.guarded.now),
+  guarded_room (place_terms c.in_ok-test.field-0.branch) c.args.place.path body_name (where_found c.args.place.path) c.args.guarded.now
+      c.in_ok-test.ensures.branch c.requires,
+)
+
+pub while_loop-repeated_alone-requires : goal.while_loop-repeated_alone-requires
+while_loop-repeated_alone-requires t c =
+    omega (arith, c.requires, room_for_set body_name (guarded_of c.args.guarded.now))
+
+pub while_loop-returns-clause-scope : goal.while_loop-returns-clause-scope
+while_loop-returns-clause-scope t c =
+    holds c.repeated_alone.result (c.leave.ensures ∙ ap (drop 1) (c.in_ok-node.ensures.scope ∙ c.in_ok-test.ensures.scope))
+
+pub while_loop-returns-clause-node : goal.while_loop-returns-clause-node
+while_loop-returns-clause-node t c =
+    let place = place_terms c.args.place in
+    let guarded = c.args.guarded.now in
+    let made = c.in_ok-test.field-0 in
+    let inner = c.into_while.new.scope in
+    let own = child place.path (branch_name body_name (branch_in (guarded_of guarded))) (where_found place.path) in
+    let branch : tree_of_node c.in_ok-node.node ≡ alone (branch_core inner own (branch_in (guarded_of guarded))) =
+    branch_made inner (place_terms made.branch) own (out-Guarded guarded).branch (tree_of_node c.in_ok-node.node)
+    c.in_ok-node.ensures.node c.in_ok-test.ensures.branch
+    ∙ ap (λ branch. alone (branch_core inner own branch)) (guarded_branch guarded) in
+    subst (λ tree. IfOk c.repeated_alone.result (λ node. tree_of_node node ≡ tree))
+    (while_made c.args.scope.now inner place (guarded_of guarded) (term_of made.test) made.paths.items (tree_of_node c.in_ok-node.node)
+    c.in_ok-test.ensures.scope c.in_ok-test.ensures.test c.in_ok-test.ensures.paths branch)
+    c.repeated_alone.ensures
+
+pub for_loop-into_for-requires : goal.for_loop-into_for-requires
+for_loop-into_for-requires t c = omega (arith, c.requires)
+
+pub for_loop-block-requires : goal.for_loop-block-requires
+for_loop-block-requires t c =
+    let path = c.args.place.path in
+    let branch = c.args.branch.now in
+    let far : length (loop_path path) ≡ length path + 6 = length-append path (46 ∷ loop_name) in (
+      omega (arith, c.decreases, branch_count branch),
+      branch_room (place_terms c.in_ok-entered.own) (loop_path path) body_name (where_found (loop_path path)) branch
+          c.in_ok-entered.ensures.branch (omega (arith, c.requires, far)),
+    )
+
+pub for_loop-close-requires-clause-room : goal.for_loop-close-requires-clause-room
+for_loop-close-requires-clause-room t c = omega (arith, c.requires)
+
+pub for_loop-returns-clause-scope : goal.for_loop-returns-clause-scope
+for_loop-returns-clause-scope t c =
+    holds c.close.result (c.leave.ensures ∙ ap (drop 1) (c.in_ok-node.ensures.scope ∙ c.in_ok-entered.ensures.scope))
+
+pub for_loop-returns-clause-node : goal.for_loop-returns-clause-node
+for_loop-returns-clause-node t c =
+    let place = place_terms c.args.place in
+    let branch = c.args.branch.now in
+    let made = c.in_ok-entered.entered in
+    let inner = c.into_for.new.scope in
+    let path = loop_path place.path in
+    let own = child path (branch_name body_name (branch_of branch)) (where_found path) in
+    let fits : SFits w32 c.args.first = c.ranges.first in
+    let same = ap (λ (first : ℤ). alone (counted place c.args.variable.now.name first (term_of made.turn.test) (term_of made.turn.next)
+    made.body (node_of c.in_ok-node.node))) (to_z-of_z w32 c.args.first fits) in
+    subst (λ tree. IfOk c.close.result (λ node. tree_of_node node ≡ tree))
+    (same
+    ∙ for_made c.args.scope.now inner place c.args.variable.now c.args.first (text_of c.args.test.now) (text_of c.args.step.now)
+    (branch_of branch) (term_of made.turn.test) (term_of made.turn.next) made.body c.in_ok-node.node
+    c.in_ok-entered.ensures.scope c.in_ok-entered.ensures.test c.in_ok-entered.ensures.next c.in_ok-entered.ensures.body
+    (branch_made inner (place_terms c.in_ok-entered.own) own branch (tree_of_node c.in_ok-node.node) c.in_ok-node.ensures.node
+    c.in_ok-entered.ensures.branch))
+    c.close.ensures
+
+pub opened-block-requires : goal.opened-block-requires
+opened-block-requires t c = (
+  omega (arith, c.decreases, guarded_count c.args.guarded.now),
+  guarded_room (place_terms c.in_ok-test.field-0.branch) c.args.place.path then_name (where_found c.args.place.path) c.args.guarded.now
+      c.in_ok-test.ensures.branch c.requires.branch,
+)
+
+pub opened-invariant_of-result : goal.opened-invariant_of-result
+opened-invariant_of-result t c =
+    record { short = omega (arith, c.requires.branch, room_for_set then_name (guarded_of c.args.guarded.now)) }
+
+pub opened-returns-clause-closed : goal.opened-returns-clause-closed
+opened-returns-clause-closed t c =
+    is_opened c.args.scope.now c.into_if.new.scope (place_terms c.args.place) (guarded_of c.args.guarded.now) c.args.behind
+    _ _ _ c.in_ok-test.ensures.scope c.in_ok-test.ensures.test c.in_ok-test.ensures.paths
+    (guarded_made c.args.guarded.now c.into_if.new.scope _ _ _ c.in_ok-branch.ensures.node c.in_ok-test.ensures.branch)
+
+pub chain-opened-requires : goal.chain-opened-requires
+chain-opened-requires t c = (
+  omega (arith, c.decreases, c.loop-other.invariant.fewer),
+  (
+    omega (arith, c.loop-other.invariant.room),
+    omega (
+      arith,
+      ap length c.in_ok-behind.ensures,
+      room_before _ c.args.others.now _ _ _ c.loop-other.other-index
+          c.other-item.result c.loop-other-test.true c.other-item.is _ _ _ _ c.loop-other.invariant,
+    ),
+  ),
+)
+
+pub chain-else_place-requires : goal.chain-else_place-requires
+chain-else_place-requires t c =
+    omega (
+      arith,
+      ap (λ (at : Place). length at.path) c.in_ok-opened.ensures.place,
+      room_before _ c.args.others.now _ _ _
+          c.loop-other.other-index c.other-item.result c.loop-other-test.true c.other-item.is _ _ _ _ c.loop-other.invariant,
+    )
+
+pub chain-loop-other-preserved : goal.chain-loop-other-preserved
+chain-loop-other-preserved t c =
+    chain_more _ c.args.others.now _ _ _ c.loop-other.other-index c.other-item.result c.loop-other-test.true c.other-item.is
+    _ _ _ _ c.loop-other.invariant c.opened.new.scope c.in_ok-behind.behind c.in_ok-opened.opened (place_terms c.in_ok-place.place)
+    c.push.new.self.items c.in_ok-behind.ensures c.in_ok-opened.ensures.scope c.in_ok-opened.ensures.closed
+    (c.in_ok-place.ensures ∙ ap (λ (at : Place). child at.path else_name (where_not_found at.path)) c.in_ok-opened.ensures.place)
+    c.in_ok-push.ensures.items
+
+pub chain-last-requires : goal.chain-last-requires
+chain-last-requires t c = (
+  omega (arith, c.decreases, c.loop-other.invariant.fewer),
+  (chain_opened _ c.args.others.now _ _ _ c.loop-other.other-index _ _ _ _ c.loop-other-test.false c.loop-other.invariant).0,
+)
+
+pub chain-returns-clause-scope : goal.chain-returns-clause-scope
+chain-returns-clause-scope t c =
+    on_ok_weaker c.close_all.result (λ left. left ∙ ap (drop (length c.loop-other.outer.items)) c.in_ok-node.ensures.scope
+    ∙ c.loop-other.invariant.scope) c.close_all.ensures.scope
+
+pub chain-returns-clause-node : goal.chain-returns-clause-node
+chain-returns-clause-node t c =
+    IfOk-weaker c.close_all.result _ _ (λ made is. is ∙ ap (all_closed c.loop-other.outer.items) c.in_ok-node.ensures.node
+    ∙ (chain_opened _ c.args.others.now _ _ _ c.loop-other.other-index _ _ _ _ c.loop-other-test.false c.loop-other.invariant).1)
+    c.close_all.ensures.node
+
+pub last-opened-requires : goal.last-opened-requires
+last-opened-requires t c = (omega (arith, c.decreases), (omega (arith, c.requires), tt))
+
+pub last-opened-requires-2 : goal.last-opened-requires-2
+last-opened-requires-2 t c =
+    let room = else_room c.args.place.path (guarded_of c.args.guarded.now) c.args.otherwise.now c.in-Some.branch c.in-Some.is c.requires in (
+      omega (arith, c.decreases),
+      (room.before, omega (arith, room.name, ap length c.in_ok-name.ensures)),
+    )
+
+pub last-last_place-requires-clause-name : goal.last-last_place-requires-clause-name
+last-last_place-requires-clause-name t c =
+    let room = else_room c.args.place.path (guarded_of c.args.guarded.now) c.args.otherwise.now c.in-Some.branch c.in-Some.is c.requires in
+    omega (arith, room.own, ap (λ (at : Place). length at.path) c.in_ok-opened-2.ensures.place)
+
+pub last-block-requires : goal.last-block-requires
+last-block-requires t c =
+    let room = else_room c.args.place.path (guarded_of c.args.guarded.now) c.args.otherwise.now c.in-Some.branch c.in-Some.is c.requires in (
+      omega (arith, c.decreases, ap count_else c.in-Some.is, branch_count c.in-Some.branch),
+      branch_room (place_terms c.in_ok-own.own) c.in_ok-opened-2.opened.place.path else_name
+          (where_not_found c.in_ok-opened-2.opened.place.path) c.in-Some.branch c.in_ok-own.ensures
+          (omega (arith, room.reach, ap (λ (at : Place). length at.path) c.in_ok-opened-2.ensures.place)),
+    )

@@ -1,0 +1,218 @@
+// Going into nodes that have branches: what is made on the way to a branch.
+ghost use Rattle.std.specs.Prelude.{◌≡◌, ◌+◌, ◌<◌, ◌≤◌, max, length, IfOk, IfSome, OnOk};
+ghost use Rattle.px_value.specs.Path.{below};
+ghost use Rattle.px_core.specs.Expr.{term_of};
+ghost use Rattle.px_core.specs.Plan.{NoNode, tree_of_node};
+ghost use Rattle.px_syntax.specs.Block.{branch_of, guarded_of};
+ghost use Rattle.px_syntax.specs.Expr.{term_of as text_of};
+ghost use Rattle.px_expand.specs.Adding.{nothing};
+ghost use Rattle.px_expand.specs.Chain.{branch_in, open_scope, stands, test_in};
+ghost use Rattle.px_expand.specs.Core.{branch_name, for_scope, if_seen, loop_seen, while_scope};
+ghost use Rattle.px_expand.specs.Forms.{counted, loop_path, where_found};
+ghost use Rattle.px_expand.specs.Names.{body_name, generated, loop_name, then_name};
+ghost use Rattle.px_expand.specs.Nodes.{alone, child, paths_of};
+ghost use Rattle.px_expand.specs.Placed.{node_of, place_terms};
+ghost use Rattle.px_expand.specs.Resolving.{resolved};
+ghost use Rattle.px_expand.specs.Size.{branch_reach, guarded_reach, through};
+
+use crate::conditions::Added;
+use crate::entering::{enter_if, enter_loop};
+use crate::forms::{Turn, counted, where_found};
+use crate::names::{Generated, named};
+use crate::place::Place;
+use crate::resolve::resolved;
+use crate::scope::Scope;
+use px_core::{CoreNode, Expr};
+use px_syntax::{Branch, Guarded, Identifier, SurfaceExpr};
+use px_value::{Name, NoMemory, PATH_LIMIT, Path};
+use std::alloc::Global;
+
+/// What is made on the way to a guarded branch: the test, the paths of the children, and where the branch stands.
+#[derive(Drop)]
+pub(crate) struct Entered {
+    pub(crate) test: Expr,
+    pub(crate) paths: Vec<Path>,
+    pub(crate) branch: Place,
+}
+
+/// Goes into an `if`; `behind` is the name of what stands behind its branch.
+pub(crate) fn into_if(
+    alloc: Global,
+    scope: &mut Scope,
+    place: &Place,
+    guarded: &Guarded,
+    behind: Option<Name>,
+) -> Result<Entered, NoMemory>
+    requires branch { length place.now.path + guarded_reach then_name (guarded_of guarded.now) ≤ PATH_LIMIT }
+    requires behind { IfSome behind (λ name. length place.now.path + length name < PATH_LIMIT) }
+    ensures scope { OnOk result (scope.new
+        ≡ open_scope scope.old (place_terms place.now) (guarded_of guarded.now) behind) }
+    ensures test { IfOk result (λ made. term_of made.test ≡ resolved
+        (open_scope scope.old (place_terms place.now) (guarded_of guarded.now) behind) (test_in (guarded_of guarded.now))) }
+    ensures paths { IfOk result (λ made. made.paths.items
+        ≡ paths_of (if_seen place.now.path (branch_in (guarded_of guarded.now)) (stands behind NoNode))) }
+    ensures branch { IfOk result (λ made. place_terms made.branch ≡ child place.now.path
+        (branch_name then_name (branch_in (guarded_of guarded.now))) (where_found place.now.path)) }
+{
+    let paths = enter_if(alloc, scope, place, &guarded.branch, behind)?;
+    let test = resolved(alloc, scope, &guarded.test)?;
+    let branch = branch_place(alloc, &place.path, Generated::Then, &guarded.branch)?;
+    Ok(Entered {
+        test,
+        paths,
+        branch,
+    })
+}
+
+/// Goes into a `while`.
+pub(crate) fn into_while(
+    alloc: Global,
+    scope: &mut Scope,
+    place: &Place,
+    guarded: &Guarded,
+) -> Result<Entered, NoMemory>
+    requires { length place.now.path + guarded_reach body_name (guarded_of guarded.now) ≤ PATH_LIMIT }
+    ensures scope { OnOk result (scope.new
+        ≡ while_scope scope.old (place_terms place.now) (branch_in (guarded_of guarded.now))) }
+    ensures test { IfOk result (λ made. term_of made.test ≡ resolved
+        (while_scope scope.old (place_terms place.now) (branch_in (guarded_of guarded.now)))
+        (test_in (guarded_of guarded.now))) }
+    ensures paths { IfOk result (λ made. made.paths.items
+        ≡ paths_of (loop_seen place.now.path (branch_in (guarded_of guarded.now)))) }
+    ensures branch { IfOk result (λ made. place_terms made.branch ≡ child place.now.path
+        (branch_name body_name (branch_in (guarded_of guarded.now))) (where_found place.now.path)) }
+{
+    let paths = enter_loop(alloc, scope, place, &place.path, &guarded.branch, None)?;
+    let test = resolved(alloc, scope, &guarded.test)?;
+    let branch = branch_place(alloc, &place.path, Generated::Body, &guarded.branch)?;
+    Ok(Entered {
+        test,
+        paths,
+        branch,
+    })
+}
+
+/// What is made on the way to the branch of a `for`: where its loop stands, its test and step, and the branch's path.
+#[derive(Drop)]
+pub(crate) struct EnteredFor {
+    pub(crate) inner: Place,
+    pub(crate) turn: Turn,
+    pub(crate) body: Path,
+}
+
+impl EnteredFor {
+    /// The `for` in its place, with its branch.
+    pub(crate) fn close(
+        self,
+        alloc: Global,
+        place: Place,
+        variable: &Name,
+        first: i32,
+        branch: CoreNode,
+    ) -> Result<CoreNode, NoMemory>
+        requires room { length place.path + 12 ≤ PATH_LIMIT }
+        requires inner { place_terms self.inner ≡ child place.path loop_name nothing }
+        ensures { IfOk result (λ node. tree_of_node node ≡ alone (counted (place_terms place) variable.now first
+            (term_of self.turn.test) (term_of self.turn.next) self.body (node_of branch))) }
+    {
+        let EnteredFor { inner, turn, body } = self;
+        counted(alloc, place, inner, variable, first, turn, body, branch)
+    }
+}
+
+/// Goes into a `for`. Gives where its branch stands, too.
+pub(crate) fn into_for(
+    alloc: Global,
+    scope: &mut Scope,
+    place: &Place,
+    variable: &Identifier,
+    test: &SurfaceExpr,
+    step: &SurfaceExpr,
+    branch: &Branch,
+) -> Result<(EnteredFor, Place), NoMemory>
+    requires { length place.now.path + through loop_name (max 6 (branch_reach body_name (branch_of branch.now))) ≤ PATH_LIMIT }
+    ensures scope { OnOk result (scope.new
+        ≡ for_scope scope.old (place_terms place.now) variable.now.name (branch_of branch.now)) }
+    ensures inner { IfOk result (λ made. place_terms made.0.inner ≡ child place.now.path loop_name nothing) }
+    ensures test { IfOk result (λ made. term_of made.0.turn.test ≡ resolved
+        (for_scope scope.old (place_terms place.now) variable.now.name (branch_of branch.now)) (text_of test.now)) }
+    ensures next { IfOk result (λ made. term_of made.0.turn.next ≡ resolved
+        (for_scope scope.old (place_terms place.now) variable.now.name (branch_of branch.now)) (text_of step.now)) }
+    ensures body { IfOk result (λ made. made.0.body
+        ≡ below (loop_path place.now.path) (branch_name body_name (branch_of branch.now))) }
+    ensures branch { IfOk result (λ made. place_terms made.1 ≡ child (loop_path place.now.path)
+        (branch_name body_name (branch_of branch.now)) (where_found (loop_path place.now.path))) }
+{
+    let inner = Place::generated(alloc, &place.path, Generated::Loop, Added::nothing())?;
+    let turn = enter_turn(
+        alloc,
+        scope,
+        place,
+        &inner.path,
+        variable,
+        test,
+        step,
+        branch,
+    )?;
+    let own = branch_place(alloc, &inner.path, Generated::Body, branch)?;
+    let body = own.path.copy(alloc)?;
+    Ok((EnteredFor { inner, turn, body }, own))
+}
+
+/// Goes into a `for` whose loop stands at a path.
+fn enter_turn(
+    alloc: Global,
+    scope: &mut Scope,
+    place: &Place,
+    path: &Path,
+    variable: &Identifier,
+    test: &SurfaceExpr,
+    step: &SurfaceExpr,
+    branch: &Branch,
+) -> Result<Turn, NoMemory>
+    requires path { path.now ≡ loop_path place.now.path }
+    requires room { length path.now + length (branch_name body_name (branch_of branch.now)) < PATH_LIMIT }
+    ensures scope { OnOk result (scope.new
+        ≡ for_scope scope.old (place_terms place.now) variable.now.name (branch_of branch.now)) }
+    ensures test { IfOk result (λ turn. term_of turn.test ≡ resolved
+        (for_scope scope.old (place_terms place.now) variable.now.name (branch_of branch.now)) (text_of test.now)) }
+    ensures next { IfOk result (λ turn. term_of turn.next ≡ resolved
+        (for_scope scope.old (place_terms place.now) variable.now.name (branch_of branch.now)) (text_of step.now)) }
+{
+    enter_loop(alloc, scope, place, path, branch, Some(&variable.name))?;
+    turn_of(alloc, scope, test, step)
+}
+
+/// The test and the step of a `for`, in the scope inside it.
+fn turn_of(
+    alloc: Global,
+    scope: &Scope,
+    test: &SurfaceExpr,
+    step: &SurfaceExpr,
+) -> Result<Turn, NoMemory>
+    requires { 0 < length scope.now }
+    ensures test { IfOk result (λ turn. term_of turn.test ≡ resolved scope.now (text_of test.now)) }
+    ensures next { IfOk result (λ turn. term_of turn.next ≡ resolved scope.now (text_of step.now)) }
+{
+    Ok(Turn {
+        test: resolved(alloc, scope, test)?,
+        next: resolved(alloc, scope, step)?,
+    })
+}
+
+/// Where the branch of a test stands in the node at a path.
+fn branch_place(
+    alloc: Global,
+    path: &Path,
+    unlabelled: Generated,
+    branch: &Branch,
+) -> Result<Place, NoMemory>
+    requires name { length path.now + length (branch_name (generated unlabelled) (branch_of branch.now)) < PATH_LIMIT }
+    requires set { length path.now + 5 ≤ PATH_LIMIT }
+    ensures { IfOk result (λ made. place_terms made
+        ≡ child path.now (branch_name (generated unlabelled) (branch_of branch.now)) (where_found path.now)) }
+{
+    let name = named(alloc, &branch.label, unlabelled)?;
+    let added = where_found(alloc, path)?;
+    Place::child(alloc, path, name, added)
+}

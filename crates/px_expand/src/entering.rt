@@ -1,0 +1,151 @@
+// Going into the nodes of the text.
+ghost use Rattle.std.specs.Prelude.{◌≡◌, ◌+◌, ◌<◌, ◌≤◌, ◌∷◌, [], length, map, IfOk, IfSome, OnOk};
+ghost use Rattle.std.specs.Option.{option_copied, option_to_list};
+ghost use Rattle.px_syntax.specs.Block.{block_of, branch_of};
+ghost use Rattle.px_core.specs.Plan.{NoNode, variable_data};
+ghost use Rattle.px_expand.specs.Chain.{stands};
+ghost use Rattle.px_expand.specs.Core.{block_scope, block_seen, branch_name, if_scope, if_seen, items_of, loop_seen};
+ghost use Rattle.px_expand.specs.Items.{variables_of};
+ghost use Rattle.px_expand.specs.Names.{body_name, then_name};
+ghost use Rattle.px_expand.specs.Nodes.{inside, paths_of};
+ghost use Rattle.px_expand.specs.Placed.{entered, place_terms};
+ghost use Rattle.px_expand.specs.Scope.{each_once, table};
+ghost use Rattle.px_expand.specs.Size.{block_reach};
+
+use crate::children::Children;
+use crate::items::variables_of;
+use crate::names::Generated;
+use crate::place::Place;
+use crate::scope::{Frame, Scope};
+use crate::shape::{Shape, shape_of};
+use indexmap::{IndexMap, IndexSet};
+use px_core::Variable;
+use px_syntax::{Block, Branch};
+use px_value::{Name, NoMemory, PATH_LIMIT, Path};
+use std::alloc::Global;
+
+/// Goes into the node of a place. After an error the scope is of no use.
+fn enter(
+    alloc: Global,
+    scope: &mut Scope,
+    place: &Place,
+    children: IndexMap<Name, Path>,
+    variables: IndexSet<Name>,
+) -> Result<(), NoMemory>
+    ensures { OnOk result (scope.new ≡ entered scope.old (place_terms place.now) children.entries variables.keys) }
+{
+    let frame = Frame {
+        name: place.name.copy(alloc)?,
+        path: place.path.copy(alloc)?,
+        children,
+        variables,
+    };
+    scope.enter(frame)
+}
+
+/// What is found on the way into a block: the paths of its children, and its variables.
+#[derive(Drop)]
+pub(crate) struct Inside {
+    pub(crate) paths: Vec<Path>,
+    pub(crate) variables: Vec<Variable>,
+}
+
+/// Goes into a block.
+pub(crate) fn enter_block(
+    alloc: Global,
+    scope: &mut Scope,
+    place: &Place,
+    block: &Block,
+) -> Result<Inside, NoMemory>
+    requires { length place.now.path + block_reach (block_of block.now) ≤ PATH_LIMIT }
+    ensures scope { OnOk result (scope.new ≡ block_scope scope.old (place_terms place.now) (block_of block.now)) }
+    ensures paths { IfOk result
+        (λ inside. inside.paths.items ≡ paths_of (block_seen place.now.path (block_of block.now))) }
+    ensures variables { IfOk result
+        (λ inside. map variable_data inside.variables.items ≡ variables_of (items_of (block_of block.now))) }
+{
+    let variables = variables_of(alloc, &block.items)?;
+    let names = names_of(alloc, &variables)?;
+    let Children { by_name, paths } = block_children(alloc, &place.path, block)?;
+    enter(alloc, scope, place, by_name, names)?;
+    Ok(Inside { paths, variables })
+}
+
+/// The children that the text has of a block at a path.
+fn block_children(alloc: Global, path: &Path, block: &Block) -> Result<Children, NoMemory>
+    requires { length path.now + block_reach (block_of block.now) ≤ PATH_LIMIT }
+    ensures by_name { IfOk result
+        (λ made. made.by_name.entries ≡ table (block_seen path.now (block_of block.now))) }
+    ensures paths { IfOk result (λ made. made.paths.items ≡ paths_of (block_seen path.now (block_of block.now))) }
+{
+    match shape_of(block) {
+        Shape::Children => Children::of_actions(alloc, path, &block.actions),
+        Shape::Rest | Shape::OneAction(_) => Ok(Children::none(alloc)),
+    }
+}
+
+fn names_of(alloc: Global, variables: &[Variable]) -> Result<IndexSet<Name>, NoMemory>
+    ensures { IfOk result
+        (λ names. names.keys ≡ each_once (map (λ variable. variable.name) (map variable_data variables.now))) }
+{
+    let mut names = IndexSet::new(alloc);
+    for variable in variables {
+        names.insert(variable.name.copy(alloc)?)?;
+    }
+    Ok(names)
+}
+
+/// Goes into a node that has no children in the text, and no variables.
+pub(crate) fn enter_simple(alloc: Global, scope: &mut Scope, place: &Place) -> Result<(), NoMemory>
+    ensures { OnOk result (scope.new ≡ entered scope.old (place_terms place.now) [] []) }
+{
+    let Children { by_name, .. } = Children::none(alloc);
+    enter(alloc, scope, place, by_name, IndexSet::new(alloc))
+}
+
+/// Goes into an `if` with this branch; `behind` is the name of what stands behind it. Gives their paths.
+pub(crate) fn enter_if(
+    alloc: Global,
+    scope: &mut Scope,
+    place: &Place,
+    branch: &Branch,
+    behind: Option<Name>,
+) -> Result<Vec<Path>, NoMemory>
+    requires branch { length place.now.path + length (branch_name then_name (branch_of branch.now)) < PATH_LIMIT }
+    requires behind { IfSome behind (λ name. length place.now.path + length name < PATH_LIMIT) }
+    ensures scope { OnOk result (scope.new
+        ≡ if_scope scope.old (place_terms place.now) (branch_of branch.now) (stands behind NoNode)) }
+    ensures paths { IfOk result (λ paths. paths.items
+        ≡ paths_of (if_seen place.now.path (branch_of branch.now) (stands behind NoNode))) }
+{
+    let mut children = Children::of_branch(alloc, &place.path, Generated::Then, branch)?;
+    if let Some(name) = behind {
+        children.push(alloc, &place.path, name)?;
+    }
+    let Children { by_name, paths } = children;
+    enter(alloc, scope, place, by_name, IndexSet::new(alloc))?;
+    Ok(paths)
+}
+
+/// Goes into a `while` or a `for` with this variable, whose branch stands below a path. Gives the branch's path.
+pub(crate) fn enter_loop(
+    alloc: Global,
+    scope: &mut Scope,
+    place: &Place,
+    path: &Path,
+    branch: &Branch,
+    variable: Option<&Name>,
+) -> Result<Vec<Path>, NoMemory>
+    requires { length path.now + length (branch_name body_name (branch_of branch.now)) < PATH_LIMIT }
+    ensures scope { OnOk result (scope.new ≡ inside scope.old (place_terms place.now)
+        (loop_seen path.now (branch_of branch.now)) (option_to_list (option_copied variable.entry))) }
+    ensures paths { IfOk result (λ paths. paths.items ≡ paths_of (loop_seen path.now (branch_of branch.now))) }
+{
+    let mut variables = IndexSet::new(alloc);
+    if let Some(name) = variable {
+        variables.insert(name.copy(alloc)?)?;
+    }
+    let Children { by_name, paths } = Children::of_branch(alloc, path, Generated::Body, branch)?;
+    enter(alloc, scope, place, by_name, variables)?;
+    Ok(paths)
+}

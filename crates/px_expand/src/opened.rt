@@ -1,0 +1,17 @@
+// An `if` that is not closed.
+ghost use Rattle.std.specs.Prelude.{◌+◌, ◌≤◌, length};
+
+use crate::place::Place;
+use px_core::{CoreNode, Expr};
+use px_value::Path;
+
+/// An `if` without what stands behind its branch.
+#[derive(Drop)]
+pub(crate) struct OpenIf {
+    pub(crate) place: Place,
+    pub(crate) test: Expr,
+    /// Of the branch, and of what stands behind it.
+    pub(crate) paths: Vec<Path>,
+    pub(crate) branch: CoreNode,
+    ghost short: { length place.path + 5 ≤ 5000 },
+}

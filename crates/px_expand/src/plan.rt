@@ -1,0 +1,73 @@
+// The core plan of a tree.
+ghost use Rattle.std.specs.Prelude.{◌≡◌, ◌≤◌, nat_le, IfOk, IfErr};
+ghost use Rattle.px_core.specs.Plan.{tree_of};
+ghost use Rattle.px_syntax.specs.Block.{block_of};
+ghost use Rattle.px_syntax.specs.Plan.{plan_of};
+ghost use Rattle.px_expand.specs.Core.{core, root_place};
+ghost use Rattle.px_expand.specs.Placed.{place_terms};
+ghost use Rattle.px_expand.specs.Size.{block_nodes, longest};
+ghost use Rattle.px_expand.specs.Verdict.{IsChecked, IsExpanded, IsRefused};
+
+use crate::block::block;
+use crate::conditions::Added;
+use crate::count::block_nodes;
+use crate::names::{Generated, named};
+use crate::place::Place;
+use crate::reach::block_reach;
+use crate::scope::Scope;
+use px_core::Plan;
+use px_syntax::{ExpandFault, Identifier, Surface};
+use px_value::{NoMemory, PATH_LIMIT, Path};
+use std::alloc::Global;
+
+/// The most nodes that a plan has.
+pub const NODE_LIMIT: u32 = 4096;
+
+/// The core plan of a tree: derived forms are Lists, conditions and assignments, names are paths, and each condition that
+/// isn't given is its default.
+///
+/// `TooMany` comes exactly where the core plan would have over 4,096 nodes or a path of over 5,000 bytes; `nodes` is the
+/// number of its nodes. It is found before such a plan is made.
+pub fn expand(alloc: Global, tree: &Surface) -> Result<Plan, ExpandFault>
+    requires { IsChecked (plan_of tree.now) }
+    ensures ok { IfOk result (λ plan. IsExpanded (plan_of tree.now) plan) }
+    ensures fault { IfErr result (λ fault. IsRefused (plan_of tree.now) fault) }
+{
+    let nodes = block_nodes(&tree.root);
+    if nodes > NODE_LIMIT || !has_short_paths(alloc, tree)? {
+        return Err(ExpandFault::TooMany { nodes });
+    }
+    Ok(core(alloc, tree)?)
+}
+
+/// No path has over 5,000 bytes.
+fn has_short_paths(alloc: Global, tree: &Surface) -> Result<bool, NoMemory>
+    requires { block_nodes (block_of tree.now.root) ≤ 4096 }
+    ensures { IfOk result (λ short. short ≡ nat_le (longest (plan_of tree.now)) 5000) }
+{
+    let name = named(alloc, &tree.label, Generated::Action(1))?;
+    Ok(name.as_str().len() + block_reach(alloc, &tree.root)? <= PATH_LIMIT)
+}
+
+/// The core plan of a tree with short paths.
+fn core(alloc: Global, tree: &Surface) -> Result<Plan, NoMemory>
+    requires { longest (plan_of tree.now) ≤ PATH_LIMIT }
+    ensures { IfOk result (λ plan. tree_of plan ≡ core (plan_of tree.now)) }
+{
+    let place = root_place(alloc, &tree.label)?;
+    let mut scope = Scope::new(alloc);
+    let root = block(alloc, &mut scope, place, &tree.root)?;
+    Ok(Plan { root })
+}
+
+/// Where the root with this label stands.
+fn root_place(alloc: Global, label: &Option<Identifier>) -> Result<Place, NoMemory>
+    ensures { IfOk result (λ made. place_terms made ≡ root_place label.now) }
+{
+    let name = named(alloc, label, Generated::Action(1))?;
+    Ok(Place {
+        path: Path::root(alloc, &name)?,
+        name,
+        added: Added::nothing(),
+    })
+}
