@@ -1,0 +1,3 @@
+pub mod Labels
+pub mod Refusals
+pub mod Texts

@@ -1,0 +1,13 @@
+use Rattle.px_compile.proofs.Labels.{labels_named}
+use Rattle.px_syntax.specs.Plan.{plan_of}
+use Rattle.px_compile.proofs.plan.compile.Goals as goal
+
+pub core_plan-requires : goal.core_plan-requires
+core_plan-requires c =
+    let spelled = c.in_ok-tree.ensures.ok in
+    record {
+      faultless = c.in_ok-look_for_faults.ensures.ok;
+      labels =
+          labels_named c.in_ok-text.text.now spelled.tokens (plan_of c.in_ok-tree.tree) spelled.split.split
+          spelled.spelled.spelled;
+    }

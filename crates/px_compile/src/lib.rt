@@ -1,0 +1,12 @@
+//! The plan that the bytes of a text spell.
+//!
+//! `plan` puts the stages together: text, tokens, tree, faults, core plan. `specs/Compiled.antt` says what they are to
+//! answer, and `laws` that this is one answer.
+#![tactic(auto)]
+
+pub mod laws;
+mod plan;
+#[cfg(test)]
+mod tests;
+
+pub use plan::{TEXT_LIMIT, compile};

@@ -1,0 +1,119 @@
+// The plan of a text.
+ghost use Rattle.std.specs.Prelude.{◌≡◌, ℕ, ◌≤◌, true, List, [], length, IfOk, IfErr, OnOk, IsTrue};
+ghost use Rattle.std.specs.Str.{is_utf8};
+ghost use Rattle.px_core.specs.Fit.{IsFit};
+ghost use Rattle.px_core.specs.Plan.{tree_of};
+ghost use Rattle.px_lex.specs.Lexer.{FirstFault, Splits};
+ghost use Rattle.px_lex.specs.declared.token.Token.{Token as TokenData};
+ghost use Rattle.px_plan_parse.specs.Verdict.{IsRefused as IsNoTree};
+ghost use Rattle.px_syntax.specs.Plan.{plan_of};
+ghost use Rattle.px_syntax.specs.PlanFaults.{faults};
+ghost use Rattle.px_expand.specs.Typed.{has_typed_values};
+ghost use Rattle.px_expand.specs.Verdict.{IsChecked, IsExpanded};
+ghost use Rattle.px_compile.specs.Compiled.{AllRefused, IsCompiled, IsRefused, IsSpelled, IsSplit};
+
+use px_check::check;
+use px_core::Plan;
+use px_expand::expand;
+use px_lex::{LexFault, Token, lex};
+use px_plan_parse::parse;
+use px_syntax::{CheckFault, ExpandFault, ParseFault, PlanFault, Surface};
+use std::alloc::Global;
+use std::str::from_utf8;
+
+/// How many bytes the text of a plan may have.
+pub const TEXT_LIMIT: usize = 1_048_576;
+
+/// The plan that the bytes of a text spell.
+///
+/// The bytes are read as UTF-8, then as tokens, then as a tree; then the faults of the tree are looked for, and its core
+/// plan is made. The first of these that refuses decides the error.
+pub fn compile(alloc: Global, bytes: &[u8]) -> Result<Plan, PlanFault>
+    requires { length bytes.now ≤ 1048576 }
+    ensures ok { IfOk result (λ plan. IsCompiled bytes.now (tree_of plan)) }
+    ensures fit { IfOk result (λ plan. IsFit (tree_of plan)) }
+    ensures typed { IfOk result (λ plan. IsTrue (has_typed_values (tree_of plan))) }
+    ensures fault { IfErr result (λ fault. IsRefused bytes.now fault) }
+{
+    let text = text_in(bytes)?;
+    let tree = tree_in(alloc, text)?;
+    look_for_faults(alloc, &tree)?;
+    core_plan(alloc, &tree)
+}
+
+fn text_in(bytes: &[u8]) -> Result<&str, PlanFault>
+    ensures ok { IfOk result (λ text. text.now ≡ bytes.now) }
+    ensures fault { IfErr result (λ fault. IsRefused bytes.now fault) }
+{
+    match from_utf8(bytes) {
+        Ok(text) => Ok(text),
+        Err(error) => Err(PlanFault::NotText {
+            at: error.valid_up_to(),
+        }),
+    }
+}
+
+fn tokens_in(alloc: Global, text: &str) -> Result<Vec<Token>, PlanFault>
+    ensures ok { IfOk result (λ tokens. Splits text.now tokens.items) }
+    ensures fault { IfErr result (λ fault. IsRefused text.now fault) }
+{
+    match lex(alloc, text) {
+        Ok(tokens) => Ok(tokens),
+        Err(fault) => Err(no_tokens(fault)),
+    }
+}
+
+// The answer where a text has no tokens.
+fn no_tokens(fault: LexFault) -> PlanFault
+    ensures { (bytes : List ℕ) → is_utf8 bytes ≡ true → FirstFault bytes fault → IsRefused bytes result }
+{
+    match fault {
+        LexFault::NoMemory => PlanFault::NoMemory,
+        fault => PlanFault::Lex(fault),
+    }
+}
+
+fn tree_in(alloc: Global, text: &str) -> Result<Surface, PlanFault>
+    ensures ok { IfOk result (λ tree. IsSpelled text.now (plan_of tree)) }
+    ensures fault { IfErr result (λ fault. IsRefused text.now fault) }
+{
+    let tokens = tokens_in(alloc, text)?;
+    match parse(alloc, &tokens) {
+        Ok(tree) => Ok(tree),
+        Err(fault) => Err(no_tree(fault)),
+    }
+}
+
+// The answer where tokens spell no tree.
+fn no_tree(fault: ParseFault) -> PlanFault
+    ensures { (bytes : List ℕ) (tokens : List TokenData) → IsSplit bytes tokens → IsNoTree tokens fault
+        → IsRefused bytes result }
+{
+    match fault {
+        ParseFault::NoMemory => PlanFault::NoMemory,
+        fault => PlanFault::Parse(fault),
+    }
+}
+
+fn look_for_faults(alloc: Global, tree: &Surface) -> Result<(), PlanFault>
+    ensures ok { OnOk result (faults (plan_of tree.now) ≡ []) }
+    ensures fault { IfErr result (λ fault. AllRefused (plan_of tree.now) fault) }
+{
+    match check(alloc, tree) {
+        Ok(()) => Ok(()),
+        Err(CheckFault::NoMemory) => Err(PlanFault::NoMemory),
+        Err(fault) => Err(PlanFault::Check(fault)),
+    }
+}
+
+fn core_plan(alloc: Global, tree: &Surface) -> Result<Plan, PlanFault>
+    requires { IsChecked (plan_of tree.now) }
+    ensures ok { IfOk result (λ plan. IsExpanded (plan_of tree.now) plan) }
+    ensures fault { IfErr result (λ fault. AllRefused (plan_of tree.now) fault) }
+{
+    match expand(alloc, tree) {
+        Ok(plan) => Ok(plan),
+        Err(ExpandFault::NoMemory) => Err(PlanFault::NoMemory),
+        Err(fault) => Err(PlanFault::Expand(fault)),
+    }
+}
