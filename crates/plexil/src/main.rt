@@ -2,6 +2,7 @@
 //! the top call, and ends with its status.
 #![tactic(auto)]
 
+mod disk;
 #[cfg(test)]
 mod dry_run_tests;
 mod host;
