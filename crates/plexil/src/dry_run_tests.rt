@@ -159,10 +159,15 @@ fn all_lines_are_posted_in_their_order(rt: HostRuntime) -> Result<(), Fail> {
 fn the_first_refusal_decides(rt: HostRuntime) -> Result<(), Fail> {
     let alloc = rt.alloc();
     let cases: [(&str, &str, u8, &str); 8] = [
-        (GO, "set x = 1", 4, "script refused: line 1 kind 1\n"),
+        (
+            GO,
+            "set x = 2147483648",
+            4,
+            "script refused: line 1 kind 3\n",
+        ),
         (GO, "set x = true\ngo", 4, "script refused: line 2 kind 1\n"),
         (GO, "thread 1", 4, "script refused: line 1 kind 1\n"),
-        ("A: {", "go", 3, "plan refused: first form\n"),
+        ("A: {", "go", 3, "plan refused: syntax at token 3\n"),
         (
             "A: { Repeat true; }",
             "set x = true",
@@ -176,7 +181,12 @@ fn the_first_refusal_decides(rt: HostRuntime) -> Result<(), Fail> {
             "script refused: line 1 kind 1\n",
         ),
         ("A: { }", "set = true", 4, "script refused: line 1 kind 1\n"),
-        ("A: { Start go; }", "", 3, "plan refused: first form\n"),
+        (
+            "A: { Start go; }",
+            "",
+            3,
+            "plan refused: check 1 at token 4\n",
+        ),
     ];
     for (plan, script, status, text) in cases {
         let host = host_of(alloc, plan, script)?;

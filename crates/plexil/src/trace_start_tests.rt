@@ -120,7 +120,9 @@ quiet 5
 plan finished FAILURE INVARIANT_CONDITION_FAILED
 ";
 
-const NOT_IN_FORM: &str = "plan refused: first form\n";
+const NO_TEXT: &str = "plan refused: syntax at token 0\n";
+
+const UNDECLARED: &str = "plan refused: check 1 at token 3\n";
 
 const TOO_LONG: &str = "plan refused: longer than 1048576 bytes\n";
 
@@ -139,9 +141,9 @@ fn a_plan_runs_until_it_is_quiet_or_is_refused(rt: HostRuntime) -> Result<(), Fa
         (0, "{ }", 0, ONE_BLOCK_WITHOUT_A_LABEL),
         (0, "R: { NodeList: A: { } { } }", 0, A_LIST_OF_TWO),
         (0, "R: { NodeList: }", 0, AN_EMPTY_LIST),
-        (0, "A: { x = 1; }", 3, NOT_IN_FORM),
-        (0, "", 3, NOT_IN_FORM),
-        (1_048_576, "", 3, NOT_IN_FORM),
+        (0, "A: { x = 1; }", 3, UNDECLARED),
+        (0, "", 3, NO_TEXT),
+        (1_048_576, "", 3, NO_TEXT),
         (1_048_577, "", 3, TOO_LONG),
         (1_048_570, "A: { }", 0, ONE_BLOCK),
         (1_048_571, "A: { }", 3, TOO_LONG),
@@ -193,7 +195,9 @@ fn words_that_are_no_command_are_told_the_usage(rt: HostRuntime) -> Result<(), F
         ("P", &["trace-start"], 2, USAGE),
         ("P", &["trace-start", "P", "P"], 2, USAGE),
         ("P", &["trace-start", "P", "--events=3"], 2, USAGE),
-        ("P", &["check", "P"], 2, USAGE),
+        ("P", &["check", "P"], 0, "ok 1 nodes\n"),
+        ("P", &["check"], 2, USAGE),
+        ("P", &["check", "P", "P"], 2, USAGE),
         ("P", &["--help"], 2, USAGE),
         ("-x", &["trace-start", "-x"], 2, USAGE),
         ("-x", &["trace-start", "--", "-x"], 0, ONE_BLOCK),

@@ -1,20 +1,20 @@
 -- From the headline to its cause, to completeness and to refusals.
 use Rattle.std.proofs.Common.{◌≡◌, ℕ, ◌<◌, ◌⊎◌, inl, inr, List, Option, Some, None, length, refl, arith, ap, subst, sym, ◌∙◌}
-use Rattle.std.specs.Option.{option_and_then}
+use Rattle.std.specs.Option.{option_map, option_and_then}
 use Rattle.px_ports.specs.Host.{Files}
-use Rattle.px_core.specs.Plan.{Tree, sites}
+use Rattle.px_core.specs.Plan.{Site, Tree, sites}
 use Rattle.px_sem.specs.World.{World}
 use Rattle.px_sem.specs.Run.{started}
-use Rattle.px_form.proofs.Readings.{one_reading}
+use Rattle.px_compile.proofs.Refusals.{one_plan, no_refusal}
 use Rattle.px_script.specs.declared.todo.Todo.{Todo}
 use Rattle.px_script.specs.Script.{Threads, Fault, script}
-use Rattle.px_run.specs.Causes.{HasPlan, HasScript, ReadsPlan, OperandIsRefused, ReadsScript, FailsToRead, Cause, IsComplete, IsRefused}
-use Rattle.px_run.specs.Ending.{Ending, DryRunEndsBy, DryRunEnds, of_start, start_ending}
+use Rattle.px_run.specs.Causes.{HasPlan, HasScript, Runs, OnlyChecks, status_behind, ReadsPlan, OperandIsRefused, ReadsScript, FailsToRead, Cause, IsComplete, IsRefused}
+use Rattle.px_run.specs.Ending.{Ending, DryRunEndsBy, DryRunEnds, of_start, start_ending, nodes_ending}
 use Rattle.px_run.specs.File.{FileKind, Seen, Content, Longer, Unreadable, Shows, Refuses, Reads, After, Holds, HoldsNone}
 use Rattle.px_run.specs.Headline.{CommandCallsFor, CallsFor, Delivers, Headline}
 use Rattle.px_run.specs.Kinds.{plan_file, script_file}
 use Rattle.px_run.specs.View.{View, Faulted}
-use Rattle.px_run.specs.Words.{Command, TraceStart, DryRun, plan_of, script_of, command}
+use Rattle.px_run.specs.Words.{Command, TraceStart, DryRun, Check, plan_of, script_of, runs_plan, command}
 
 -- ---- what every kind of files keeps: its refusals have one status, bytes spell one thing, and none that is refused
 
@@ -27,23 +27,23 @@ pub record IsKind (A : Type 0) (kind : FileKind A) (status : ℕ) : Type 0 where
 plan_kind : IsKind Tree plan_file 3
 plan_kind = record {
   too_long = refl;
-  refused = λ bytes ending r. ap (λ e. e.status) r.1;
-  one = λ bytes a b s t. one_reading bytes a b s t;
-  never = λ bytes a ending s r. r.0 a s;
+  refused = λ bytes ending r. ap (λ e. e.status) r.3;
+  one = λ bytes a b s t. one_plan bytes a b s t;
+  never = λ bytes a ending s r. no_refusal bytes a r.0 r.1 s r.2;
 }
 
-script_kind : IsKind (List Todo) script_file 4
-script_kind = record {
+script_kind : (plan : List Site) → IsKind (List Todo) (script_file plan) 4
+script_kind plan = record {
   too_long = refl;
   refused = λ bytes ending r. ap (λ e. e.status) r.3;
   one = λ bytes a b s t. same bytes a b s t;
   never = λ bytes a ending s r. none bytes a r.0 r.1 s r.2;
 }
   where
-    same : (bytes : List ℕ) (a b : List Todo) → script bytes ≡ Threads a → script bytes ≡ Threads b → a ≡ b
+    same : (bytes : List ℕ) (a b : List Todo) → script plan bytes ≡ Threads a → script plan bytes ≡ Threads b → a ≡ b
     same bytes a b s t = let both = sym s ∙ t in cc
 
-    none : (bytes : List ℕ) (a : List Todo) (number kind : ℕ) → script bytes ≡ Threads a → script bytes ≡ Fault number kind → ⊥
+    none : (bytes : List ℕ) (a : List Todo) (number kind : ℕ) → script plan bytes ≡ Threads a → script plan bytes ≡ Fault number kind → ⊥
     none bytes a number kind s f = let both = sym s ∙ f in cc
 
 -- ---- a refused file and its cause
@@ -65,19 +65,20 @@ refused_plan words old new plan seen ending has shows refuses =
     refused_file Tree plan_file 3 HasPlan words old new plan seen ending plan_kind has
     (λ r. Cause.plan_refused r) (λ rose. Cause.read_fault (inl (plan, has, rose))) shows refuses
 
-refused_script : (words : List (List ℕ)) (old new : View) (name : List ℕ) (seen : Seen) (ending : Ending) → ReadsPlan words old new
-    → HasScript words name → Shows script_file.limit old new name seen → Refuses script_file seen ending → Cause words old new ending.status
-refused_script words old new name seen ending plan has shows refuses =
-    refused_file (List Todo) script_file 4 HasScript words old new name seen ending script_kind has
-    (λ r. Cause.script_refused plan r) (λ rose. Cause.read_fault (inr (plan, (name, has, rose)))) shows refuses
+refused_script : (words : List (List ℕ)) (old new : View) (plan : List ℕ) (tree : Tree) (name : List ℕ) (seen : Seen) (ending : Ending)
+    → HasPlan words plan → Reads plan_file old new plan tree → HasScript words name → Shows (script_file (sites tree)).limit old new name seen
+    → Refuses (script_file (sites tree)) seen ending → Cause words old new ending.status
+refused_script words old new plan tree name seen ending has reads asks shows refuses =
+    refused_file (List Todo) (script_file (sites tree)) 4 HasScript words old new name seen ending (script_kind (sites tree)) asks
+    (λ r. Cause.script_refused (plan, tree, has, reads, r)) (λ rose. Cause.read_fault (inr (plan, tree, has, reads, (name, asks, rose)))) shows refuses
 
 -- ---- a start, with the script read where there is one
 
-start : (words : List (List ℕ)) (old new : View) (plan : List ℕ) (tree : Tree) (o : Option (World × ℕ)) → HasPlan words plan
-    → Reads plan_file old new plan tree → ReadsScript words old new → started (sites tree) ≡ o
+start : (words : List (List ℕ)) (old new : View) (plan : List ℕ) (tree : Tree) (o : Option (World × ℕ)) → Runs words → HasPlan words plan
+    → Reads plan_file old new plan tree → ReadsScript words old new tree → started (sites tree) ≡ o
     → Cause words old new (of_start (sites tree) o).status
-start words old new plan tree None has reads scripts is = Cause.runaway (plan, tree, has, reads, is) scripts
-start words old new plan tree (Some at) has reads scripts is = Cause.done (plan, tree, has, reads, rw is refl) scripts
+start words old new plan tree None runs has reads scripts is = Cause.runaway (runs, (plan, tree, has, reads, (scripts, is)))
+start words old new plan tree (Some at) runs has reads scripts is = Cause.done (runs, (plan, tree, has, reads, (scripts, rw is refl)))
 
 -- a dry run has the status of its start
 dry_run_status : (tree : Tree) (threads : List Todo) (ending : Ending) → DryRunEnds tree threads ending → ending.status ≡ (start_ending tree).status
@@ -88,16 +89,17 @@ dry_run_status tree threads ending ends = at (started (sites tree)) ends
     at (Some settled) found = ap (λ e. e.status) found.2
 
 -- without a script there is none to be read
-no_script_asked : (words : List (List ℕ)) (old new : View) (plan : List ℕ) → command words ≡ Some (TraceStart plan) → ReadsScript words old new
-no_script_asked words old new plan asks name has = let same = ap (option_and_then script_of) asks in cc
+no_script_asked : (words : List (List ℕ)) (old new : View) (plan : List ℕ) (tree : Tree) → command words ≡ Some (TraceStart plan)
+    → ReadsScript words old new tree
+no_script_asked words old new plan tree asks name has = let same = ap (option_and_then script_of) asks in cc
 
 -- the script that the command has
-script_asked : (words : List (List ℕ)) (old new : View) (plan name : List ℕ) (threads : List Todo) → command words ≡ Some (DryRun plan name)
-    → Reads script_file old new name threads → ReadsScript words old new
-script_asked words old new plan name threads asks reads other has =
+script_asked : (words : List (List ℕ)) (old new : View) (plan name : List ℕ) (tree : Tree) (threads : List Todo)
+    → command words ≡ Some (DryRun plan name) → Reads (script_file (sites tree)) old new name threads → ReadsScript words old new tree
+script_asked words old new plan name tree threads asks reads other has =
     let all = ap (option_and_then script_of) asks in
     let same : name ≡ other = cc in
-    (threads, subst (λ n. Reads script_file old new n threads) same reads)
+    (threads, subst (λ n. Reads (script_file (sites tree)) old new n threads) same reads)
 
 called : (words : List (List ℕ)) (old new : View) (ending : Ending) → CallsFor words old new ending → Cause words old new ending.status
 called words old new ending calls = by (command words) refl calls
@@ -108,17 +110,22 @@ called words old new ending calls = by (command words) refl calls
         refused_plan words old new plan seen ending (ap (option_and_then plan_of) asks) shows refuses
     by (Some (TraceStart plan)) asks (seen, shows, inr (tree, spells, is)) =
         subst (λ e. Cause words old new e.status) (sym is)
-        (start words old new plan tree (started (sites tree)) (ap (option_and_then plan_of) asks) (seen, shows, spells)
-        (no_script_asked words old new plan asks) refl)
+        (start words old new plan tree (started (sites tree)) (ap (option_map runs_plan) asks) (ap (option_and_then plan_of) asks) (seen, shows, spells)
+        (no_script_asked words old new plan tree asks) refl)
     by (Some (DryRun plan name)) asks (seen, shows, inl refuses) =
         refused_plan words old new plan seen ending (ap (option_and_then plan_of) asks) shows refuses
     by (Some (DryRun plan name)) asks (read, shown, inr (tree, form, (seen, shows, inl refuses))) =
-        refused_script words old new name seen ending (plan, tree, ap (option_and_then plan_of) asks, (read, shown, form))
+        refused_script words old new plan tree name seen ending (ap (option_and_then plan_of) asks) (read, shown, form)
         (ap (option_and_then script_of) asks) shows refuses
     by (Some (DryRun plan name)) asks (read, shown, inr (tree, form, (seen, shows, inr (threads, spells, ends)))) =
         subst (λ s. Cause words old new s) (sym (dry_run_status tree threads ending ends))
-        (start words old new plan tree (started (sites tree)) (ap (option_and_then plan_of) asks) (read, shown, form)
-        (script_asked words old new plan name threads asks (seen, shows, spells)) refl)
+        (start words old new plan tree (started (sites tree)) (ap (option_map runs_plan) asks) (ap (option_and_then plan_of) asks) (read, shown, form)
+        (script_asked words old new plan name tree threads asks (seen, shows, spells)) refl)
+    by (Some (Check plan)) asks (seen, shows, inl refuses) =
+        refused_plan words old new plan seen ending (ap (option_and_then plan_of) asks) shows refuses
+    by (Some (Check plan)) asks (seen, shows, inr (tree, spells, is)) =
+        subst (λ e. Cause words old new e.status) (sym is)
+        (Cause.checked (ap (option_map runs_plan) asks) (plan, tree, ap (option_and_then plan_of) asks, (seen, shows, spells), tt))
 
 pub causes : (words : List (List ℕ)) (old new : View) (status : ℕ) → Headline words old new status → Cause words old new status
 causes words old new _ (Headline.delivered ending status calls delivers) = by status delivers
@@ -182,26 +189,32 @@ no_plan words plan none has = let same = ap (option_and_then plan_of) none in cc
 -- what the command calls for behind its plan, whatever the command
 pub complete : (words : List (List ℕ)) (old new : View) (status : ℕ) → Headline words old new status → IsComplete words old new status
 complete words old new status headline plan files tree has told holds scripts readable script_readable sound =
-    sound_status words old new status (start_ending tree).status headline sound (λ ending calls. of_calls ending (command words) refl calls)
+    sound_status words old new status (status_behind (command words) tree) headline sound
+    (λ ending calls. of_calls ending (command words) refl calls)
   where
     of_calls : (ending : Ending) (asked : Option Command) → command words ≡ asked → CommandCallsFor asked old new ending
-        → ending.status ≡ (start_ending tree).status
+        → ending.status ≡ status_behind asked tree
     of_calls ending None is c = absurd (no_plan words plan is has)
     of_calls ending (Some (TraceStart other)) is c =
         let all = ap (option_and_then plan_of) is in
         let same : other ≡ plan = cc in
         ap (λ e. e.status) (held Tree plan_file 3 old new files plan tree (λ t e. e ≡ start_ending t) ending plan_kind told holds
         (λ rose. readable (plan, has, rose)) (subst (λ name. After plan_file old new name (λ t e. e ≡ start_ending t) ending) same c))
+    of_calls ending (Some (Check other)) is c =
+        let all = ap (option_and_then plan_of) is in
+        let same : other ≡ plan = cc in
+        ap (λ e. e.status) (held Tree plan_file 3 old new files plan tree (λ t e. e ≡ nodes_ending t) ending plan_kind told holds
+        (λ rose. readable (plan, has, rose)) (subst (λ name. After plan_file old new name (λ t e. e ≡ nodes_ending t) ending) same c))
     of_calls ending (Some (DryRun other name)) is c =
         let all = ap (option_and_then plan_of) is in
         let same : other ≡ plan = cc in
         let asks : HasScript words name = ap (option_and_then script_of) is in
         let found = scripts name asks in
-        let next = held Tree plan_file 3 old new files plan tree (λ t. After script_file old new name (DryRunEnds t)) ending plan_kind told holds
+        let next = held Tree plan_file 3 old new files plan tree (λ t. After (script_file (sites t)) old new name (DryRunEnds t)) ending plan_kind told holds
         (λ rose. readable (plan, has, rose))
-        (subst (λ n. After plan_file old new n (λ t. After script_file old new name (DryRunEnds t)) ending) same c) in
+        (subst (λ n. After plan_file old new n (λ t. After (script_file (sites t)) old new name (DryRunEnds t)) ending) same c) in
         dry_run_status tree found.0 ending
-        (held (List Todo) script_file 4 old new files name found.0 (DryRunEnds tree) ending script_kind told found.1 (λ rose. script_readable (name, asks, rose)) next)
+        (held (List Todo) (script_file (sites tree)) 4 old new files name found.0 (DryRunEnds tree) ending (script_kind (sites tree)) told found.1 (λ rose. script_readable (name, asks, rose)) next)
 
 pub refused : (words : List (List ℕ)) (old new : View) (status : ℕ) → Headline words old new status → IsRefused words old new status
 refused words old new status headline = record {
@@ -221,26 +234,33 @@ refused words old new status headline = record {
         let same : other ≡ plan = cc in
         none_held Tree plan_file 3 old new files plan (λ t e. e ≡ start_ending t) ending plan_kind told holds
         (λ rose. readable (plan, has, rose)) (subst (λ name. After plan_file old new name (λ t e. e ≡ start_ending t) ending) same c)
+    of_plan ending plan files has told holds readable (Some (Check other)) is c =
+        let all = ap (option_and_then plan_of) is in
+        let same : other ≡ plan = cc in
+        none_held Tree plan_file 3 old new files plan (λ t e. e ≡ nodes_ending t) ending plan_kind told holds
+        (λ rose. readable (plan, has, rose)) (subst (λ n. After plan_file old new n (λ t e. e ≡ nodes_ending t) ending) same c)
     of_plan ending plan files has told holds readable (Some (DryRun other name)) is c =
         let all = ap (option_and_then plan_of) is in
         let same : other ≡ plan = cc in
-        none_held Tree plan_file 3 old new files plan (λ t. After script_file old new name (DryRunEnds t)) ending plan_kind told holds
+        none_held Tree plan_file 3 old new files plan (λ t. After (script_file (sites t)) old new name (DryRunEnds t)) ending plan_kind told holds
         (λ rose. readable (plan, has, rose))
-        (subst (λ n. After plan_file old new n (λ t. After script_file old new name (DryRunEnds t)) ending) same c)
+        (subst (λ n. After plan_file old new n (λ t. After (script_file (sites t)) old new name (DryRunEnds t)) ending) same c)
 
     of_script : (ending : Ending) (plan name : List ℕ) (files : Files) (tree : Tree) → HasPlan words plan → HasScript words name
-        → old.files ≡ Some files → Holds plan_file files plan tree → HoldsNone script_file files name → ¬ FailsToRead HasPlan words old new
+        → old.files ≡ Some files → Holds plan_file files plan tree → HoldsNone (script_file (sites tree)) files name → ¬ FailsToRead HasPlan words old new
         → ¬ FailsToRead HasScript words old new → (asked : Option Command) → command words ≡ asked → CommandCallsFor asked old new ending → ending.status ≡ 4
     of_script ending plan name files tree has asks told holds faulty readable script_readable None is c = absurd (no_plan words plan is has)
     of_script ending plan name files tree has asks told holds faulty readable script_readable (Some (TraceStart other)) is c =
+        let all = ap (option_and_then script_of) is in cc
+    of_script ending plan name files tree has asks told holds faulty readable script_readable (Some (Check other)) is c =
         let all = ap (option_and_then script_of) is in cc
     of_script ending plan name files tree has asks told holds faulty readable script_readable (Some (DryRun other found)) is c =
         let plans = ap (option_and_then plan_of) is in
         let scripts = ap (option_and_then script_of) is in
         let same : other ≡ plan = cc in
         let same_script : found ≡ name = cc in
-        let next = held Tree plan_file 3 old new files plan tree (λ t. After script_file old new found (DryRunEnds t)) ending plan_kind told holds
+        let next = held Tree plan_file 3 old new files plan tree (λ t. After (script_file (sites t)) old new found (DryRunEnds t)) ending plan_kind told holds
         (λ rose. readable (plan, has, rose))
-        (subst (λ n. After plan_file old new n (λ t. After script_file old new found (DryRunEnds t)) ending) same c) in
-        none_held (List Todo) script_file 4 old new files name (DryRunEnds tree) ending script_kind told faulty (λ rose. script_readable (name, asks, rose))
-        (subst (λ n. After script_file old new n (DryRunEnds tree) ending) same_script next)
+        (subst (λ n. After plan_file old new n (λ t. After (script_file (sites t)) old new found (DryRunEnds t)) ending) same c) in
+        none_held (List Todo) (script_file (sites tree)) 4 old new files name (DryRunEnds tree) ending (script_kind (sites tree)) told faulty (λ rose. script_readable (name, asks, rose))
+        (subst (λ n. After (script_file (sites tree)) old new n (DryRunEnds tree) ending) same_script next)

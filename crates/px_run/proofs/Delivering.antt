@@ -1,5 +1,6 @@
 -- From what was performed to the headline.
 use Rattle.std.proofs.Common.{◌≡◌, ℕ, ◌≤◌, inl, inr, List, [], Option, Some, None, Ok, Err, refl, subst, sym, arith}
+use Rattle.px_core.specs.Plan.{sites}
 use Rattle.px_ports.specs.Host.{Emits}
 use Rattle.px_run.specs.declared.printer.PrintFault.TheVariants.{SinkFailed, NoMemory}
 use Rattle.px_run.specs.declared.ending.Stop.TheVariants as stops
@@ -9,7 +10,7 @@ use Rattle.px_run.specs.Kinds.{plan_file, script_file}
 use Rattle.px_run.specs.Printing.{Prints}
 use Rattle.px_run.specs.Stops.{Performs}
 use Rattle.px_run.specs.View.{View, Faulted, EmitsPart, OnlyPrints, KeepsFiles}
-use Rattle.px_run.specs.Words.{Command, TraceStart, DryRun, command}
+use Rattle.px_run.specs.Words.{Command, TraceStart, DryRun, Check, command}
 use Rattle.px_run.proofs.Performing.{shows_later, reads_kept}
 use Rattle.px_run.proofs.Printed.{emits_nothing, emitted_whole, emitted_part, piece_printed}
 
@@ -23,9 +24,10 @@ calls_later words old mid new ending only calls = by (command words) calls
     by : (asked : Option Command) → CommandCallsFor asked old mid ending → CommandCallsFor asked old new ending
     by None c = c
     by (Some (TraceStart plan)) (seen, s, ends) = (seen, shows_later plan_file.limit old mid new plan seen later s, ends)
+    by (Some (Check plan)) (seen, s, ends) = (seen, shows_later plan_file.limit old mid new plan seen later s, ends)
     by (Some (DryRun plan script)) (seen, s, inl refuses) = (seen, shows_later plan_file.limit old mid new plan seen later s, inl refuses)
     by (Some (DryRun plan script)) (seen, s, inr (tree, spells, (read, t, ends))) =
-        (seen, shows_later plan_file.limit old mid new plan seen later s, inr (tree, spells, (read, shows_later script_file.limit old mid new script read later t, ends)))
+        (seen, shows_later plan_file.limit old mid new plan seen later s, inr (tree, spells, (read, shows_later (script_file (sites tree)).limit old mid new script read later t, ends)))
 
 faulted_after : (old mid new : View) → KeepsFiles old mid → Faulted mid new → Faulted old new
 faulted_after old mid new keeps (inl h) = inl (omega (arith, keeps.write_faults))

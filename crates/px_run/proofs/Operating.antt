@@ -5,7 +5,7 @@ use Rattle.std.specs.Option.{option_map}
 use Rattle.std.proofs.lemmas.List.{map-append, take_all, drop_all}
 use Rattle.std.proofs.Math.Seq.{take-suc, drop-cons}
 use Rattle.px_core.specs.Plan.{is_same}
-use Rattle.px_run.specs.Words.{TraceStart, DryRun, operands, trace_start, dry_run, is_option}
+use Rattle.px_run.specs.Words.{Command, operands, of_one, of_two, is_option}
 
 -- the first words are operands, and the others stand for the others
 pub record IsWalked {X : Type 0} (text : X → List ℕ) (words : List X) (k : ℕ) : Type 0 where
@@ -55,29 +55,29 @@ walked_all text words k h w =
 
 -- ---- how many operands there are
 
-pub one_is : (words : List (List ℕ)) (plan : List ℕ) → length words ≡ 1 → slice_get words 0 ≡ Some plan
-    → trace_start words ≡ Some (TraceStart plan)
-one_is [] plan one first = absurd (omega arith)
-one_is (word ∷ []) plan one first = let same : word ≡ plan = cc in ap (λ w. Some (TraceStart w)) same
-one_is (word ∷ other ∷ more) plan one first = absurd (omega arith)
+pub one_is : (make : List ℕ → Command) (words : List (List ℕ)) (word : List ℕ) → length words ≡ 1 → slice_get words 0 ≡ Some word
+    → of_one make words ≡ Some (make word)
+one_is make [] word one first = absurd (omega arith)
+one_is make (found ∷ []) word one first = let same : found ≡ word = cc in ap (λ w. Some (make w)) same
+one_is make (found ∷ other ∷ more) word one first = absurd (omega arith)
 
-pub not_one : (words : List (List ℕ)) → length words ≢ 1 → trace_start words ≡ None
-not_one [] other = refl
-not_one (word ∷ []) other = absurd (other refl)
-not_one (word ∷ next ∷ more) other = refl
+pub not_one : (make : List ℕ → Command) (words : List (List ℕ)) → length words ≢ 1 → of_one make words ≡ None
+not_one make [] other = refl
+not_one make (word ∷ []) other = absurd (other refl)
+not_one make (word ∷ next ∷ more) other = refl
 
-pub two_are : (words : List (List ℕ)) (plan script : List ℕ) → length words ≡ 2 → slice_get words 0 ≡ Some plan
-    → slice_get words 1 ≡ Some script → dry_run words ≡ Some (DryRun plan script)
-two_are [] plan script two first second = absurd (omega arith)
-two_are (word ∷ []) plan script two first second = absurd (omega arith)
-two_are (word ∷ other ∷ []) plan script two first second =
-    let one : word ≡ plan = cc in
-    let next : other ≡ script = cc in
-    ap (λ w. Some (DryRun w other)) one ∙ ap (λ w. Some (DryRun plan w)) next
-two_are (word ∷ other ∷ third ∷ more) plan script two first second = absurd (omega arith)
+pub two_are : (make : List ℕ → List ℕ → Command) (words : List (List ℕ)) (word next : List ℕ) → length words ≡ 2
+    → slice_get words 0 ≡ Some word → slice_get words 1 ≡ Some next → of_two make words ≡ Some (make word next)
+two_are make [] word next two first second = absurd (omega arith)
+two_are make (found ∷ []) word next two first second = absurd (omega arith)
+two_are make (found ∷ other ∷ []) word next two first second =
+    let one : found ≡ word = cc in
+    let two : other ≡ next = cc in
+    ap (λ w. Some (make w other)) one ∙ ap (λ w. Some (make word w)) two
+two_are make (found ∷ other ∷ third ∷ more) word next two first second = absurd (omega arith)
 
-pub not_two : (words : List (List ℕ)) → length words ≢ 2 → dry_run words ≡ None
-not_two [] other = refl
-not_two (word ∷ []) other = refl
-not_two (word ∷ next ∷ []) other = absurd (other refl)
-not_two (word ∷ next ∷ third ∷ more) other = refl
+pub not_two : (make : List ℕ → List ℕ → Command) (words : List (List ℕ)) → length words ≢ 2 → of_two make words ≡ None
+not_two make [] other = refl
+not_two make (word ∷ []) other = refl
+not_two make (word ∷ next ∷ []) other = absurd (other refl)
+not_two make (word ∷ next ∷ third ∷ more) other = refl

@@ -1,5 +1,5 @@
 -- What a command has performed, from what it read and printed.
-use Rattle.std.proofs.Common.{◌≡◌, ℕ, ◌≤◌, inl, inr, List, [], ◌++◌, map, Some, None, IsSome, Result, Ok, Err, IsErrAnd, refl, arith, ap, subst, sym, ◌∙◌}
+use Rattle.std.proofs.Common.{◌≡◌, ℕ, ◌≤◌, inl, inr, List, [], ◌++◌, map, Some, None, IsSome, Result, Ok, Err, IfErr, IsErrAnd, refl, arith, ap, subst, sym, ◌∙◌}
 use Rattle.px_core.specs.Plan.{Site, Tree, sites}
 use Rattle.px_event.specs.declared.entry.Entry.{Entry}
 use Rattle.px_sem.specs.World.{World}
@@ -12,6 +12,9 @@ use Rattle.px_script.specs.declared.todo.Todo.{Todo}
 use Rattle.px_script.specs.Order.{InFileOrder}
 use Rattle.px_run.specs.declared.printer.PrintFault.{PrintFault}
 use Rattle.px_run.specs.declared.printer.PrintFault.TheVariants.{SinkFailed, NoMemory}
+use Rattle.px_compile.specs.Compiled.{IsRefused}
+use Rattle.px_syntax.specs.declared.fault.PlanFault.{PlanFault}
+use Rattle.px_syntax.specs.declared.fault.PlanFault.TheVariants as plans
 use Rattle.px_sem.specs.declared.settling.StepFault.{StepFault}
 use Rattle.px_sem.specs.declared.settling.StepFault.TheVariants as steps
 use Rattle.px_run.specs.declared.ending.Stop.{Stop}
@@ -19,7 +22,8 @@ use Rattle.px_run.specs.declared.ending.Stop.TheVariants as stops
 use Rattle.px_run.specs.Ending.{Ending, runaway_at_start, start_ending, of_start, log_ending, IsDryRun, DryRunEndsBy, DryRunEnds, event_limit}
 use Rattle.px_run.specs.File.{FileKind, Seen, Content, Longer, Unreadable, Shows, Reads, After}
 use Rattle.px_run.specs.Printing.{Prints}
-use Rattle.px_run.specs.Stops.{stop_of, stop_of_start, StopsReading, Performs, ending_of}
+use Rattle.px_run.specs.Kinds.{plan_file}
+use Rattle.px_run.specs.Stops.{stop_of, stop_of_plan, stop_of_start, StopsReading, Performs, ending_of}
 use Rattle.px_run.specs.View.{View, Faulted, OnlyPrints, OnlyReads, KeepsFiles}
 use Rattle.px_run.proofs.Printed.{emitted_whole, emitted_part}
 
@@ -104,6 +108,21 @@ reading_stopped A kind old new name Next (stops.Refused refusal) (Err e) is (see
     rw is ((seen, shows, inl refuses), only.emitted)
 reading_stopped A kind old new name Next stops.SinkFailed (Err e) is none only = absurd none
 reading_stopped A kind old new name Next stops.NoMemory (Err e) is any only = rw is (inr only.emitted)
+
+-- bytes that are no plan, or for whose plan memory is wanting
+plan_stopped : (old new : View) (name bytes : List ℕ) (fault : PlanFault) → Shows plan_file.limit old new name (Content bytes)
+    → IsRefused bytes fault → StopsReading plan_file old new name (stop_of_plan fault)
+plan_stopped old new name bytes (plans.NotText at) shows refused = (Content bytes, shows, (plans.NotText at, λ is. cc, refused, refl))
+plan_stopped old new name bytes (plans.Lex fault) shows refused = (Content bytes, shows, (plans.Lex fault, λ is. cc, refused, refl))
+plan_stopped old new name bytes (plans.Parse fault) shows refused = (Content bytes, shows, (plans.Parse fault, λ is. cc, refused, refl))
+plan_stopped old new name bytes (plans.Check fault) shows refused = (Content bytes, shows, (plans.Check fault, λ is. cc, refused, refl))
+plan_stopped old new name bytes (plans.Expand fault) shows refused = (Content bytes, shows, (plans.Expand fault, λ is. cc, refused, refl))
+plan_stopped old new name bytes plans.NoMemory shows refused = tt
+
+pub plan_refused : {A : Type 0} (old new : View) (name bytes : List ℕ) (fault : PlanFault) (r : Result A Stop) → IsErrAnd r (λ e. e ≡ stop_of_plan fault)
+    → Shows plan_file.limit old new name (Content bytes) → IsRefused bytes fault → IfErr r (StopsReading plan_file old new name)
+plan_refused old new name bytes fault (Ok read) is shows refused = absurd is
+plan_refused old new name bytes fault (Err e) is shows refused = rw is (plan_stopped old new name bytes fault shows refused)
 
 -- a start that runs away, or for which memory is wanting
 pub start_stopped : (old new : View) (calls : Ending → Type 0) (fault : StepFault) (r : Result Unit Stop)

@@ -1,5 +1,5 @@
 -- How what was printed adds up.
-use Rattle.std.proofs.Common.{◌≡◌, ℕ, ◌-◌, inl, inr, List, [], ◌++◌, Option, Some, None, Result, Ok, Err, IsErrAnd, take, drop, length, refl, ap, ◌∙◌, sym, arith, append_assoc, append-nil}
+use Rattle.std.proofs.Common.{◌≡◌, ℕ, ◌-◌, inl, inr, List, [], ◌++◌, Option, Some, None, Result, Ok, Err, IsErrAnd, take, drop, length, refl, ap, ◌∙◌, sym, arith, append_assoc, append-nil, subst}
 use Rattle.std.proofs.lemmas.List.{take-append-drop, take_all, length-drop}
 use Rattle.px_ports.specs.declared.host.HostFault.{HostFault}
 use Rattle.px_ports.specs.Host.{Emits, EmitsFront, CountsWrites, CountsIdle}
@@ -91,6 +91,11 @@ pub nothing_printed : {T : Type 0} (a : View) (p q piece : List ℕ) (r : Result
 nothing_printed a p q piece r is = wants_memory a a p p q [] piece piece r is (leaves_none a p) refl
 
 -- ---- a whole text
+
+-- that is emitted without the buffer
+pub text_printed : {T : Type 0} (a b : View) (bytes text : List ℕ) (r : Result T PrintFault) → bytes ≡ text → Prints a bytes b [] [] r
+    → Prints a [] b [] text r
+text_printed a b bytes text r is prints = subst (λ t. Prints a [] b [] t r) is (piece_printed a b [] bytes [] bytes r refl prints)
 
 pub emitted_whole : (a b : View) (text : List ℕ) → Leaves a [] b [] text → Emits a.emitted b.emitted text
 emitted_whole a b text (front, is, emits) = rw (is, append-nil) emits

@@ -1,12 +1,14 @@
 -- How a command ends: its status, and all of its text.
 use Rattle.std.specs.Prelude.{◌≡◌, ℕ, List, [], ◌++◌, map, Option, Some, None, codes, decimal}
-use Rattle.px_core.specs.Plan.{Site, Tree, sites}
+use Rattle.px_core.specs.Plan.{Site, Tree, sites, count_of}
 use Rattle.px_sem.specs.World.{World}
 use Rattle.px_sem.specs.Log.{Log, IsLegal}
 use Rattle.px_sem.specs.Run.{started}
 use Rattle.px_sem.specs.Text.{line, text_of}
 use Rattle.px_script.specs.declared.todo.Todo.{Todo}
 use Rattle.px_script.specs.Order.{InFileOrder}
+use Rattle.px_syntax.specs.declared.fault.PlanFault.{PlanFault}
+use Rattle.px_run.specs.PlanRefusal.{plan_reason}
 
 -- a status and a text
 pub record Ending : Type 0 where
@@ -23,8 +25,9 @@ usage = refusal 2 (codes "usage: plexil trace-start PLAN | dry-run PLAN SCRIPT |
 abbrev pub plan_too_long : Ending
 plan_too_long = refusal 3 (codes "plan refused: longer than 1048576 bytes")
 
-abbrev pub plan_not_in_form : Ending
-plan_not_in_form = refusal 3 (codes "plan refused: first form")
+-- why the bytes are no plan that can be run
+abbrev pub plan_at_fault : PlanFault → Ending
+plan_at_fault fault = refusal 3 (codes "plan refused: " ++ plan_reason fault)
 
 abbrev pub script_too_long : Ending
 script_too_long = refusal 4 (codes "script refused: longer than 16777216 bytes")
@@ -39,6 +42,12 @@ runaway_at_start = refusal 6 (codes "runaway at start")
 
 abbrev pub read_fault : Ending
 read_fault = refusal 7 (codes "read fault")
+
+-- ---- plans
+
+-- how many nodes a plan has
+abbrev pub nodes_ending : Tree → Ending
+nodes_ending tree = record { status = 0; text = line (codes "ok " ++ (decimal (count_of tree) ++ codes " nodes")) }
 
 -- ---- runs
 

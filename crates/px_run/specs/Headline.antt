@@ -1,11 +1,12 @@
 -- THE HEADLINE: what a call of the program emits, and which status it answers.
 use Rattle.std.specs.Prelude.{◌≡◌, ℕ, List, Option, Some, None}
+use Rattle.px_core.specs.Plan.{sites}
 use Rattle.px_ports.specs.Host.{Emits}
-use Rattle.px_run.specs.Ending.{Ending, usage, start_ending, DryRunEnds}
+use Rattle.px_run.specs.Ending.{Ending, usage, nodes_ending, start_ending, DryRunEnds}
 use Rattle.px_run.specs.File.{After}
 use Rattle.px_run.specs.Kinds.{plan_file, script_file}
 use Rattle.px_run.specs.View.{View, Faulted, EmitsPart}
-use Rattle.px_run.specs.Words.{Command, TraceStart, DryRun, command}
+use Rattle.px_run.specs.Words.{Command, TraceStart, DryRun, Check, command}
 
 -- the ending that a command and its files call for: the first refusal decides
 abbrev pub CommandCallsFor : Option Command → View → View → Ending → Type 0
@@ -13,7 +14,9 @@ CommandCallsFor None old new ending = ending ≡ usage
 CommandCallsFor (Some (TraceStart plan)) old new ending =
     After plan_file old new plan (λ tree ending. ending ≡ start_ending tree) ending
 CommandCallsFor (Some (DryRun plan script)) old new ending =
-    After plan_file old new plan (λ tree. After script_file old new script (DryRunEnds tree)) ending
+    After plan_file old new plan (λ tree. After (script_file (sites tree)) old new script (DryRunEnds tree)) ending
+CommandCallsFor (Some (Check plan)) old new ending =
+    After plan_file old new plan (λ tree ending. ending ≡ nodes_ending tree) ending
 
 abbrev pub CallsFor : List (List ℕ) → View → View → Ending → Type 0
 CallsFor words old new ending = CommandCallsFor (command words) old new ending

@@ -1,6 +1,7 @@
 pub mod Words
 pub mod Asked
 pub mod View
+pub mod PlanRefusal
 pub mod Ending
 pub mod File
 pub mod Kinds

@@ -8,6 +8,8 @@ use Rattle.px_sem.specs.Run.{settling_count}
 use Rattle.px_sem.specs.Text.{steps_text}
 use Rattle.px_sem.specs.declared.settling.StepFault.{StepFault}
 use Rattle.px_sem.specs.declared.settling.StepFault.TheVariants as steps
+use Rattle.px_syntax.specs.declared.fault.PlanFault.{PlanFault}
+use Rattle.px_syntax.specs.declared.fault.PlanFault.TheVariants as plans
 use Rattle.px_run.specs.declared.ending.Status.{Status}
 use Rattle.px_run.specs.declared.ending.Status.TheVariants as statuses
 use Rattle.px_run.specs.declared.ending.Refusal.{Refusal}
@@ -16,7 +18,7 @@ use Rattle.px_run.specs.declared.ending.Stop.{Stop}
 use Rattle.px_run.specs.declared.ending.Stop.TheVariants as stops
 use Rattle.px_run.specs.declared.printer.PrintFault.{PrintFault}
 use Rattle.px_run.specs.declared.printer.PrintFault.TheVariants as faults
-use Rattle.px_run.specs.Ending.{Ending, usage, plan_too_long, plan_not_in_form, script_too_long, script_at_fault, runaway_at_start, read_fault}
+use Rattle.px_run.specs.Ending.{Ending, usage, plan_too_long, plan_at_fault, script_too_long, script_at_fault, runaway_at_start, read_fault}
 use Rattle.px_run.specs.File.{FileKind, Seen, Longer, Unreadable, Shows, Refuses}
 use Rattle.px_run.specs.View.{View, Faulted, EmitsPart}
 
@@ -33,7 +35,7 @@ number_of statuses.NoMemory = 10
 abbrev pub ending_of : Refusal → Ending
 ending_of refusals.Usage = usage
 ending_of refusals.PlanTooLong = plan_too_long
-ending_of refusals.PlanNotInForm = plan_not_in_form
+ending_of (refusals.PlanAtFault fault) = plan_at_fault fault
 ending_of refusals.ScriptTooLong = script_too_long
 ending_of (refusals.ScriptAtFault line kind) = script_at_fault line kind
 ending_of refusals.RunawayAtStart = runaway_at_start
@@ -42,6 +44,10 @@ ending_of refusals.ReadFault = read_fault
 abbrev pub stop_of : PrintFault → Stop
 stop_of faults.SinkFailed = stops.SinkFailed
 stop_of faults.NoMemory = stops.NoMemory
+
+abbrev pub stop_of_plan : PlanFault → Stop
+stop_of_plan plans.NoMemory = stops.NoMemory
+stop_of_plan fault = stops.Refused (refusals.PlanAtFault fault)
 
 abbrev pub stop_of_start : StepFault → Stop
 stop_of_start steps.Runaway = stops.Refused refusals.RunawayAtStart

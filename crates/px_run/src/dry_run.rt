@@ -45,7 +45,7 @@ fn dry_run_plan<H: Host, S: Stepper>(
 ) -> Result<(), Stop>
     requires fit { IsFit (tree_of plan.now) }
     ensures performs { Performs (view H.Host host.old) (view H.Host host.new)
-        (After script_file (view H.Host host.old) (view H.Host host.new) script.now (DryRunEnds (tree_of plan.now)))
+        (After (script_file (sites (tree_of plan.now))) (view H.Host host.old) (view H.Host host.new) script.now (DryRunEnds (tree_of plan.now)))
         result }
     ensures keeps { KeepsFiles (view H.Host host.old) (view H.Host host.new) }
 {

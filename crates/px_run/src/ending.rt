@@ -4,8 +4,10 @@ ghost use Rattle.std.specs.String.{string_bytes};
 ghost use Rattle.px_run.specs.declared.ending.Stop.TheVariants.{NoMemory as OutOfMemory};
 ghost use Rattle.px_run.specs.Ending.{script_at_fault};
 
+use crate::plan_refusal::plan_refusal;
 use crate::printer::PrintFault;
 use px_sem::StepFault;
+use px_syntax::PlanFault;
 use px_value::NoMemory;
 use std::alloc::Global;
 
@@ -16,7 +18,7 @@ pub enum Status {
     Done = 0,
     /// The words are no command.
     NoCommand = 2,
-    /// The plan is too long, or not in the form of plans.
+    /// The plan is too long, or no plan that can be run.
     PlanRefused = 3,
     /// The script is too long, or has a faulty line.
     ScriptRefused = 4,
@@ -30,13 +32,14 @@ pub enum Status {
 }
 
 /// Why a command is not carried out.
-#[derive(Clone, Copy, Debug, PartialEq, Eq)]
+#[derive(Debug, Drop, PartialEq, Eq)]
 pub enum Refusal {
     /// The words are no command.
     Usage,
     /// The plan has more bytes than the limit.
     PlanTooLong,
-    PlanNotInForm,
+    /// The bytes are no plan that can be run.
+    PlanAtFault(PlanFault),
     /// The script has more bytes than the limit.
     ScriptTooLong,
     /// A line of the script, counted from 1, has a fault of this kind.
@@ -48,7 +51,7 @@ pub enum Refusal {
 }
 
 /// Why a command came to no end of its own.
-#[derive(Clone, Copy, Debug, PartialEq, Eq)]
+#[derive(Debug, Drop, PartialEq, Eq)]
 pub enum Stop {
     /// It is refused, and has emitted nothing.
     Refused(Refusal),
@@ -66,6 +69,19 @@ impl From<PrintFault> for Stop {
         match fault {
             PrintFault::SinkFailed => Stop::SinkFailed,
             PrintFault::NoMemory => Stop::NoMemory,
+        }
+    }
+}
+
+impl From<PlanFault> for Stop {
+    ghost use Rattle.px_run.specs.Stops.{stop_of_plan};
+
+    ghost from_gives = { λ fault stop. stop ≡ stop_of_plan fault };
+
+    fn from(fault: PlanFault) -> Self {
+        match fault {
+            PlanFault::NoMemory => Stop::NoMemory,
+            fault => Stop::Refused(Refusal::PlanAtFault(fault)),
         }
     }
 }
@@ -106,12 +122,12 @@ impl Refusal {
     ghost use Rattle.px_run.specs.Stops.{number_of, ending_of};
 
     /// The status of the refusal.
-    pub fn status(self) -> Status
-        ensures { number_of result ≡ (ending_of self).status }
+    pub fn status(&self) -> Status
+        ensures { number_of result ≡ (ending_of self.now).status }
     {
         match self {
             Refusal::Usage => Status::NoCommand,
-            Refusal::PlanTooLong | Refusal::PlanNotInForm => Status::PlanRefused,
+            Refusal::PlanTooLong | Refusal::PlanAtFault(_) => Status::PlanRefused,
             Refusal::ScriptTooLong | Refusal::ScriptAtFault { .. } => Status::ScriptRefused,
             Refusal::RunawayAtStart => Status::Runaway,
             Refusal::ReadFault => Status::ReadFault,
@@ -119,18 +135,18 @@ impl Refusal {
     }
 
     /// The line that gives the reason.
-    pub fn text(self, alloc: Global) -> Result<String, NoMemory>
-        ensures { IfOk result (λ text. string_bytes text ≡ (ending_of self).text) }
+    pub fn text(&self, alloc: Global) -> Result<String, NoMemory>
+        ensures { IfOk result (λ text. string_bytes text ≡ (ending_of self.now).text) }
     {
         let text = match self {
             Refusal::Usage => {
                 "usage: plexil trace-start PLAN | dry-run PLAN SCRIPT | run PLAN SCRIPT JOURNAL [--events N] | resume SCRIPT JOURNAL [--events N] | trace JOURNAL | check PLAN | format PLAN | soak COUNT SEED JOURNAL\n"
             }
             Refusal::PlanTooLong => "plan refused: longer than 1048576 bytes\n",
-            Refusal::PlanNotInForm => "plan refused: first form\n",
+            Refusal::PlanAtFault(fault) => return plan_refusal(alloc, fault),
             Refusal::ScriptTooLong => "script refused: longer than 16777216 bytes\n",
             Refusal::ScriptAtFault { line, kind } => {
-                return script_at_fault(alloc, line, kind);
+                return script_at_fault(alloc, *line, *kind);
             }
             Refusal::RunawayAtStart => "runaway at start\n",
             Refusal::ReadFault => "read fault\n",

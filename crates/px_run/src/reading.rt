@@ -2,7 +2,7 @@
 ghost use Rattle.std.specs.Prelude.{◌≡◌, IfOk, IfErr, IsTrue};
 ghost use Rattle.std.specs.List.{list_all};
 ghost use Rattle.px_core.specs.Fit.{IsFit};
-ghost use Rattle.px_core.specs.Plan.{tree_of};
+ghost use Rattle.px_core.specs.Plan.{tree_of, sites};
 ghost use Rattle.px_script.specs.Fit.{IsFitScript};
 ghost use Rattle.px_run.specs.File.{Content, Shows, Reads};
 ghost use Rattle.px_run.specs.Kinds.{plan_file, script_file};
@@ -10,14 +10,11 @@ ghost use Rattle.px_run.specs.Stops.{StopsFetching, StopsReading};
 ghost use Rattle.px_run.specs.View.{view, OnlyReads};
 
 use crate::ending::{Refusal, Stop};
+use px_compile::{TEXT_LIMIT, compile};
 use px_core::Plan;
-use px_form::{ReadFault, read_plan};
 use px_ports::{Fetched, Host, HostFault};
 use px_script::{SCRIPT_LIMIT, Script, ScriptFault, read_script};
 use std::alloc::Global;
-
-/// The most bytes of a plan's file.
-const PLAN_LIMIT: usize = 1_048_576;
 
 /// Reads the plan in the file of this name.
 pub fn fetch_plan<H: Host>(alloc: Global, name: &str, host: &mut H) -> Result<Plan, Stop>
@@ -28,12 +25,8 @@ pub fn fetch_plan<H: Host>(alloc: Global, name: &str, host: &mut H) -> Result<Pl
         (StopsReading plan_file (view H.Host host.old) (view H.Host host.new) name.now) }
     ensures only { OnlyReads (view H.Host host.old) (view H.Host host.new) }
 {
-    let bytes = fetch_bytes(alloc, name, PLAN_LIMIT, Refusal::PlanTooLong, host)?;
-    match read_plan(alloc, &bytes) {
-        Ok(plan) => Ok(plan),
-        Err(ReadFault::NotInForm) => Err(Stop::Refused(Refusal::PlanNotInForm)),
-        Err(ReadFault::NoMemory) => Err(Stop::NoMemory),
-    }
+    let bytes = fetch_bytes(alloc, name, TEXT_LIMIT, Refusal::PlanTooLong, host)?;
+    Ok(compile(alloc, &bytes)?)
 }
 
 /// Reads the script for this plan in the file of this name.
@@ -45,10 +38,10 @@ pub fn fetch_script<H: Host>(
 ) -> Result<Script, Stop>
     requires { IsFit (tree_of plan.now) }
     ensures ok { IfOk result (λ script.
-        Reads script_file (view H.Host host.old) (view H.Host host.new) name.now script.threads) }
+        Reads (script_file (sites (tree_of plan.now))) (view H.Host host.old) (view H.Host host.new) name.now script.threads) }
     ensures fit { IfOk result (λ script. IsFitScript script) }
     ensures err { IfErr result
-        (StopsReading script_file (view H.Host host.old) (view H.Host host.new) name.now) }
+        (StopsReading (script_file (sites (tree_of plan.now))) (view H.Host host.old) (view H.Host host.new) name.now) }
     ensures only { OnlyReads (view H.Host host.old) (view H.Host host.new) }
 {
     let bytes = fetch_bytes(alloc, name, SCRIPT_LIMIT, Refusal::ScriptTooLong, host)?;

@@ -6,6 +6,7 @@ ghost use Rattle.px_run.specs.Headline.{Headline, CallsFor, Delivers};
 ghost use Rattle.px_run.specs.Stops.{Performs, number_of, ending_of};
 ghost use Rattle.px_run.specs.View.{view, OnlyPrints, KeepsFiles};
 
+use crate::check::check;
 use crate::dry_run::dry_run;
 use crate::ending::{Refusal, Status, Stop};
 use crate::printer::{PrintFault, emit_all};
@@ -23,7 +24,7 @@ use std::alloc::Global;
 /// |---|---|
 /// | 0 | the command was carried out to its end |
 /// | 2 | the words are no command |
-/// | 3 | the plan's file has over 1,048,576 bytes, or spells no plan |
+/// | 3 | the plan's file has over 1,048,576 bytes, or spells no plan that can be run |
 /// | 4 | the script's file has over 16,777,216 bytes, or a faulty line |
 /// | 6 | the start of the plan does not settle |
 /// | 7 | the plan's or the script's file could not be read |
@@ -86,6 +87,7 @@ fn carry_out<H: Host, S: Stepper>(alloc: Global, words: &[String], host: &mut H)
         None => Err(Stop::Refused(Refusal::Usage)),
         Some(Command::TraceStart { plan }) => trace_start::<H, S>(alloc, plan, host),
         Some(Command::DryRun { plan, script }) => dry_run::<H, S>(alloc, plan, script, host),
+        Some(Command::Check { plan }) => check(alloc, plan, host),
     }
 }
 

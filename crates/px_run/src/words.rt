@@ -11,6 +11,8 @@ pub enum Command<'a> {
     TraceStart { plan: &'a str },
     /// Posts the script's lines in their order, and prints the text of the log.
     DryRun { plan: &'a str, script: &'a str },
+    /// Prints how many nodes the plan has.
+    Check { plan: &'a str },
 }
 
 // The operands: the words before `--`, and those after it.
@@ -33,6 +35,7 @@ impl<'a> Command<'a> {
         match name.as_str() {
             "trace-start" => Operands::of(words)?.trace_start(),
             "dry-run" => Operands::of(words)?.dry_run(),
+            "check" => Operands::of(words)?.check(),
             _ => None,
         }
     }
@@ -40,7 +43,7 @@ impl<'a> Command<'a> {
 
 impl<'a> Operands<'a> {
     ghost use Rattle.px_run.specs.Asked.{asked, listed};
-    ghost use Rattle.px_run.specs.Words.{trace_start, dry_run};
+    ghost use Rattle.px_run.specs.Words.{of_one, of_two, TraceStart, DryRun, Check};
 
     fn of(words: &'a [String]) -> Option<Operands<'a>>
         ensures { option_map listed result ≡ operands (map string_bytes words.now) }
@@ -64,7 +67,7 @@ impl<'a> Operands<'a> {
 
     #[tactic(auto, using(crate::proofs::Operating::one_is, crate::proofs::Operating::not_one))]
     fn trace_start(self) -> Option<Command<'a>>
-        ensures { option_map asked result ≡ trace_start (listed self.entry) }
+        ensures { option_map asked result ≡ of_one TraceStart (listed self.entry) }
     {
         if self.len() != 1 {
             return None;
@@ -72,9 +75,19 @@ impl<'a> Operands<'a> {
         Some(Command::TraceStart { plan: self.get(0) })
     }
 
+    #[tactic(auto, using(crate::proofs::Operating::one_is, crate::proofs::Operating::not_one))]
+    fn check(self) -> Option<Command<'a>>
+        ensures { option_map asked result ≡ of_one Check (listed self.entry) }
+    {
+        if self.len() != 1 {
+            return None;
+        }
+        Some(Command::Check { plan: self.get(0) })
+    }
+
     #[tactic(auto, using(crate::proofs::Operating::two_are, crate::proofs::Operating::not_two))]
     fn dry_run(self) -> Option<Command<'a>>
-        ensures { option_map asked result ≡ dry_run (listed self.entry) }
+        ensures { option_map asked result ≡ of_two DryRun (listed self.entry) }
     {
         if self.len() != 2 {
             return None;

@@ -1,6 +1,16 @@
 pub mod Texts
+pub mod Cuts
+pub mod Quotes
+pub mod Nodes
+pub mod Handles
+pub mod Integers
+pub mod Settings
+pub mod Saids
+pub mod Signs
+pub mod Strings
 pub mod Orders
 pub mod Equality
 pub mod Fitness
 pub mod Leaf
 pub mod Reading
+pub mod Rests

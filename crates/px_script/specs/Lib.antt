@@ -2,8 +2,14 @@ pub mod Equality
 pub mod Fault
 pub mod Fit
 pub mod LineEquality
+pub mod NodeLine
 pub mod Order
 pub mod ParsedLine
+pub mod Place
+pub mod Rest
 pub mod Script
+pub mod SetLine
+pub mod Setting
 pub mod Text
 pub mod TodoEquality
+pub mod Value

@@ -1,4 +1,4 @@
--- The script that bytes spell.
+-- The script that bytes spell over a plan.
 use Rattle.std.specs.Prelude.{◌≡◌, ℕ, nat_le, nat_lt, List, [], ◌∷◌, map, Option, Some, None, if◌then◌else◌}
 use Rattle.std.specs.List.{filter_map, count_by, enumerate_from}
 use Rattle.px_script.specs.declared.fault.FaultKind.{FaultKind}
@@ -8,6 +8,7 @@ use Rattle.px_script.specs.declared.fault.ScriptFault.TheVariants as faults
 use Rattle.px_script.specs.declared.line.Line.{Line}
 use Rattle.px_script.specs.declared.line.What.TheVariants as whats
 use Rattle.px_script.specs.declared.todo.Todo.{Todo}
+use Rattle.px_core.specs.Plan.{Site}
 use Rattle.px_script.specs.Text.{lines_of}
 use Rattle.px_script.specs.declared.parsed_line.ParsedLine.{ParsedLine}
 use Rattle.px_script.specs.declared.parsed_line.ParsedLine.TheVariants.{Nothing, Posts, Faulty}
@@ -20,8 +21,8 @@ pub data Reading : Type 0 where
   Fault : (line kind : ℕ) → Reading
 
 -- what each line says, with the line's number
-abbrev pub parsed_lines : List ℕ → List (ℕ × ParsedLine)
-parsed_lines bytes = enumerate_from 1 (map parsed_line (lines_of bytes))
+abbrev pub parsed_lines : List Site → List ℕ → List (ℕ × ParsedLine)
+parsed_lines plan bytes = enumerate_from 1 (map (parsed_line plan) (lines_of bytes))
 
 -- what a line posts
 abbrev pub post_of : ℕ × ParsedLine → Option Line
@@ -57,9 +58,9 @@ by_faults ((line, kind) ∷ later) lines = Fault line (number_of kind)
 abbrev pub reading : List (ℕ × ParsedLine) → Reading
 reading lines = by_faults (filter_map (fault_in lines) lines) (posts lines)
 
--- the script that bytes spell, or its first fault
-abbrev pub script : List ℕ → Reading
-script bytes = reading (parsed_lines bytes)
+-- the script that bytes spell over the nodes of a plan, or its first fault
+abbrev pub script : List Site → List ℕ → Reading
+script plan bytes = reading (parsed_lines plan bytes)
 
 -- the fault is what is read, and want of memory says nothing of it
 abbrev pub IsFaultOf : Reading → ScriptFault → Type 0

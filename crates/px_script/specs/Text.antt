@@ -1,6 +1,6 @@
 -- Lines, and parts of lines.
-use Rattle.std.specs.Prelude.{ℕ, ◌-◌, Bool, ◌||◌, ◌==◌, List, [], length, take, drop, Option, Some, None}
-use Rattle.std.specs.List.{prefix_len, suffix_len, slice_split, before_first, after_first}
+use Rattle.std.specs.Prelude.{ℕ, ◌-◌, Bool, true, false, ◌||◌, ◌==◌, List, [], ◌∷◌, length, take, drop, Option, Some, None}
+use Rattle.std.specs.List.{prefix_len, suffix_len, position_or_len, slice_split, before_first}
 use Rattle.std.specs.Str.Lines.{strip_carriage_return}
 
 -- a blank or a tab
@@ -30,9 +30,13 @@ trim text = trim_end (trim_start text)
 abbrev pub content : List ℕ → List ℕ
 content line = trim (strip_carriage_return line)
 
--- the first word of a text, and what stands behind the blank after it
+-- the first word of a text, and what stands behind it, from the next word on
 abbrev pub first_word : List ℕ → List ℕ
 first_word text = before_first is_blank text
 
 abbrev pub behind_word : List ℕ → List ℕ
-behind_word text = after_first is_blank text
+behind_word text = trim_start (drop (position_or_len is_blank text) text)
+
+abbrev pub is_nothing : List ℕ → Bool
+is_nothing [] = true
+is_nothing (c ∷ cs) = false

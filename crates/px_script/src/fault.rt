@@ -11,6 +11,10 @@ use thiserror::Error;
 pub(crate) enum FaultKind {
     /// It has none of the shapes of a line.
     BadLine = 1,
+    /// The plan has no such node, or one of another kind.
+    BadNode = 2,
+    /// A VALUE spells none.
+    BadValue = 3,
     /// It comes after as many lines of its thread as there may be.
     TooManyLines = 5,
 }
@@ -33,8 +37,8 @@ impl FaultKind {
 /// Why bytes were not read as a script.
 #[derive(Debug, Drop, PartialEq, Eq, Error)]
 pub enum ScriptFault {
-    /// The first faulty line, counted from 1, and what is wrong with it: 1, it has none of the shapes of a line; 5, it
-    /// is the 100,001st post of its thread.
+    /// The first faulty line, counted from 1, and what is wrong with it: 1, it has none of the shapes of a line; 2, the
+    /// plan has no such node, or one of another kind; 3, a VALUE spells none; 5, it is the 100,001st post of its thread.
     #[error("line {line}: fault of kind {kind}")]
     Fault { line: u32, kind: u8 },
     #[error("out of memory")]

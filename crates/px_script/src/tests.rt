@@ -1,7 +1,7 @@
 // Which bytes are read as which script, and which are at fault where; and which entries a script posts in which order.
-ghost use Rattle.std.specs.Prelude.{◌≡◌, IsTrue, IfOk};
-ghost use Rattle.px_core.specs.Fit.{IsFit};
-ghost use Rattle.px_core.specs.Plan.{tree_of};
+ghost use Rattle.std.specs.Prelude.{◌≡◌, ◌≢◌, [], IsTrue, IfOk};
+ghost use Rattle.px_core.specs.Fit.{IsFit, is_body_of, terms_of, targets_of};
+ghost use Rattle.px_core.specs.Plan.{tree_of, body_data};
 ghost use Rattle.px_core.specs.Expr.{Literal, term_of};
 ghost use Rattle.px_event.specs.Fit.{is_fit_event};
 ghost use Rattle.px_script.specs.Fit.{is_fit_line, IsFitScript};
@@ -10,7 +10,7 @@ ghost use Rattle.px_value.specs.Name.{is_identifier};
 use super::*;
 use px_core::{Body, Conditions, CoreNode, Expr, Kind, Plan};
 use px_event::{Cond, Entry, Event, Values};
-use px_value::{Name, NoMemory, Value};
+use px_value::{Handle, Name, NoMemory, Path, Text, Value};
 use std::alloc::Global;
 use std::test::Fail;
 
@@ -20,13 +20,34 @@ fn truth(value: bool) -> Expr
     Expr::Literal(Value::Boolean(value))
 }
 
-/// A plan of one Empty node.
-fn plan(alloc: Global) -> Result<Plan, NoMemory>
+/// The body of a node of this kind, which speaks of nothing.
+fn body(alloc: Global, kind: Kind) -> Result<Body, NoMemory>
+    requires { kind ≢ Kind.Assignment }
+    ensures own { IfOk result (λ body. IsTrue (is_body_of kind (body_data body))) }
+    ensures terms { IfOk result (λ body. terms_of (body_data body) ≡ []) }
+    ensures targets { IfOk result (λ body. targets_of (body_data body) ≡ []) }
+{
+    Ok(match kind {
+        Kind::Command => Body::Command {
+            name: Name::generated(alloc, 1)?,
+            args: Vec::new(alloc),
+            result: None,
+        },
+        Kind::Update => Body::Update {
+            pairs: Vec::new(alloc),
+        },
+        Kind::List | Kind::Empty | Kind::Assignment => Body::Nothing,
+    })
+}
+
+/// A plan of one node of this kind, `#1`.
+fn plan(alloc: Global, kind: Kind) -> Result<Plan, NoMemory>
+    requires { kind ≢ Kind.Assignment }
     ensures { IfOk result (λ plan. IsFit (tree_of plan)) }
 {
     let root = CoreNode {
         name: Name::generated(alloc, 1)?,
-        kind: Kind::Empty,
+        kind,
         conditions: Conditions {
             start: truth(true),
             end: truth(true),
@@ -39,19 +60,48 @@ fn plan(alloc: Global) -> Result<Plan, NoMemory>
         },
         priority: 100000,
         variables: Vec::new(alloc),
-        body: Body::Nothing,
+        body: body(alloc, kind)?,
         children: Vec::new(alloc),
     };
     Ok(Plan { root })
 }
 
-/// What is read of at most 16,777,216 bytes.
-fn read(alloc: Global, bytes: &[u8]) -> Result<Script, ScriptFault> {
-    let plan = plan(alloc)?;
+/// What is read of at most 16,777,216 bytes over a plan of one node of this kind, which is no Assignment.
+fn read_over(alloc: Global, kind: Kind, bytes: &[u8]) -> Result<Script, ScriptFault> {
     if bytes.len() > SCRIPT_LIMIT {
         return Err(ScriptFault::NoMemory);
     }
+    let plan = match kind {
+        Kind::Assignment => return Err(ScriptFault::NoMemory),
+        kind => plan(alloc, kind)?,
+    };
     read_script(alloc, bytes, &plan)
+}
+
+fn read(alloc: Global, bytes: &[u8]) -> Result<Script, ScriptFault> {
+    read_over(alloc, Kind::Empty, bytes)
+}
+
+/// The script of one line that posts an event.
+fn of_event(alloc: Global, event: Event) -> Result<Script, Fail> {
+    let line = Line {
+        number: 1,
+        what: What::Post(event),
+    };
+    of_lines(alloc, vec![in alloc; line]?)
+}
+
+/// A report with arguments.
+fn asked(alloc: Global, args: Vec<Value>, value: Value) -> Result<Event, Fail> {
+    Ok(Event::Report {
+        name: Name::new(alloc, "x")?,
+        args: args.into(),
+        value,
+    })
+}
+
+fn text(alloc: Global, content: &str) -> Result<Value, Fail> {
+    Ok(Value::Text(Text::new(alloc, content)?))
 }
 
 /// A report without arguments; no value stands for UNKNOWN.
@@ -166,12 +216,119 @@ fn a_script_without_a_post_has_no_thread(rt: HostRuntime) -> Result<(), Fail> {
 }
 
 #[test]
-fn a_line_of_another_shape_is_of_kind_1(rt: HostRuntime) {
-    for (text, line) in [
-        ("set x = 7", 1),
-        ("set x = \"on\"", 1),
-        ("set x =", 1),
-        ("set x", 1),
+fn integers_are_decimal(rt: HostRuntime) -> Result<(), Fail> {
+    let alloc = rt.alloc();
+    for (line, number) in [
+        ("set x = 7", 7),
+        ("set x=-7", -7),
+        ("set x = 0000000007", 7),
+        ("set x = -0", 0),
+        ("set x = 2147483647", i32::MAX),
+        ("set x = -2147483648", i32::MIN),
+    ] {
+        let want = asked(alloc, Vec::new(alloc), Value::Integer(number))?;
+        assert!(rt;
+            read(alloc, line.as_bytes())? == of_event(alloc, want)?,
+            "{line}"
+        );
+    }
+    Ok(())
+}
+
+#[test]
+fn strings_are_those_of_plans(rt: HostRuntime) -> Result<(), Fail> {
+    let alloc = rt.alloc();
+    for (line, content) in [
+        ("set x = \"\"", ""),
+        ("set x = \"true\"", "true"),
+        ("set x = \"é, (=)\t// \"", "é, (=)\t// "),
+        ("set x = \"\\\"=\\\\\\n\\t\"", "\"=\\\n\t"),
+    ] {
+        let want = asked(alloc, Vec::new(alloc), text(alloc, content)?)?;
+        assert!(rt;
+            read(alloc, line.as_bytes())? == of_event(alloc, want)?,
+            "{line}"
+        );
+    }
+    Ok(())
+}
+
+#[test]
+fn a_report_has_up_to_8_arguments(rt: HostRuntime) -> Result<(), Fail> {
+    let alloc = rt.alloc();
+    for (line, count) in [
+        ("set x(1)=false", 1),
+        ("set\tx ( 1 ,\t2 ) = false", 2),
+        ("set x(1,2,3,4,5,6,7,8) = false", 8),
+    ] {
+        let mut args = Vec::new(alloc);
+        for number in 0..count {
+            args.push(Value::Integer(number + 1))?;
+        }
+        let want = asked(alloc, args, Value::Boolean(false))?;
+        assert!(rt;
+            read(alloc, line.as_bytes())? == of_event(alloc, want)?,
+            "{line}"
+        );
+    }
+    let args = vec![in alloc; text(alloc, "a,)")?]?;
+    let want = asked(alloc, args, Value::Unknown)?;
+    assert!(rt; read(alloc, b"set x(\"a,)\")=UNKNOWN")? == of_event(alloc, want)?);
+    Ok(())
+}
+
+#[test]
+fn a_line_tells_of_a_command(rt: HostRuntime) -> Result<(), Fail> {
+    let alloc = rt.alloc();
+    for (line, handle) in [
+        (
+            "handle #1 COMMAND_SENT_TO_SYSTEM",
+            Handle::CommandSentToSystem,
+        ),
+        ("handle #1 COMMAND_ACCEPTED", Handle::CommandAccepted),
+        (
+            "handle  #1 COMMAND_RCVD_BY_SYSTEM",
+            Handle::CommandRcvdBySystem,
+        ),
+        ("handle #1 COMMAND_FAILED", Handle::CommandFailed),
+        ("handle #1 COMMAND_DENIED", Handle::CommandDenied),
+        ("handle #1\tCOMMAND_SUCCESS", Handle::CommandSuccess),
+    ] {
+        let node = Path::new(alloc, "#1")?;
+        let want = Event::Handle { node, handle };
+        assert!(rt;
+            read_over(alloc, Kind::Command, line.as_bytes())? == of_event(alloc, want)?,
+            "{line}"
+        );
+    }
+    let node = Path::new(alloc, "#1")?;
+    let want = Event::AbortDone { node };
+    assert!(rt; read_over(alloc, Kind::Command, b"abort #1")? == of_event(alloc, want)?);
+    Ok(())
+}
+
+#[test]
+fn a_line_tells_of_a_return_or_an_update(rt: HostRuntime) -> Result<(), Fail> {
+    let alloc = rt.alloc();
+    for (line, content) in [("return #1 \"a b\"", "a b"), ("return\t#1  \"=(\"", "=(")] {
+        let node = Path::new(alloc, "#1")?;
+        let value = text(alloc, content)?;
+        let want = Event::Return { node, value };
+        assert!(rt;
+            read_over(alloc, Kind::Command, line.as_bytes())? == of_event(alloc, want)?,
+            "{line}"
+        );
+    }
+    let node = Path::new(alloc, "#1")?;
+    let want = Event::Acknowledged { node };
+    assert!(rt; read_over(alloc, Kind::Update, b"ack #1")? == of_event(alloc, want)?);
+    Ok(())
+}
+
+#[test]
+fn the_first_kind_of_a_line_at_fault_is_told(rt: HostRuntime) {
+    for (text, kind) in [
+        ("set x y", 1),
         ("set", 1),
         ("set =", 1),
         ("set = true", 1),
@@ -179,29 +336,96 @@ fn a_line_of_another_shape_is_of_kind_1(rt: HostRuntime) {
         ("setx = true", 1),
         ("set=true", 1),
         ("Set x = true", 1),
-        ("set x = true false", 1),
         ("set x = true = false", 1),
+        ("set x = 1, ", 1),
         ("set x == true", 1),
-        ("set x = True", 1),
-        ("set x = unknown", 1),
-        ("set x = truer", 1),
         ("set x y = true", 1),
         ("set 2x = true", 1),
         ("set #1 = true", 1),
         ("set x.y = true", 1),
         ("set é = true", 1),
-        ("thread 2", 1),
-        ("x", 1),
-        ("set x = true # so", 1),
-        ("set x = true\r\r\n", 1),
         ("set x = true\rset y = true", 1),
-        ("set x = true \r \n", 1),
-        ("\n# a\nx", 3),
-        ("set x = true\r\n\r\nx\r\n", 3),
-        ("set x = true\nx\ny", 2),
-        ("x\nset x = true", 1),
+        ("set x(1 = 2", 1),
+        ("set x(1) y = 2", 1),
+        ("set (1) = 2", 1),
+        ("set x(1)(2) = 3", 1),
+        ("set x(\"a) = 1", 1),
+        ("set x(1,2,3,4,5,6,7,8,9) = 1", 1),
+        ("return #1", 1),
+        ("return", 1),
+        ("handle #1", 1),
+        ("handle #1 COMMAND_DONE", 1),
+        ("handle B command_success", 1),
+        ("handle #1 COMMAND_SUCCESS 1", 1),
+        ("abort", 1),
+        ("abort #1 #1", 1),
+        ("ack", 1),
+        ("thread 2", 1),
+        ("wait events 1", 1),
+        ("go", 1),
+        ("handle B COMMAND_SUCCESS", 2),
+        ("handle #1.#1 COMMAND_SUCCESS", 2),
+        ("ack #1", 2),
+        ("ack a..b", 2),
+        ("abort \"#1\"", 2),
+        ("return B 1 2", 2),
+        ("set x =", 3),
+        ("set x() = 1", 3),
+        ("set x(1,) = 2", 3),
+        ("set x(UNKNOWN) = 1", 3),
+        ("set x(a) = b", 3),
+        ("set x = 2147483648", 3),
+        ("set x = -2147483649", 3),
+        ("set x = 00000000001", 3),
+        ("set x = +1", 3),
+        ("set x = - 1", 3),
+        ("set x = -", 3),
+        ("set x = 0x1", 3),
+        ("set x = 1.5", 3),
+        ("set x = true false", 3),
+        ("set x = True", 3),
+        ("set x = unknown", 3),
+        ("set x = truer", 3),
+        ("set x = true # so", 3),
+        ("set x = true\r\r\n", 3),
+        ("set x = true \r \n", 3),
+        ("set x = \"a", 3),
+        ("set x = \"", 3),
+        ("set x = \"a\" \"b\"", 3),
+        ("set x = \"a\" // \"", 3),
+        ("set x = /**/\"a\"", 3),
+        ("set x = \"a\rb\"", 3),
+        ("set x = \"a\\rb\"", 3),
+        ("set x = \"a\\\"", 3),
+        ("return #1 (1)", 3),
+        ("return #1 1 2", 3),
+        ("return #1 COMMAND_SUCCESS", 3),
     ] {
-        let want = Some(ScriptFault::Fault { line, kind: 1 });
+        let want = Some(ScriptFault::Fault { line: 1, kind });
+        assert!(rt;
+            read_over(rt.alloc(), Kind::Command, text.as_bytes()).err() == want,
+            "{text}"
+        );
+    }
+    let want = Some(ScriptFault::Fault { line: 1, kind: 2 });
+    for text in ["handle #1 COMMAND_DENIED", "return #1 x", "abort #1"] {
+        assert!(rt;
+            read_over(rt.alloc(), Kind::Update, text.as_bytes()).err() == want,
+            "{text}"
+        );
+    }
+}
+
+#[test]
+fn the_first_faulty_line_is_told(rt: HostRuntime) {
+    for (text, line, kind) in [
+        ("\n# a\nx", 3, 1),
+        ("set x = true\r\n\r\nx\r\n", 3, 1),
+        ("set x = 1\nack B\nx", 2, 2),
+        ("set x = 1\nset x =\nx", 2, 3),
+        ("x\nset x =", 1, 1),
+    ] {
+        let want = Some(ScriptFault::Fault { line, kind });
         assert!(rt; read(rt.alloc(), text.as_bytes()).err() == want, "{text}");
     }
 }

@@ -10,7 +10,7 @@ ghost use Rattle.px_script.specs.Text.{is_blank, lines_of, lines_left, trim_star
 pub(crate) fn split_line(text: &[u8]) -> (&[u8], Option<&[u8]>)
     ensures { lines_of text.now ≡ result.0.now ∷ lines_left (option_copied result.1) }
 {
-    let end = place_of(text, b'\n');
+    let end = line_length(text);
     if end < text.len() {
         (&text[..end], Some(&text[end + 1..]))
     } else {
@@ -19,34 +19,27 @@ pub(crate) fn split_line(text: &[u8]) -> (&[u8], Option<&[u8]>)
 }
 
 /// Whether a text is the word.
-pub(crate) fn is_word(text: &[u8], word: &str) -> bool
-    ensures { result ≡ is_same text.now word.now }
+pub(crate) fn is_word(text: &str, word: &str) -> bool
+    ensures { result ≡ is_same word.now text.now }
 {
-    text == word.as_bytes()
+    word.as_bytes() == text.as_bytes()
 }
 
-/// The first word of a text, and what is behind the blank after it.
-pub(crate) fn split_word(text: &[u8]) -> (&[u8], &[u8])
+/// The first word of a text, and what is behind it, from the next word on.
+pub(crate) fn split_word(text: &str) -> (&str, &str)
     ensures word { result.0.now ≡ first_word text.now }
     ensures behind { result.1.now ≡ behind_word text.now }
 {
-    around(text, word_length(text))
+    let (word, behind) = text.split_at(word_length(text.as_bytes()));
+    (word, trim_start(behind))
 }
 
-/// What stands before the first such byte, and what behind it; all and nothing where there is none.
-pub(crate) fn split_at(text: &[u8], byte: u8) -> (&[u8], &[u8])
-    ensures before { result.0.now ≡ before_first (λ c. c == byte) text.now }
-    ensures behind { result.1.now ≡ after_first (λ c. c == byte) text.now }
-{
-    around(text, place_of(text, byte))
-}
-
-/// Where the first such byte is, or how many bytes there are.
-fn place_of(text: &[u8], byte: u8) -> usize
-    ensures place { result ≡ position_or_len (λ c. c == byte) text.now }
+/// How many bytes stand before the first line feed, or how many there are.
+fn line_length(text: &[u8]) -> usize
+    ensures place { result ≡ position_or_len (λ c. c == 10) text.now }
     ensures within { result ≤ length text.now }
 {
-    text.iter().take_while(|c| **c != byte).count()
+    text.iter().take_while(|c| **c != b'\n').count()
 }
 
 /// How many bytes stand before the first blank, or how many there are.
@@ -57,43 +50,27 @@ fn word_length(text: &[u8]) -> usize
     text.iter().take_while(|c| !is_blank(**c)).count()
 }
 
-/// What stands before a place, and what behind the byte there.
-fn around(text: &[u8], place: usize) -> (&[u8], &[u8])
-    requires { place ≤ length text.now }
-    ensures before { result.0.now ≡ take place text.now }
-    ensures behind { result.1.now ≡ drop (place + 1) text.now }
-{
-    let (before, from) = text.split_at(place);
-    match from {
-        [_, behind @ ..] => (before, behind),
-        [] => (before, from),
-    }
-}
-
 /// What a line says: without the one carriage return at its end, and then without the blanks at both ends.
 pub(crate) fn content(line: &[u8]) -> &[u8]
     ensures { result.now ≡ content line.now }
 {
-    trim(strip_carriage_return(line))
+    let text = strip_carriage_return(line);
+    let text = &text[blanks_at_start(text)..];
+    &text[..text.len() - blanks_at_end(text)]
 }
 
 /// The text without the blanks at both ends.
-pub(crate) fn trim(text: &[u8]) -> &[u8]
+pub(crate) fn trim(text: &str) -> &str
     ensures { result.now ≡ trim text.now }
 {
-    trim_end(trim_start(text))
+    let text = trim_start(text);
+    &text[..text.len() - blanks_at_end(text.as_bytes())]
 }
 
-fn trim_start(text: &[u8]) -> &[u8]
+fn trim_start(text: &str) -> &str
     ensures { result.now ≡ trim_start text.now }
 {
-    &text[blanks_at_start(text)..]
-}
-
-fn trim_end(text: &[u8]) -> &[u8]
-    ensures { result.now ≡ trim_end text.now }
-{
-    &text[..text.len() - blanks_at_end(text)]
+    &text[blanks_at_start(text.as_bytes())..]
 }
 
 /// How many blanks the text begins with.

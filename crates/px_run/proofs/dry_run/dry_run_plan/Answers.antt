@@ -27,7 +27,7 @@ returns-in_err-print_log-clause-performs g c =
     let ends = posted_all tree threads (g.S.Stepper.state c.in_ok-stepper.stepper) session.log.items
     c.in_ok-entries.entries.items c.in_ok-stepper.ensures.settled c.in_ok-stepper.ensures.rest c.in_ok-entries.ensures.order
     c.in_ok-session.ensures.each c.in_ok-session.ensures.legal in
-    broken_off_behind (List Todo) script_file (view g.H.Host c.args.host.now) mid new c.args.script.now threads (DryRunEnds tree)
+    broken_off_behind (List Todo) (script_file (sites tree)) (view g.H.Host c.args.host.now) mid new c.args.script.now threads (DryRunEnds tree)
     (log_ending (sites tree) session.log.items) c.in_err-print_log.field-0.0 _ c.in_ok-fetch_script.ensures.ok c.in_ok-fetch_script.ensures.only
     c.in_err-print_log.ensures.only ends c.from_residual-in_err-print_log.ensures.1
     (prints_log mid new (sites tree) c.deref.result.now session.history.items c.deref-2.result.now session.log.items (Err c.in_err-print_log.field-0.0)
@@ -43,7 +43,7 @@ returns-clause-performs g c =
     let ends = posted_all tree threads (g.S.Stepper.state c.in_ok-stepper.stepper) session.log.items
     c.in_ok-entries.entries.items c.in_ok-stepper.ensures.settled c.in_ok-stepper.ensures.rest c.in_ok-entries.ensures.order
     c.in_ok-session.ensures.each c.in_ok-session.ensures.legal in
-    printed_behind (List Todo) script_file (view g.H.Host c.args.host.now) mid new c.args.script.now threads (DryRunEnds tree)
+    printed_behind (List Todo) (script_file (sites tree)) (view g.H.Host c.args.host.now) mid new c.args.script.now threads (DryRunEnds tree)
     (log_ending (sites tree) session.log.items) c.in_ok-fetch_script.ensures.ok c.in_ok-fetch_script.ensures.only c.in_ok-print_log.ensures.only ends refl
     (prints_log mid new (sites tree) c.deref.result.now session.history.items c.deref-2.result.now session.log.items (Ok tt)
     c.deref.ensures.value c.deref-2.ensures.value c.in_ok-session.ensures.history c.in_ok-print_log.ensures.prints)

@@ -1,0 +1,102 @@
+-- Where a text may be cut: round blanks and before signs.
+use Rattle.std.proofs.Common.{◌≡◌, ℕ, ◌+◌, ◌-◌, ◌<◌, ◌≤◌, Bool, true, false, List, [], ◌∷◌, zero, suc, length, get_or, reverse, take, drop, refl, sym, ap, ◌∙◌, subst, arith, inl, inr}
+use Rattle.std.specs.Char.{is_ascii}
+use Rattle.std.specs.List.{prefix_len, suffix_len, position_or_len}
+use Rattle.std.specs.Prelude.{not}
+use Rattle.std.specs.Str.{IsUtf8, IsCharBoundary}
+use Rattle.std.proofs.lemmas.Bool.{cases_Bool, cases_lt}
+use Rattle.std.proofs.lemmas.Bool.Decides.{nat_tests}
+use Rattle.std.proofs.lemmas.List.{get_or-reverse, length-reverse}
+use Rattle.std.proofs.lemmas.List.Sums.{passes_at_first, suffix_len-le-length}
+use Rattle.std.proofs.lemmas.Str.{IsCharBoundary-end, IsCharBoundary-before_ascii}
+use Rattle.px_value.proofs.Ascii.{list_all-weaker}
+use Rattle.px_lex.proofs.Cuts.{cut_behind}
+use Rattle.px_lex.proofs.Spans.{Span, span, prefix_within}
+use Rattle.px_script.specs.Place.{is_sign, ends_place, behind_byte, place_length}
+use Rattle.px_script.specs.Text.{is_blank}
+use Rattle.px_script.specs.declared.place.Quoting.{Quoting}
+use Rattle.px_script.specs.declared.place.Quoting.TheVariants.{Outside, Inside, Escaped}
+
+blank_small : (c : ℕ) → is_blank c ≡ true → c < 128
+blank_small c h = grind (arith, nat_tests)
+
+blank_ascii : (c : ℕ) → is_blank c ≡ true → is_ascii c ≡ true
+blank_ascii c h = grind (arith, nat_tests)
+
+sign_small : (c : ℕ) → is_sign c ≡ true → c < 128
+sign_small c h = grind (arith, nat_tests)
+
+-- behind the blanks at the front
+pub cut_start : (text : List ℕ) → IsUtf8 text → IsCharBoundary text (prefix_len is_blank text)
+cut_start text u =
+    let s : Span is_blank text = span is_blank text in
+    rw (← s.long) (cut_behind text s.front s.rest s.split (list_all-weaker is_blank is_ascii blank_ascii s.front s.pass) u)
+
+-- before the first blank
+pub cut_word : (text : List ℕ) → IsCharBoundary text (position_or_len is_blank text)
+cut_word text = elim (cases_lt (position_or_len is_blank text) (length text)) [
+  | inl inside ↦ IsCharBoundary-before_ascii text (position_or_len is_blank text) inside (blank_small _ (passes_at_first is_blank text 0 inside))
+  | inr out ↦
+      let end : position_or_len is_blank text ≡ length text = omega (arith, prefix_within (λ c. not (is_blank c)) text) in
+      rw end (IsCharBoundary-end text)
+]
+
+passes_within : (p : ℕ → Bool) (xs : List ℕ) (k : ℕ) → k < prefix_len p xs → p (get_or xs k 0) ≡ true
+passes_within p [] k within = absurd (omega arith)
+passes_within p (x ∷ xs) k within = elim (cases_Bool (p x)) [
+  | inl is ↦ by k is (rw is at within) (passes_within p xs)
+  | inr isnt ↦ let none : k < 0 = rw isnt at within in absurd (omega arith)
+]
+  where
+    by : (k : ℕ) → p x ≡ true → k < 1 + prefix_len p xs → ((k : ℕ) → k < prefix_len p xs → p (get_or xs k 0) ≡ true)
+        → p (get_or (x ∷ xs) k 0) ≡ true
+    by zero is within each = is
+    by (suc k) is within each = each k (omega arith)
+
+-- before the blanks at the end
+pub cut_end : (text : List ℕ) → IsCharBoundary text (length text - suffix_len is_blank text)
+cut_end text = elim (cases_lt 0 (suffix_len is_blank text)) [
+  | inl some ↦
+      let few : suffix_len is_blank text ≤ length text = suffix_len-le-length is_blank text in
+      let last : ℕ = suffix_len is_blank text - 1 in
+      let blank : is_blank (get_or text (length text - 1 - last) 0) ≡ true
+      = rw (← get_or-reverse text last 0 (omega arith)) (passes_within is_blank (reverse text) last (omega arith)) in
+      let place : length text - 1 - last ≡ length text - suffix_len is_blank text = omega arith in
+      IsCharBoundary-before_ascii text (length text - suffix_len is_blank text) (omega arith) (blank_small _ (rw (← place) blank))
+  | inr none ↦
+      let whole : length text - suffix_len is_blank text ≡ length text = omega arith in
+      rw whole (IsCharBoundary-end text)
+]
+
+-- ---- places
+
+place_within : (quoting : Quoting) (text : List ℕ) → place_length quoting text ≤ length text
+place_within quoting [] = omega arith
+place_within quoting (c ∷ cs) = elim (cases_Bool (ends_place quoting c)) [
+  | inl ends ↦ rw ends (omega arith)
+  | inr on ↦ rw on (omega (arith, place_within (behind_byte quoting c) cs))
+]
+
+ending_small : (quoting : Quoting) (c : ℕ) → ends_place quoting c ≡ true → c < 128
+ending_small Outside c h = sign_small c h
+ending_small Inside c h = cc
+ending_small Escaped c h = cc
+
+place_ends : (quoting : Quoting) (text : List ℕ) → place_length quoting text < length text → get_or text (place_length quoting text) 0 < 128
+place_ends quoting [] within = absurd (omega arith)
+place_ends quoting (c ∷ cs) within = elim (cases_Bool (ends_place quoting c)) [
+  | inl ends ↦ rw ends (ending_small quoting c ends)
+  | inr on ↦
+      let less : place_length (behind_byte quoting c) cs < length cs = omega (arith, rw on at within) in
+      let next : 1 + place_length (behind_byte quoting c) cs ≡ suc (place_length (behind_byte quoting c) cs) = omega arith in
+      rw (on, next) (place_ends (behind_byte quoting c) cs less)
+]
+
+-- before the sign that ends a place
+pub cut_place : (text : List ℕ) → IsCharBoundary text (place_length Outside text)
+cut_place text = elim (cases_lt (place_length Outside text) (length text)) [
+  | inl inside ↦ IsCharBoundary-before_ascii text (place_length Outside text) inside (place_ends Outside text inside)
+  | inr out ↦
+      let end : place_length Outside text ≡ length text = omega (arith, place_within Outside text) in
+      rw end (IsCharBoundary-end text)
+]

@@ -1,0 +1,143 @@
+// What is left of a script after a history.
+ghost use Rattle.std.specs.Prelude.{◌≡◌, ℕ, [], ◌∷◌, ◌++◌, filter, slice_index, IfOk, OnOk};
+ghost use Rattle.px_script.specs.Fit.{IsFitScript};
+ghost use Rattle.px_script.specs.Rest.{last_line, lines_above, has_a_line, rest};
+
+use crate::lines::Lines;
+use crate::script::Script;
+use crate::todo::Todo;
+use crate::todos::Todos;
+use px_event::Entry;
+use px_value::NoMemory;
+use std::alloc::Global;
+
+/// What is left of a script after a history: of each thread the lines with numbers above the greatest that the history
+/// has of the thread. A thread with no line left is dropped.
+pub fn rest(alloc: Global, script: Script, history: &[Entry]) -> Result<Script, NoMemory>
+    ensures ok { IfOk result (λ left. left.threads ≡ rest script.threads history.now) }
+    ensures fit { IsFitScript script → IfOk result (λ left. IsFitScript left) }
+{
+    let threads = threads_left(alloc, script.threads, history)?;
+    Ok(Script {
+        threads: threads.into(),
+    })
+}
+
+/// What is left of the threads.
+fn threads_left(alloc: Global, threads: Todos, history: &[Entry]) -> Result<Vec<Todo>, NoMemory>
+    ensures { IfOk result (λ left. left.items ≡ rest threads history.now) }
+{
+    let last = last_lines(history);
+    let mut left = Vec::new(alloc);
+    for Todo { thread, lines } in threads.into_vec() {
+        let lines = lines_above(last[usize::from(thread)], lines);
+        push_todo(&mut left, Todo { thread, lines })?;
+    }
+    Ok(left)
+}
+
+/// The greatest line of each thread in the history; 0 for a thread that has none.
+fn last_lines(history: &[Entry]) -> [u32; 256]
+    ensures { (thread : ℕ) → slice_index result thread ≡ last_line thread history.now }
+{
+    let mut last = [0; 256];
+    for entry in history {
+        let thread = usize::from(entry.thread);
+        last[thread] = last[thread].max(entry.line);
+    }
+    last
+}
+
+/// The lines with numbers above this one, in the vector that held all of them.
+fn lines_above(number: u32, lines: Lines) -> Lines
+    ensures { result ≡ lines_above number lines }
+{
+    let mut lines = lines.into_vec();
+    lines.retain(|line| line.number > number);
+    lines.into()
+}
+
+/// Appends a thread, where it has a line.
+fn push_todo(threads: &mut Vec<Todo>, todo: Todo) -> Result<(), NoMemory>
+    ensures { OnOk result (threads.new.items ≡ threads.old.items ++ filter has_a_line (todo ∷ [])) }
+{
+    if !todo.lines.as_slice().is_empty() {
+        threads.push(todo)?;
+    }
+    Ok(())
+}
+
+#[cfg(test)]
+mod tests {
+    use super::*;
+    use crate::line::{Line, What};
+    use px_event::Event;
+    use px_value::Path;
+    use std::test::Fail;
+
+    fn event(alloc: Global) -> Result<Event, Fail> {
+        Ok(Event::AbortDone {
+            node: Path::new(alloc, "A")?,
+        })
+    }
+
+    /// The script of these lines of the threads 1, 2 and 255.
+    fn script(alloc: Global, lines: &[(u8, u32)]) -> Result<Script, Fail> {
+        let mut threads = Vec::new(alloc);
+        for thread in [1, 2, 255] {
+            let mut own = Vec::new(alloc);
+            for (of, number) in lines {
+                if *of == thread {
+                    own.push(Line {
+                        number: *number,
+                        what: What::Post(event(alloc)?),
+                    })?;
+                }
+            }
+            if !own.is_empty() {
+                threads.push(Todo {
+                    thread,
+                    lines: own.into(),
+                })?;
+            }
+        }
+        Ok(Script {
+            threads: threads.into(),
+        })
+    }
+
+    fn history(alloc: Global, posts: &[(u8, u32)]) -> Result<Vec<Entry>, Fail> {
+        let mut entries = Vec::new(alloc);
+        for (thread, line) in posts {
+            entries.push(Entry {
+                thread: *thread,
+                line: *line,
+                event: event(alloc)?,
+            })?;
+        }
+        Ok(entries)
+    }
+
+    #[test]
+    fn lines_above_the_greatest_of_their_thread_are_left(rt: HostRuntime) -> Result<(), Fail> {
+        let alloc = rt.alloc();
+        let all = [(1, 1), (1, 4), (1, 6), (2, 2), (2, 5), (255, 3)];
+        for (posted, left) in [
+            (&[][..], &all[..]),
+            (&[(1, 1)], &[(1, 4), (1, 6), (2, 2), (2, 5), (255, 3)]),
+            // The greatest counts, and not the latest.
+            (&[(1, 4), (1, 1)], &[(1, 6), (2, 2), (2, 5), (255, 3)]),
+            // The line of an entry need not be one of the script.
+            (&[(1, 5)], &[(1, 6), (2, 2), (2, 5), (255, 3)]),
+            (&[(2, 5)], &[(1, 1), (1, 4), (1, 6), (255, 3)]),
+            (&[(3, 9)], &all),
+            (&[(255, 3), (2, 2), (1, 1)], &[(1, 4), (1, 6), (2, 5)]),
+            (&[(1, 6), (2, 5), (255, 3)], &[]),
+        ] {
+            let entries = history(alloc, posted)?;
+            let found = rest(alloc, script(alloc, &all)?, &entries)?;
+            assert!(rt; found == script(alloc, left)?, "{posted:?}");
+        }
+        Ok(())
+    }
+}
