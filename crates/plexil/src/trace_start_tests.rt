@@ -188,7 +188,7 @@ fn conditions_decide_where_a_node_goes(rt: HostRuntime) -> Result<(), Fail> {
 fn words_that_are_no_command_are_told_the_usage(rt: HostRuntime) -> Result<(), Fail> {
     let alloc = rt.alloc();
     // The name of the one file, the words, the status and the text.
-    let cases: [(&str, &[&str], u8, &str); 14] = [
+    let cases: [(&str, &[&str], u8, &str); 16] = [
         ("P", &[], 2, USAGE),
         ("P", &["frobnicate", "P"], 2, USAGE),
         ("P", &["Trace-start", "P"], 2, USAGE),
@@ -258,7 +258,7 @@ fn a_plan_of_4096_blocks_and_64_levels_runs(rt: HostRuntime) -> Result<(), Fail>
     let alloc = rt.alloc();
     for (blocks, status, end) in [
         (4033, 0, "quiet 319\nplan finished SUCCESS\n"),
-        (4034, 3, NOT_IN_FORM),
+        (4034, 3, "plan refused: too many nodes 4097\n"),
     ] {
         let host = host_of(alloc, "P", deep_plan(alloc, blocks)?.as_bytes())?;
         let (answered, emitted) = outcome(alloc, &["trace-start", "P"], host)?;
