@@ -2,5 +2,4 @@ pub mod Defaults
 pub mod Fit
 pub mod Joined
 pub mod Plan
-pub mod Simple
 pub mod Expr
