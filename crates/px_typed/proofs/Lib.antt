@@ -1,0 +1,5 @@
+pub mod Compiled
+pub mod Fronts
+pub mod Initials
+pub mod Names
+pub mod Nodes
