@@ -56,7 +56,7 @@ impl<D: Disk> Journal<D> {
         ensures later { D.faults disk ≤ D.faults (disk_recovered result) }
 
         ensures writes_nothing { Elapses D.images Stays (D.moments disk) (D.moments (disk_recovered result)) }
-        ensures same { IfOk result (λ read. D.content read.journal.disk ≡ D.content disk) }
+        ensures same { ¬ IsNotRecovered result whys.DiskFault → D.content (disk_recovered result) ≡ D.content disk }
         ensures stays { StaysAttached (D.bound_to disk) (D.bound_to (disk_recovered result))
             (D.is_attached disk) (D.is_attached (disk_recovered result)) }
     {
@@ -89,7 +89,7 @@ fn read_journal<D: Disk>(alloc: Global, disk: &mut D) -> Result<Read, RecoverWhy
     ensures stands { IfOk result (λ read. ForSome (D.content disk.old)
         (λ told. Stands told read.plan.items read.history.items)) }
     ensures settled { IfOk result (λ read. IsSettled D.Disk disk.new) }
-    ensures same { IfOk result (λ read. D.content disk.new ≡ D.content disk.old) }
+    ensures same { ¬ IsErrOf result whys.DiskFault → D.content disk.new ≡ D.content disk.old }
 
     ensures no_journal { IsErrOf result whys.NoJournal
         → ForSome (D.content disk.old) (λ told. IsTrue (is_nothing told)) }

@@ -1,0 +1,183 @@
+-- What the posts of a session have come to, by what the executive keeps.
+use Rattle.std.proofs.Common.{◌≡◌, ◌≤◌, ◌<◌, ◌+◌, ◌^◌, ◌⊎◌, inl, inr, ⊎_elim, ℕ, List, [], ◌∷◌, ◌++◌, Option, Some, None, IsSome, Result, Ok, Err, OnOk, IsErrOf, length, take, refl, sym, ◌∙◌, ap, subst, arith, append-nil, IsTrue}
+use Rattle.std.proofs.lemmas.List.{length-map}
+use Rattle.std.specs.List.{list_all}
+use Rattle.std.specs.Option.{option_map, ForSome}
+use Rattle.px_event.specs.Fit.{is_fit_entry}
+use Rattle.px_event.specs.declared.entry.Entry.{Entry}
+use Rattle.px_event.specs.declared.reply.Reply.TheVariants.{Accepted}
+use Rattle.px_exec.proofs.Growing.{some_run}
+use Rattle.px_exec.specs.Executive.{Opening, Executive, Keeps, KeepsDisk, IsOpen, IsClosed, IsTextOf, TellsBytes, StandsWithin, plan_of, world_of}
+use Rattle.px_exec.specs.declared.failed.Failed.{Failed}
+use Rattle.px_journal.specs.Crash.{LeavesOnly}
+use Rattle.px_journal.specs.Journal.{IsReady}
+use Rattle.px_journal.specs.Layout.{Stands}
+use Rattle.px_ports.specs.Host.{Rose}
+use Rattle.px_ports.specs.declared.disk.Disk
+use Rattle.px_sem.specs.Log.{Log, IsLegal, accepted, answer, events_of}
+use Rattle.px_sem.specs.Run.{run}
+use Rattle.px_sem.specs.declared.stepper.Stepper
+use Rattle.px_session.specs.Posted.{failed_entry, WasDue, IsDueNow, FailedWasDue, EndsBy, PostsFront, LeavesSession, Posts}
+use Rattle.px_session.specs.Session.{Session, history_of, longest_of, unsure, IsEnd, IsFront, HasOneHistory}
+use Rattle.px_session.specs.declared.posting.Posted.{Posted}
+use Rattle.px_session.specs.declared.posting.PostStop.{PostStop}
+use Rattle.px_session.specs.declared.posting.PostStop.TheVariants as stops
+
+-- the session of an executive, over a text
+abbrev pub session_of : {S D : Type 0} → List ℕ → Executive S D → Session
+session_of text exec = record { text = text; first = exec.opening.history; log = exec.log; failed = failed_entry exec }
+
+-- the law of disks, that what a read gives is one of the images
+abbrev pub ReadsAreLeft : {D : Type 0} → Disk.Ghosts D → Type 0
+ReadsAreLeft {D} members = (disk : D) → ForSome (members.content disk) (λ told. members.images (members.moments disk) told)
+
+module _ {S D : Type 0} (runs : Stepper.Ghosts S) (members : Disk.Ghosts D) (exec : Executive S D) (keeps : Keeps runs members exec) where
+  -- an executive without a failed append
+  module _ (unfailed : exec.failed ≡ None) where
+    open_now : IsOpen members exec
+    open_now = subst (KeepsDisk runs members exec) unfailed keeps.disk
+
+    no_entry : failed_entry exec ≡ None
+    no_entry = ap (option_map (λ (f : Failed). f.entry)) unfailed
+
+    -- its history is the whole of the session's
+    whole : (text : List ℕ) → exec.history ≡ longest_of (session_of text exec)
+    whole text = keeps.grown ∙ sym (ap (λ (f : Option Entry). (exec.opening.history ++ accepted exec.log) ++ unsure f) no_entry
+        ∙ append-nil (exec.opening.history ++ accepted exec.log))
+
+    pub ready_now : IsReady members exec.journal (keeps.text.0) exec.history
+    ready_now = open_now.stands (keeps.text.0) (keeps.text.1)
+
+    leaves_open : TellsBytes members → (text : List ℕ) → IsTextOf members exec text
+        → LeavesSession members (session_of text exec) exec.opening.journal.disk exec.journal.disk
+    leaves_open tells text is =
+        let ready = open_now.stands text is in
+        let stands : (told : List ℕ) → members.content exec.journal.disk ≡ Some told → IsEnd (session_of text exec) told =
+        λ told here. inl (subst (Stands told text) keeps.grown (ready.stands told here)) in
+        record {
+          now = record {
+            read = stands;
+            left = λ told here image left. subst (IsEnd (session_of text exec)) (sym (ready.settled told here image left)) (stands told here);
+          };
+          since = subst (λ (h : List Entry). LeavesOnly members.images (StandsWithin text exec.opening.history h) (members.moments exec.opening.journal.disk) (members.moments exec.journal.disk))
+              (whole text) (open_now.since tells text is);
+        }
+
+  -- one whose append has failed
+  module _ (failed : Failed) (closed : exec.failed ≡ Some failed) where
+    closed_now : IsClosed runs members exec failed
+    closed_now = subst (KeepsDisk runs members exec) closed keeps.disk
+
+    longer : (text : List ℕ) → exec.history ++ failed.entry ∷ [] ≡ longest_of (session_of text exec)
+    longer text = ap (λ h. h ++ failed.entry ∷ []) keeps.grown
+        ∙ sym (ap (λ (f : Option Failed). (exec.opening.history ++ accepted exec.log) ++ unsure (option_map (λ (f : Failed). f.entry) f)) closed)
+
+    leaves_closed : ReadsAreLeft members → TellsBytes members → (text : List ℕ) → IsTextOf members exec text
+        → LeavesSession members (session_of text exec) exec.opening.journal.disk exec.journal.disk
+    leaves_closed law tells text is =
+        let either : (image : List ℕ) → members.images (members.moments exec.journal.disk) image → IsEnd (session_of text exec) image =
+        λ image left. ⊎_elim
+        (λ without. inl (subst (Stands image text) keeps.grown without))
+        (λ with. inr (subst (Stands image text) (longer text) with))
+        (closed_now.now tells text is image left) in
+        record {
+          now = record {
+            read = λ told here. either told (law exec.journal.disk told here);
+            left = λ told here image left. either image left;
+          };
+          since = subst (λ (h : List Entry). LeavesOnly members.images (StandsWithin text exec.opening.history h) (members.moments exec.opening.journal.disk) (members.moments exec.journal.disk))
+              (longer text) (closed_now.since tells text is);
+        }
+
+    rose_since : Rose (members.faults exec.opening.journal.disk) (members.faults exec.journal.disk)
+    rose_since = omega (arith, closed_now.rose, closed_now.counted)
+
+  pub leaves_session : ReadsAreLeft members → TellsBytes members → (text : List ℕ) → IsTextOf members exec text
+      → LeavesSession members (session_of text exec) exec.opening.journal.disk exec.journal.disk
+  leaves_session law tells text is = by exec.failed refl
+    where
+      by : (f : Option Failed) → exec.failed ≡ f → LeavesSession members (session_of text exec) exec.opening.journal.disk exec.journal.disk
+      by None unfailed = leaves_open unfailed tells text is
+      by (Some failed) closed = leaves_closed failed closed law tells text is
+
+  pub rose_where : IsSome (failed_entry exec) → Rose (members.faults exec.opening.journal.disk) (members.faults exec.journal.disk)
+  rose_where some = by exec.failed refl
+    where
+      by : (f : Option Failed) → exec.failed ≡ f → Rose (members.faults exec.opening.journal.disk) (members.faults exec.journal.disk)
+      by None unfailed = let none = no_entry unfailed in absurd (cc)
+      by (Some failed) closed = rose_since failed closed
+
+  pub unfailed_where : failed_entry exec ≡ None → exec.failed ≡ None
+  unfailed_where none = by exec.failed refl
+    where
+      by : (f : Option Failed) → exec.failed ≡ f → exec.failed ≡ None
+      by None unfailed = unfailed
+      by (Some failed) closed = let some = ap (option_map (λ (f : Failed). f.entry)) closed in absurd (cc)
+
+on_ok : (P : Type 0) (r : Result Unit PostStop) → (r ≡ Ok tt → P) → OnOk r P
+on_ok P (Ok done) holds = holds refl
+on_ok P (Err stop) holds = tt
+
+-- WHAT POSTS HAVE COME TO, by what is left of the executive.
+pub closes : {S D : Type 0} (runs : Stepper.Ghosts S) (members : Disk.Ghosts D) (was after : Executive S D) → ReadsAreLeft members → Keeps runs members after
+    → after.opening ≡ was.opening → (entries : List Entry) (posted : Posted D) → PostsFront entries after.log (failed_entry after) posted.end → FailedWasDue runs after
+    → posted.disk ≡ after.journal.disk → posted.history.items ≡ after.history → posted.log.items ≡ after.log → Posts members runs was entries posted
+closes {S} {D} runs members was after law keeps same entries posted front due disk_is history_is log_is = record {
+  failed = failed_entry after;
+  posts = subst (λ (l : Log). PostsFront entries l (failed_entry after) posted.end) (sym log_is) front;
+  legal = subst (λ (o : Opening S D). IsLegal (runs.state o.stepper).nodes o.history o.limit posted.log.items) same
+      (subst (λ (l : Log). IsLegal (plan_of runs after) after.opening.history after.opening.limit l) (sym log_is) keeps.legal);
+  history = history_is ∙ keeps.grown ∙ ap (λ (o : Opening S D). o.history ++ accepted after.log) same
+      ∙ ap (λ (l : Log). was.opening.history ++ accepted l) (sym log_is);
+  due = subst (λ (o : Opening S D). WasDue (runs.state o.stepper).nodes o.limit posted.history.items (failed_entry after)) same
+      (subst (λ (h : List Entry). WasDue (plan_of runs after) after.opening.limit h (failed_entry after)) (sym history_is)
+      (was_due (failed_entry after) due));
+  runs_on = subst (λ (o : Opening S D). IsSome (run (runs.state o.stepper).nodes (events_of posted.history.items))) same
+      (subst (λ (h : List Entry). IsSome (run (plan_of runs after) (events_of h))) (sym history_is)
+      (some_run (plan_of runs after) (events_of after.history) (world_of runs after) keeps.runs_to));
+  fit = on_ok (IsTrue (list_all is_fit_entry posted.history.items)) posted.end
+      (λ ok. subst (λ (h : List Entry). IsTrue (list_all is_fit_entry h)) (sym history_is) (ready ok).fit);
+  few = on_ok (length posted.history.items < 2 ^ 32) posted.end
+      (λ ok. let few = (ready ok).few in omega (arith, few, ap length history_is));
+  disk = λ tells text is.
+      let left = leaves_session runs members after keeps law tells text (subst (λ (o : Opening S D). IsReady members o.journal text o.history) (sym same) is) in
+      subst (λ (o : Opening S D). LeavesSession members (record { text = text; first = o.history; log = posted.log.items; failed = failed_entry after }) o.journal.disk posted.disk) same
+      (subst (λ (l : Log). LeavesSession members (record { text = text; first = after.opening.history; log = l; failed = failed_entry after }) after.opening.journal.disk posted.disk) (sym log_is)
+      (subst (λ (d : D). LeavesSession members (session_of text after) after.opening.journal.disk d) (sym disk_is) left));
+  grows = subst (λ (o : Opening S D). take (length (members.moments o.journal.disk)) (members.moments posted.disk) ≡ members.moments o.journal.disk) same
+      (subst (λ (d : D). take (length (members.moments after.opening.journal.disk)) (members.moments d) ≡ members.moments after.opening.journal.disk) (sym disk_is) keeps.moments);
+  bound = ap members.bound_to disk_is ∙ keeps.name ∙ ap (λ (o : Opening S D). members.bound_to o.journal.disk) same;
+  faults = subst (λ (o : Opening S D). members.faults o.journal.disk ≤ members.faults posted.disk) same
+      (subst (λ (d : D). members.faults after.opening.journal.disk ≤ members.faults d) (sym disk_is) keeps.faults);
+  rose = λ fails.
+      subst (λ (o : Opening S D). Rose (members.faults o.journal.disk) (members.faults posted.disk)) same
+      (subst (λ (d : D). Rose (members.faults after.opening.journal.disk) (members.faults d)) (sym disk_is)
+      (rose_where runs members after keeps (some_failed posted.end front.ends fails)));
+}
+  where
+    was_due : (f : Option Entry) → IsDueNow runs after f → WasDue (plan_of runs after) after.opening.limit after.history f
+    was_due None due = tt
+    was_due (Some entry) due = record {
+      runs = some_run (plan_of runs after) (events_of after.history) (world_of runs after) keeps.runs_to;
+      answers = (
+        (
+          world_of runs after,
+          keeps.runs_to,
+          sym (subst (λ (n : ℕ). answer (plan_of runs after) after.opening.limit n (world_of runs after) entry.event ≡ Accepted (length after.history + 1))
+              (sym (length-map after.history (λ (e : Entry). e.event))) due),
+        ),
+        tt,
+      );
+    }
+
+    none_where : (r : Result Unit PostStop) → r ≡ Ok tt → (left : List Entry) → EndsBy r (failed_entry after) left → failed_entry after ≡ None
+    none_where (Ok done) is left ends = ends.0
+    none_where (Err stop) is left ends = absurd (cc)
+
+    ready : posted.end ≡ Ok tt → IsReady members after.journal (keeps.text.0) after.history
+    ready ok = ready_now runs members after keeps (unfailed_where runs members after keeps (none_where posted.end ok front.left front.ends))
+
+    some_failed : (r : Result Unit PostStop) → EndsBy r (failed_entry after) front.left → IsErrOf r stops.DiskFault → IsSome (failed_entry after)
+    some_failed (Ok done) ends fails = absurd (cc)
+    some_failed (Err stops.DiskFault) ends fails = ends
+    some_failed (Err stops.NoMemory) ends fails = absurd (cc)

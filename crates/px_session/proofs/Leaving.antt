@@ -1,0 +1,68 @@
+-- From what the calls of a journal leave of a disk to what a session leaves.
+use Rattle.std.proofs.Common.{◌≡◌, ◌≤◌, ◌⊎◌, inl, inr, ⊎_elim, ℕ, List, [], ◌∷◌, ◌++◌, Some, None, length, take, refl, sym, ◌∙◌, ap, subst, arith, append-nil, IsTrue, IsFalse}
+use Rattle.std.specs.Option.{ForSome}
+use Rattle.px_journal.specs.Crash.{OldOrNew, LeavesOnly}
+use Rattle.px_journal.specs.Journal.{IsReady, IsUntouched}
+use Rattle.px_journal.specs.Layout.{is_nothing, Stands}
+use Rattle.px_journal.specs.declared.journal.Journal.{Journal}
+use Rattle.px_journal.proofs.Moments.{grows_on, grows_length, left_now, left_before_or_after, elapses_none, elapses_on}
+use Rattle.px_ports.specs.Moment.{LeftSince, Stays}
+use Rattle.px_ports.specs.declared.disk.Disk
+use Rattle.px_session.specs.Attached.{IsOnlyRead}
+use Rattle.px_session.specs.Opened.{LeavesNew}
+use Rattle.px_session.specs.Session.{Session, HasOneHistory}
+
+module _ {D : Type 0} (members : Disk.Ghosts D) where
+  pub untouched_at_once : (disk : D) → IsUntouched members disk disk
+  untouched_at_once disk = record { content = refl; elapses = elapses_none members.images (members.moments disk) }
+
+  pub untouched_read : (old new : D) → IsOnlyRead members old new → IsUntouched members old new
+  untouched_read old new reads = record { content = reads.bytes; elapses = reads.elapses }
+
+  pub untouched_on : (old mid new : D) → IsOnlyRead members old mid → IsUntouched members mid new → IsUntouched members old new
+  untouched_on old mid new reads untouched = record {
+    content = untouched.content ∙ reads.bytes;
+    elapses = elapses_on members.images Stays (members.moments old) (members.moments mid) (members.moments new) reads.elapses untouched.elapses;
+  }
+
+  -- what a crash at a moment of a reading call may leave is an image from before
+  from_before : (old new : D) → IsOnlyRead members old new → (image : List ℕ) → LeftSince members.images (members.moments new) (length (members.moments old)) image
+      → members.images (members.moments old) image
+  from_before old new reads image since =
+      let from = reads.elapses.each image since in
+      subst (members.images (members.moments old)) (sym (from.2)) (from.1)
+
+  pub new_read : (text : List ℕ) (old new : D) → IsOnlyRead members old new → LeavesNew members text old new
+  new_read text old new reads = record {
+    grows = reads.elapses.grows;
+    each = λ told is. record { grows = reads.elapses.grows; each = λ image since. inl (from_before old new reads image since) };
+  }
+
+  -- a call that only reads, and then one that makes a journal
+  pub new_on : (text : List ℕ) (old mid new : D) → IsOnlyRead members old mid → LeavesNew members text mid new → LeavesNew members text old new
+  new_on text old mid new reads leaves = record {
+    grows = all;
+    each = λ told is. record {
+      grows = all;
+      each = λ image since. ⊎_elim
+          (λ early. inl (from_before old mid reads image early))
+          (λ late. older image ((leaves.each told (reads.bytes ∙ is)).each image late))
+          (left_before_or_after members.images (members.moments mid) (members.moments new) (length (members.moments old)) image leaves.grows since);
+    };
+  }
+    where
+      all : take (length (members.moments old)) (members.moments new) ≡ members.moments old
+      all = grows_on (members.moments old) (members.moments mid) (members.moments new) reads.elapses.grows leaves.grows
+
+      older : (image : List ℕ) → OldOrNew (members.images (members.moments mid)) text image → OldOrNew (members.images (members.moments old)) text image
+      older image = ⊎_elim
+          (λ was. inl (from_before old mid reads image (left_now members.images (members.moments old) (members.moments mid) image reads.elapses.grows was)))
+          (λ new. inr new)
+
+  -- a journal that stands for a text and no event
+  pub one_history : (journal : Journal D) (text : List ℕ) → IsReady members journal text []
+      → HasOneHistory members (record { text = text; first = []; log = []; failed = None }) journal.disk
+  one_history journal text ready = record {
+    read = λ told is. inl (ready.stands told is);
+    left = λ told is image left. inl (subst (λ (b : List ℕ). Stands b text []) (sym (ready.settled told is image left)) (ready.stands told is));
+  }

@@ -1,0 +1,146 @@
+-- A session that goes on, from the calls that take its journal up.
+use Rattle.std.proofs.Common.{◌≡◌, ◌≢◌, ◌≤◌, inl, inr, ℕ, List, [], Some, None, IsSome, Result, Ok, Err, IfOk, IfErr, IsErrAnd, refl, sym, ◌∙◌, ap, subst, arith, IsTrue, IsFalse}
+use Rattle.std.specs.Option.{ForSome}
+use Rattle.px_compile.specs.Compiled.{IsCompiled}
+use Rattle.px_core.specs.Fit.{IsFit}
+use Rattle.px_core.specs.Plan.{Site, Tree, tree_of, sites}
+use Rattle.px_event.specs.declared.entry.Entry.{Entry}
+use Rattle.px_exec.specs.Executive.{plan_of}
+use Rattle.px_exec.specs.Opening.{IsWhy, RunsAwayAt}
+use Rattle.px_exec.specs.declared.fault.OpenWhy.{OpenWhy}
+use Rattle.px_exec.specs.declared.fault.OpenWhy.TheVariants as opening
+use Rattle.px_journal.specs.Damage.{Damaged}
+use Rattle.px_journal.specs.Journal.{IsNotRecovered, IsReady, IsUntouched}
+use Rattle.px_journal.specs.Layout.{is_nothing, Stands}
+use Rattle.px_journal.specs.declared.fault.RecoverFault.{RecoverFault}
+use Rattle.px_journal.specs.declared.fault.RecoverWhy.{RecoverWhy}
+use Rattle.px_journal.specs.declared.fault.RecoverWhy.TheVariants as recovering
+use Rattle.px_journal.proofs.Moments.{elapses_on}
+use Rattle.px_ports.specs.Disk.{StaysAttached}
+use Rattle.px_ports.specs.Host.{Rose}
+use Rattle.px_ports.specs.Moment.{Elapses, Stays}
+use Rattle.px_ports.specs.declared.disk.Disk
+use Rattle.px_sem.specs.Log.{events_of}
+use Rattle.px_sem.specs.Run.{run, started}
+use Rattle.px_sem.specs.declared.settling.StepFault.{StepFault}
+use Rattle.px_sem.specs.declared.settling.StepFault.TheVariants as steps
+use Rattle.px_sem.specs.declared.stepper.Stepper
+use Rattle.px_journal.specs.declared.journal.Journal.{Journal}
+use Rattle.px_session.specs.Attached.{IsAttached, IsNotAttached}
+use Rattle.px_session.specs.Opened.{IsRunWhy, IsReopenWhy, IsNotReopened, IsOpening, Reopens}
+use Rattle.px_session.specs.declared.reopening.Reopened.{Reopened}
+use Rattle.px_session.proofs.Leaving.{untouched_on}
+use Rattle.px_session.specs.Whys.{of_recover, of_start, of_open}
+use Rattle.px_session.specs.declared.fault.ReopenFault.{ReopenFault}
+use Rattle.px_session.specs.declared.fault.ReopenWhy.{ReopenWhy}
+use Rattle.px_session.specs.declared.fault.ReopenWhy.TheVariants as reopening
+
+module _ {D : Type 0} (members : Disk.Ghosts D) (name : List ℕ) (old mid : D) where
+  pub not_attached : IsNotAttached members name old mid → IsNotReopened members name old (record { disk = mid; why = reopening.DiskFault })
+  not_attached failed = record {
+    why = failed.rose;
+    elapses = (failed.reads).elapses;
+    same = λ other. (failed.reads).bytes;
+    bound = failed.bound;
+    faults = failed.faults;
+  }
+
+  module _ (was : IsAttached members name old mid) (new : D) (writes_nothing : Elapses members.images Stays (members.moments mid) (members.moments new))
+      (stays : StaysAttached (members.bound_to mid) (members.bound_to new) (members.is_attached mid) (members.is_attached new))
+      (later : members.faults mid ≤ members.faults new) where
+    refused_with : (why : ReopenWhy) → IsReopenWhy members old new why → (why ≢ reopening.DiskFault → members.content new ≡ members.content mid)
+        → IsNotReopened members name old (record { disk = new; why = why })
+    refused_with why cause same = record {
+      why = cause;
+      elapses = elapses_on members.images Stays (members.moments old) (members.moments mid) (members.moments new) (was.reads).elapses writes_nothing;
+      same = λ other. same other ∙ (was.reads).bytes;
+      bound = inl (stays.bound ∙ was.bound);
+      faults = omega (arith, was.faults, later);
+    }
+
+    -- the journal was not read
+    pub not_recovered : (why : RecoverWhy) (shown : ReopenWhy) → shown ≡ of_recover why
+        → (why ≡ recovering.NoJournal → ForSome (members.content mid) (λ told. IsTrue (is_nothing told)))
+        → ((at : ℕ) → why ≡ recovering.Damaged at → ForSome (members.content mid) (λ told. IsFalse (is_nothing told) × Damaged told at))
+        → (why ≡ recovering.DiskFault → Rose (members.faults mid) (members.faults new))
+        → (why ≢ recovering.DiskFault → members.content new ≡ members.content mid)
+        → IsNotReopened members name old (record { disk = new; why = shown })
+    not_recovered why shown is none damaged rose same =
+        subst (λ (w : ReopenWhy). IsNotReopened members name old (record { disk = new; why = w })) (sym is) (by why refl)
+      where
+        by : (w : RecoverWhy) → why ≡ w → IsNotReopened members name old (record { disk = new; why = of_recover w })
+        by recovering.NoJournal is = refused_with reopening.NoJournal (λ told here. none is told ((was.reads).bytes ∙ here)) (λ other. same (λ e. let both = sym is ∙ e in cc))
+        by (recovering.Damaged at) is = refused_with (reopening.Damaged at) (λ told here. damaged at is told ((was.reads).bytes ∙ here)) (λ other. same (λ e. let both = sym is ∙ e in cc))
+        by recovering.DiskFault is = let more = rose is in refused_with reopening.DiskFault (omega (arith, was.faults, more)) (λ other. absurd (other refl))
+        by recovering.NoMemory is = refused_with reopening.NoMemory tt (λ other. same (λ e. let both = sym is ∙ e in cc))
+
+    -- it was read, and can't be run
+    pub not_run : {T : Type 0} (text : List ℕ) (history : List Entry) (r : Result T (ReopenFault D))
+        → ForSome (members.content mid) (λ told. Stands told text history) → members.content new ≡ members.content mid
+        → IfErr r (λ fault. fault.disk ≡ new) → IfErr r (λ fault. IsRunWhy text history fault.why) → IfErr r (IsNotReopened members name old)
+    not_run text history (Ok done) stands same here why = tt
+    not_run text history (Err fault) stands same here why =
+        subst (λ (d : D). IsNotReopened members name old (record { disk = d; why = fault.why })) (sym here)
+        (refused_with fault.why (by fault.why why) (λ other. same))
+      where
+        before : ForSome (members.content old) (λ told. Stands told text history)
+        before told is = stands told ((was.reads).bytes ∙ is)
+
+        by : (w : ReopenWhy) → IsRunWhy text history w → IsReopenWhy members old new w
+        by reopening.NoJournal cause = absurd cause
+        by (reopening.Damaged at) cause = absurd cause
+        by reopening.PlanRefused cause = (text, history, before, cause)
+        by reopening.RunawayAtStart cause = (text, history, before, cause)
+        by (reopening.Runaway at) cause = (text, history, before, cause)
+        by reopening.DiskFault cause = absurd cause
+        by reopening.NoMemory cause = tt
+
+    -- it was read, and its history was run
+    pub taken_up : {S : Type 0} (runs : Stepper.Ghosts S) (limit : ℕ) (text : List ℕ) (history : List Entry) (journal : Journal D)
+        (r : Result (Reopened S D) (ReopenFault D)) → journal.disk ≡ new → IsReady members journal text history
+        → ForSome (members.content mid) (λ told. Stands told text history) → members.content new ≡ members.content mid
+        → IfOk r (λ reopened. IsCompiled text (tree_of reopened.plan)) → IfOk r (λ reopened. IsFit (tree_of reopened.plan))
+        → IfOk r (λ reopened. plan_of runs reopened.exec ≡ sites (tree_of reopened.plan))
+        → IfOk r (λ reopened. IsSome (run (sites (tree_of reopened.plan)) (events_of history)))
+        → IfOk r (λ reopened. IsOpening journal history limit reopened.exec) → IfOk r (Reopens members runs name limit old)
+    taken_up runs limit text history journal (Err fault) here ready stands same compiled fit nodes settles opening = tt
+    taken_up runs limit text history journal (Ok reopened) here ready stands same compiled fit nodes settles opening = record {
+      text = text;
+      ready = subst (λ (h : List Entry). IsReady members reopened.exec.opening.journal text h) (sym opening.first)
+          (subst (λ (j : Journal D). IsReady members j text history) (sym opening.opened) ready);
+      stands = λ told is. subst (λ (h : List Entry). Stands told text h) (sym opening.first) (stands told ((was.reads).bytes ∙ is));
+      compiled = compiled;
+      fit = fit;
+      nodes = nodes;
+      settles = subst (λ (h : List Entry). IsSome (run (sites (tree_of reopened.plan)) (events_of h))) (sym opening.first) settles;
+      opening = record {
+        opened = refl;
+        untouched = opening.untouched ∙ sym opening.opened;
+        first = refl;
+        now = opening.now ∙ sym opening.first;
+        most = opening.most;
+        log = opening.log;
+        failed = opening.failed;
+      };
+      untouched = subst (λ (d : D). IsUntouched members old d) (sym disk_is)
+          (untouched_on members old mid new was.reads (record { content = same; elapses = writes_nothing }));
+      bound = ap members.bound_to disk_is ∙ stays.bound ∙ was.bound;
+      faults = subst (λ (d : D). members.faults old ≤ members.faults d) (sym disk_is) (omega (arith, was.faults, later));
+    }
+      where
+        disk_is : reopened.exec.opening.journal.disk ≡ new
+        disk_is = ap (λ (j : Journal D). j.disk) opening.opened ∙ here
+
+-- the plan's start runs away, or memory runs out
+pub not_started : {T : Type 0} (text : List ℕ) (history : List Entry) (tree : Tree) (fault : StepFault) (r : Result T ReopenWhy) → IsErrAnd r (λ why. why ≡ of_start fault)
+    → IsCompiled text tree → (fault ≡ steps.Runaway → started (sites tree) ≡ None) → IfErr r (IsRunWhy text history)
+not_started text history tree fault (Ok done) is compiled away = absurd is
+not_started text history tree steps.Runaway (Err why) is compiled away = subst (IsRunWhy text history) (sym is) (tree, compiled, away refl)
+not_started text history tree steps.NoMemory (Err why) is compiled away = subst (IsRunWhy text history) (sym is) tt
+
+-- an event of the history runs away, or memory runs out
+pub not_opened : (text : List ℕ) (history : List Entry) (tree : Tree) (nodes : List Site) (why : OpenWhy) (shown : ReopenWhy) → shown ≡ of_open why
+    → IsCompiled text tree → nodes ≡ sites tree → IsWhy nodes history why → IsRunWhy text history shown
+not_opened text history tree nodes (opening.Runaway at) shown is compiled same away =
+    subst (IsRunWhy text history) (sym is) (tree, compiled, subst (λ (n : List Site). RunsAwayAt n history at) same away)
+not_opened text history tree nodes opening.NoMemory shown is compiled same away = subst (IsRunWhy text history) (sym is) tt

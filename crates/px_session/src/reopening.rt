@@ -1,0 +1,123 @@
+// A session that goes on: the journal that stands on a disk, its plan, and the executive that has run its history.
+ghost use Rattle.std.specs.Prelude.{◌≡◌, ◌≤◌, ℕ, List, [], None, Some, length, IfOk, IfErr, IsSome};
+ghost use Rattle.px_compile.specs.Compiled.{IsCompiled};
+ghost use Rattle.px_core.specs.Fit.{IsFit};
+ghost use Rattle.px_core.specs.Plan.{tree_of, sites};
+ghost use Rattle.px_event.specs.declared.entry.Entry.{Entry as Logged};
+ghost use Rattle.px_exec.specs.Executive.{plan_of};
+ghost use Rattle.px_journal.specs.Journal.{IsReady};
+ghost use Rattle.px_sem.specs.Log.{events_of};
+ghost use Rattle.px_sem.specs.Run.{run};
+ghost use Rattle.px_sem.specs.Stepper.{Pending};
+ghost use Rattle.px_session.specs.Opened.{IsOpening, IsRunWhy, Reopens, IsNotReopened};
+
+use crate::attaching::attached;
+use crate::fault::{ReopenFault, ReopenWhy};
+use px_compile::compile;
+use px_core::Plan;
+use px_exec::{Exec, OpenFault};
+use px_journal::{Journal, RecoverFault, Recovered};
+use px_ports::Disk;
+use px_sem::{Stepper, start};
+use std::alloc::Global;
+
+/// A journal that was taken up.
+#[derive(Drop)]
+pub struct Reopened<S: Stepper, D: Disk> {
+    /// The plan that the journal's text spells.
+    pub plan: Plan,
+    /// The executive that has run the journal's history.
+    pub exec: Exec<S, D>,
+}
+
+/// Binds the disk to the journal's name, reads the journal there, compiles its plan and runs its history. The history may
+/// grow to `limit` events, from 1 to 100,000. Nothing is written.
+///
+/// The first of these that refuses decides the error.
+pub fn reopen<S: Stepper, D: Disk>(
+    alloc: Global,
+    disk: D,
+    name: &str,
+    limit: u32,
+) -> Result<Reopened<S, D>, ReopenFault<D>>
+    requires unbound { D.bound_to disk ≡ None }
+    requires least { 1 ≤ limit }
+    requires most { limit ≤ 100000 }
+
+    ensures reopened { IfOk result (Reopens D.Disk S.Stepper name.now limit disk) }
+    ensures refused { IfErr result (IsNotReopened D.Disk name.now disk) }
+{
+    let disk = match attached(disk, name) {
+        Ok(disk) => disk,
+        Err(disk) => {
+            return Err(ReopenFault {
+                disk,
+                why: ReopenWhy::DiskFault,
+            });
+        }
+    };
+    match Journal::recover(alloc, disk) {
+        Ok(recovered) => run_recovered(alloc, recovered, limit),
+        Err(RecoverFault { disk, why }) => Err(ReopenFault {
+            disk,
+            why: why.into(),
+        }),
+    }
+}
+
+/// Compiles the plan of a journal that was read, and runs its history.
+fn run_recovered<S: Stepper, D: Disk>(
+    alloc: Global,
+    recovered: Recovered<D>,
+    limit: u32,
+) -> Result<Reopened<S, D>, ReopenFault<D>>
+    requires ready { IsReady D.Disk recovered.journal recovered.plan.items recovered.history.items }
+    requires least { 1 ≤ limit }
+    requires most { limit ≤ 100000 }
+
+    ensures compiled { IfOk result (λ reopened. IsCompiled recovered.plan.items (tree_of reopened.plan)) }
+    ensures fit { IfOk result (λ reopened. IsFit (tree_of reopened.plan)) }
+    ensures nodes { IfOk result (λ reopened. plan_of S.Stepper reopened.exec ≡ sites (tree_of reopened.plan)) }
+    ensures settles { IfOk result (λ reopened. IsSome (run (sites (tree_of reopened.plan)) (events_of recovered.history.items))) }
+    ensures opening { IfOk result (λ reopened. IsOpening recovered.journal recovered.history.items limit reopened.exec) }
+    ensures handed_back { IfErr result (λ fault. fault.disk ≡ recovered.journal.disk) }
+    ensures why { IfErr result (λ fault. IsRunWhy recovered.plan.items recovered.history.items fault.why) }
+{
+    let Recovered {
+        journal,
+        plan: text,
+        history,
+    } = recovered;
+    let (plan, stepper) = match start_text(alloc, &text) {
+        Ok(started) => started,
+        Err(why) => {
+            return Err(ReopenFault {
+                disk: journal.into_disk(),
+                why,
+            });
+        }
+    };
+    match Exec::open(alloc, journal, stepper, history, limit) {
+        Ok(exec) => Ok(Reopened { plan, exec }),
+        Err(OpenFault { journal, why }) => Err(ReopenFault {
+            disk: journal.into_disk(),
+            why: why.into(),
+        }),
+    }
+}
+
+/// The plan that a text spells, and a stepper that has settled its start.
+fn start_text<S: Stepper>(alloc: Global, text: &[u8]) -> Result<(Plan, S), ReopenWhy>
+    requires short { length text.now ≤ 1048576 }
+
+    ensures compiled { IfOk result (λ made. IsCompiled text.now (tree_of made.0)) }
+    ensures fit { IfOk result (λ made. IsFit (tree_of made.0)) }
+    ensures nodes { IfOk result (λ made. (S.state made.1).nodes ≡ sites (tree_of made.0)) }
+    ensures nothing { IfOk result (λ made. (S.state made.1).pending ≡ Pending.Nothing) }
+    ensures started { IfOk result (λ made. run (S.state made.1).nodes [] ≡ Some (S.state made.1).world) }
+    ensures why { (history : List Logged) → IfErr result (IsRunWhy text.now history) }
+{
+    let plan = compile(alloc, text)?;
+    let stepper = start(alloc, &plan)?;
+    Ok((plan, stepper))
+}
