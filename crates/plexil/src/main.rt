@@ -1,16 +1,11 @@
-//! The program: it hands the words of the command line, the files of the system and standard output to
-//! the top call, and ends with its status.
+//! The program: it hands the words of the command line, the files of the system, a disk for the journal and standard
+//! output to the top call, and ends with its status.
 #![tactic(auto)]
 
 mod disk;
-#[cfg(test)]
-mod dry_run_tests;
 mod host;
-#[cfg(test)]
-mod hosts;
-#[cfg(test)]
-mod trace_start_tests;
 
+use disk::StdDisk;
 use host::StdHost;
 use px_run::plexil;
 use std::env::Env;
@@ -26,8 +21,9 @@ fn main(rt: HostRuntime) -> ExitCode {
     let Ok(words) = command_words(&rt) else {
         return ExitCode::from(WANT_OF_MEMORY);
     };
+    let disk = StdDisk::new(alloc, rt);
     let mut host = StdHost::new(alloc, rt);
-    ExitCode::from(plexil(alloc, &words, &mut host))
+    ExitCode::from(plexil(alloc, &words, &mut host, disk).status)
 }
 
 // The words behind the program's own name. A command line that isn't UTF-8 is faulty, and stands as one

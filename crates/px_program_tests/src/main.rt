@@ -1,8 +1,8 @@
 //! Runs the program over rows of plans and scripts, and says which of them don't print what they have to.
 //!
 //! The rows are the file `stdin`, in tables: the transitions in the order of their rows, the conflicts of writers, the
-//! effects of moves, the events, whole runs, and refusals. All texts in it were worked out by hand, from the tables of
-//! docs/SEMANTICS.md and the forms of docs/FORMATS.md. A row is
+//! effects of moves, the events, whole runs, refusals, and sessions over a journal. All texts and bytes in it were worked
+//! out by hand, from the tables of docs/SEMANTICS.md and the forms of docs/FORMATS.md. A row is
 //!
 //! ```text
 //! NAME
@@ -11,22 +11,37 @@
 //! the content of the file P
 //! ---- script
 //! the content of the file S
+//! ---- faults fetch=NUMBER emit=NUMBER device=NUMBER piece=NUMBER
+//! ---- journal BYTES
 //! ---- answers STATUS
 //! the text that is emitted
+//! ---- leaves BYTES
 //! ====
 //! ```
 //!
-//! where the line feed before a mark belongs to the mark, but the one that ends the text belongs to the text. A row that
-//! doesn't hold is printed with what was answered in place of what had to be, and at the end the number of rows that hold.
+//! where the line feed before a mark belongs to the mark, but the one that ends the text belongs to the text.
+//!
+//! The BYTES are what a read of the disk gives before the call and after it, in hexadecimal, two digits a byte; blanks and
+//! line feeds between them say nothing. A row without `journal` has an empty disk, and one without `leaves` leaves the disk
+//! as it was. In `faults` stands which fetch, emit or device call fails, each counted from 1, and how many bytes the sink
+//! takes at once; what isn't named doesn't fail, and the sink takes all.
+//!
+//! A row that doesn't hold is printed with what was answered in place of what had to be, and at the end the number of rows
+//! that hold.
 #![tactic(auto)]
 
+mod bytes;
+mod faults;
+#[cfg(test)]
+mod large;
 mod row;
 #[cfg(test)]
 mod runaways;
 mod running;
 
+use bytes::{bytes_of, digits_of};
 use row::Row;
-use running::{Answer, answer_of};
+use running::{Answer, Call, answer_of};
 use std::alloc::Global;
 use std::io;
 
@@ -57,12 +72,29 @@ fn holds(rt: &impl Print, alloc: Global, spelled: &str) -> anyhow::Result<bool> 
         println!(rt; "no row: {spelled}")?;
         return Ok(false);
     };
-    let Answer { status, text } = answer_of(alloc, row.words, row.plan, row.script)?;
+    let Answer { status, text, left } = answer_to(alloc, row)?;
     let answered = format!(in alloc; "{status}\n{text}")?;
     let wanted = format!(in alloc; "{}\n", row.answer)?;
-    if answered.as_str() == wanted.as_str() {
+    if answered.as_str() == wanted.as_str() && left == bytes_of(alloc, row.leaves)? {
         return Ok(true);
     }
-    println!(rt; "{}\n{}\n{answered}====", row.name, row.words)?;
+    let left = digits_of(alloc, &left)?;
+    println!(rt;
+        "{}\n{}\n{answered}---- leaves{left}\n====",
+        row.name, row.words
+    )?;
     Ok(false)
+}
+
+// What the row's call answers.
+fn answer_to(alloc: Global, row: Row<'_>) -> anyhow::Result<Answer> {
+    let journal = bytes_of(alloc, row.journal)?;
+    let call = Call {
+        words: row.words,
+        plan: row.plan.as_bytes(),
+        script: row.script.as_bytes(),
+        journal: &journal,
+        faults: row.faults,
+    };
+    answer_of(alloc, call)
 }

@@ -1,19 +1,31 @@
-// A call of the program over a host in memory that has two files.
-use px_ports::{MemFile, MemHost};
-use px_run::plexil;
+// A call of the program over a host in memory that has two files, and a disk in memory.
+use crate::faults::Faults;
+use px_ports::{MemDisk, MemFile, MemHost, Pick};
+use px_run::{Done, plexil};
 use std::alloc::Global;
 
-/// The status of a call, and what was emitted.
+/// The words of a call, and what it finds: the content of the files P and S, the disk, and what goes wrong.
+#[derive(Clone, Copy)]
+pub(crate) struct Call<'a> {
+    pub(crate) words: &'a str,
+    pub(crate) plan: &'a [u8],
+    pub(crate) script: &'a [u8],
+    pub(crate) journal: &'a [u8],
+    pub(crate) faults: Faults,
+}
+
+/// The status of a call, what was emitted, and what a read of the disk gives then.
 #[derive(Drop)]
 pub(crate) struct Answer {
     pub(crate) status: u8,
     pub(crate) text: String,
+    pub(crate) left: Vec<u8>,
 }
 
-fn file(alloc: Global, name: &str, text: &str) -> anyhow::Result<MemFile> {
+fn file(alloc: Global, name: &str, bytes: &[u8]) -> anyhow::Result<MemFile> {
     Ok(MemFile {
         name: String::from_str(alloc, name)?,
-        bytes: text.as_bytes().to_vec(alloc)?,
+        bytes: bytes.to_vec(alloc)?,
     })
 }
 
@@ -25,16 +37,36 @@ fn words_of(alloc: Global, words: &str) -> anyhow::Result<Vec<String>> {
     Ok(owned)
 }
 
-/// What the call with these words answers, where the file P has the plan and S the script.
-pub(crate) fn answer_of(
-    alloc: Global,
-    words: &str,
-    plan: &str,
-    script: &str,
-) -> anyhow::Result<Answer> {
-    let files = vec![in alloc; file(alloc, "P", plan)?, file(alloc, "S", script)?]?;
-    let mut host = MemHost::new(alloc, files, Vec::new(alloc), Vec::new(alloc), usize::MAX)?;
-    let status = plexil(alloc, &words_of(alloc, words)?, &mut host);
-    let text = String::from_utf8(host.emitted().to_vec(alloc)?)?;
-    Ok(Answer { status, text })
+// The number alone, where there is one.
+fn listed(alloc: Global, number: Option<u32>) -> anyhow::Result<Vec<u32>> {
+    let mut numbers = Vec::new(alloc);
+    if let Some(number) = number {
+        numbers.push(number)?;
+    }
+    Ok(numbers)
+}
+
+fn host_of(alloc: Global, call: Call<'_>) -> anyhow::Result<MemHost> {
+    let files = vec![in alloc;
+        file(alloc, "P", call.plan)?,
+        file(alloc, "S", call.script)?,
+    ]?;
+    let fetches = listed(alloc, call.faults.fetch)?;
+    let emits = listed(alloc, call.faults.emit)?;
+    Ok(MemHost::new(alloc, files, fetches, emits, call.faults.piece)?)
+}
+
+/// What the call answers.
+pub(crate) fn answer_of(alloc: Global, call: Call<'_>) -> anyhow::Result<Answer> {
+    let words = words_of(alloc, call.words)?;
+    let mut host = host_of(alloc, call)?;
+    let failing = listed(alloc, call.faults.device)?;
+    let disk = MemDisk::new(alloc, call.journal.to_vec(alloc)?, failing, None)?;
+
+    let Done { status, disk } = plexil(alloc, &words, &mut host, disk);
+    Ok(Answer {
+        status,
+        text: String::from_utf8(host.emitted().to_vec(alloc)?)?,
+        left: disk.image(alloc, Pick::Reads)?,
+    })
 }

@@ -1,266 +1,204 @@
--- From the headline to its cause, to completeness and to refusals.
-use Rattle.std.proofs.Common.{◌≡◌, ℕ, ◌<◌, ◌⊎◌, inl, inr, List, Option, Some, None, length, refl, arith, ap, subst, sym, ◌∙◌}
-use Rattle.std.specs.Option.{option_map, option_and_then}
-use Rattle.px_ports.specs.Host.{Files}
-use Rattle.px_core.specs.Plan.{Site, Tree, sites}
-use Rattle.px_sem.specs.World.{World}
-use Rattle.px_sem.specs.Run.{started}
-use Rattle.px_compile.proofs.Refusals.{one_plan, no_refusal}
+-- From the headline to its cause.
+use Rattle.std.proofs.Common.{◌≡◌, ℕ, inl, inr, List, Option, Some, None, IsSome, refl, ap, subst, sym, ◌∙◌}
+use Rattle.std.specs.Option.{ForSome, option_map, option_and_then}
+use Rattle.px_compile.specs.Compiled.{IsCompiled}
+use Rattle.px_core.specs.Plan.{Tree, sites}
+use Rattle.px_event.specs.declared.entry.Entry.{Entry}
+use Rattle.px_journal.specs.Layout.{Stands}
+use Rattle.px_output.specs.View.{View}
+use Rattle.px_ports.specs.declared.disk.Disk
 use Rattle.px_script.specs.declared.todo.Todo.{Todo}
-use Rattle.px_script.specs.Script.{Threads, Fault, script}
-use Rattle.px_run.specs.Causes.{HasPlan, HasScript, Runs, OnlyChecks, status_behind, ReadsPlan, OperandIsRefused, ReadsScript, FailsToRead, Cause, IsComplete, IsRefused}
+use Rattle.px_sem.specs.Log.{events_of}
+use Rattle.px_sem.specs.Run.{run, started}
+use Rattle.px_sem.specs.World.{World}
+use Rattle.px_words.specs.Words.{Command, TraceStart, DryRun, Check, Run, Resume, Trace, plan_of, script_of, journal_of, runs_plan, command}
+use Rattle.px_run.specs.Causes.{HasPlan, HasScript, HasJournal, Runs, ReadsScript, Starts, OperandIsRefused, FailsToRead, TakesUp, Cause}
+use Rattle.px_run.specs.Course.{Course}
 use Rattle.px_run.specs.Ending.{Ending, DryRunEndsBy, DryRunEnds, of_start, start_ending, nodes_ending}
-use Rattle.px_run.specs.File.{FileKind, Seen, Content, Longer, Unreadable, Shows, Refuses, Reads, After, Holds, HoldsNone}
-use Rattle.px_run.specs.Headline.{CommandCallsFor, CallsFor, Delivers, Headline}
+use Rattle.px_run.specs.File.{FileKind, Seen, Content, Longer, Unreadable, Shows, Refuses, Reads, After}
+use Rattle.px_run.specs.Headline.{CommandCallsFor, Delivers, Headline}
+use Rattle.px_run.specs.Journaled.{JournalRefuses}
 use Rattle.px_run.specs.Kinds.{plan_file, script_file}
-use Rattle.px_run.specs.View.{View, Faulted}
-use Rattle.px_run.specs.Words.{Command, TraceStart, DryRun, Check, plan_of, script_of, runs_plan, command}
-
--- ---- what every kind of files keeps: its refusals have one status, bytes spell one thing, and none that is refused
-
-pub record IsKind (A : Type 0) (kind : FileKind A) (status : ℕ) : Type 0 where
-  pub too_long : kind.too_long.status ≡ status
-  pub refused : (bytes : List ℕ) (ending : Ending) → kind.Refuses bytes ending → ending.status ≡ status
-  pub one : (bytes : List ℕ) (a b : A) → kind.Spells bytes a → kind.Spells bytes b → a ≡ b
-  pub never : (bytes : List ℕ) (a : A) (ending : Ending) → kind.Spells bytes a → kind.Refuses bytes ending → ⊥
-
-plan_kind : IsKind Tree plan_file 3
-plan_kind = record {
-  too_long = refl;
-  refused = λ bytes ending r. ap (λ e. e.status) r.3;
-  one = λ bytes a b s t. one_plan bytes a b s t;
-  never = λ bytes a ending s r. no_refusal bytes a r.0 r.1 s r.2;
-}
-
-script_kind : (plan : List Site) → IsKind (List Todo) (script_file plan) 4
-script_kind plan = record {
-  too_long = refl;
-  refused = λ bytes ending r. ap (λ e. e.status) r.3;
-  one = λ bytes a b s t. same bytes a b s t;
-  never = λ bytes a ending s r. none bytes a r.0 r.1 s r.2;
-}
-  where
-    same : (bytes : List ℕ) (a b : List Todo) → script plan bytes ≡ Threads a → script plan bytes ≡ Threads b → a ≡ b
-    same bytes a b s t = let both = sym s ∙ t in cc
-
-    none : (bytes : List ℕ) (a : List Todo) (number kind : ℕ) → script plan bytes ≡ Threads a → script plan bytes ≡ Fault number kind → ⊥
-    none bytes a number kind s f = let both = sym s ∙ f in cc
-
--- ---- a refused file and its cause
-
-refused_file : (A : Type 0) (kind : FileKind A) (status : ℕ) (Has : List (List ℕ) → List ℕ → Type 0) (words : List (List ℕ)) (old new : View)
-    (name : List ℕ) (seen : Seen) (ending : Ending) → IsKind A kind status → Has words name
-    → (OperandIsRefused kind Has words old new → Cause words old new status)
-    → (old.read_faults name < new.read_faults name → Cause words old new 7)
-    → Shows kind.limit old new name seen → Refuses kind seen ending → Cause words old new ending.status
-refused_file A kind status Has words old new name Unreadable ending k has cause fails shows is = rw is (fails shows)
-refused_file A kind status Has words old new name Longer ending k has cause fails shows is =
-    rw (is, k.too_long) (cause (name, has, inl shows))
-refused_file A kind status Has words old new name (Content bytes) ending k has cause fails shows refuses =
-    rw (k.refused bytes ending refuses) (cause (name, has, inr (bytes, ending, shows, refuses)))
-
-refused_plan : (words : List (List ℕ)) (old new : View) (plan : List ℕ) (seen : Seen) (ending : Ending) → HasPlan words plan
-    → Shows plan_file.limit old new plan seen → Refuses plan_file seen ending → Cause words old new ending.status
-refused_plan words old new plan seen ending has shows refuses =
-    refused_file Tree plan_file 3 HasPlan words old new plan seen ending plan_kind has
-    (λ r. Cause.plan_refused r) (λ rose. Cause.read_fault (inl (plan, has, rose))) shows refuses
-
-refused_script : (words : List (List ℕ)) (old new : View) (plan : List ℕ) (tree : Tree) (name : List ℕ) (seen : Seen) (ending : Ending)
-    → HasPlan words plan → Reads plan_file old new plan tree → HasScript words name → Shows (script_file (sites tree)).limit old new name seen
-    → Refuses (script_file (sites tree)) seen ending → Cause words old new ending.status
-refused_script words old new plan tree name seen ending has reads asks shows refuses =
-    refused_file (List Todo) (script_file (sites tree)) 4 HasScript words old new name seen ending (script_kind (sites tree)) asks
-    (λ r. Cause.script_refused (plan, tree, has, reads, r)) (λ rose. Cause.read_fault (inr (plan, tree, has, reads, (name, asks, rose)))) shows refuses
-
--- ---- a start, with the script read where there is one
-
-start : (words : List (List ℕ)) (old new : View) (plan : List ℕ) (tree : Tree) (o : Option (World × ℕ)) → Runs words → HasPlan words plan
-    → Reads plan_file old new plan tree → ReadsScript words old new tree → started (sites tree) ≡ o
-    → Cause words old new (of_start (sites tree) o).status
-start words old new plan tree None runs has reads scripts is = Cause.runaway (runs, (plan, tree, has, reads, (scripts, is)))
-start words old new plan tree (Some at) runs has reads scripts is = Cause.done (runs, (plan, tree, has, reads, (scripts, rw is refl)))
+use Rattle.px_run.proofs.Ends.{SessionEnds, StartEnds, RunEnds, JournalEnds, CommandEnds, ends_by}
+use Rattle.px_run.proofs.FileKinds.{IsKind, plan_kind, script_kind}
 
 -- a dry run has the status of its start
-dry_run_status : (tree : Tree) (threads : List Todo) (ending : Ending) → DryRunEnds tree threads ending → ending.status ≡ (start_ending tree).status
+pub dry_run_status : (tree : Tree) (threads : List Todo) (ending : Ending) → DryRunEnds tree threads ending → ending.status ≡ (start_ending tree).status
 dry_run_status tree threads ending ends = at (started (sites tree)) ends
   where
-    at : (o : Option (World × ℕ)) → DryRunEndsBy (sites tree) threads ending o → ending.status ≡ (of_start (sites tree) o).status
+    at : (found : Option (World × ℕ)) → DryRunEndsBy (sites tree) threads ending found → ending.status ≡ (of_start (sites tree) found).status
     at None is = ap (λ e. e.status) is
-    at (Some settled) found = ap (λ e. e.status) found.2
+    at (Some settled) log = ap (λ e. e.status) log.2
 
--- without a script there is none to be read
-no_script_asked : (words : List (List ℕ)) (old new : View) (plan : List ℕ) (tree : Tree) → command words ≡ Some (TraceStart plan)
-    → ReadsScript words old new tree
-no_script_asked words old new plan tree asks name has = let same = ap (option_and_then script_of) asks in cc
+module _ {D : Type 0} (members : Disk.Ghosts D) (words : List (List ℕ)) (before now : View) (old new : D) where
+  abbrev IsCaused : ℕ → Type 0
+  IsCaused status = Cause members words before now old new status
 
--- the script that the command has
-script_asked : (words : List (List ℕ)) (old new : View) (plan name : List ℕ) (tree : Tree) (threads : List Todo)
-    → command words ≡ Some (DryRun plan name) → Reads (script_file (sites tree)) old new name threads → ReadsScript words old new tree
-script_asked words old new plan name tree threads asks reads other has =
-    let all = ap (option_and_then script_of) asks in
-    let same : name ≡ other = cc in
-    (threads, subst (λ n. Reads (script_file (sites tree)) old new n threads) same reads)
+  -- ---- files
 
-called : (words : List (List ℕ)) (old new : View) (ending : Ending) → CallsFor words old new ending → Cause words old new ending.status
-called words old new ending calls = by (command words) refl calls
+  refused_file : (A : Type 0) (kind : FileKind A) (status : ℕ) (Has : List (List ℕ) → List ℕ → Type 0) (name : List ℕ) (seen : Seen) (ending : Ending)
+      → IsKind A kind status → Has words name → (OperandIsRefused kind Has words before now → IsCaused status)
+      → (FailsToRead Has words before now → IsCaused 7) → Shows kind.limit before now name seen → Refuses kind seen ending → IsCaused ending.status
+  refused_file A kind status Has name Unreadable ending k has cause fails shows is = rw is (fails (name, has, shows))
+  refused_file A kind status Has name Longer ending k has cause fails shows is = rw (is, k.too_long) (cause (name, has, inl shows))
+  refused_file A kind status Has name (Content bytes) ending k has cause fails shows refuses =
+      rw (k.refused bytes ending refuses) (cause (name, has, inr (bytes, ending, shows, refuses)))
+
+  after_plan : (plan : List ℕ) (Next : Tree → Ending → Type 0) (ending : Ending) → HasPlan words plan
+      → ((tree : Tree) → Reads plan_file before now plan tree → Next tree ending → IsCaused ending.status) → After plan_file before now plan Next ending
+      → IsCaused ending.status
+  after_plan plan Next ending has behind (seen, shows, inl refuses) =
+      refused_file Tree plan_file 3 HasPlan plan seen ending plan_kind has (λ r. Cause.plan_refused r) (λ fails. Cause.read_fault (inl fails)) shows refuses
+  after_plan plan Next ending has behind (seen, shows, inr (tree, spells, next)) = behind tree (seen, shows, spells) next
+
+  after_script : (tree : Tree) (name : List ℕ) (Next : List Todo → Ending → Type 0) (ending : Ending) → HasScript words name
+      → (OperandIsRefused (script_file (sites tree)) HasScript words before now → IsCaused 4) → (FailsToRead HasScript words before now → IsCaused 7)
+      → ((threads : List Todo) → ReadsScript words before now tree → Next threads ending → IsCaused ending.status)
+      → After (script_file (sites tree)) before now name Next ending → IsCaused ending.status
+  after_script tree name Next ending has cause fails behind (seen, shows, inl refuses) =
+      refused_file (List Todo) (script_file (sites tree)) 4 HasScript name seen ending (script_kind (sites tree)) has cause fails shows refuses
+  after_script tree name Next ending has cause fails behind (seen, shows, inr (threads, spells, next)) = behind threads scripts next
+    where
+      scripts : ReadsScript words before now tree
+      scripts other asks =
+          let same : name ≡ other = cc in
+          (threads, subst (λ n. Reads (script_file (sites tree)) before now n threads) same (seen, shows, spells))
+
+  -- without a script there is none to be read
+  no_script : (tree : Tree) → option_and_then script_of (command words) ≡ None → ReadsScript words before now tree
+  no_script tree none name has = absurd (let both = sym none ∙ has in cc)
+
+  -- ---- a plan that is to be run
+
+  module _ (plan : List ℕ) (runs : Runs words) (has : HasPlan words plan) where
+    started_so : (tree : Tree) (IsSuch : Option (World × ℕ) → Type 0) → Reads plan_file before now plan tree → ReadsScript words before now tree
+        → IsSuch (started (sites tree)) → Starts words before now IsSuch
+    started_so tree IsSuch reads scripts such = (runs, (plan, tree, has, reads, (scripts, such)))
+
+    start_caused : (tree : Tree) (found : Option (World × ℕ)) → Reads plan_file before now plan tree → ReadsScript words before now tree
+        → started (sites tree) ≡ found → IsCaused (of_start (sites tree) found).status
+    start_caused tree None reads scripts is = Cause.runaway (started_so tree (λ found. found ≡ None) reads scripts is)
+    start_caused tree (Some settled) reads scripts is = Cause.done (started_so tree (λ found. IsSome found) reads scripts (rw is refl))
+
+    run_caused : (tree : Tree) (found : Option (World × ℕ)) (ending : Ending) → HasJournal words → Reads plan_file before now plan tree
+        → ReadsScript words before now tree → started (sites tree) ≡ found → StartEnds members before now old new found ending → IsCaused ending.status
+    run_caused tree None ending journal reads scripts is ends =
+        rw ends (Cause.runaway (started_so tree (λ found. found ≡ None) reads scripts is))
+    run_caused tree (Some settled) ending journal reads scripts is (inl (told, status)) =
+        rw status (Cause.journal_refused (inl (started_so tree (λ found. IsSome found) reads scripts (rw is refl), journal, told)))
+    run_caused tree (Some settled) ending journal reads scripts is (inr (inl (rose, status))) = rw status (Cause.disk_fault journal rose)
+    run_caused tree (Some settled) ending journal reads scripts is (inr (inr (nothing, status))) =
+        rw status (Cause.done (started_so tree (λ found. IsSome found) reads scripts (rw is refl)))
+
+    -- a script behind the plan
+    behind_plan : (tree : Tree) (script : List ℕ) (Next : List Todo → Ending → Type 0) (ending : Ending) → HasScript words script
+        → Reads plan_file before now plan tree
+        → ((threads : List Todo) → ReadsScript words before now tree → Next threads ending → IsCaused ending.status)
+        → After (script_file (sites tree)) before now script Next ending → IsCaused ending.status
+    behind_plan tree script Next ending asks reads behind after =
+        after_script tree script Next ending asks (λ r. Cause.script_refused (inl (plan, tree, has, reads, r)))
+        (λ fails. Cause.read_fault (inr (inl (plan, tree, has, reads, fails)))) behind after
+
+    trace_start_caused : (ending : Ending) → option_and_then script_of (command words) ≡ None
+        → After plan_file before now plan (λ tree e. e ≡ start_ending tree) ending → IsCaused ending.status
+    trace_start_caused ending none after =
+        after_plan plan (λ tree e. e ≡ start_ending tree) ending has
+        (λ tree reads is. subst (λ e. IsCaused e.status) (sym is) (start_caused tree (started (sites tree)) reads (no_script tree none) refl)) after
+
+    dry_run_caused : (script : List ℕ) (ending : Ending) → HasScript words script
+        → After plan_file before now plan (λ tree. After (script_file (sites tree)) before now script (DryRunEnds tree)) ending → IsCaused ending.status
+    dry_run_caused script ending asks after =
+        after_plan plan (λ tree. After (script_file (sites tree)) before now script (DryRunEnds tree)) ending has
+        (λ tree reads next. behind_plan tree script (DryRunEnds tree) ending asks reads
+        (λ threads scripts ends. subst IsCaused (sym (dry_run_status tree threads ending ends))
+        (start_caused tree (started (sites tree)) reads scripts refl)) next) after
+
+    run_is_caused : (script : List ℕ) (ending : Ending) → HasScript words script → HasJournal words → RunEnds members before now old new plan script ending
+        → IsCaused ending.status
+    run_is_caused script ending asks journal after =
+        after_plan plan (λ tree. After (script_file (sites tree)) before now script (λ threads. StartEnds members before now old new (started (sites tree)))) ending has
+        (λ tree reads next. behind_plan tree script (λ threads. StartEnds members before now old new (started (sites tree))) ending asks reads
+        (λ threads scripts ends. run_caused tree (started (sites tree)) ending journal reads scripts refl ends) next) after
+
+  -- ---- a journal that is to be taken up
+
+  module _ (no_plan : option_and_then plan_of (command words) ≡ None) (journal : HasJournal words) where
+    refused_caused : (ending : Ending) → JournalRefuses members old ending → IsCaused ending.status
+    refused_caused _ (JournalRefuses.none told) = Cause.journal_refused (inr (no_plan, journal, _, JournalRefuses.none told, refl))
+    refused_caused _ (JournalRefuses.damaged at told) = Cause.journal_refused (inr (no_plan, journal, _, JournalRefuses.damaged at told, refl))
+    refused_caused _ (JournalRefuses.plan text first fault told other refused) =
+        Cause.journal_refused (inr (no_plan, journal, _, JournalRefuses.plan text first fault told other refused, refl))
+    refused_caused _ (JournalRefuses.start_runs_away text first tree told compiled is) =
+        Cause.taken_up_runaway (no_plan, journal, text, first, tree, told, compiled, is)
+    refused_caused _ (JournalRefuses.event_runs_away text first tree at told compiled away) =
+        Cause.journal_refused (inr (no_plan, journal, _, JournalRefuses.event_runs_away text first tree at told compiled away, refl))
+
+    -- the disk's plan and history are such
+    taken_up : (text : List ℕ) (first : List Entry) (tree : Tree) (IsSuch : Tree → List Entry → Type 0)
+        → ForSome (members.content old) (λ told. Stands told text first) → IsCompiled text tree → IsSuch tree first → TakesUp members words old IsSuch
+    taken_up text first tree IsSuch told compiled such = (no_plan, journal, text, first, tree, told, compiled, such)
+
+    after_journal : (More : Tree → Ending → Type 0) (ending : Ending)
+        → ((text : List ℕ) (first : List Entry) (tree : Tree) → ForSome (members.content old) (λ told. Stands told text first) → IsCompiled text tree
+        → IsSome (run (sites tree) (events_of first)) → More tree ending → IsCaused ending.status)
+        → JournalEnds members before now old new More ending → IsCaused ending.status
+    after_journal More ending behind (inl (rose, status)) = rw status (Cause.disk_fault journal rose)
+    after_journal More ending behind (inr (inl refuses)) = refused_caused ending refuses
+    after_journal More ending behind (inr (inr (text, first, tree, told, compiled, runs, more))) = behind text first tree told compiled runs more
+
+    gone_on_caused : (text : List ℕ) (first : List Entry) (tree : Tree) (ending : Ending) → ForSome (members.content old) (λ told. Stands told text first)
+        → IsCompiled text tree → IsSome (run (sites tree) (events_of first)) → ReadsScript words before now tree
+        → SessionEnds members before now old new ending → IsCaused ending.status
+    gone_on_caused text first tree ending told compiled runs scripts (inl status) =
+        rw status (Cause.taken_up (taken_up text first tree (λ t h. ReadsScript words before now t × IsSome (run (sites t) (events_of h))) told compiled (scripts, runs)))
+    gone_on_caused text first tree ending told compiled runs scripts (inr (rose, status)) = rw status (Cause.disk_fault journal rose)
+
+    trace_caused : (ending : Ending) → option_and_then script_of (command words) ≡ None
+        → JournalEnds members before now old new (λ tree e. e.status ≡ 0) ending → IsCaused ending.status
+    trace_caused ending none ends =
+        after_journal (λ tree e. e.status ≡ 0) ending
+        (λ text first tree told compiled runs status. gone_on_caused text first tree ending told compiled runs (no_script tree none) (inl status)) ends
+
+    resume_caused : (script : List ℕ) (ending : Ending) → HasScript words script
+        → JournalEnds members before now old new
+        (λ tree. After (script_file (sites tree)) before now script (λ threads. SessionEnds members before now old new)) ending → IsCaused ending.status
+    resume_caused script ending asks ends =
+        after_journal (λ tree. After (script_file (sites tree)) before now script (λ threads. SessionEnds members before now old new)) ending
+        (λ text first tree told compiled runs after. after_script tree script (λ threads. SessionEnds members before now old new) ending asks
+        (λ r. Cause.script_refused (inr (taken_up text first tree (λ t h. OperandIsRefused (script_file (sites t)) HasScript words before now) told compiled r)))
+        (λ fails. Cause.read_fault (inr (inr (taken_up text first tree (λ t h. FailsToRead HasScript words before now) told compiled fails))))
+        (λ threads scripts session. gone_on_caused text first tree ending told compiled runs scripts session) after) ends
+
+  -- ---- whatever the command
+
+  caused_by : (asked : Option Command) (ending : Ending) → command words ≡ asked → CommandEnds members before now old new asked ending → IsCaused ending.status
+  caused_by None ending none is = rw is (Cause.no_command none)
+  caused_by (Some (TraceStart plan)) ending asks ends =
+      trace_start_caused plan (ap (option_map runs_plan) asks) (ap (option_and_then plan_of) asks) ending (ap (option_and_then script_of) asks) ends
+  caused_by (Some (DryRun plan script)) ending asks ends =
+      dry_run_caused plan (ap (option_map runs_plan) asks) (ap (option_and_then plan_of) asks) script ending (ap (option_and_then script_of) asks) ends
+  caused_by (Some (Check plan)) ending asks ends =
+      after_plan plan (λ tree e. e ≡ nodes_ending tree) ending (ap (option_and_then plan_of) asks)
+      (λ tree reads is. subst (λ e. IsCaused e.status) (sym is)
+      (Cause.checked (ap (option_map runs_plan) asks) (plan, tree, ap (option_and_then plan_of) asks, reads, tt))) ends
+  caused_by (Some (Run plan script journal limit)) ending asks ends =
+      run_is_caused plan (ap (option_map runs_plan) asks) (ap (option_and_then plan_of) asks) script ending (ap (option_and_then script_of) asks)
+      (journal, ap (option_and_then journal_of) asks) ends
+  caused_by (Some (Resume script journal limit)) ending asks ends =
+      resume_caused (ap (option_and_then plan_of) asks) (journal, ap (option_and_then journal_of) asks) script ending (ap (option_and_then script_of) asks) ends
+  caused_by (Some (Trace journal)) ending asks ends =
+      trace_caused (ap (option_and_then plan_of) asks) (journal, ap (option_and_then journal_of) asks) ending (ap (option_and_then script_of) asks) ends
+
+  caused : (course : Course) (ending : Ending) → CommandCallsFor members (command words) before now old new course (Some ending) → IsCaused ending.status
+  caused course ending calls =
+      caused_by (command words) ending refl (ends_by members before now old new (command words) course ending calls)
+
+pub causes : {D : Type 0} (members : Disk.Ghosts D) (words : List (List ℕ)) (before now : View) (old new : D) (status : ℕ)
+    → Headline members words before now old new status → Cause members words before now old new status
+causes members words before now old new _ (Headline.delivered course ending status calls leaves delivers) = by status delivers
   where
-    by : (asked : Option Command) → command words ≡ asked → CommandCallsFor asked old new ending → Cause words old new ending.status
-    by None none is = rw is (Cause.no_command none)
-    by (Some (TraceStart plan)) asks (seen, shows, inl refuses) =
-        refused_plan words old new plan seen ending (ap (option_and_then plan_of) asks) shows refuses
-    by (Some (TraceStart plan)) asks (seen, shows, inr (tree, spells, is)) =
-        subst (λ e. Cause words old new e.status) (sym is)
-        (start words old new plan tree (started (sites tree)) (ap (option_map runs_plan) asks) (ap (option_and_then plan_of) asks) (seen, shows, spells)
-        (no_script_asked words old new plan tree asks) refl)
-    by (Some (DryRun plan name)) asks (seen, shows, inl refuses) =
-        refused_plan words old new plan seen ending (ap (option_and_then plan_of) asks) shows refuses
-    by (Some (DryRun plan name)) asks (read, shown, inr (tree, form, (seen, shows, inl refuses))) =
-        refused_script words old new plan tree name seen ending (ap (option_and_then plan_of) asks) (read, shown, form)
-        (ap (option_and_then script_of) asks) shows refuses
-    by (Some (DryRun plan name)) asks (read, shown, inr (tree, form, (seen, shows, inr (threads, spells, ends)))) =
-        subst (λ s. Cause words old new s) (sym (dry_run_status tree threads ending ends))
-        (start words old new plan tree (started (sites tree)) (ap (option_map runs_plan) asks) (ap (option_and_then plan_of) asks) (read, shown, form)
-        (script_asked words old new plan name tree threads asks (seen, shows, spells)) refl)
-    by (Some (Check plan)) asks (seen, shows, inl refuses) =
-        refused_plan words old new plan seen ending (ap (option_and_then plan_of) asks) shows refuses
-    by (Some (Check plan)) asks (seen, shows, inr (tree, spells, is)) =
-        subst (λ e. Cause words old new e.status) (sym is)
-        (Cause.checked (ap (option_map runs_plan) asks) (plan, tree, ap (option_and_then plan_of) asks, (seen, shows, spells), tt))
-
-pub causes : (words : List (List ℕ)) (old new : View) (status : ℕ) → Headline words old new status → Cause words old new status
-causes words old new _ (Headline.delivered ending status calls delivers) = by status delivers
-  where
-    by : (s : ℕ) → Delivers old new ending s → Cause words old new s
-    by _ (Delivers.whole emits) = called words old new ending calls
+    by : (s : ℕ) → Delivers before now ending s → Cause members words before now old new s
+    by _ (Delivers.whole emits) = caused members words before now old new course ending calls
     by _ (Delivers.sink_fault part fault) = Cause.sink_fault fault
     by _ (Delivers.no_memory part) = Cause.no_memory
-causes words old new _ (Headline.nothing_emitted same) = Cause.no_memory
-
--- ---- where no fault was counted, the status is that of the ending or 10
-
-sound_status : (words : List (List ℕ)) (old new : View) (status expected : ℕ) → Headline words old new status → ¬ Faulted old new
-    → ((ending : Ending) → CallsFor words old new ending → ending.status ≡ expected) → (status ≡ 10) ⊎ (status ≡ expected)
-sound_status words old new _ expected (Headline.delivered ending status calls delivers) sound is = by status delivers
-  where
-    by : (s : ℕ) → Delivers old new ending s → (s ≡ 10) ⊎ (s ≡ expected)
-    by _ (Delivers.whole emits) = inr (is ending calls)
-    by _ (Delivers.sink_fault part fault) = absurd (sound fault)
-    by _ (Delivers.no_memory part) = inl refl
-sound_status words old new _ expected (Headline.nothing_emitted same) sound is = inl refl
-
--- ---- a file that the host holds, and whose fetch doesn't fail
-
--- is the one that is read
-held : (A : Type 0) (kind : FileKind A) (status : ℕ) (old new : View) (files : Files) (name : List ℕ) (part : A) (Next : A → Ending → Type 0) (ending : Ending)
-    → IsKind A kind status → old.files ≡ Some files → Holds kind files name part → ¬ (old.read_faults name < new.read_faults name)
-    → After kind old new name Next ending → Next part ending
-held A kind status old new files name part Next ending k told h sound (Unreadable, shows, ends) = absurd (sound shows)
-held A kind status old new files name part Next ending k told (bytes, here, short, spells) sound (Longer, shows, ends) =
-    let longer : kind.limit < length bytes = rw here at (shows files told) in absurd (omega arith)
-held A kind status old new files name part Next ending k told (bytes, here, short, spells) sound (Content found, (within, shows), ends) =
-    let there = shows files told in
-    let same : found ≡ bytes = cc in
-    elim ends [
-      | inl refuses ↦ absurd (k.never found part ending (subst (λ b. kind.Spells b part) (sym same) spells) refuses)
-      | inr w ↦ subst (λ p. Next p ending) (k.one found w.0 part w.1 (subst (λ b. kind.Spells b part) (sym same) spells)) w.2
-    ]
-
--- or is refused, where it is none of its kind
-none_held : (A : Type 0) (kind : FileKind A) (status : ℕ) (old new : View) (files : Files) (name : List ℕ) (Next : A → Ending → Type 0) (ending : Ending)
-    → IsKind A kind status → old.files ≡ Some files → HoldsNone kind files name → ¬ (old.read_faults name < new.read_faults name)
-    → After kind old new name Next ending → ending.status ≡ status
-none_held A kind status old new files name Next ending k told h sound (Unreadable, shows, ends) = absurd (sound shows)
-none_held A kind status old new files name Next ending k told h sound (Longer, shows, inl is) = ap (λ e. e.status) is ∙ k.too_long
-none_held A kind status old new files name Next ending k told h sound (Longer, shows, inr none) = absurd none.1
-none_held A kind status old new files name Next ending k told h sound (Content found, shows, inl refuses) = k.refused found ending refuses
-none_held A kind status old new files name Next ending k told (bytes, here, none) sound (Content found, (within, shows), inr spelled) =
-    let there = shows files told in
-    let same : found ≡ bytes = cc in
-    elim none [
-      | inl longer ↦ let more : kind.limit < length found = rw same longer in absurd (omega arith)
-      | inr refuses ↦ absurd (k.never found spelled.0 refuses.0 spelled.1 (subst (λ b. kind.Refuses b refuses.0) (sym same) refuses.1))
-    ]
-
--- ---- completeness, and refusals
-
-no_plan : (words : List (List ℕ)) (plan : List ℕ) → command words ≡ None → HasPlan words plan → ⊥
-no_plan words plan none has = let same = ap (option_and_then plan_of) none in cc
-
--- what the command calls for behind its plan, whatever the command
-pub complete : (words : List (List ℕ)) (old new : View) (status : ℕ) → Headline words old new status → IsComplete words old new status
-complete words old new status headline plan files tree has told holds scripts readable script_readable sound =
-    sound_status words old new status (status_behind (command words) tree) headline sound
-    (λ ending calls. of_calls ending (command words) refl calls)
-  where
-    of_calls : (ending : Ending) (asked : Option Command) → command words ≡ asked → CommandCallsFor asked old new ending
-        → ending.status ≡ status_behind asked tree
-    of_calls ending None is c = absurd (no_plan words plan is has)
-    of_calls ending (Some (TraceStart other)) is c =
-        let all = ap (option_and_then plan_of) is in
-        let same : other ≡ plan = cc in
-        ap (λ e. e.status) (held Tree plan_file 3 old new files plan tree (λ t e. e ≡ start_ending t) ending plan_kind told holds
-        (λ rose. readable (plan, has, rose)) (subst (λ name. After plan_file old new name (λ t e. e ≡ start_ending t) ending) same c))
-    of_calls ending (Some (Check other)) is c =
-        let all = ap (option_and_then plan_of) is in
-        let same : other ≡ plan = cc in
-        ap (λ e. e.status) (held Tree plan_file 3 old new files plan tree (λ t e. e ≡ nodes_ending t) ending plan_kind told holds
-        (λ rose. readable (plan, has, rose)) (subst (λ name. After plan_file old new name (λ t e. e ≡ nodes_ending t) ending) same c))
-    of_calls ending (Some (DryRun other name)) is c =
-        let all = ap (option_and_then plan_of) is in
-        let same : other ≡ plan = cc in
-        let asks : HasScript words name = ap (option_and_then script_of) is in
-        let found = scripts name asks in
-        let next = held Tree plan_file 3 old new files plan tree (λ t. After (script_file (sites t)) old new name (DryRunEnds t)) ending plan_kind told holds
-        (λ rose. readable (plan, has, rose))
-        (subst (λ n. After plan_file old new n (λ t. After (script_file (sites t)) old new name (DryRunEnds t)) ending) same c) in
-        dry_run_status tree found.0 ending
-        (held (List Todo) (script_file (sites tree)) 4 old new files name found.0 (DryRunEnds tree) ending (script_kind (sites tree)) told found.1 (λ rose. script_readable (name, asks, rose)) next)
-
-pub refused : (words : List (List ℕ)) (old new : View) (status : ℕ) → Headline words old new status → IsRefused words old new status
-refused words old new status headline = record {
-  plan = λ plan files has told holds readable sound.
-      sound_status words old new status 3 headline sound (λ ending c. of_plan ending plan files has told holds readable (command words) refl c);
-  script = λ plan name files tree has asks told holds faulty readable script_readable sound.
-      sound_status words old new status 4 headline sound
-      (λ ending c. of_script ending plan name files tree has asks told holds faulty readable script_readable (command words) refl c);
-}
-  where
-    of_plan : (ending : Ending) (plan : List ℕ) (files : Files) → HasPlan words plan → old.files ≡ Some files → HoldsNone plan_file files plan
-        → ¬ FailsToRead HasPlan words old new → (asked : Option Command) → command words ≡ asked → CommandCallsFor asked old new ending
-        → ending.status ≡ 3
-    of_plan ending plan files has told holds readable None is c = absurd (no_plan words plan is has)
-    of_plan ending plan files has told holds readable (Some (TraceStart other)) is c =
-        let all = ap (option_and_then plan_of) is in
-        let same : other ≡ plan = cc in
-        none_held Tree plan_file 3 old new files plan (λ t e. e ≡ start_ending t) ending plan_kind told holds
-        (λ rose. readable (plan, has, rose)) (subst (λ name. After plan_file old new name (λ t e. e ≡ start_ending t) ending) same c)
-    of_plan ending plan files has told holds readable (Some (Check other)) is c =
-        let all = ap (option_and_then plan_of) is in
-        let same : other ≡ plan = cc in
-        none_held Tree plan_file 3 old new files plan (λ t e. e ≡ nodes_ending t) ending plan_kind told holds
-        (λ rose. readable (plan, has, rose)) (subst (λ n. After plan_file old new n (λ t e. e ≡ nodes_ending t) ending) same c)
-    of_plan ending plan files has told holds readable (Some (DryRun other name)) is c =
-        let all = ap (option_and_then plan_of) is in
-        let same : other ≡ plan = cc in
-        none_held Tree plan_file 3 old new files plan (λ t. After (script_file (sites t)) old new name (DryRunEnds t)) ending plan_kind told holds
-        (λ rose. readable (plan, has, rose))
-        (subst (λ n. After plan_file old new n (λ t. After (script_file (sites t)) old new name (DryRunEnds t)) ending) same c)
-
-    of_script : (ending : Ending) (plan name : List ℕ) (files : Files) (tree : Tree) → HasPlan words plan → HasScript words name
-        → old.files ≡ Some files → Holds plan_file files plan tree → HoldsNone (script_file (sites tree)) files name → ¬ FailsToRead HasPlan words old new
-        → ¬ FailsToRead HasScript words old new → (asked : Option Command) → command words ≡ asked → CommandCallsFor asked old new ending → ending.status ≡ 4
-    of_script ending plan name files tree has asks told holds faulty readable script_readable None is c = absurd (no_plan words plan is has)
-    of_script ending plan name files tree has asks told holds faulty readable script_readable (Some (TraceStart other)) is c =
-        let all = ap (option_and_then script_of) is in cc
-    of_script ending plan name files tree has asks told holds faulty readable script_readable (Some (Check other)) is c =
-        let all = ap (option_and_then script_of) is in cc
-    of_script ending plan name files tree has asks told holds faulty readable script_readable (Some (DryRun other found)) is c =
-        let plans = ap (option_and_then plan_of) is in
-        let scripts = ap (option_and_then script_of) is in
-        let same : other ≡ plan = cc in
-        let same_script : found ≡ name = cc in
-        let next = held Tree plan_file 3 old new files plan tree (λ t. After (script_file (sites t)) old new found (DryRunEnds t)) ending plan_kind told holds
-        (λ rose. readable (plan, has, rose))
-        (subst (λ n. After plan_file old new n (λ t. After (script_file (sites t)) old new found (DryRunEnds t)) ending) same c) in
-        none_held (List Todo) (script_file (sites tree)) 4 old new files name (DryRunEnds tree) ending (script_kind (sites tree)) told faulty (λ rose. script_readable (name, asks, rose))
-        (subst (λ n. After (script_file (sites tree)) old new n (DryRunEnds tree) ending) same_script next)
+causes members words before now old new _ (Headline.nothing_emitted course calls leaves same) = Cause.no_memory

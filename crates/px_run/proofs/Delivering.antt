@@ -1,50 +1,149 @@
 -- From what was performed to the headline.
-use Rattle.std.proofs.Common.{◌≡◌, ℕ, ◌≤◌, inl, inr, List, [], Option, Some, None, Ok, Err, refl, subst, sym, arith}
-use Rattle.px_core.specs.Plan.{sites}
+use Rattle.std.proofs.Common.{◌≡◌, ℕ, inl, inr, List, [], Option, Some, None, Ok, Err, refl, subst, sym, arith}
+use Rattle.px_core.specs.Plan.{Tree, sites}
+use Rattle.px_event.specs.declared.entry.Entry.{Entry}
 use Rattle.px_ports.specs.Host.{Emits}
-use Rattle.px_run.specs.declared.printer.PrintFault.TheVariants.{SinkFailed, NoMemory}
+use Rattle.px_ports.specs.declared.disk.Disk
+use Rattle.px_output.specs.declared.printer.PrintFault.TheVariants.{SinkFailed, NoMemory}
+use Rattle.px_output.specs.Printing.{Prints}
+use Rattle.px_output.specs.View.{View, Faulted, EmitsPart, OnlyPrints, KeepsFiles}
+use Rattle.px_output.proofs.Printed.{emits_nothing, emitted_whole, emitted_part, piece_printed}
+use Rattle.px_script.specs.declared.todo.Todo.{Todo}
+use Rattle.px_words.specs.Words.{Command, TraceStart, DryRun, Check, Run, Resume, Trace, command}
+use Rattle.px_run.specs.declared.ending.Refusal.{Refusal}
+use Rattle.px_run.specs.declared.ending.Stop.{Stop}
 use Rattle.px_run.specs.declared.ending.Stop.TheVariants as stops
-use Rattle.px_run.specs.Ending.{Ending}
-use Rattle.px_run.specs.Headline.{CommandCallsFor, CallsFor, Delivers, Headline}
+use Rattle.px_run.specs.declared.finishing.Carried.{Carried}
+use Rattle.px_run.specs.Course.{Course, Due, AfterFile}
+use Rattle.px_run.specs.Ending.{Ending, DryRunEnds, start_ending, nodes_ending}
+use Rattle.px_run.specs.File.{FileKind, Seen, Shows, After, with_text}
+use Rattle.px_run.specs.Finishing.{Performed}
+use Rattle.px_run.specs.Headline.{TraceStartCalls, DryRunCalls, CheckCalls, IsDue, CommandCallsFor, Delivers, Headline}
+use Rattle.px_run.specs.Journaled.{AfterJournal, RunCalls, ResumeCalls}
 use Rattle.px_run.specs.Kinds.{plan_file, script_file}
-use Rattle.px_run.specs.Printing.{Prints}
-use Rattle.px_run.specs.Stops.{Performs}
-use Rattle.px_run.specs.View.{View, Faulted, EmitsPart, OnlyPrints, KeepsFiles}
-use Rattle.px_run.specs.Words.{Command, TraceStart, DryRun, Check, command}
+use Rattle.px_run.specs.Stops.{PerformsDue, ending_of}
 use Rattle.px_run.proofs.Performing.{shows_later, reads_kept}
-use Rattle.px_run.proofs.Printed.{emits_nothing, emitted_whole, emitted_part, piece_printed}
 
-calls_later : (words : List (List ℕ)) (old mid new : View) (ending : Ending) → OnlyPrints mid new
-    → CallsFor words old mid ending → CallsFor words old new ending
-calls_later words old mid new ending only calls = by (command words) calls
-  where
-    later : (other : List ℕ) → mid.read_faults other ≤ new.read_faults other
-    later = reads_kept mid new only
+-- ---- what is called for stays so while a refusal is printed
 
-    by : (asked : Option Command) → CommandCallsFor asked old mid ending → CommandCallsFor asked old new ending
-    by None c = c
-    by (Some (TraceStart plan)) (seen, s, ends) = (seen, shows_later plan_file.limit old mid new plan seen later s, ends)
-    by (Some (Check plan)) (seen, s, ends) = (seen, shows_later plan_file.limit old mid new plan seen later s, ends)
-    by (Some (DryRun plan script)) (seen, s, inl refuses) = (seen, shows_later plan_file.limit old mid new plan seen later s, inl refuses)
-    by (Some (DryRun plan script)) (seen, s, inr (tree, spells, (read, t, ends))) =
-        (seen, shows_later plan_file.limit old mid new plan seen later s, inr (tree, spells, (read, shows_later (script_file (sites tree)).limit old mid new script read later t, ends)))
+module _ (before mid now : View) (only : OnlyPrints mid now) where
+  later : (limit : ℕ) (name : List ℕ) (seen : Seen) → Shows limit before mid name seen → Shows limit before now name seen
+  later limit name seen shows = shows_later limit before mid now name seen (reads_kept mid now only) shows
 
-faulted_after : (old mid new : View) → KeepsFiles old mid → Faulted mid new → Faulted old new
-faulted_after old mid new keeps (inl h) = inl (omega (arith, keeps.write_faults))
-faulted_after old mid new keeps (inr h) = inr (omega (arith, keeps.idle))
+  after_later : (A : Type 0) (kind : FileKind A) (name : List ℕ) (Next More : A → Ending → Type 0) (ending : Ending)
+      → ((part : A) → Next part ending → More part ending) → After kind before mid name Next ending → After kind before now name More ending
+  after_later A kind name Next More ending widen (seen, shows, inl refuses) = (seen, later kind.limit name seen shows, inl refuses)
+  after_later A kind name Next More ending widen (seen, shows, inr (part, spells, next)) =
+      (seen, later kind.limit name seen shows, inr (part, spells, widen part next))
 
-delivers_after : (old mid new : View) (ending : Ending) (status : ℕ) → KeepsFiles old mid → mid.emitted ≡ old.emitted
-    → Delivers mid new ending status → Delivers old new ending status
-delivers_after old mid new ending _ keeps same (Delivers.whole emits) = Delivers.whole (rw (← same) emits)
-delivers_after old mid new ending _ keeps same (Delivers.sink_fault part fault) =
-    Delivers.sink_fault (rw (← same) part) (faulted_after old mid new keeps fault)
-delivers_after old mid new ending _ keeps same (Delivers.no_memory part) = Delivers.no_memory (rw (← same) part)
+  after_file_later : (A : Type 0) (kind : FileKind A) (name : List ℕ) (Next More : A → Course → Due → Type 0) (course : Course) (due : Due)
+      → ((part : A) → Next part course due → More part course due) → AfterFile kind before mid name Next course due
+      → AfterFile kind before now name More course due
+  after_file_later A kind name Next More _ _ widen AfterFile.no_memory = AfterFile.no_memory
+  after_file_later A kind name Next More _ _ widen (AfterFile.refused seen ending shows refuses) =
+      AfterFile.refused seen ending (later kind.limit name seen shows) refuses
+  after_file_later A kind name Next More _ _ widen (AfterFile.read seen part course due shows spells next) =
+      AfterFile.read seen part course due (later kind.limit name seen shows) spells (widen part next)
 
-pub refusal_delivered : (words : List (List ℕ)) (old mid new : View) (ending : Ending) (status : ℕ)
-    → CallsFor words old mid ending × (mid.emitted ≡ old.emitted) → KeepsFiles old mid
-    → Delivers mid new ending status → OnlyPrints mid new → Headline words old new status
-refusal_delivered words old mid new ending status (calls, same) keeps delivers only =
-    Headline.delivered ending status (calls_later words old mid new ending only calls) (delivers_after old mid new ending status keeps same delivers)
+  due_later : (Calls More : Ending → Type 0) (due : Due) → ((ending : Ending) → Calls ending → More ending) → IsDue Calls due → IsDue More due
+  due_later Calls More None widen none = tt
+  due_later Calls More (Some ending) widen calls = widen ending calls
+
+  trace_start_later : (plan : List ℕ) (ending : Ending) → TraceStartCalls plan before mid ending → TraceStartCalls plan before now ending
+  trace_start_later plan ending calls =
+      after_later Tree plan_file plan (λ tree e. e ≡ start_ending tree) (λ tree e. e ≡ start_ending tree) ending (λ tree is. is) calls
+
+  check_later : (plan : List ℕ) (ending : Ending) → CheckCalls plan before mid ending → CheckCalls plan before now ending
+  check_later plan ending calls =
+      after_later Tree plan_file plan (λ tree e. e ≡ nodes_ending tree) (λ tree e. e ≡ nodes_ending tree) ending (λ tree is. is) calls
+
+  dry_run_later : (plan script : List ℕ) (ending : Ending) → DryRunCalls plan script before mid ending → DryRunCalls plan script before now ending
+  dry_run_later plan script ending calls =
+      after_later Tree plan_file plan (λ tree. After (script_file (sites tree)) before mid script (DryRunEnds tree))
+      (λ tree. After (script_file (sites tree)) before now script (DryRunEnds tree)) ending
+      (λ tree next. after_later (List Todo) (script_file (sites tree)) script (DryRunEnds tree) (DryRunEnds tree) ending (λ threads ends. ends) next) calls
+
+  module _ {D : Type 0} (members : Disk.Ghosts D) (old new : D) where
+    after_journal_later : (Next More : List ℕ → List Entry → Tree → Course → Due → Type 0) (course : Course) (due : Due)
+        → ((text : List ℕ) (first : List Entry) (tree : Tree) (c : Course) (d : Due) → Next text first tree c d → More text first tree c d)
+        → AfterJournal members old new Next course due → AfterJournal members old new More course due
+    after_journal_later Next More _ _ widen AfterJournal.no_memory = AfterJournal.no_memory
+    after_journal_later Next More _ _ widen (AfterJournal.disk_fails rose) = AfterJournal.disk_fails rose
+    after_journal_later Next More _ _ widen (AfterJournal.refused ending refuses) = AfterJournal.refused ending refuses
+    after_journal_later Next More _ _ widen (AfterJournal.opened text first tree course due stands compiled runs next) =
+        AfterJournal.opened text first tree course due stands compiled runs (widen text first tree course due next)
+
+    run_later : (plan script : List ℕ) (limit : ℕ) (course : Course) (due : Due) → RunCalls members plan script limit before mid old new course due
+        → RunCalls members plan script limit before now old new course due
+    run_later plan script limit course due calls =
+        after_file_later (List ℕ × Tree) (with_text plan_file) plan _ _ course due
+        (λ source next. after_file_later (List Todo) (script_file (sites source.1)) script _ _ course due (λ threads ends. ends) next) calls
+
+    resume_later : (script : List ℕ) (limit : ℕ) (course : Course) (due : Due) → ResumeCalls members script limit before mid old new course due
+        → ResumeCalls members script limit before now old new course due
+    resume_later script limit course due calls =
+        after_journal_later _ _ course due
+        (λ text first tree c d next. after_file_later (List Todo) (script_file (sites tree)) script _ _ c d (λ threads ends. ends) next) calls
+
+    calls_later : (asked : Option Command) (course : Course) (due : Due) → CommandCallsFor members asked before mid old new course due
+        → CommandCallsFor members asked before now old new course due
+    calls_later None course due calls = calls
+    calls_later (Some (TraceStart plan)) course due (same, untouched, calls) =
+        (same, untouched, due_later (TraceStartCalls plan before mid) (TraceStartCalls plan before now) due (trace_start_later plan) calls)
+    calls_later (Some (DryRun plan script)) course due (same, untouched, calls) =
+        (same, untouched, due_later (DryRunCalls plan script before mid) (DryRunCalls plan script before now) due (dry_run_later plan script) calls)
+    calls_later (Some (Check plan)) course due (same, untouched, calls) =
+        (same, untouched, due_later (CheckCalls plan before mid) (CheckCalls plan before now) due (check_later plan) calls)
+    calls_later (Some (Run plan script journal limit)) course due calls = run_later plan script limit course due calls
+    calls_later (Some (Resume script journal limit)) course due calls = resume_later script limit course due calls
+    calls_later (Some (Trace journal)) course due calls = calls
+
+faulted_after : (before mid now : View) → KeepsFiles before mid → Faulted mid now → Faulted before now
+faulted_after before mid now keeps (inl h) = inl (omega (arith, keeps.write_faults))
+faulted_after before mid now keeps (inr h) = inr (omega (arith, keeps.idle))
+
+delivers_after : (before mid now : View) (ending : Ending) (status : ℕ) → KeepsFiles before mid → mid.emitted ≡ before.emitted
+    → Delivers mid now ending status → Delivers before now ending status
+delivers_after before mid now ending _ keeps same (Delivers.whole emits) = Delivers.whole (rw (← same) emits)
+delivers_after before mid now ending _ keeps same (Delivers.sink_fault part fault) =
+    Delivers.sink_fault (rw (← same) part) (faulted_after before mid now keeps fault)
+delivers_after before mid now ending _ keeps same (Delivers.no_memory part) = Delivers.no_memory (rw (← same) part)
+
+-- ---- from what a command has performed
+
+module _ {D : Type 0} (members : Disk.Ghosts D) (words : List (List ℕ)) (before mid : View) (old : D) (carried : Carried D)
+    (performed : Performed members (command words) before mid old carried) where
+  performed_by : (stop why : Stop) → carried.result ≡ Err stop → stop ≡ why
+      → PerformsDue before mid (CommandCallsFor members (command words) before mid old carried.disk performed.course) (Err why)
+  performed_by stop why stopped is =
+      subst (λ s. PerformsDue before mid (CommandCallsFor members (command words) before mid old carried.disk performed.course) (Err s)) is
+      (subst (PerformsDue before mid (CommandCallsFor members (command words) before mid old carried.disk performed.course)) stopped performed.performs)
+
+  pub refusal_delivered : (refusal : Refusal) (now : View) (status : ℕ) (stop : Stop) → carried.result ≡ Err stop → stop ≡ stops.Refused refusal → KeepsFiles before mid
+      → Delivers mid now (ending_of refusal) status → OnlyPrints mid now → Headline members words before now old carried.disk status
+  refusal_delivered refusal now status stop stopped is keeps delivers only =
+      let (calls, same) = performed_by stop (stops.Refused refusal) stopped is in
+      Headline.delivered performed.course (ending_of refusal) status
+      (calls_later before mid now only members old carried.disk (command words) performed.course (Some (ending_of refusal)) calls)
+      performed.leaves (delivers_after before mid now (ending_of refusal) status keeps same delivers)
+
+  pub done_delivered : carried.result ≡ Ok tt → Headline members words before mid old carried.disk 0
+  done_delivered is =
+      let (ending, calls, status, emits) = rw is at performed.performs in
+      subst (Headline members words before mid old carried.disk) status
+      (Headline.delivered performed.course ending ending.status calls performed.leaves (Delivers.whole emits))
+
+  pub fault_delivered : (stop : Stop) → carried.result ≡ Err stop → stop ≡ stops.SinkFailed → Headline members words before mid old carried.disk 8
+  fault_delivered stop stopped is =
+      let (ending, calls, part, fault) = performed_by stop stops.SinkFailed stopped is in
+      Headline.delivered performed.course ending 8 calls performed.leaves (Delivers.sink_fault part fault)
+
+  pub memory_delivered : (stop : Stop) → carried.result ≡ Err stop → stop ≡ stops.NoMemory → Headline members words before mid old carried.disk 10
+  memory_delivered stop stopped is =
+      elim (performed_by stop stops.NoMemory stopped is) [
+        | inl w ↦ Headline.delivered performed.course w.0 10 (w.1) performed.leaves (Delivers.no_memory (w.2))
+        | inr w ↦ Headline.nothing_emitted performed.course (w.0) performed.leaves (w.1)
+      ]
 
 -- ---- the text of an ending by itself
 
@@ -69,18 +168,3 @@ pub emits_in_memory : (old new : View) (ending : Ending) (text : List ℕ) → t
 emits_in_memory old new ending text is prints =
     let (left, leaves) = piece_printed {T = Unit} old new [] text [] text (Err NoMemory) refl prints in
     Delivers.no_memory (subst (EmitsPart old new) is (emitted_part old new left text leaves))
-
--- ---- a command that was not refused
-
-pub done_delivered : (words : List (List ℕ)) (old new : View) → Performs old new (CallsFor words old new) (Ok tt) → Headline words old new 0
-done_delivered words old new (ending, calls, status, emits) =
-    subst (Headline words old new) status (Headline.delivered ending ending.status calls (Delivers.whole emits))
-
-pub fault_delivered : (words : List (List ℕ)) (old new : View) → Performs old new (CallsFor words old new) (Err stops.SinkFailed)
-    → Headline words old new 8
-fault_delivered words old new (ending, calls, part, fault) = Headline.delivered ending 8 calls (Delivers.sink_fault part fault)
-
-pub memory_delivered : (words : List (List ℕ)) (old new : View) → Performs old new (CallsFor words old new) (Err stops.NoMemory)
-    → Headline words old new 10
-memory_delivered words old new (inl (ending, calls, part)) = Headline.delivered ending 10 calls (Delivers.no_memory part)
-memory_delivered words old new (inr same) = Headline.nothing_emitted same

@@ -10,8 +10,8 @@ use Rattle.px_sem.specs.Text.{text_of}
 use Rattle.px_sem.proofs.Logs.{run_at_start}
 use Rattle.px_script.specs.declared.todo.Todo.{Todo}
 use Rattle.px_script.specs.Order.{InFileOrder}
-use Rattle.px_run.specs.declared.printer.PrintFault.{PrintFault}
-use Rattle.px_run.specs.declared.printer.PrintFault.TheVariants.{SinkFailed, NoMemory}
+use Rattle.px_output.specs.declared.printer.PrintFault.{PrintFault}
+use Rattle.px_output.specs.declared.printer.PrintFault.TheVariants.{SinkFailed, NoMemory}
 use Rattle.px_compile.specs.Compiled.{IsRefused}
 use Rattle.px_syntax.specs.declared.fault.PlanFault.{PlanFault}
 use Rattle.px_syntax.specs.declared.fault.PlanFault.TheVariants as plans
@@ -19,13 +19,14 @@ use Rattle.px_sem.specs.declared.settling.StepFault.{StepFault}
 use Rattle.px_sem.specs.declared.settling.StepFault.TheVariants as steps
 use Rattle.px_run.specs.declared.ending.Stop.{Stop}
 use Rattle.px_run.specs.declared.ending.Stop.TheVariants as stops
-use Rattle.px_run.specs.Ending.{Ending, runaway_at_start, start_ending, of_start, log_ending, IsDryRun, DryRunEndsBy, DryRunEnds, event_limit}
+use Rattle.px_run.specs.Ending.{Ending, runaway_at_start, start_ending, of_start, log_ending, IsDryRun, DryRunEndsBy, DryRunEnds}
 use Rattle.px_run.specs.File.{FileKind, Seen, Content, Longer, Unreadable, Shows, Reads, After}
-use Rattle.px_run.specs.Printing.{Prints}
+use Rattle.px_output.specs.Printing.{Prints}
 use Rattle.px_run.specs.Kinds.{plan_file}
 use Rattle.px_run.specs.Stops.{stop_of, stop_of_plan, stop_of_start, StopsReading, Performs, ending_of}
-use Rattle.px_run.specs.View.{View, Faulted, OnlyPrints, OnlyReads, KeepsFiles}
-use Rattle.px_run.proofs.Printed.{emitted_whole, emitted_part}
+use Rattle.px_output.specs.View.{View, Faulted, OnlyPrints, OnlyReads, KeepsFiles}
+use Rattle.px_output.proofs.Printed.{emitted_whole, emitted_part}
+use Rattle.px_words.specs.Limit.{event_limit}
 
 -- ---- what was seen of a file is so of the whole call
 
@@ -35,7 +36,7 @@ shows_later limit old mid new name (Content bytes) later s = s
 shows_later limit old mid new name Longer later s = s
 shows_later limit old mid new name Unreadable later s = let rose = later name in omega arith
 
-shows_since : (limit : ℕ) (old mid new : View) (name : List ℕ) (seen : Seen) → OnlyReads old mid → Shows limit mid new name seen
+pub shows_since : (limit : ℕ) (old mid new : View) (name : List ℕ) (seen : Seen) → OnlyReads old mid → Shows limit mid new name seen
     → Shows limit old new name seen
 shows_since limit old mid new name (Content bytes) only (within, s) = (within, rw (← only.files) s)
 shows_since limit old mid new name Longer only s = rw (← only.files) s
@@ -55,7 +56,7 @@ after_read A kind old mid new name part Next ending (seen, shows, spells) later 
 
 -- ---- one thing behind another
 
-faulted_since : (old mid new : View) → OnlyReads old mid → Faulted mid new → Faulted old new
+pub faulted_since : (old mid new : View) → OnlyReads old mid → Faulted mid new → Faulted old new
 faulted_since old mid new only (inl h) = inl (omega arith)
 faulted_since old mid new only (inr h) = inr (omega arith)
 

@@ -1,25 +1,34 @@
 -- The causes of answers: what each status tells, when the program carries its command out, and when it refuses its files.
-use Rattle.std.specs.Prelude.{◌≡◌, ◌⊎◌, ◌<◌, ℕ, true, false, List, Option, Some, None, IsSome, if◌then◌else◌}
-use Rattle.std.specs.Option.{option_map, option_and_then}
-use Rattle.px_ports.specs.Host.{Files}
+use Rattle.std.specs.Prelude.{◌≡◌, ◌⊎◌, ◌<◌, ℕ, true, false, List, Option, Some, None, IsSome, IsTrue, IsFalse, if◌then◌else◌}
+use Rattle.std.specs.Option.{option_map, option_and_then, ForSome}
+use Rattle.px_compile.specs.Compiled.{IsCompiled}
+use Rattle.px_event.specs.declared.entry.Entry.{Entry}
+use Rattle.px_journal.specs.Layout.{is_nothing, Stands}
+use Rattle.px_output.specs.View.{View, Faulted}
+use Rattle.px_ports.specs.Host.{Files, Rose}
+use Rattle.px_ports.specs.declared.disk.Disk
 use Rattle.px_core.specs.Plan.{Tree, sites}
+use Rattle.px_sem.specs.Log.{events_of}
 use Rattle.px_sem.specs.World.{World}
-use Rattle.px_sem.specs.Run.{started}
+use Rattle.px_sem.specs.Run.{run, started}
 use Rattle.px_script.specs.declared.todo.Todo.{Todo}
-use Rattle.px_run.specs.Ending.{nodes_ending, start_ending}
+use Rattle.px_words.specs.Words.{Command, plan_of, script_of, journal_of, runs_plan, command}
+use Rattle.px_run.specs.Ending.{Ending, nodes_ending, start_ending}
 use Rattle.px_run.specs.File.{FileKind, Reads, IsRefusedAs, Holds, HoldsNone}
+use Rattle.px_run.specs.Journaled.{JournalRefuses}
 use Rattle.px_run.specs.Kinds.{plan_file, script_file}
-use Rattle.px_run.specs.View.{View, Faulted}
-use Rattle.px_run.specs.Words.{Command, plan_of, script_of, runs_plan, command}
 
--- the words ask for a command with this plan; with this script
+-- the words ask for a command with this plan; with this script; with this journal
 abbrev pub HasPlan : List (List ℕ) → List ℕ → Type 0
 HasPlan words plan = option_and_then plan_of (command words) ≡ Some plan
 
 abbrev pub HasScript : List (List ℕ) → List ℕ → Type 0
 HasScript words name = option_and_then script_of (command words) ≡ Some name
 
--- they ask for a run of the plan; for its check alone
+abbrev pub HasJournal : List (List ℕ) → Type 0
+HasJournal words = (name : List ℕ) × (option_and_then journal_of (command words) ≡ Some name)
+
+-- they ask for a run of a plan; for its check alone
 abbrev pub Runs : List (List ℕ) → Type 0
 Runs words = option_map runs_plan (command words) ≡ Some true
 
@@ -49,44 +58,106 @@ abbrev pub FailsToRead : (List (List ℕ) → List ℕ → Type 0) → List (Lis
 FailsToRead Has words old new =
     (name : List ℕ) × Has words name × (old.read_faults name < new.read_faults name)
 
--- THE TABLE OF STATUSES: each with its cause. What comes behind a plan or a script comes only where that was read.
-pub data Cause (words : List (List ℕ)) (old new : View) : ℕ → Type 0 where
-  done : Starts words old new (λ start. IsSome start) → Cause words old new 0
-  checked : OnlyChecks words → ReadsPlan words old new (λ tree. Unit {0}) → Cause words old new 0
-  no_command : command words ≡ None → Cause words old new 2
-  plan_refused : OperandIsRefused plan_file HasPlan words old new → Cause words old new 3
-  script_refused :
-      ReadsPlan words old new (λ tree. OperandIsRefused (script_file (sites tree)) HasScript words old new)
-      → Cause words old new 4
-  runaway : Starts words old new (λ start. start ≡ None) → Cause words old new 6
-  read_fault :
-      FailsToRead HasPlan words old new ⊎ ReadsPlan words old new (λ tree. FailsToRead HasScript words old new)
-      → Cause words old new 7
-  sink_fault : Faulted old new → Cause words old new 8
-  no_memory : Cause words old new 10
+module _ {D : Type 0} (members : Disk.Ghosts D) where
+  -- the command has a journal and no plan, and the disk stands for the text of a plan and for a history, which are such
+  abbrev pub TakesUp : List (List ℕ) → D → (Tree → List Entry → Type 0) → Type 0
+  TakesUp words disk IsSuch = (option_and_then plan_of (command words) ≡ None) × HasJournal words × (text : List ℕ) × (first : List Entry) × (tree : Tree)
+      × ForSome (members.content disk) (λ told. Stands told text first) × IsCompiled text tree × IsSuch tree first
 
--- the status of a command whose files are read: that of the plan's start, where the plan is run
+  -- the disk is refused: a journal stands where one was to be made, or none that can be taken up where one was to be read
+  abbrev pub JournalIsRefused : List (List ℕ) → View → View → D → Type 0
+  JournalIsRefused words before now disk =
+      (Starts words before now (λ start. IsSome start) × HasJournal words × ForSome (members.content disk) (λ told. IsFalse (is_nothing told)))
+      ⊎ ((option_and_then plan_of (command words) ≡ None) × HasJournal words
+      × (ending : Ending) × JournalRefuses members disk ending × (ending.status ≡ 5))
+
+  -- THE TABLE OF STATUSES: each with its cause. What comes behind a plan, a script or a journal comes only where that was
+  -- read.
+  pub data Cause (words : List (List ℕ)) (before now : View) (old new : D) : ℕ → Type 0 where
+    done : Starts words before now (λ start. IsSome start) → Cause words before now old new 0
+    taken_up :
+        TakesUp words old (λ tree first. ReadsScript words before now tree × IsSome (run (sites tree) (events_of first)))
+        → Cause words before now old new 0
+    checked : OnlyChecks words → ReadsPlan words before now (λ tree. Unit {0}) → Cause words before now old new 0
+    no_command : command words ≡ None → Cause words before now old new 2
+    plan_refused : OperandIsRefused plan_file HasPlan words before now → Cause words before now old new 3
+    script_refused :
+        ReadsPlan words before now (λ tree. OperandIsRefused (script_file (sites tree)) HasScript words before now)
+        ⊎ TakesUp words old (λ tree first. OperandIsRefused (script_file (sites tree)) HasScript words before now)
+        → Cause words before now old new 4
+    journal_refused : JournalIsRefused words before now old → Cause words before now old new 5
+    runaway : Starts words before now (λ start. start ≡ None) → Cause words before now old new 6
+    taken_up_runaway : TakesUp words old (λ tree first. started (sites tree) ≡ None) → Cause words before now old new 6
+    read_fault :
+        FailsToRead HasPlan words before now
+        ⊎ (ReadsPlan words before now (λ tree. FailsToRead HasScript words before now)
+        ⊎ TakesUp words old (λ tree first. FailsToRead HasScript words before now))
+        → Cause words before now old new 7
+    sink_fault : Faulted before now → Cause words before now old new 8
+    disk_fault : HasJournal words → Rose (members.faults old) (members.faults new) → Cause words before now old new 9
+    no_memory : Cause words before now old new 10
+
+-- the status of a command whose plan and script are read: that of the plan's start, where the plan is run
 abbrev pub status_behind : Option Command → Tree → ℕ
 status_behind None tree = 0
 status_behind (Some asked) tree = if runs_plan asked then (start_ending tree).status else (nodes_ending tree).status
 
--- Files that can be read, and no fault: the command is carried out, or its start is a runaway, or memory is wanting.
-abbrev pub IsComplete : List (List ℕ) → View → View → ℕ → Type 0
-IsComplete words old new status =
-    (plan : List ℕ) (files : Files) (tree : Tree) → HasPlan words plan
-    → old.files ≡ Some files → Holds plan_file files plan tree
-    → ((name : List ℕ) → HasScript words name → (threads : List Todo) × Holds (script_file (sites tree)) files name threads)
-    → ¬ FailsToRead HasPlan words old new → ¬ FailsToRead HasScript words old new → ¬ Faulted old new
-    → (status ≡ 10) ⊎ (status ≡ status_behind (command words) tree)
+module _ {D : Type 0} (members : Disk.Ghosts D) where
+  -- where the command has a journal, no call of the disk failed, and the disk was such
+  abbrev pub IsSound : List (List ℕ) → D → D → (List ℕ → Type 0) → Type 0
+  IsSound words old new IsSuch = HasJournal words
+      → ((bytes : List ℕ) × (members.content old ≡ Some bytes) × IsSuch bytes) × ¬ Rose (members.faults old) (members.faults new)
 
--- A plan that is refused, or a script behind a plan that is not, and no fault: the command is refused so, or memory is
--- wanting.
-pub record IsRefused (words : List (List ℕ)) (old new : View) (status : ℕ) : Type 0 where
-  pub plan :
-      (plan : List ℕ) (files : Files) → HasPlan words plan → old.files ≡ Some files → HoldsNone plan_file files plan
-      → ¬ FailsToRead HasPlan words old new → ¬ Faulted old new → (status ≡ 10) ⊎ (status ≡ 3)
-  pub script :
-      (plan name : List ℕ) (files : Files) (tree : Tree) → HasPlan words plan → HasScript words name
-      → old.files ≡ Some files → Holds plan_file files plan tree → HoldsNone (script_file (sites tree)) files name
-      → ¬ FailsToRead HasPlan words old new → ¬ FailsToRead HasScript words old new → ¬ Faulted old new
-      → (status ≡ 10) ⊎ (status ≡ 4)
+  -- Files that can be read, a disk that fits, and no fault: the command is carried out, or its start is a runaway, or memory
+  -- is wanting.
+  pub record IsComplete (words : List (List ℕ)) (before now : View) (old new : D) (status : ℕ) : Type 0 where
+    -- a plan of a file
+    pub plan :
+        (plan : List ℕ) (files : Files) (tree : Tree) → HasPlan words plan
+        → before.files ≡ Some files → Holds plan_file files plan tree
+        → ((name : List ℕ) → HasScript words name → (threads : List Todo) × Holds (script_file (sites tree)) files name threads)
+        → IsSound words old new (λ bytes. IsTrue (is_nothing bytes))
+        → ¬ FailsToRead HasPlan words before now → ¬ FailsToRead HasScript words before now → ¬ Faulted before now
+        → (status ≡ 10) ⊎ (status ≡ status_behind (command words) tree)
+    -- a journal that is taken up
+    pub journal :
+        (text : List ℕ) (first : List Entry) (tree : Tree) → option_and_then plan_of (command words) ≡ None → HasJournal words
+        → IsCompiled text tree → IsSome (run (sites tree) (events_of first))
+        → ((name : List ℕ) → HasScript words name
+        → (files : Files) × (before.files ≡ Some files) × ((threads : List Todo) × Holds (script_file (sites tree)) files name threads))
+        → IsSound words old new (λ bytes. Stands bytes text first)
+        → ¬ FailsToRead HasScript words before now → ¬ Faulted before now
+        → (status ≡ 10) ⊎ (status ≡ 0)
+
+  -- A plan or a journal that is refused, or a script behind one that is not, and no fault: the command is refused so, or
+  -- memory is wanting.
+  pub record IsRefused (words : List (List ℕ)) (before now : View) (old new : D) (status : ℕ) : Type 0 where
+    pub plan :
+        (plan : List ℕ) (files : Files) → HasPlan words plan → before.files ≡ Some files → HoldsNone plan_file files plan
+        → ¬ FailsToRead HasPlan words before now → ¬ Faulted before now → (status ≡ 10) ⊎ (status ≡ 3)
+    pub script :
+        (plan name : List ℕ) (files : Files) (tree : Tree) → HasPlan words plan → HasScript words name
+        → before.files ≡ Some files → Holds plan_file files plan tree → HoldsNone (script_file (sites tree)) files name
+        → ¬ FailsToRead HasPlan words before now → ¬ FailsToRead HasScript words before now → ¬ Faulted before now
+        → (status ≡ 10) ⊎ (status ≡ 4)
+    -- a journal that stands where one was to be made
+    pub exists :
+        (plan : List ℕ) (files : Files) (tree : Tree) → HasPlan words plan → HasJournal words → before.files ≡ Some files
+        → Holds plan_file files plan tree
+        → ((name : List ℕ) → HasScript words name → (threads : List Todo) × Holds (script_file (sites tree)) files name threads)
+        → IsSome (started (sites tree)) → IsSound words old new (λ bytes. IsFalse (is_nothing bytes))
+        → ¬ FailsToRead HasPlan words before now → ¬ FailsToRead HasScript words before now → ¬ Faulted before now
+        → (status ≡ 10) ⊎ (status ≡ 5)
+    -- a journal that is none that can be taken up: 5, or 6 where the start of its plan runs away
+    pub journal :
+        (why : Ending) → option_and_then plan_of (command words) ≡ None → HasJournal words → JournalRefuses members old why
+        → ((bytes : List ℕ) × (members.content old ≡ Some bytes)) → ¬ Rose (members.faults old) (members.faults new)
+        → ¬ Faulted before now → (status ≡ 10) ⊎ (status ≡ why.status)
+    -- a script behind a journal that is taken up
+    pub script_behind_journal :
+        (name : List ℕ) (files : Files) (text : List ℕ) (first : List Entry) (tree : Tree) → option_and_then plan_of (command words) ≡ None
+        → HasJournal words → HasScript words name → before.files ≡ Some files → IsCompiled text tree
+        → IsSome (run (sites tree) (events_of first)) → HoldsNone (script_file (sites tree)) files name
+        → IsSound words old new (λ bytes. Stands bytes text first)
+        → ¬ FailsToRead HasScript words before now → ¬ Faulted before now
+        → (status ≡ 10) ⊎ (status ≡ 4)

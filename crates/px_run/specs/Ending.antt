@@ -1,6 +1,7 @@
 -- How a command ends: its status, and all of its text.
 use Rattle.std.specs.Prelude.{◌≡◌, ℕ, List, [], ◌++◌, map, Option, Some, None, codes, decimal}
 use Rattle.px_core.specs.Plan.{Site, Tree, sites, count_of}
+use Rattle.px_event.specs.declared.entry.Entry.{Entry}
 use Rattle.px_sem.specs.World.{World}
 use Rattle.px_sem.specs.Log.{Log, IsLegal}
 use Rattle.px_sem.specs.Run.{started}
@@ -8,6 +9,7 @@ use Rattle.px_sem.specs.Text.{line, text_of}
 use Rattle.px_script.specs.declared.todo.Todo.{Todo}
 use Rattle.px_script.specs.Order.{InFileOrder}
 use Rattle.px_syntax.specs.declared.fault.PlanFault.{PlanFault}
+use Rattle.px_words.specs.Limit.{event_limit}
 use Rattle.px_run.specs.PlanRefusal.{plan_reason}
 
 -- a status and a text
@@ -43,6 +45,31 @@ runaway_at_start = refusal 6 (codes "runaway at start")
 abbrev pub read_fault : Ending
 read_fault = refusal 7 (codes "read fault")
 
+-- ---- journals
+
+abbrev pub journal_refused : List ℕ → Ending
+journal_refused reason = refusal 5 (codes "journal refused: " ++ reason)
+
+-- one stands where a new one was to be made; none stands where one was to be read
+abbrev pub journal_exists : Ending
+journal_exists = journal_refused (codes "exists")
+
+abbrev pub no_journal : Ending
+no_journal = journal_refused (codes "none")
+
+abbrev pub journal_damaged : ℕ → Ending
+journal_damaged at = journal_refused (codes "damaged at byte " ++ decimal at)
+
+-- its text is no plan that can be run; or this event of its history is the first that does not settle
+abbrev pub journal_plan : Ending
+journal_plan = journal_refused (codes "plan")
+
+abbrev pub journal_runaway : ℕ → Ending
+journal_runaway at = journal_refused (codes "runaway at event " ++ decimal at)
+
+abbrev pub disk_fault : Ending
+disk_fault = refusal 9 (codes "disk fault")
+
 -- ---- plans
 
 -- how many nodes a plan has
@@ -51,9 +78,12 @@ nodes_ending tree = record { status = 0; text = line (codes "ok " ++ (decimal (c
 
 -- ---- runs
 
--- the text of a log from the start
+-- the text of a log that goes on from a history; of one from the start
+abbrev pub session_ending : List Site → List Entry → Log → Ending
+session_ending plan first log = record { status = 0; text = text_of plan first log }
+
 abbrev pub log_ending : List Site → Log → Ending
-log_ending plan log = record { status = 0; text = text_of plan [] log }
+log_ending plan log = session_ending plan [] log
 
 -- the text of the start alone, or the refusal of one that does not settle
 abbrev pub of_start : List Site → Option (World × ℕ) → Ending
@@ -62,10 +92,6 @@ of_start plan (Some settled) = log_ending plan []
 
 abbrev pub start_ending : Tree → Ending
 start_ending tree = of_start (sites tree) (started (sites tree))
-
--- the most events of a history
-abbrev pub event_limit : ℕ
-event_limit = 100000
 
 -- a log of all posts of a script by rising line number, each answered as it is to be
 pub record IsDryRun (plan : List Site) (threads : List Todo) (log : Log) : Type 0 where

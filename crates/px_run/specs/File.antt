@@ -3,7 +3,7 @@ use Rattle.std.specs.Prelude.{◌≡◌, ◌⊎◌, ◌<◌, ◌≤◌, ℕ, Lis
 use Rattle.std.specs.Option.{ForSome}
 use Rattle.px_ports.specs.Host.{Files, file_at}
 use Rattle.px_run.specs.Ending.{Ending, read_fault}
-use Rattle.px_run.specs.View.{View}
+use Rattle.px_output.specs.View.{View}
 
 -- A kind of files: how many bytes one may have, what its bytes spell, and the endings by which a command refuses one that is
 -- too long, or whose bytes spell nothing.
@@ -12,6 +12,15 @@ pub record FileKind (A : Type 0) : Type 1 where
   pub too_long : Ending
   pub Spells : List ℕ → A → Type 0
   pub Refuses : List ℕ → Ending → Type 0
+
+-- the same kind, where its text is asked for too
+abbrev pub with_text : {A : Type 0} → FileKind A → FileKind (List ℕ × A)
+with_text kind = record {
+  limit = kind.limit;
+  too_long = kind.too_long;
+  Spells = λ bytes part. (part.0 ≡ bytes) × kind.Spells bytes part.1;
+  Refuses = kind.Refuses;
+}
 
 -- what a file is to the program: its content, more than the program takes, or nothing that can be read
 pub data Seen : Type 0 where

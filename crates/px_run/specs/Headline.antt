@@ -1,25 +1,61 @@
--- THE HEADLINE: what a call of the program emits, and which status it answers.
-use Rattle.std.specs.Prelude.{◌≡◌, ℕ, List, Option, Some, None}
+-- THE HEADLINE: what a call of the program emits, which status it answers, and what it leaves of the disk.
+use Rattle.std.specs.Prelude.{◌≡◌, ◌⊎◌, ℕ, List, Option, Some, None}
 use Rattle.px_core.specs.Plan.{sites}
+use Rattle.px_exec.specs.Executive.{TellsBytes}
+use Rattle.px_output.specs.View.{View, Faulted, EmitsPart}
 use Rattle.px_ports.specs.Host.{Emits}
+use Rattle.px_ports.specs.declared.disk.Disk
+use Rattle.px_words.specs.Words.{Command, TraceStart, DryRun, Check, Run, Resume, Trace, command, journal_of}
+use Rattle.px_run.specs.Course.{Course, Untouched, Due, Leaves}
 use Rattle.px_run.specs.Ending.{Ending, usage, nodes_ending, start_ending, DryRunEnds}
 use Rattle.px_run.specs.File.{After}
+use Rattle.px_run.specs.Journaled.{RunCalls, ResumeCalls, TraceCalls}
 use Rattle.px_run.specs.Kinds.{plan_file, script_file}
-use Rattle.px_run.specs.View.{View, Faulted, EmitsPart}
-use Rattle.px_run.specs.Words.{Command, TraceStart, DryRun, Check, command}
 
--- the ending that a command and its files call for: the first refusal decides
-abbrev pub CommandCallsFor : Option Command → View → View → Ending → Type 0
-CommandCallsFor None old new ending = ending ≡ usage
-CommandCallsFor (Some (TraceStart plan)) old new ending =
-    After plan_file old new plan (λ tree ending. ending ≡ start_ending tree) ending
-CommandCallsFor (Some (DryRun plan script)) old new ending =
-    After plan_file old new plan (λ tree. After (script_file (sites tree)) old new script (DryRunEnds tree)) ending
-CommandCallsFor (Some (Check plan)) old new ending =
-    After plan_file old new plan (λ tree ending. ending ≡ nodes_ending tree) ending
+-- ---- commands without a journal: the first refusal decides
 
-abbrev pub CallsFor : List (List ℕ) → View → View → Ending → Type 0
-CallsFor words old new ending = CommandCallsFor (command words) old new ending
+abbrev pub TraceStartCalls : List ℕ → View → View → Ending → Type 0
+TraceStartCalls plan before now ending = After plan_file before now plan (λ tree ending. ending ≡ start_ending tree) ending
+
+abbrev pub DryRunCalls : List ℕ → List ℕ → View → View → Ending → Type 0
+DryRunCalls plan script before now ending =
+    After plan_file before now plan (λ tree. After (script_file (sites tree)) before now script (DryRunEnds tree)) ending
+
+abbrev pub CheckCalls : List ℕ → View → View → Ending → Type 0
+CheckCalls plan before now ending = After plan_file before now plan (λ tree ending. ending ≡ nodes_ending tree) ending
+
+-- such an ending is due, or none, for want of memory
+abbrev pub IsDue : (Ending → Type 0) → Due → Type 0
+IsDue Calls None = Unit {0}
+IsDue Calls (Some ending) = Calls ending
+
+module _ {D : Type 0} (members : Disk.Ghosts D) where
+  -- no call of the disk is made
+  abbrev pub Plainly : D → D → (Ending → Type 0) → Course → Due → Type 0
+  Plainly old new Calls course due = (new ≡ old) × (course ≡ Untouched) × IsDue Calls due
+
+  -- what a command and its files call for, with what becomes of the journal
+  abbrev pub CommandCallsFor : Option Command → View → View → D → D → Course → Due → Type 0
+  CommandCallsFor None before now old new course due = Plainly old new (λ ending. ending ≡ usage) course due
+  CommandCallsFor (Some (TraceStart plan)) before now old new course due =
+      Plainly old new (TraceStartCalls plan before now) course due
+  CommandCallsFor (Some (DryRun plan script)) before now old new course due =
+      Plainly old new (DryRunCalls plan script before now) course due
+  CommandCallsFor (Some (Check plan)) before now old new course due =
+      Plainly old new (CheckCalls plan before now) course due
+  CommandCallsFor (Some (Run plan script journal limit)) before now old new course due =
+      RunCalls members plan script limit before now old new course due
+  CommandCallsFor (Some (Resume script journal limit)) before now old new course due =
+      ResumeCalls members script limit before now old new course due
+  CommandCallsFor (Some (Trace journal)) before now old new course due = TraceCalls members old new course due
+
+  -- the disk is bound to the command's journal, or to none
+  abbrev pub IsBoundFor : Option Command → D → Type 0
+  IsBoundFor asked disk = (members.bound_to disk ≡ None) ⊎ ((journal : List ℕ) × (asked_journal asked ≡ Some journal) × (members.bound_to disk ≡ Some journal))
+    where
+      asked_journal : Option Command → Option (List ℕ)
+      asked_journal None = None
+      asked_journal (Some asked) = journal_of asked
 
 -- the whole text, under its own status; a front of it, where the sink failed or took nothing; or a front of it, for want of
 -- memory
@@ -28,9 +64,14 @@ pub data Delivers (old new : View) (ending : Ending) : ℕ → Type 0 where
   sink_fault : EmitsPart old new ending.text → Faulted old new → Delivers old new ending 8
   no_memory : EmitsPart old new ending.text → Delivers old new ending 10
 
--- a call delivers the ending that the words and the files call for, or ends for want of memory before anything is emitted
-pub data Headline (words : List (List ℕ)) (old new : View) : ℕ → Type 0 where
+-- A call has a course, and leaves of the disk what that course does. It delivers the ending that is due, or ends for want
+-- of memory before anything is emitted.
+pub data Headline {D : Type 0} (members : Disk.Ghosts D) (words : List (List ℕ)) (before now : View) (old new : D) : ℕ → Type 0 where
   delivered :
-      (ending : Ending) (status : ℕ) → CallsFor words old new ending → Delivers old new ending status
-      → Headline words old new status
-  nothing_emitted : new.emitted ≡ old.emitted → Headline words old new 10
+      (course : Course) (ending : Ending) (status : ℕ) → CommandCallsFor members (command words) before now old new course (Some ending)
+      → (TellsBytes members → Leaves members old new course) → Delivers before now ending status
+      → Headline members words before now old new status
+  nothing_emitted :
+      (course : Course) → CommandCallsFor members (command words) before now old new course None
+      → (TellsBytes members → Leaves members old new course) → now.emitted ≡ before.emitted
+      → Headline members words before now old new 10

@@ -1,11 +1,10 @@
-pub mod Words
-pub mod Asked
-pub mod View
 pub mod PlanRefusal
 pub mod Ending
 pub mod File
 pub mod Kinds
-pub mod Printing
+pub mod Course
 pub mod Stops
+pub mod Journaled
 pub mod Headline
+pub mod Finishing
 pub mod Causes

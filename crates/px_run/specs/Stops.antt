@@ -1,11 +1,12 @@
 -- What stops a command, and what it has emitted then.
-use Rattle.std.specs.Prelude.{◌≡◌, ◌⊎◌, ℕ, List, Result, Ok, Err}
-use Rattle.std.specs.Option.{unwrap_or}
+use Rattle.std.specs.Prelude.{◌≡◌, ◌⊎◌, ℕ, List, Some, None, Result, Ok, Err}
 use Rattle.px_ports.specs.Host.{Emits}
-use Rattle.px_core.specs.Plan.{Site}
-use Rattle.px_sem.specs.World.{World}
-use Rattle.px_sem.specs.Run.{settling_count}
-use Rattle.px_sem.specs.Text.{steps_text}
+use Rattle.px_journal.specs.declared.fault.CreateWhy.{CreateWhy}
+use Rattle.px_journal.specs.declared.fault.CreateWhy.TheVariants as creating
+use Rattle.px_session.specs.declared.fault.ReopenWhy.{ReopenWhy}
+use Rattle.px_session.specs.declared.fault.ReopenWhy.TheVariants as reopening
+use Rattle.px_session.specs.declared.posting.PostStop.{PostStop}
+use Rattle.px_session.specs.declared.posting.PostStop.TheVariants as posting
 use Rattle.px_sem.specs.declared.settling.StepFault.{StepFault}
 use Rattle.px_sem.specs.declared.settling.StepFault.TheVariants as steps
 use Rattle.px_syntax.specs.declared.fault.PlanFault.{PlanFault}
@@ -16,20 +17,23 @@ use Rattle.px_run.specs.declared.ending.Refusal.{Refusal}
 use Rattle.px_run.specs.declared.ending.Refusal.TheVariants as refusals
 use Rattle.px_run.specs.declared.ending.Stop.{Stop}
 use Rattle.px_run.specs.declared.ending.Stop.TheVariants as stops
-use Rattle.px_run.specs.declared.printer.PrintFault.{PrintFault}
-use Rattle.px_run.specs.declared.printer.PrintFault.TheVariants as faults
-use Rattle.px_run.specs.Ending.{Ending, usage, plan_too_long, plan_at_fault, script_too_long, script_at_fault, runaway_at_start, read_fault}
+use Rattle.px_output.specs.declared.printer.PrintFault.{PrintFault}
+use Rattle.px_output.specs.declared.printer.PrintFault.TheVariants as faults
+use Rattle.px_run.specs.Course.{Due}
+use Rattle.px_run.specs.Ending.{Ending, usage, plan_too_long, plan_at_fault, script_too_long, script_at_fault, runaway_at_start, read_fault, journal_exists, no_journal, journal_damaged, journal_plan, journal_runaway, disk_fault}
 use Rattle.px_run.specs.File.{FileKind, Seen, Longer, Unreadable, Shows, Refuses}
-use Rattle.px_run.specs.View.{View, Faulted, EmitsPart}
+use Rattle.px_output.specs.View.{View, Faulted, EmitsPart}
 
 abbrev pub number_of : Status → ℕ
 number_of statuses.Done = 0
 number_of statuses.NoCommand = 2
 number_of statuses.PlanRefused = 3
 number_of statuses.ScriptRefused = 4
+number_of statuses.JournalRefused = 5
 number_of statuses.Runaway = 6
 number_of statuses.ReadFault = 7
 number_of statuses.SinkFault = 8
+number_of statuses.DiskFault = 9
 number_of statuses.NoMemory = 10
 
 abbrev pub ending_of : Refusal → Ending
@@ -40,6 +44,12 @@ ending_of refusals.ScriptTooLong = script_too_long
 ending_of (refusals.ScriptAtFault line kind) = script_at_fault line kind
 ending_of refusals.RunawayAtStart = runaway_at_start
 ending_of refusals.ReadFault = read_fault
+ending_of refusals.JournalExists = journal_exists
+ending_of refusals.NoJournal = no_journal
+ending_of (refusals.JournalDamaged at) = journal_damaged at
+ending_of refusals.JournalPlan = journal_plan
+ending_of (refusals.JournalRunaway at) = journal_runaway at
+ending_of refusals.DiskFault = disk_fault
 
 abbrev pub stop_of : PrintFault → Stop
 stop_of faults.SinkFailed = stops.SinkFailed
@@ -52,6 +62,24 @@ stop_of_plan fault = stops.Refused (refusals.PlanAtFault fault)
 abbrev pub stop_of_start : StepFault → Stop
 stop_of_start steps.Runaway = stops.Refused refusals.RunawayAtStart
 stop_of_start steps.NoMemory = stops.NoMemory
+
+abbrev pub stop_of_create : CreateWhy → Stop
+stop_of_create creating.Exists = stops.Refused refusals.JournalExists
+stop_of_create creating.DiskFault = stops.Refused refusals.DiskFault
+stop_of_create creating.NoMemory = stops.NoMemory
+
+abbrev pub stop_of_reopen : ReopenWhy → Stop
+stop_of_reopen reopening.NoJournal = stops.Refused refusals.NoJournal
+stop_of_reopen (reopening.Damaged at) = stops.Refused (refusals.JournalDamaged at)
+stop_of_reopen reopening.PlanRefused = stops.Refused refusals.JournalPlan
+stop_of_reopen reopening.RunawayAtStart = stops.Refused refusals.RunawayAtStart
+stop_of_reopen (reopening.Runaway at) = stops.Refused (refusals.JournalRunaway at)
+stop_of_reopen reopening.DiskFault = stops.Refused refusals.DiskFault
+stop_of_reopen reopening.NoMemory = stops.NoMemory
+
+abbrev pub stop_of_posts : PostStop → Stop
+stop_of_posts posting.DiskFault = stops.Refused refusals.DiskFault
+stop_of_posts posting.NoMemory = stops.NoMemory
 
 -- what stops a fetch: the file has more bytes than the limit, or it can't be read
 abbrev pub StopsFetching : ℕ → View → View → List ℕ → Refusal → Stop → Type 0
@@ -68,10 +96,6 @@ StopsReading kind old new name (stops.Refused refusal) =
 StopsReading kind old new name stops.SinkFailed = ⊥
 StopsReading kind old new name stops.NoMemory = Unit {0}
 
--- the text of the micro steps until the world is quiet
-abbrev pub run_text : List Site → World → List ℕ
-run_text plan world = steps_text plan world (unwrap_or (settling_count plan world) 0)
-
 -- What a command has done by the ending that is called for. A refusal is still to be printed.
 abbrev pub Performs : View → View → (Ending → Type 0) → Result Unit Stop → Type 0
 Performs old new calls (Ok done) =
@@ -81,3 +105,13 @@ Performs old new calls (Err stops.SinkFailed) =
     (ending : Ending) × calls ending × EmitsPart old new ending.text × Faulted old new
 Performs old new calls (Err stops.NoMemory) =
     ((ending : Ending) × calls ending × EmitsPart old new ending.text) ⊎ (new.emitted ≡ old.emitted)
+
+-- the same of a command with a journal: memory may run out before an ending is due
+abbrev pub PerformsDue : View → View → (Due → Type 0) → Result Unit Stop → Type 0
+PerformsDue old new Calls (Ok done) =
+    (ending : Ending) × Calls (Some ending) × (ending.status ≡ 0) × Emits old.emitted new.emitted ending.text
+PerformsDue old new Calls (Err (stops.Refused refusal)) = Calls (Some (ending_of refusal)) × (new.emitted ≡ old.emitted)
+PerformsDue old new Calls (Err stops.SinkFailed) =
+    (ending : Ending) × Calls (Some ending) × EmitsPart old new ending.text × Faulted old new
+PerformsDue old new Calls (Err stops.NoMemory) =
+    ((ending : Ending) × Calls (Some ending) × EmitsPart old new ending.text) ⊎ (Calls None × (new.emitted ≡ old.emitted))

@@ -4,15 +4,14 @@ ghost use Rattle.std.specs.String.{string_bytes};
 ghost use Rattle.px_core.specs.Fit.{IsFit};
 ghost use Rattle.px_core.specs.Plan.{tree_of};
 ghost use Rattle.px_run.specs.Ending.{nodes_ending};
-ghost use Rattle.px_run.specs.Headline.{CommandCallsFor};
+ghost use Rattle.px_run.specs.Headline.{CheckCalls};
 ghost use Rattle.px_run.specs.Stops.{Performs};
-ghost use Rattle.px_run.specs.View.{view, KeepsFiles};
-ghost use Rattle.px_run.specs.Words.{Check as Asked};
+ghost use Rattle.px_output.specs.View.{view, KeepsFiles};
 
 use crate::ending::Stop;
-use crate::printer::emit_all;
 use crate::reading::fetch_plan;
 use px_core::Plan;
+use px_output::emit_all;
 use px_ports::Host;
 use px_value::NoMemory;
 use std::alloc::Global;
@@ -20,7 +19,7 @@ use std::alloc::Global;
 /// Prints how many nodes the plan in this file has.
 pub fn check<H: Host>(alloc: Global, plan: &str, host: &mut H) -> Result<(), Stop>
     ensures performs { Performs (view H.Host host.old) (view H.Host host.new)
-        (CommandCallsFor (Some (Asked plan.now)) (view H.Host host.old) (view H.Host host.new)) result }
+        (CheckCalls plan.now (view H.Host host.old) (view H.Host host.new)) result }
     ensures keeps { KeepsFiles (view H.Host host.old) (view H.Host host.new) }
 {
     let plan = fetch_plan(alloc, plan, host)?;

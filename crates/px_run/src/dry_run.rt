@@ -4,22 +4,19 @@ ghost use Rattle.px_core.specs.Fit.{IsFit};
 ghost use Rattle.px_core.specs.Plan.{tree_of, sites};
 ghost use Rattle.px_run.specs.Ending.{DryRunEnds};
 ghost use Rattle.px_run.specs.File.{After};
-ghost use Rattle.px_run.specs.Headline.{CommandCallsFor};
+ghost use Rattle.px_run.specs.Headline.{DryRunCalls};
 ghost use Rattle.px_run.specs.Kinds.{script_file};
 ghost use Rattle.px_run.specs.Stops.{Performs};
-ghost use Rattle.px_run.specs.View.{view, KeepsFiles};
-ghost use Rattle.px_run.specs.Words.{DryRun as Asked};
+ghost use Rattle.px_output.specs.View.{view, KeepsFiles};
 
 use crate::ending::Stop;
-use crate::log::print_log;
 use crate::reading::{fetch_plan, fetch_script};
 use px_core::Plan;
+use px_output::print_log;
 use px_ports::Host;
 use px_sem::{Stepper, post_each, start};
+use px_words::EVENT_LIMIT;
 use std::alloc::Global;
-
-/// The most events of a history.
-const EVENT_LIMIT: u32 = 100_000;
 
 /// Posts the lines of the script in one file to the plan in another, those of all threads by rising
 /// number, and prints the text of the log. A start that does not settle is refused before any text.
@@ -30,7 +27,7 @@ pub fn dry_run<H: Host, S: Stepper>(
     host: &mut H,
 ) -> Result<(), Stop>
     ensures performs { Performs (view H.Host host.old) (view H.Host host.new)
-        (CommandCallsFor (Some (Asked plan.now script.now)) (view H.Host host.old) (view H.Host host.new)) result }
+        (DryRunCalls plan.now script.now (view H.Host host.old) (view H.Host host.new)) result }
     ensures keeps { KeepsFiles (view H.Host host.old) (view H.Host host.new) }
 {
     let plan = fetch_plan(alloc, plan, host)?;

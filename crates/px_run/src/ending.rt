@@ -2,11 +2,13 @@
 ghost use Rattle.std.specs.Prelude.{◌≡◌, IfOk};
 ghost use Rattle.std.specs.String.{string_bytes};
 ghost use Rattle.px_run.specs.declared.ending.Stop.TheVariants.{NoMemory as OutOfMemory};
-ghost use Rattle.px_run.specs.Ending.{script_at_fault};
+ghost use Rattle.px_run.specs.Ending.{script_at_fault, journal_damaged, journal_runaway};
 
 use crate::plan_refusal::plan_refusal;
-use crate::printer::PrintFault;
+use px_journal::CreateWhy;
+use px_output::PrintFault;
 use px_sem::StepFault;
+use px_session::{PostStop, ReopenWhy};
 use px_syntax::PlanFault;
 use px_value::NoMemory;
 use std::alloc::Global;
@@ -22,12 +24,16 @@ pub enum Status {
     PlanRefused = 3,
     /// The script is too long, or has a faulty line.
     ScriptRefused = 4,
+    /// A journal stands where a new one was to be made, or what stands there is none that can be taken up.
+    JournalRefused = 5,
     /// The start does not settle.
     Runaway = 6,
     /// A file could not be read.
     ReadFault = 7,
     /// The sink failed, or took nothing.
     SinkFault = 8,
+    /// A call of the disk failed.
+    DiskFault = 9,
     NoMemory = 10,
 }
 
@@ -48,6 +54,18 @@ pub enum Refusal {
     RunawayAtStart,
     /// A file could not be read.
     ReadFault,
+    /// A journal stands where a new one was to be made.
+    JournalExists,
+    /// No journal stands where one was to be read.
+    NoJournal,
+    /// The journal's bytes are broken first at this place, counted from 0.
+    JournalDamaged { at: u64 },
+    /// The journal's text is no plan that can be run.
+    JournalPlan,
+    /// The event at this place of the journal's history, from 1, is the first that does not settle.
+    JournalRunaway { at: u32 },
+    /// A call of the disk failed.
+    DiskFault,
 }
 
 /// Why a command came to no end of its own.
@@ -107,6 +125,51 @@ impl From<NoMemory> for Stop {
     }
 }
 
+impl From<CreateWhy> for Stop {
+    ghost use Rattle.px_run.specs.Stops.{stop_of_create};
+
+    ghost from_gives = { λ fault stop. stop ≡ stop_of_create fault };
+
+    fn from(fault: CreateWhy) -> Self {
+        match fault {
+            CreateWhy::Exists => Stop::Refused(Refusal::JournalExists),
+            CreateWhy::DiskFault => Stop::Refused(Refusal::DiskFault),
+            CreateWhy::NoMemory => Stop::NoMemory,
+        }
+    }
+}
+
+impl From<ReopenWhy> for Stop {
+    ghost use Rattle.px_run.specs.Stops.{stop_of_reopen};
+
+    ghost from_gives = { λ fault stop. stop ≡ stop_of_reopen fault };
+
+    fn from(fault: ReopenWhy) -> Self {
+        match fault {
+            ReopenWhy::NoJournal => Stop::Refused(Refusal::NoJournal),
+            ReopenWhy::Damaged { at } => Stop::Refused(Refusal::JournalDamaged { at }),
+            ReopenWhy::PlanRefused => Stop::Refused(Refusal::JournalPlan),
+            ReopenWhy::RunawayAtStart => Stop::Refused(Refusal::RunawayAtStart),
+            ReopenWhy::Runaway { at } => Stop::Refused(Refusal::JournalRunaway { at }),
+            ReopenWhy::DiskFault => Stop::Refused(Refusal::DiskFault),
+            ReopenWhy::NoMemory => Stop::NoMemory,
+        }
+    }
+}
+
+impl From<PostStop> for Stop {
+    ghost use Rattle.px_run.specs.Stops.{stop_of_posts};
+
+    ghost from_gives = { λ fault stop. stop ≡ stop_of_posts fault };
+
+    fn from(fault: PostStop) -> Self {
+        match fault {
+            PostStop::DiskFault => Stop::Refused(Refusal::DiskFault),
+            PostStop::NoMemory => Stop::NoMemory,
+        }
+    }
+}
+
 impl Status {
     ghost use Rattle.px_run.specs.Stops.{number_of};
 
@@ -129,8 +192,14 @@ impl Refusal {
             Refusal::Usage => Status::NoCommand,
             Refusal::PlanTooLong | Refusal::PlanAtFault(_) => Status::PlanRefused,
             Refusal::ScriptTooLong | Refusal::ScriptAtFault { .. } => Status::ScriptRefused,
+            Refusal::JournalExists
+            | Refusal::NoJournal
+            | Refusal::JournalDamaged { .. }
+            | Refusal::JournalPlan
+            | Refusal::JournalRunaway { .. } => Status::JournalRefused,
             Refusal::RunawayAtStart => Status::Runaway,
             Refusal::ReadFault => Status::ReadFault,
+            Refusal::DiskFault => Status::DiskFault,
         }
     }
 
@@ -148,11 +217,29 @@ impl Refusal {
             Refusal::ScriptAtFault { line, kind } => {
                 return script_at_fault(alloc, *line, *kind);
             }
+            Refusal::JournalExists => "journal refused: exists\n",
+            Refusal::NoJournal => "journal refused: none\n",
+            Refusal::JournalDamaged { at } => return journal_damaged(alloc, *at),
+            Refusal::JournalPlan => "journal refused: plan\n",
+            Refusal::JournalRunaway { at } => return journal_runaway(alloc, *at),
             Refusal::RunawayAtStart => "runaway at start\n",
             Refusal::ReadFault => "read fault\n",
+            Refusal::DiskFault => "disk fault\n",
         };
         String::from_str(alloc, text)
     }
+}
+
+fn journal_damaged(alloc: Global, at: u64) -> Result<String, NoMemory>
+    ensures { IfOk result (λ text. string_bytes text ≡ (journal_damaged at).text) }
+{
+    format!(in alloc; "journal refused: damaged at byte {at}\n")
+}
+
+fn journal_runaway(alloc: Global, at: u32) -> Result<String, NoMemory>
+    ensures { IfOk result (λ text. string_bytes text ≡ (journal_runaway at).text) }
+{
+    format!(in alloc; "journal refused: runaway at event {at}\n")
 }
 
 fn script_at_fault(alloc: Global, line: u32, kind: u8) -> Result<String, NoMemory>

@@ -1,20 +1,22 @@
-//! The program: its command words, what each command does, and what it prints.
+//! The program: what each command does, and how it ends.
 //!
-//! `top` is the one entry, and each command has a module: `check`, `trace_start`, `dry_run`. `words` reads the command words
-//! and `reading` the files; `log` prints a log through a `printer`; `ending` has the statuses and the texts of refusals,
-//! `plan_refusal` those of plans.
-//! `specs/Headline.antt` says what a call emits and which status it answers, `specs/Causes.antt` what each status tells.
+//! `top` is the one entry, and each command has a module: `check`, `trace_start` and `dry_run` touch no disk; `run`, `resume`
+//! and `trace` have a journal, and `finishing` is the end that the first two share. `reading` reads the files; `ending` has the
+//! statuses and the texts of refusals, `plan_refusal` those of plans.
+//! `specs/Headline.antt` says what a call emits, which status it answers and what it leaves of the disk, `specs/Journaled.antt`
+//! what the commands with a journal call for, and `specs/Causes.antt` what each status tells.
 #![tactic(auto)]
 
 mod check;
 mod dry_run;
 mod ending;
-mod log;
+mod finishing;
 mod plan_refusal;
-mod printer;
 mod reading;
+mod resume;
+mod run;
 mod top;
+mod trace;
 mod trace_start;
-mod words;
 
-pub use top::plexil;
+pub use top::{Done, plexil};

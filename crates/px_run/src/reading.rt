@@ -1,13 +1,13 @@
 // Plans and scripts, from their files.
-ghost use Rattle.std.specs.Prelude.{◌≡◌, IfOk, IfErr, IsTrue};
+ghost use Rattle.std.specs.Prelude.{◌≡◌, ◌≤◌, length, IfOk, IfErr, IsTrue};
 ghost use Rattle.std.specs.List.{list_all};
 ghost use Rattle.px_core.specs.Fit.{IsFit};
 ghost use Rattle.px_core.specs.Plan.{tree_of, sites};
 ghost use Rattle.px_script.specs.Fit.{IsFitScript};
-ghost use Rattle.px_run.specs.File.{Content, Shows, Reads};
+ghost use Rattle.px_run.specs.File.{Content, Shows, Reads, with_text};
 ghost use Rattle.px_run.specs.Kinds.{plan_file, script_file};
 ghost use Rattle.px_run.specs.Stops.{StopsFetching, StopsReading};
-ghost use Rattle.px_run.specs.View.{view, OnlyReads};
+ghost use Rattle.px_output.specs.View.{view, OnlyReads};
 
 use crate::ending::{Refusal, Stop};
 use px_compile::{TEXT_LIMIT, compile};
@@ -15,6 +15,28 @@ use px_core::Plan;
 use px_ports::{Fetched, Host, HostFault};
 use px_script::{SCRIPT_LIMIT, Script, ScriptFault, read_script};
 use std::alloc::Global;
+
+/// A plan with the text that spells it.
+#[derive(Drop)]
+pub struct Source {
+    pub text: Vec<u8>,
+    pub plan: Plan,
+}
+
+/// Reads the plan in the file of this name, and keeps its text.
+pub fn fetch_source<H: Host>(alloc: Global, name: &str, host: &mut H) -> Result<Source, Stop>
+    ensures ok { IfOk result (λ source. Reads (with_text plan_file) (view H.Host host.old) (view H.Host host.new) name.now
+        (source.text.items, tree_of source.plan)) }
+    ensures short { IfOk result (λ source. length source.text.items ≤ 1048576) }
+    ensures fit { IfOk result (λ source. IsFit (tree_of source.plan)) }
+    ensures err { IfErr result
+        (StopsReading plan_file (view H.Host host.old) (view H.Host host.new) name.now) }
+    ensures only { OnlyReads (view H.Host host.old) (view H.Host host.new) }
+{
+    let text = fetch_bytes(alloc, name, TEXT_LIMIT, Refusal::PlanTooLong, host)?;
+    let plan = compile(alloc, &text)?;
+    Ok(Source { text, plan })
+}
 
 /// Reads the plan in the file of this name.
 pub fn fetch_plan<H: Host>(alloc: Global, name: &str, host: &mut H) -> Result<Plan, Stop>
@@ -25,8 +47,7 @@ pub fn fetch_plan<H: Host>(alloc: Global, name: &str, host: &mut H) -> Result<Pl
         (StopsReading plan_file (view H.Host host.old) (view H.Host host.new) name.now) }
     ensures only { OnlyReads (view H.Host host.old) (view H.Host host.new) }
 {
-    let bytes = fetch_bytes(alloc, name, TEXT_LIMIT, Refusal::PlanTooLong, host)?;
-    Ok(compile(alloc, &bytes)?)
+    Ok(fetch_source(alloc, name, host)?.plan)
 }
 
 /// Reads the script for this plan in the file of this name.

@@ -1,24 +1,39 @@
 // The program as a whole: from the words to the status.
-ghost use Rattle.std.specs.Prelude.{◌≡◌, map};
+ghost use Rattle.std.specs.Prelude.{◌≡◌, ◌≤◌, None, map};
 ghost use Rattle.std.specs.String.{string_bytes};
+ghost use Rattle.px_output.specs.View.{view, OnlyPrints, KeepsFiles};
+ghost use Rattle.px_words.specs.Words.{command};
 ghost use Rattle.px_run.specs.Causes.{Cause, IsComplete, IsRefused};
-ghost use Rattle.px_run.specs.Headline.{Headline, CallsFor, Delivers};
-ghost use Rattle.px_run.specs.Stops.{Performs, number_of, ending_of};
-ghost use Rattle.px_run.specs.View.{view, OnlyPrints, KeepsFiles};
+ghost use Rattle.px_run.specs.Finishing.{Performed};
+ghost use Rattle.px_run.specs.Headline.{Headline, Delivers, IsBoundFor};
+ghost use Rattle.px_run.specs.Stops.{number_of, ending_of};
 
 use crate::check::check;
 use crate::dry_run::dry_run;
 use crate::ending::{Refusal, Status, Stop};
-use crate::printer::{PrintFault, emit_all};
+use crate::finishing::Carried;
+use crate::resume::resume;
+use crate::run::run;
+use crate::trace::trace;
 use crate::trace_start::trace_start;
-use crate::words::Command;
 use px_naive::Naive;
-use px_ports::Host;
+use px_output::{PrintFault, emit_all};
+use px_ports::{Disk, Host};
 use px_sem::Stepper;
+use px_words::Command;
 use std::alloc::Global;
 
+/// How a call has ended, and the disk that it was handed.
+#[derive(Drop)]
+pub struct Done<D> {
+    /// The status that the process ends with.
+    pub status: u8,
+    pub disk: D,
+}
+
 /// The program: does what the words ask for, which are those after the program's own name, and
-/// answers the status that the process ends with. All text goes to the host's sink.
+/// answers the status that the process ends with. All text goes to the host's sink. The disk has
+/// no name yet, and gets that of the journal where the command has one.
 ///
 /// | Status | Comes |
 /// |---|---|
@@ -26,69 +41,117 @@ use std::alloc::Global;
 /// | 2 | the words are no command |
 /// | 3 | the plan's file has over 1,048,576 bytes, or spells no plan that can be run |
 /// | 4 | the script's file has over 16,777,216 bytes, or a faulty line |
+/// | 5 | a journal stands where `run` is to make one; or none stands where `resume` and `trace` need one, or it is damaged, its plan can't be run, or its history runs away |
 /// | 6 | the start of the plan does not settle |
 /// | 7 | the plan's or the script's file could not be read |
 /// | 8 | the sink failed, or took nothing |
+/// | 9 | a call of the disk failed |
 /// | 10 | memory ran out |
-pub fn plexil<H: Host>(alloc: Global, words: &[String], host: &mut H) -> u8
-    // What was emitted is the text that the words and the files call for, or a front of it.
-    ensures headline { Headline (map string_bytes words.now)
-        (view H.Host host.old) (view H.Host host.new) result }
+pub fn plexil<H: Host, D: Disk>(alloc: Global, words: &[String], host: &mut H, disk: D) -> Done<D>
+    requires unbound { D.bound_to disk ≡ None }
+
+    // What was emitted is the text that the words and the files call for, or a front of it, and what became of the journal.
+    ensures headline { Headline D.Disk (map string_bytes words.now)
+        (view H.Host host.old) (view H.Host host.new) disk result.disk result.status }
     ensures files { H.files host.new ≡ H.files host.old }
+    ensures bound { IsBoundFor D.Disk (command (map string_bytes words.now)) result.disk }
 
     // What each status tells, when the command is carried out, and when its files are refused.
-    ensures causes { Cause (map string_bytes words.now)
-        (view H.Host host.old) (view H.Host host.new) result }
-    ensures complete { IsComplete (map string_bytes words.now)
-        (view H.Host host.old) (view H.Host host.new) result }
-    ensures refused { IsRefused (map string_bytes words.now)
-        (view H.Host host.old) (view H.Host host.new) result }
+    ensures causes { Cause D.Disk (map string_bytes words.now)
+        (view H.Host host.old) (view H.Host host.new) disk result.disk result.status }
+    ensures complete { IsComplete D.Disk (map string_bytes words.now)
+        (view H.Host host.old) (view H.Host host.new) disk result.disk result.status }
+    ensures refused { IsRefused D.Disk (map string_bytes words.now)
+        (view H.Host host.old) (view H.Host host.new) disk result.disk result.status }
 {
-    plexil_with::<H, Naive>(alloc, words, host)
+    plexil_with::<H, D, Naive>(alloc, words, host, disk)
 }
 
 // The same over any stepper.
-fn plexil_with<H: Host, S: Stepper>(alloc: Global, words: &[String], host: &mut H) -> u8
-    ensures headline { Headline (map string_bytes words.now)
-        (view H.Host host.old) (view H.Host host.new) result }
+fn plexil_with<H: Host, D: Disk, S: Stepper>(
+    alloc: Global,
+    words: &[String],
+    host: &mut H,
+    disk: D,
+) -> Done<D>
+    requires unbound { D.bound_to disk ≡ None }
+    ensures headline { Headline D.Disk (map string_bytes words.now)
+        (view H.Host host.old) (view H.Host host.new) disk result.disk result.status }
     ensures files { H.files host.new ≡ H.files host.old }
-
-    // What each status tells, when the command is carried out, and when its files are refused.
-    ensures causes { Cause (map string_bytes words.now)
-        (view H.Host host.old) (view H.Host host.new) result }
-    ensures complete { IsComplete (map string_bytes words.now)
-        (view H.Host host.old) (view H.Host host.new) result }
-    ensures refused { IsRefused (map string_bytes words.now)
-        (view H.Host host.old) (view H.Host host.new) result }
+    ensures bound { IsBoundFor D.Disk (command (map string_bytes words.now)) result.disk }
+    ensures causes { Cause D.Disk (map string_bytes words.now)
+        (view H.Host host.old) (view H.Host host.new) disk result.disk result.status }
+    ensures complete { IsComplete D.Disk (map string_bytes words.now)
+        (view H.Host host.old) (view H.Host host.new) disk result.disk result.status }
+    ensures refused { IsRefused D.Disk (map string_bytes words.now)
+        (view H.Host host.old) (view H.Host host.new) disk result.disk result.status }
 {
-    ended::<H, S>(alloc, words, host).number()
+    ended::<H, D, S>(alloc, words, host, disk)
 }
 
-fn ended<H: Host, S: Stepper>(alloc: Global, words: &[String], host: &mut H) -> Status
-    ensures headline { Headline (map string_bytes words.now)
-        (view H.Host host.old) (view H.Host host.new) (number_of result) }
+fn ended<H: Host, D: Disk, S: Stepper>(
+    alloc: Global,
+    words: &[String],
+    host: &mut H,
+    disk: D,
+) -> Done<D>
+    requires unbound { D.bound_to disk ≡ None }
+    ensures headline { Headline D.Disk (map string_bytes words.now)
+        (view H.Host host.old) (view H.Host host.new) disk result.disk result.status }
     ensures files { H.files host.new ≡ H.files host.old }
+    ensures bound { IsBoundFor D.Disk (command (map string_bytes words.now)) result.disk }
 {
-    match carry_out::<H, S>(alloc, words, host) {
+    let Carried { result, disk } = carry_out::<H, D, S>(alloc, words, host, disk);
+    let status = match result {
         Ok(()) => Status::Done,
         Err(Stop::Refused(refusal)) => refuse(alloc, refusal, host),
         Err(Stop::SinkFailed) => Status::SinkFault,
         Err(Stop::NoMemory) => Status::NoMemory,
+    };
+    Done {
+        status: status.number(),
+        disk,
     }
 }
 
-fn carry_out<H: Host, S: Stepper>(alloc: Global, words: &[String], host: &mut H) -> Result<(), Stop>
-    ensures performs { Performs (view H.Host host.old) (view H.Host host.new)
-        (CallsFor (map string_bytes words.now) (view H.Host host.old) (view H.Host host.new))
-        result }
+fn carry_out<H: Host, D: Disk, S: Stepper>(
+    alloc: Global,
+    words: &[String],
+    host: &mut H,
+    disk: D,
+) -> Carried<D>
+    requires unbound { D.bound_to disk ≡ None }
+    ensures performs { Performed D.Disk (command (map string_bytes words.now))
+        (view H.Host host.old) (view H.Host host.new) disk result }
     ensures keeps { KeepsFiles (view H.Host host.old) (view H.Host host.new) }
 {
-    match Command::of(words) {
+    let result = match Command::of(words) {
         None => Err(Stop::Refused(Refusal::Usage)),
         Some(Command::TraceStart { plan }) => trace_start::<H, S>(alloc, plan, host),
         Some(Command::DryRun { plan, script }) => dry_run::<H, S>(alloc, plan, script, host),
         Some(Command::Check { plan }) => check(alloc, plan, host),
-    }
+        Some(
+            Command::Run {
+                plan,
+                script,
+                journal,
+                limit,
+            },
+        ) => {
+            return run::<H, D, S>(alloc, plan, script, journal, limit, host, disk);
+        }
+        Some(
+            Command::Resume {
+                script,
+                journal,
+                limit,
+            },
+        ) => {
+            return resume::<H, D, S>(alloc, script, journal, limit, host, disk);
+        }
+        Some(Command::Trace { journal }) => return trace::<H, D, S>(alloc, journal, host, disk),
+    };
+    Carried { result, disk }
 }
 
 // Prints the reason, and answers the status: that of the refusal, or of the sink where it fails.

@@ -1,13 +1,12 @@
 // The command `trace-start`: reads a plan, and prints the run of its start.
 ghost use Rattle.std.specs.Prelude.{Some};
-ghost use Rattle.px_run.specs.Headline.{CommandCallsFor};
+ghost use Rattle.px_run.specs.Headline.{TraceStartCalls};
 ghost use Rattle.px_run.specs.Stops.{Performs};
-ghost use Rattle.px_run.specs.View.{view, KeepsFiles};
-ghost use Rattle.px_run.specs.Words.{TraceStart as Asked};
+ghost use Rattle.px_output.specs.View.{view, KeepsFiles};
 
 use crate::ending::Stop;
-use crate::log::print_log;
 use crate::reading::fetch_plan;
+use px_output::print_log;
 use px_ports::Host;
 use px_sem::{Stepper, start};
 use std::alloc::Global;
@@ -16,7 +15,7 @@ use std::alloc::Global;
 /// before any text.
 pub fn trace_start<H: Host, S: Stepper>(alloc: Global, plan: &str, host: &mut H) -> Result<(), Stop>
     ensures performs { Performs (view H.Host host.old) (view H.Host host.new)
-        (CommandCallsFor (Some (Asked plan.now)) (view H.Host host.old) (view H.Host host.new)) result }
+        (TraceStartCalls plan.now (view H.Host host.old) (view H.Host host.new)) result }
     ensures keeps { KeepsFiles (view H.Host host.old) (view H.Host host.new) }
 {
     let plan = fetch_plan(alloc, plan, host)?;

@@ -2,9 +2,9 @@ use Rattle.std.proofs.Common.{◌≡◌, Ok, Err, refl, ◌∙◌}
 use Rattle.px_core.specs.Plan.{Tree, tree_of}
 use Rattle.px_run.specs.Ending.{nodes_ending}
 use Rattle.px_run.specs.Kinds.{plan_file}
-use Rattle.px_run.specs.View.{view}
+use Rattle.px_output.specs.View.{view}
 use Rattle.px_run.proofs.Performing.{printed_behind, broken_off_behind}
-use Rattle.px_run.proofs.Printed.{text_printed}
+use Rattle.px_output.proofs.Printed.{text_printed}
 use Rattle.px_run.proofs.check.check.Goals as goal
 
 pub returns-in_err-emit_all-clause-performs : goal.returns-in_err-emit_all-clause-performs

@@ -2,7 +2,7 @@ use Rattle.px_core.specs.Plan.{Tree, tree_of, sites}
 use Rattle.px_run.specs.Ending.{DryRunEnds}
 use Rattle.px_run.specs.File.{After}
 use Rattle.px_run.specs.Kinds.{plan_file, script_file}
-use Rattle.px_run.specs.View.{view}
+use Rattle.px_output.specs.View.{view}
 use Rattle.px_run.proofs.Performing.{performs_since, after_since, after_read}
 use Rattle.px_run.proofs.dry_run.dry_run.Goals as goal
 

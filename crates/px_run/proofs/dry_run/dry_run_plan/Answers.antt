@@ -4,7 +4,7 @@ use Rattle.px_sem.proofs.Logs.{fit_accepted}
 use Rattle.px_script.specs.declared.todo.Todo.{Todo}
 use Rattle.px_run.specs.Ending.{DryRunEnds, log_ending}
 use Rattle.px_run.specs.Kinds.{script_file}
-use Rattle.px_run.specs.View.{view}
+use Rattle.px_output.specs.View.{view}
 use Rattle.px_run.proofs.Performing.{run_started, posted_all, prints_log, printed_behind, broken_off_behind}
 use Rattle.px_run.proofs.dry_run.dry_run_plan.Goals as goal
 

@@ -1,25 +1,26 @@
-use Rattle.std.proofs.Common.{map}
+use Rattle.std.proofs.Common.{map, sym, subst}
 use Rattle.std.specs.String.{string_bytes}
-use Rattle.px_run.specs.View.{view}
+use Rattle.px_output.specs.View.{view}
+use Rattle.px_run.specs.Headline.{Headline}
+use Rattle.px_run.specs.Stops.{number_of}
 use Rattle.px_run.proofs.Delivering.{done_delivered, fault_delivered, memory_delivered, refusal_delivered}
 use Rattle.px_run.proofs.top.ended.Goals as goal
+use Rattle.px_run.proofs.top.ended.Goals.{in-Ok, in-Err-Refused, in-Err-SinkFailed, in-Err-NoMemory}
 
-pub returns-in-Ok-clause-headline : goal.returns-in-Ok-clause-headline
-returns-in-Ok-clause-headline g c =
-    done_delivered (map string_bytes c.args.words.now) (view g.H.Host c.args.host.now) (view g.H.Host c.carry_out.new.host) c.in-Ok.ensures.performs
-
-pub returns-in-Err-Refused-clause-headline : goal.returns-in-Err-Refused-clause-headline
-returns-in-Err-Refused-clause-headline g c =
-    let performed = rw c.in-Err-Refused.field-0-is at c.in-Err-Refused.ensures.performs in
-    refusal_delivered (map string_bytes c.args.words.now) (view g.H.Host c.args.host.now) (view g.H.Host c.carry_out.new.host) (view g.H.Host c.refuse.new.host)
-    _ _ performed c.in-Err-Refused.ensures.keeps c.refuse.ensures.delivers c.refuse.ensures.only
-
-pub returns-in-Err-SinkFailed-clause-headline : goal.returns-in-Err-SinkFailed-clause-headline
-returns-in-Err-SinkFailed-clause-headline g c =
-    fault_delivered (map string_bytes c.args.words.now) (view g.H.Host c.args.host.now) (view g.H.Host c.carry_out.new.host)
-    (rw c.in-Err-SinkFailed.field-0-is at c.in-Err-SinkFailed.ensures.performs)
-
-pub returns-in-Err-NoMemory-clause-headline : goal.returns-in-Err-NoMemory-clause-headline
-returns-in-Err-NoMemory-clause-headline g c =
-    memory_delivered (map string_bytes c.args.words.now) (view g.H.Host c.args.host.now) (view g.H.Host c.carry_out.new.host)
-    (rw c.in-Err-NoMemory.field-0-is at c.in-Err-NoMemory.ensures.performs)
+pub returns-clause-headline : goal.returns-clause-headline
+returns-clause-headline g c =
+    let words = map string_bytes c.args.words.now in
+    let before = view g.H.Host c.args.host.now in
+    let mid = view g.H.Host c.carry_out-result.new.host in
+    let carried = c.carry_out-result.result in
+    let performed = c.carry_out-result.ensures.performs in
+    let delivers : Headline g.D.Disk words before (view g.H.Host c.match-result.host) c.args.disk carried.disk (number_of c.match-result.status) =
+    elim c.match-result.branch [
+      | in-Ok w ↦ rw (w.host-is, w.status-is) (done_delivered g.D.Disk words before mid c.args.disk carried performed w.in-Ok.is)
+      | in-Err-Refused w ↦ rw (w.host-is, w.status-is) (refusal_delivered g.D.Disk words before mid c.args.disk carried performed w.in-Err-Refused.refusal
+          (view g.H.Host w.refuse-status.new.host) (number_of w.refuse-status.result) _ w.in-Err-Refused.is (rw w.in-Err-Refused.is at w.in-Err-Refused.field-0-is)
+          c.carry_out-result.ensures.keeps w.refuse-status.ensures.delivers w.refuse-status.ensures.only)
+      | in-Err-SinkFailed w ↦ rw (w.host-is, w.status-is) (fault_delivered g.D.Disk words before mid c.args.disk carried performed _ w.in-Err-SinkFailed.is (rw w.in-Err-SinkFailed.is at w.in-Err-SinkFailed.field-0-is))
+      | in-Err-NoMemory w ↦ rw (w.host-is, w.status-is) (memory_delivered g.D.Disk words before mid c.args.disk carried performed _ w.in-Err-NoMemory.is (rw w.in-Err-NoMemory.is at w.in-Err-NoMemory.field-0-is))
+    ] in
+    subst (Headline g.D.Disk words before (view g.H.Host c.match-result.host) c.args.disk carried.disk) (sym c.number.ensures) delivers

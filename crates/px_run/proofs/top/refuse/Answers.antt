@@ -1,6 +1,6 @@
 use Rattle.std.proofs.Common.{◌∙◌}
 use Rattle.px_run.specs.Stops.{ending_of}
-use Rattle.px_run.specs.View.{view}
+use Rattle.px_output.specs.View.{view}
 use Rattle.px_run.proofs.Delivering.{emits_none, emits_all, emits_till_fault, emits_in_memory}
 use Rattle.px_run.proofs.top.refuse.Goals as goal
 

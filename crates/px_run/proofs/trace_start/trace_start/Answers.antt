@@ -2,7 +2,7 @@ use Rattle.std.proofs.Common.{◌≡◌, [], refl}
 use Rattle.px_core.specs.Plan.{Tree, tree_of, sites}
 use Rattle.px_run.specs.Ending.{start_ending, log_ending}
 use Rattle.px_run.specs.Kinds.{plan_file}
-use Rattle.px_run.specs.View.{view}
+use Rattle.px_output.specs.View.{view}
 use Rattle.px_run.proofs.Performing.{run_exists, start_is, printed_behind, broken_off_behind}
 use Rattle.px_run.proofs.trace_start.trace_start.Goals as goal
 

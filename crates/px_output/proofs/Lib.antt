@@ -1,0 +1,4 @@
+pub mod Logging
+pub mod Printed
+pub mod Telling
+pub mod Tracing

@@ -1,0 +1,143 @@
+// The text of a log: the trace of its history, which is run once more for it, then the line of each post, and how
+// the plan stands. So no trace is kept.
+ghost use Rattle.std.specs.Prelude.{◌≡◌, ℕ, ◌<◌, ◌^◌, ◌++◌, List, [], length, IfOk, OnOk, IsSome, IsTrue, Some};
+ghost use Rattle.std.specs.List.{list_all};
+ghost use Rattle.px_core.specs.Fit.{IsFit};
+ghost use Rattle.px_core.specs.Plan.{tree_of, sites};
+ghost use Rattle.px_event.specs.Fit.{is_fit_entry};
+ghost use Rattle.px_event.specs.declared.entry.Entry.{Entry as Posted};
+ghost use Rattle.px_sem.specs.Log.{events_of, accepted};
+ghost use Rattle.px_sem.specs.Run.{run, settled};
+ghost use Rattle.px_sem.specs.Stepper.{is_pending, fresh, settled_state};
+ghost use Rattle.px_sem.specs.Text.{settled_text, trace, log_lines, text_of};
+ghost use Rattle.px_output.specs.Printing.{Prints};
+ghost use Rattle.px_output.specs.Printing.{run_text};
+ghost use Rattle.px_output.specs.View.{view, OnlyPrints};
+
+use crate::printer::{PrintFault, Printer};
+use px_core::Plan;
+use px_event::Entry;
+use px_ports::Host;
+use px_sem::{LogEntry, Stepper};
+use std::alloc::Global;
+
+/// Prints the text of a log that goes on from a history. The whole history, which ends with the accepted
+/// entries of the log, has to settle.
+pub fn print_log<H: Host, S: Stepper>(
+    alloc: Global,
+    plan: &Plan,
+    history: &[Entry],
+    log: &[LogEntry],
+    host: &mut H,
+) -> Result<(), PrintFault>
+    requires fit { IsFit (tree_of plan.now) }
+    requires events { IsTrue (list_all is_fit_entry history.now) }
+    requires within { length history.now < 2 ^ 32 }
+    requires runs { IsSome (run (sites (tree_of plan.now)) (events_of history.now)) }
+    ensures prints { (before : List Posted) → history.now ≡ before ++ accepted log.now
+        → Prints (view H.Host host.old) [] (view H.Host host.new) []
+        (text_of (sites (tree_of plan.now)) before log.now) result }
+    ensures only { OnlyPrints (view H.Host host.old) (view H.Host host.new) }
+{
+    let mut stepper = S::fresh(alloc, plan)?;
+    let mut printer = Printer::new(alloc);
+    print_trace(alloc, &mut stepper, history, &mut printer, host)?;
+    print_replies(log, &mut printer, host)?;
+    printer.standing(host, stepper.standing())?;
+    printer.finish(host)
+}
+
+// Runs the history from the start, and prints its trace.
+fn print_trace<H: Host, S: Stepper>(
+    alloc: Global,
+    stepper: &mut S,
+    history: &[Entry],
+    printer: &mut Printer,
+    host: &mut H,
+) -> Result<(), PrintFault>
+    requires fresh { S.state stepper.old ≡ fresh (S.state stepper.old).nodes }
+    requires events { IsTrue (list_all is_fit_entry history.now) }
+    requires within { length history.now < 2 ^ 32 }
+    requires runs { IsSome (run (S.state stepper.old).nodes (events_of history.now)) }
+    ensures plan { OnOk result ((S.state stepper.new).nodes ≡ (S.state stepper.old).nodes) }
+    ensures runs { OnOk result
+        (run (S.state stepper.old).nodes (events_of history.now) ≡ Some (S.state stepper.new).world) }
+    ensures prints { Prints (view H.Host host.old) printer.old (view H.Host host.new) printer.new
+        (trace (S.state stepper.old).nodes history.now) result }
+    ensures only { OnlyPrints (view H.Host host.old) (view H.Host host.new) }
+{
+    printer.start(host)?;
+    print_settling(alloc, stepper, printer, host)?;
+    let mut position = 0;
+    for entry in history {
+        position += 1;
+        printer.heading(host, position, entry)?;
+        stepper.begin(alloc, &entry.event)?;
+        print_settling(alloc, stepper, printer, host)?;
+    }
+    Ok(())
+}
+
+// Steps until the world is quiet, prints each step and how many there were, and makes that world the settled one.
+fn print_settling<H: Host, S: Stepper>(
+    alloc: Global,
+    stepper: &mut S,
+    printer: &mut Printer,
+    host: &mut H,
+) -> Result<(), PrintFault>
+    requires pending { IsTrue (is_pending (S.state stepper.old).pending) }
+    requires settles { IsSome (settled (S.state stepper.old).nodes (S.state stepper.old).world) }
+    ensures settled { IfOk result (λ _. ((count : ℕ) × (settled (S.state stepper.old).nodes
+        (S.state stepper.old).world ≡ Some ((S.state stepper.new).world, count)))) }
+    ensures rest { OnOk result
+        (S.state stepper.new ≡ settled_state (S.state stepper.old).nodes (S.state stepper.new).world) }
+    ensures prints { Prints (view H.Host host.old) printer.old (view H.Host host.new) printer.new
+        (settled_text (S.state stepper.old).nodes (S.state stepper.old).world) result }
+    ensures only { OnlyPrints (view H.Host host.old) (view H.Host host.new) }
+{
+    let count = print_steps(alloc, stepper, printer, host)?;
+    printer.quiet(host, count)?;
+    stepper.settle();
+    Ok(())
+}
+
+// Steps until the world is quiet, and prints each step; answers how many there were.
+fn print_steps<H: Host, S: Stepper>(
+    alloc: Global,
+    stepper: &mut S,
+    printer: &mut Printer,
+    host: &mut H,
+) -> Result<u32, PrintFault>
+    requires pending { IsTrue (is_pending (S.state stepper.old).pending) }
+    requires settles { IsSome (settled (S.state stepper.old).nodes (S.state stepper.old).world) }
+    ensures plan { (S.state stepper.new).nodes ≡ (S.state stepper.old).nodes }
+    ensures pending { (S.state stepper.new).pending ≡ (S.state stepper.old).pending }
+    ensures settled { IfOk result (λ count.
+        settled (S.state stepper.old).nodes (S.state stepper.old).world ≡ Some ((S.state stepper.new).world, count)) }
+    ensures prints { Prints (view H.Host host.old) printer.old (view H.Host host.new) printer.new
+        (run_text (S.state stepper.old).nodes (S.state stepper.old).world) result }
+    ensures only { OnlyPrints (view H.Host host.old) (view H.Host host.new) }
+{
+    let mut count = 0;
+    while stepper.step(alloc)? {
+        count += 1;
+        printer.step(host, count, stepper.moves())?;
+    }
+    Ok(count)
+}
+
+// Prints the line of each post.
+fn print_replies<H: Host>(
+    log: &[LogEntry],
+    printer: &mut Printer,
+    host: &mut H,
+) -> Result<(), PrintFault>
+    ensures prints { Prints (view H.Host host.old) printer.old (view H.Host host.new) printer.new
+        (log_lines log.now) result }
+    ensures only { OnlyPrints (view H.Host host.old) (view H.Host host.new) }
+{
+    for logged in log {
+        printer.reply(host, logged)?;
+    }
+    Ok(())
+}

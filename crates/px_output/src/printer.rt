@@ -1,0 +1,178 @@
+// The way of a text to the host: it gathers in a buffer, and goes out in large pieces until the sink fails.
+ghost use Rattle.std.specs.Prelude.{◌≡◌, []};
+ghost use Rattle.px_output.specs.declared.printer.PrintFault.TheVariants.{NoMemory as OutOfMemory};
+ghost use Rattle.px_output.specs.Printing.{Prints};
+ghost use Rattle.px_output.specs.View.{view, OnlyPrints};
+ghost use Rattle.px_sem.specs.Text.{start_text, heading_text, step_text, quiet_text, reply_line, standing_text};
+
+use px_event::Entry;
+use px_ports::Host;
+use px_sem::{LogEntry, Move, Standing};
+use px_trace::{
+    LoggedLine, push_heading, push_quiet, push_reply, push_standing, push_start, push_step,
+};
+use px_value::NoMemory;
+use std::alloc::Global;
+use std::marker::Model;
+
+/// How many bytes a buffered text has before it is emitted.
+pub const PIECE: usize = 64 * 1024;
+
+/// Why a text was not printed to its end.
+#[derive(Clone, Copy, Debug, PartialEq, Eq)]
+pub enum PrintFault {
+    /// The sink failed, or took nothing.
+    SinkFailed,
+    NoMemory,
+}
+
+impl From<NoMemory> for PrintFault {
+    ghost from_gives = { λ _ fault. fault ≡ OutOfMemory };
+
+    fn from(_: NoMemory) -> Self {
+        PrintFault::NoMemory
+    }
+}
+
+/// Emits all of the text, however little the sink takes at once.
+pub fn emit_all<H: Host>(host: &mut H, text: &[u8]) -> Result<(), PrintFault>
+    ensures prints { Prints (view H.Host host.old) text.now (view H.Host host.new) [] [] result }
+    ensures only { OnlyPrints (view H.Host host.old) (view H.Host host.new) }
+{
+    let mut rest = text;
+    while !rest.is_empty() {
+        match host.emit(rest) {
+            Ok(count) if count > 0 => rest = &rest[count..],
+            _ => return Err(PrintFault::SinkFailed),
+        }
+    }
+    Ok(())
+}
+
+/// What is printed and not yet emitted. To contracts it is that text.
+#[derive(Drop)]
+pub struct Printer {
+    alloc: Global,
+    buffer: Vec<u8>,
+}
+
+impl Model for Printer {
+    ghost use Rattle.std.specs.Prelude.{ℕ, List};
+
+    ghost Value = { List ℕ };
+
+    ghost view = { λ printer. printer.buffer.items };
+}
+
+impl Printer {
+    /// A printer with nothing to emit.
+    pub fn new(alloc: Global) -> Printer
+        ensures { result ≡ [] }
+    {
+        Printer {
+            alloc,
+            buffer: Vec::new(alloc),
+        }
+    }
+
+    /// Prints the heading of the start.
+    #[tactic(auto, using(crate::proofs::Printed::piece_printed, crate::proofs::Printed::nothing_printed))]
+    pub fn start<H: Host>(&mut self, host: &mut H) -> Result<(), PrintFault>
+        ensures prints { Prints (view H.Host host.old) self.old (view H.Host host.new) self.new
+            (start_text) result }
+        ensures only { OnlyPrints (view H.Host host.old) (view H.Host host.new) }
+    {
+        push_start(self.alloc, &mut self.buffer)?;
+        self.emit_piece(host)
+    }
+
+    /// Prints the heading of an event at its position in the history, from 1.
+    #[tactic(auto, using(crate::proofs::Printed::piece_printed, crate::proofs::Printed::nothing_printed))]
+    pub fn heading<H: Host>(
+        &mut self,
+        host: &mut H,
+        position: u32,
+        entry: &Entry,
+    ) -> Result<(), PrintFault>
+        ensures prints { Prints (view H.Host host.old) self.old (view H.Host host.new) self.new
+            (heading_text position entry.now) result }
+        ensures only { OnlyPrints (view H.Host host.old) (view H.Host host.new) }
+    {
+        push_heading(self.alloc, position, entry, &mut self.buffer)?;
+        self.emit_piece(host)
+    }
+
+    /// Prints a micro step: its number, from 1, and its moves.
+    #[tactic(auto, using(crate::proofs::Printed::piece_printed, crate::proofs::Printed::nothing_printed))]
+    pub fn step<H: Host>(
+        &mut self,
+        host: &mut H,
+        number: u32,
+        moves: &[Move],
+    ) -> Result<(), PrintFault>
+        ensures prints { Prints (view H.Host host.old) self.old (view H.Host host.new) self.new
+            (step_text number moves.now) result }
+        ensures only { OnlyPrints (view H.Host host.old) (view H.Host host.new) }
+    {
+        push_step(self.alloc, number, moves, &mut self.buffer)?;
+        self.emit_piece(host)
+    }
+
+    /// Prints how many micro steps led to a quiet world.
+    #[tactic(auto, using(crate::proofs::Printed::piece_printed, crate::proofs::Printed::nothing_printed))]
+    pub fn quiet<H: Host>(&mut self, host: &mut H, count: u32) -> Result<(), PrintFault>
+        ensures prints { Prints (view H.Host host.old) self.old (view H.Host host.new) self.new
+            (quiet_text count) result }
+        ensures only { OnlyPrints (view H.Host host.old) (view H.Host host.new) }
+    {
+        push_quiet(self.alloc, count, &mut self.buffer)?;
+        self.emit_piece(host)
+    }
+
+    /// Prints the line of a post.
+    #[tactic(auto, using(crate::proofs::Printed::piece_printed, crate::proofs::Printed::nothing_printed))]
+    pub fn reply<H: Host>(&mut self, host: &mut H, logged: &LogEntry) -> Result<(), PrintFault>
+        ensures prints { Prints (view H.Host host.old) self.old (view H.Host host.new) self.new
+            (reply_line logged.now.entry.thread logged.now.entry.line logged.now.reply) result }
+        ensures only { OnlyPrints (view H.Host host.old) (view H.Host host.new) }
+    {
+        let line = LoggedLine {
+            thread: logged.entry.thread,
+            line: logged.entry.line,
+            reply: logged.reply,
+        };
+        push_reply(self.alloc, &line, &mut self.buffer)?;
+        self.emit_piece(host)
+    }
+
+    /// Prints how a plan stands.
+    #[tactic(auto, using(crate::proofs::Printed::piece_printed, crate::proofs::Printed::nothing_printed))]
+    pub fn standing<H: Host>(&mut self, host: &mut H, standing: Standing) -> Result<(), PrintFault>
+        ensures prints { Prints (view H.Host host.old) self.old (view H.Host host.new) self.new
+            (standing_text standing) result }
+        ensures only { OnlyPrints (view H.Host host.old) (view H.Host host.new) }
+    {
+        push_standing(self.alloc, &standing, &mut self.buffer)?;
+        self.emit_piece(host)
+    }
+
+    /// Emits what is left.
+    pub fn finish<H: Host>(self, host: &mut H) -> Result<(), PrintFault>
+        ensures prints { Prints (view H.Host host.old) self (view H.Host host.new) [] [] result }
+        ensures only { OnlyPrints (view H.Host host.old) (view H.Host host.new) }
+    {
+        emit_all(host, &self.buffer)
+    }
+
+    // Emits the buffer where it has grown to a piece.
+    fn emit_piece<H: Host>(&mut self, host: &mut H) -> Result<(), PrintFault>
+        ensures prints { Prints (view H.Host host.old) self.old (view H.Host host.new) self.new [] result }
+        ensures only { OnlyPrints (view H.Host host.old) (view H.Host host.new) }
+    {
+        if self.buffer.len() >= PIECE {
+            emit_all(host, &self.buffer)?;
+            self.buffer.clear();
+        }
+        Ok(())
+    }
+}

@@ -1,0 +1,143 @@
+// Plans, scripts and texts that are as large as may be, or larger by one. They are tests and no rows, as they are made.
+use crate::faults::Faults;
+use crate::running::{Answer, Call, answer_of};
+use std::alloc::Global;
+use std::test::Fail;
+
+// What a dry run prints of a plan that waits, where nothing is posted.
+const WAITING: &str = "event 0: start
+step 1
+  A: INACTIVE -> WAITING
+quiet 1
+plan running
+";
+
+const GO: &str = "A: { Start Lookup(go); }";
+
+// What a call answers that needs no disk.
+fn answer(
+    alloc: Global,
+    words: &str,
+    plan: &[u8],
+    script: &[u8],
+    faults: Faults,
+) -> anyhow::Result<Answer> {
+    let call = Call {
+        words,
+        plan,
+        script,
+        journal: &[],
+        faults,
+    };
+    answer_of(alloc, call)
+}
+
+// So many blanks, and then the text.
+fn padded(alloc: Global, blanks: usize, text: &str) -> anyhow::Result<Vec<u8>> {
+    let mut bytes = vec![in alloc; b' '; blanks]?;
+    bytes.extend_from_slice(text.as_bytes())?;
+    Ok(bytes)
+}
+
+#[test]
+fn a_plan_has_at_most_1048576_bytes(rt: HostRuntime) -> Result<(), Fail> {
+    let alloc = rt.alloc();
+    let longer = "plan refused: longer than 1048576 bytes\n";
+    let cases: [(usize, &str, u8, &str); 4] = [
+        (1_048_576, "", 3, "plan refused: syntax at token 0\n"),
+        (1_048_577, "", 3, longer),
+        (1_048_570, "A: { }", 0, "ok 1 nodes\n"),
+        (1_048_571, "A: { }", 3, longer),
+    ];
+    for (blanks, plan, wanted, text) in cases {
+        let plan = padded(alloc, blanks, plan)?;
+        let answer = answer(alloc, "check P", &plan, b"", Faults::NONE)?;
+        assert_eq!(rt; answer.text.as_str(), text, "{blanks}");
+        assert_eq!(rt; answer.status, wanted, "{blanks}");
+    }
+    Ok(())
+}
+
+#[test]
+fn a_script_has_at_most_16777216_bytes(rt: HostRuntime) -> Result<(), Fail> {
+    let alloc = rt.alloc();
+    let longer = "script refused: longer than 16777216 bytes\n";
+    for (length, wanted, text) in [(16_777_216, 0, WAITING), (16_777_217, 4, longer)] {
+        let comment = vec![in alloc; b'#'; length]?;
+        let answer = answer(alloc, "dry-run P S", GO.as_bytes(), &comment, Faults::NONE)?;
+        assert_eq!(rt; answer.text.as_str(), text, "{length}");
+        assert_eq!(rt; answer.status, wanted, "{length}");
+    }
+    Ok(())
+}
+
+// So many lines that report something to a plan that waits for something else.
+fn many_lines(alloc: Global, count: usize) -> anyhow::Result<String> {
+    let mut text = String::new(alloc);
+    for _ in 0..count {
+        text.push_str("set x = true\n")?;
+    }
+    Ok(text)
+}
+
+#[test]
+fn a_script_of_100000_lines_is_posted_whole(rt: HostRuntime) -> Result<(), Fail> {
+    let alloc = rt.alloc();
+    let last = "thread 1 line 100000: accepted 100000\nplan running\n";
+    let refusal = "script refused: line 100001 kind 5\n";
+    for (count, wanted, end) in [(100_000, 0, last), (100_001, 4, refusal)] {
+        let lines = many_lines(alloc, count)?;
+        let answer = answer(
+            alloc,
+            "dry-run P S",
+            GO.as_bytes(),
+            lines.as_bytes(),
+            Faults::NONE,
+        )?;
+        assert_eq!(rt; answer.status, wanted, "{count}");
+        assert!(rt; answer.text.as_str().ends_with(end), "{count}");
+    }
+    Ok(())
+}
+
+// 63 Lists in one another, the innermost with so many blocks.
+fn deep_plan(alloc: Global, blocks: usize) -> anyhow::Result<String> {
+    let mut text = String::new(alloc);
+    for (part, times) in [("{ NodeList: ", 63), ("{}", blocks), ("}", 63)] {
+        for _ in 0..times {
+            text.push_str(part)?;
+        }
+    }
+    Ok(text)
+}
+
+// A block begins two steps after its parent, and a List ends three after its children: the innermost blocks finish in
+// step 2 * 64 + 2, and the root 3 * 63 later.
+#[test]
+fn a_plan_of_4096_blocks_and_64_levels_runs(rt: HostRuntime) -> Result<(), Fail> {
+    let alloc = rt.alloc();
+    let finished = "quiet 319\nplan finished SUCCESS\n";
+    let refusal = "plan refused: too many nodes 4097\n";
+    for (blocks, wanted, end) in [(4033, 0, finished), (4034, 3, refusal)] {
+        let plan = deep_plan(alloc, blocks)?;
+        let answer = answer(alloc, "trace-start P", plan.as_bytes(), b"", Faults::NONE)?;
+        assert_eq!(rt; answer.status, wanted, "{blocks}");
+        assert!(rt; answer.text.as_str().ends_with(end), "{blocks}");
+    }
+    Ok(())
+}
+
+// The text is gathered, and emitted where at least 64 KiB of it stand ready: the second emit has the next piece.
+#[test]
+fn a_long_text_is_emitted_in_large_pieces(rt: HostRuntime) -> Result<(), Fail> {
+    let alloc = rt.alloc();
+    let plan = deep_plan(alloc, 100)?;
+    let faults = Faults {
+        emit: Some(2),
+        ..Faults::NONE
+    };
+    let answer = answer(alloc, "trace-start P", plan.as_bytes(), b"", faults)?;
+    assert_eq!(rt; answer.status, 8);
+    assert!(rt; (65_536..131_072).contains(&answer.text.len()));
+    Ok(())
+}

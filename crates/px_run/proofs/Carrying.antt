@@ -1,0 +1,87 @@
+-- What each command has come to, as one of the program's.
+use Rattle.std.proofs.Common.{◌≡◌, inl, inr, ℕ, List, Option, Some, None, Result, Ok, Err, refl, sym, ◌∙◌, ap, subst}
+use Rattle.px_exec.specs.Executive.{TellsBytes}
+use Rattle.px_journal.specs.Journal.{IsUntouched}
+use Rattle.px_output.specs.View.{View}
+use Rattle.px_ports.specs.declared.disk.Disk
+use Rattle.px_session.specs.Session.{IsBoundAtMost}
+use Rattle.px_session.proofs.Leaving.{untouched_at_once}
+use Rattle.px_words.specs.Words.{Command, TraceStart, DryRun, Check, Run, Resume, Trace, journal_of}
+use Rattle.px_run.specs.Course.{Course, Untouched, Due}
+use Rattle.px_run.specs.Ending.{Ending, usage}
+use Rattle.px_run.specs.Finishing.{Carries, Performed, Runs, Resumes, Traces}
+use Rattle.px_run.specs.Headline.{TraceStartCalls, DryRunCalls, CheckCalls, CommandCallsFor, Plainly, IsBoundFor}
+use Rattle.px_run.specs.Stops.{Performs, PerformsDue, ending_of}
+use Rattle.px_run.specs.declared.ending.Refusal.TheVariants as refusals
+use Rattle.px_run.specs.declared.ending.Stop.{Stop}
+use Rattle.px_run.specs.declared.ending.Stop.TheVariants as stops
+use Rattle.px_run.specs.declared.finishing.Carried.{Carried}
+
+module _ {D : Type 0} (members : Disk.Ghosts D) (before now : View) (disk : D) (unbound : members.bound_to disk ≡ None) where
+  -- ---- a command without a journal
+
+  plainly : (Calls : Ending → Type 0) (r : Result Unit Stop) → Performs before now Calls r → PerformsDue before now (Plainly members disk disk Calls Untouched) r
+  plainly Calls (Ok done) (ending, is, status, emits) = (ending, (refl, refl, is), status, emits)
+  plainly Calls (Err (stops.Refused refusal)) (is, same) = ((refl, refl, is), same)
+  plainly Calls (Err stops.SinkFailed) (ending, is, part, fault) = (ending, (refl, refl, is), part, fault)
+  plainly Calls (Err stops.NoMemory) (inl (ending, is, part)) = inl (ending, (refl, refl, is), part)
+  plainly Calls (Err stops.NoMemory) (inr same) = inr ((refl, refl, tt), same)
+
+  performed : (asked : Option Command) (r : Result Unit Stop) → PerformsDue before now (CommandCallsFor members asked before now disk disk Untouched) r
+      → Performed members asked before now disk (record { result = r; disk = disk })
+  performed asked r performs = record {
+    course = Untouched;
+    performs = performs;
+    leaves = λ tells. untouched_at_once members disk;
+    bound = inl unbound;
+  }
+
+  pub usage_performed : (words : Option Command) → words ≡ None → now.emitted ≡ before.emitted
+      → Performed members words before now disk (record { result = Err (stops.Refused refusals.Usage); disk = disk })
+  usage_performed words is same = rw is (performed None (Err (stops.Refused refusals.Usage)) ((refl, refl, refl), same))
+
+  pub trace_start_performed : (words : Option Command) (plan : List ℕ) (r : Result Unit Stop) → words ≡ Some (TraceStart plan) → Performs before now (TraceStartCalls plan before now) r
+      → Performed members words before now disk (record { result = r; disk = disk })
+  trace_start_performed words plan r is performs = rw is (performed (Some (TraceStart plan)) r (plainly (TraceStartCalls plan before now) r performs))
+
+  pub dry_run_performed : (words : Option Command) (plan script : List ℕ) (r : Result Unit Stop) → words ≡ Some (DryRun plan script)
+      → Performs before now (DryRunCalls plan script before now) r → Performed members words before now disk (record { result = r; disk = disk })
+  dry_run_performed words plan script r is performs = rw is (performed (Some (DryRun plan script)) r (plainly (DryRunCalls plan script before now) r performs))
+
+  pub check_performed : (words : Option Command) (plan : List ℕ) (r : Result Unit Stop) → words ≡ Some (Check plan) → Performs before now (CheckCalls plan before now) r
+      → Performed members words before now disk (record { result = r; disk = disk })
+  check_performed words plan r is performs = rw is (performed (Some (Check plan)) r (plainly (CheckCalls plan before now) r performs))
+
+-- ---- a command with a journal
+
+module _ {D : Type 0} (members : Disk.Ghosts D) (before now : View) (disk : D) (carried : Carried D) where
+  bound_for : (asked : Command) (journal : List ℕ) → journal_of asked ≡ Some journal → IsBoundAtMost members journal carried.disk → IsBoundFor members (Some asked) carried.disk
+  bound_for asked journal is (inl bound) = inr (journal, is, bound)
+  bound_for asked journal is (inr unbound) = inl unbound
+
+  pub run_performed : (words : Option Command) (plan script journal : List ℕ) (limit : ℕ) → words ≡ Some (Run plan script journal limit)
+      → Runs members plan script journal limit before now disk carried → Performed members words before now disk carried
+  run_performed words plan script journal limit is c = rw is (record {
+    course = c.course;
+    performs = c.performs;
+    leaves = c.leaves;
+    bound = bound_for (Run plan script journal limit) journal refl c.bound;
+  })
+
+  pub resume_performed : (words : Option Command) (script journal : List ℕ) (limit : ℕ) → words ≡ Some (Resume script journal limit)
+      → Resumes members script journal limit before now disk carried → Performed members words before now disk carried
+  resume_performed words script journal limit is c = rw is (record {
+    course = c.course;
+    performs = c.performs;
+    leaves = c.leaves;
+    bound = bound_for (Resume script journal limit) journal refl c.bound;
+  })
+
+  pub trace_performed : (words : Option Command) (journal : List ℕ) → words ≡ Some (Trace journal)
+      → Traces members journal before now disk carried → Performed members words before now disk carried
+  trace_performed words journal is c = rw is (record {
+    course = c.course;
+    performs = c.performs;
+    leaves = c.leaves;
+    bound = bound_for (Trace journal) journal refl c.bound;
+  })

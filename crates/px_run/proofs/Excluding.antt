@@ -1,0 +1,134 @@
+-- What the bytes of a journal exclude of one another: what stands for a text and a history is refused only where that runs
+-- away.
+use Rattle.std.proofs.Common.{◌≡◌, ℕ, ◌+◌, ◌<◌, List, [], ◌∷◌, ◌++◌, length, Option, Some, None, IsSome, IsTrue, refl, arith, ap, subst, sym, ◌∙◌, append_assoc}
+use Rattle.std.specs.Option.{ForSome}
+use Rattle.std.proofs.lemmas.List.{map-append}
+use Rattle.px_core.specs.Plan.{Site, Tree, sites}
+use Rattle.px_event.specs.declared.entry.Entry.{Entry}
+use Rattle.px_event.specs.declared.event.Event.{Event}
+use Rattle.px_compile.specs.Compiled.{IsCompiled}
+use Rattle.px_compile.proofs.Refusals.{one_plan}
+use Rattle.px_exec.specs.Opening.{RunsAwayAt}
+use Rattle.px_journal.specs.Layout.{heading, is_nothing, next_gate, Stands}
+use Rattle.px_journal.proofs.Appending.{closed_within}
+use Rattle.px_journal.proofs.Creating.{not_nothing, nothing_or_not}
+use Rattle.px_journal.proofs.Histories.{length-heading}
+use Rattle.px_journal.proofs.Meaning.{one_meaning_text, one_meaning_history}
+use Rattle.px_journal.proofs.Undamaged.{open_not_closed, undamaged}
+use Rattle.px_ports.specs.declared.disk.Disk
+use Rattle.px_sem.specs.Log.{events_of}
+use Rattle.px_sem.specs.Run.{posted, started, settled_world, run_on, run}
+use Rattle.px_sem.specs.World.{World}
+use Rattle.px_run.specs.Ending.{Ending, no_journal, journal_damaged, journal_plan, journal_runaway}
+use Rattle.px_run.specs.Journaled.{JournalRefuses}
+use Rattle.px_run.proofs.FileKinds.{no_refused_plan}
+
+-- ---- runs
+
+pub none_or_some : {A : Type 0} (found : Option A) → found ≡ None → IsSome found → ⊥
+none_or_some None is some = cc
+none_or_some (Some x) is some = cc
+
+run_on_nothing : (plan : List Site) (events : List Event) → run_on plan None events ≡ None
+unfolding run_on
+run_on_nothing plan events = refl
+
+-- a plan that doesn't start has no run
+pub never_started : (plan : List Site) (events : List Event) → started plan ≡ None → IsSome (run plan events) → ⊥
+never_started plan events is some =
+    none_or_some (run plan events) (ap (λ found. run_on plan (settled_world found) events) is ∙ run_on_nothing plan events) some
+
+-- a run over a history is one over each front of it
+front_runs : (plan : List Site) (now : Option World) (front rest : List Event) → IsSome (run_on plan now (front ++ rest)) → IsSome (run_on plan now front)
+unfolding run_on
+front_runs plan None front rest some = some
+front_runs plan (Some world) [] rest some = refl
+front_runs plan (Some world) (event ∷ front) rest some = front_runs plan (settled_world (posted plan world event)) front rest some
+
+-- so no event of it runs away
+pub runs_to_its_end : (plan : List Site) (history : List Entry) (at : ℕ) → RunsAwayAt plan history at → IsSome (run plan (events_of history)) → ⊥
+runs_to_its_end plan history at away some =
+    let before = away.before ++ away.entry ∷ [] in
+    let parts : history ≡ before ++ away.rest = away.parts ∙ sym (append_assoc away.before (away.entry ∷ []) away.rest) in
+    let split : events_of history ≡ events_of before ++ events_of away.rest = ap events_of parts ∙ map-append (λ e. e.event) before away.rest in
+    none_or_some (run plan (events_of before)) away.runs_away
+    (front_runs plan (settled_world (started plan)) (events_of before) (events_of away.rest) (subst (λ events. IsSome (run plan events)) split some))
+
+-- ---- bytes
+
+-- what stands for a text and a history is a journal
+pub stands_something : (bytes text : List ℕ) (history : List Entry) → Stands bytes text history → IsTrue (is_nothing bytes) → ⊥
+stands_something bytes text history stands nothing =
+    let long : next_gate text history < length bytes = closed_within (next_gate text history) bytes stands.closed in
+    nothing_or_not (is_nothing bytes) nothing
+    (not_nothing bytes (omega (arith, long, length-heading text)) (open_not_closed bytes (stands.front).opens.gate))
+
+-- ---- refusals of a disk
+
+-- the start of this plan doesn't settle, or an event of this history doesn't
+pub data RunsAway (tree : Tree) (first : List Entry) (ending : Ending) : Type 0 where
+  start : ending.status ≡ 6 → started (sites tree) ≡ None → RunsAway tree first ending
+  event : (at : ℕ) → RunsAwayAt (sites tree) first at → RunsAway tree first ending
+
+module _ {D : Type 0} (members : Disk.Ghosts D) (disk : D) (bytes text : List ℕ) (first : List Entry) (tree : Tree) (told : members.content disk ≡ Some bytes)
+    (stands : Stands bytes text first) (compiled : IsCompiled text tree) where
+  same_text : (other : List ℕ) (others : List Entry) → ForSome (members.content disk) (λ b. Stands b other others) → other ≡ text
+  same_text other others so = one_meaning_text bytes other text others first (so bytes told) stands
+
+  same_first : (other : List ℕ) (others : List Entry) → ForSome (members.content disk) (λ b. Stands b other others) → others ≡ first
+  same_first other others so = one_meaning_history bytes other text others first (so bytes told) stands
+
+  pub same_tree : (other : List ℕ) (others : List Entry) (found : Tree) → ForSome (members.content disk) (λ b. Stands b other others) → IsCompiled other found
+      → found ≡ tree
+  same_tree other others found so spells = one_plan text found tree (subst (λ t. IsCompiled t found) (same_text other others so) spells) compiled
+
+  -- it is refused only where its plan or its history runs away
+  pub only_runs_away : (ending : Ending) → JournalRefuses members disk ending → RunsAway tree first ending
+  only_runs_away _ (JournalRefuses.none nothing) = absurd (stands_something bytes text first stands (nothing bytes told))
+  only_runs_away _ (JournalRefuses.damaged at damaged) = absurd (undamaged bytes text first stands at ((damaged bytes told).1))
+  only_runs_away _ (JournalRefuses.plan other others fault so some refused) =
+      absurd (no_refused_plan other tree fault (subst (λ t. IsCompiled t tree) (sym (same_text other others so)) compiled) some refused)
+  only_runs_away _ (JournalRefuses.start_runs_away other others found so spells is) =
+      RunsAway.start refl (ap (λ t. started (sites t)) (sym (same_tree other others found so spells)) ∙ is)
+  only_runs_away _ (JournalRefuses.event_runs_away other others found at so spells away) =
+      RunsAway.event at (subst (λ t. RunsAwayAt (sites t) first at) (same_tree other others found so spells)
+      (subst (λ h. RunsAwayAt (sites found) h at) (same_first other others so) away))
+
+  -- so it isn't where the history has a run
+  pub never_refused : (ending : Ending) → IsSome (run (sites tree) (events_of first)) → JournalRefuses members disk ending → ⊥
+  never_refused ending runs refuses = by (only_runs_away ending refuses)
+    where
+      by : RunsAway tree first ending → ⊥
+      by (RunsAway.start is away) = never_started (sites tree) (events_of first) away runs
+      by (RunsAway.event at away) = runs_to_its_end (sites tree) first at away runs
+
+  -- a start that doesn't settle is refused as such
+  pub refused_at_start : (ending : Ending) → started (sites tree) ≡ None → JournalRefuses members disk ending → ending.status ≡ 6
+  refused_at_start ending none refuses = by (only_runs_away ending refuses)
+    where
+      by : RunsAway tree first ending → ending.status ≡ 6
+      by (RunsAway.start is away) = is
+      by (RunsAway.event at away) = absurd (never_started (sites tree) (events_of away.before) none away.settles)
+
+-- a disk is refused with one status
+same_kind : {D : Type 0} (members : Disk.Ghosts D) (disk : D) (bytes : List ℕ) (first second : Ending) → members.content disk ≡ Some bytes
+    → JournalRefuses members disk first → first.status ≡ 5 → JournalRefuses members disk second → second.status ≡ 5
+same_kind members disk bytes first _ told refuses status (JournalRefuses.none nothing) = refl
+same_kind members disk bytes first _ told refuses status (JournalRefuses.damaged at damaged) = refl
+same_kind members disk bytes first _ told refuses status (JournalRefuses.plan text history fault so other refused) = refl
+same_kind members disk bytes first _ told refuses status (JournalRefuses.start_runs_away text history tree so compiled is) =
+    sym (refused_at_start members disk bytes text history tree told (so bytes told) compiled first is refuses) ∙ status
+same_kind members disk bytes first _ told refuses status (JournalRefuses.event_runs_away text history tree at so compiled away) = refl
+
+pub one_status : {D : Type 0} (members : Disk.Ghosts D) (disk : D) (bytes : List ℕ) (first second : Ending) → members.content disk ≡ Some bytes
+    → JournalRefuses members disk first → JournalRefuses members disk second → second.status ≡ first.status
+one_status members disk bytes _ second told (JournalRefuses.none nothing) also =
+    same_kind members disk bytes no_journal second told (JournalRefuses.none nothing) refl also
+one_status members disk bytes _ second told (JournalRefuses.damaged at damaged) also =
+    same_kind members disk bytes (journal_damaged at) second told (JournalRefuses.damaged at damaged) refl also
+one_status members disk bytes _ second told (JournalRefuses.plan text history fault so other refused) also =
+    same_kind members disk bytes journal_plan second told (JournalRefuses.plan text history fault so other refused) refl also
+one_status members disk bytes _ second told (JournalRefuses.start_runs_away text history tree so compiled is) also =
+    refused_at_start members disk bytes text history tree told (so bytes told) compiled second is also
+one_status members disk bytes _ second told (JournalRefuses.event_runs_away text history tree at so compiled away) also =
+    same_kind members disk bytes (journal_runaway at) second told (JournalRefuses.event_runs_away text history tree at so compiled away) refl also

@@ -1,0 +1,213 @@
+-- The reading of a plan and its script, and the start of the plan, ahead of a new journal.
+use Rattle.std.proofs.Common.{◌≡◌, ◌≤◌, inr, ℕ, List, [], Option, Some, None, IsErrAnd, Result, Ok, Err, IfErr, IsTrue, length, refl, sym, ◌∙◌, ap, subst}
+use Rattle.std.specs.List.{list_all}
+use Rattle.px_core.specs.Fit.{IsFit}
+use Rattle.px_core.specs.Plan.{Site, Tree, tree_of, sites}
+use Rattle.px_event.specs.Fit.{is_fit_entry}
+use Rattle.px_event.specs.declared.entry.Entry.{Entry}
+use Rattle.px_output.specs.View.{View, OnlyReads, KeepsFiles}
+use Rattle.px_ports.specs.declared.disk.Disk
+use Rattle.px_script.proofs.Rests.{rest_whole}
+use Rattle.px_script.specs.Fit.{IsFitScript}
+use Rattle.px_script.specs.Order.{InFileOrder}
+use Rattle.px_script.specs.Rest.{rest}
+use Rattle.px_script.specs.declared.script.Script.{Script}
+use Rattle.px_script.specs.declared.todo.Todo.{Todo}
+use Rattle.px_sem.proofs.Logs.{run_on_none}
+use Rattle.px_sem.specs.Run.{run, started, settled_world}
+use Rattle.px_sem.specs.Stepper.{settled_state}
+use Rattle.px_sem.specs.World.{World}
+use Rattle.px_sem.specs.declared.settling.StepFault.{StepFault}
+use Rattle.px_sem.specs.declared.settling.StepFault.TheVariants as steps
+use Rattle.px_sem.specs.declared.stepper.Stepper
+use Rattle.px_session.proofs.Leaving.{untouched_at_once}
+use Rattle.px_run.specs.Course.{Course, Untouched, Due, AfterFile}
+use Rattle.px_run.specs.Ending.{Ending, runaway_at_start}
+use Rattle.px_run.specs.File.{FileKind, Seen, Content, Longer, Unreadable, Refuses, Reads, with_text}
+use Rattle.px_run.specs.Finishing.{IsPrepared, IsNotPrepared, Carries, Runs, RunsPrepared}
+use Rattle.px_run.specs.Journaled.{NewCalls, RunCallsBy, RunCalls}
+use Rattle.px_run.specs.Kinds.{plan_file, script_file}
+use Rattle.px_run.specs.Stops.{StopsReading, stop_of_start, ending_of}
+use Rattle.px_run.specs.declared.ending.Stop.{Stop}
+use Rattle.px_run.specs.declared.ending.Stop.TheVariants as stops
+use Rattle.px_run.specs.declared.finishing.Carried.{Carried}
+use Rattle.px_run.specs.declared.run.Prepared.{Prepared}
+use Rattle.px_run.proofs.Performing.{shows_later, shows_since, run_started}
+use Rattle.px_run.proofs.Running.{due_since}
+
+-- ---- a file that was read, seen from further off
+
+reads_later : (A : Type 0) (kind : FileKind A) (old mid new : View) (name : List ℕ) (part : A)
+    → ((other : List ℕ) → mid.read_faults other ≤ new.read_faults other) → Reads kind old mid name part → Reads kind old new name part
+reads_later A kind old mid new name part later (seen, shows, spells) = (seen, shows_later kind.limit old mid new name seen later shows, spells)
+
+reads_since : (A : Type 0) (kind : FileKind A) (old mid new : View) (name : List ℕ) (part : A) → OnlyReads old mid
+    → Reads kind mid new name part → Reads kind old new name part
+reads_since A kind old mid new name part only (seen, shows, spells) = (seen, shows_since kind.limit old mid new name seen only shows, spells)
+
+after_reading : (A : Type 0) (kind : FileKind A) (old new : View) (name : List ℕ) (part : A) (Next : A → Course → Due → Type 0)
+    (course : Course) (due : Due) → Reads kind old new name part → Next part course due → AfterFile kind old new name Next course due
+after_reading A kind old new name part Next course due (seen, shows, spells) next = AfterFile.read seen part course due shows spells next
+
+after_more : (A : Type 0) (kind : FileKind A) (old new : View) (name : List ℕ) (Next More : A → Course → Due → Type 0)
+    → ((part : A) (course : Course) (due : Due) → Next part course due → More part course due)
+    → (course : Course) (due : Due) → AfterFile kind old new name Next course due → AfterFile kind old new name More course due
+after_more A kind old new name Next More widen _ _ AfterFile.no_memory = AfterFile.no_memory
+after_more A kind old new name Next More widen _ _ (AfterFile.refused seen ending shows refuses) = AfterFile.refused seen ending shows refuses
+after_more A kind old new name Next More widen _ _ (AfterFile.read seen part course due shows spells next) =
+    AfterFile.read seen part course due shows spells (widen part course due next)
+
+-- ---- what stops the preparation
+
+refuses_with_text : {A : Type 0} (kind : FileKind A) (seen : Seen) (ending : Ending) → Refuses kind seen ending → Refuses (with_text kind) seen ending
+refuses_with_text kind (Content bytes) ending refuses = refuses
+refuses_with_text kind Longer ending refuses = refuses
+refuses_with_text kind Unreadable ending refuses = refuses
+
+plan_not_read : (old new : View) (plan script : List ℕ) (stop : Stop) → StopsReading plan_file old new plan stop
+    → IsNotPrepared plan script old new stop
+plan_not_read old new plan script (stops.Refused refusal) (seen, shows, refuses) =
+    AfterFile.refused seen (ending_of refusal) shows (refuses_with_text plan_file seen (ending_of refusal) refuses)
+plan_not_read old new plan script stops.SinkFailed none = none
+plan_not_read old new plan script stops.NoMemory any = tt
+
+script_not_read : (old mid new : View) (plan script text : List ℕ) (tree : Tree) (stop : Stop) → Reads (with_text plan_file) old mid plan (text, tree)
+    → OnlyReads old mid → OnlyReads mid new → StopsReading (script_file (sites tree)) mid new script stop → IsNotPrepared plan script old new stop
+script_not_read old mid new plan script text tree (stops.Refused refusal) source first second (seen, shows, refuses) =
+    after_reading (List ℕ × Tree) (with_text plan_file) old new plan (text, tree) _ Untouched (Some (ending_of refusal))
+    (reads_later (List ℕ × Tree) (with_text plan_file) old mid new plan (text, tree) second.read_faults source)
+    (AfterFile.refused seen (ending_of refusal) (shows_since (script_file (sites tree)).limit old mid new script seen first shows) refuses)
+script_not_read old mid new plan script text tree stops.SinkFailed source first second none = none
+script_not_read old mid new plan script text tree stops.NoMemory source first second any = tt
+
+start_not_made : (old mid new : View) (plan script text : List ℕ) (tree : Tree) (threads : List Todo) (fault : StepFault)
+    → Reads (with_text plan_file) old mid plan (text, tree) → OnlyReads old mid → OnlyReads mid new
+    → Reads (script_file (sites tree)) mid new script threads → (fault ≡ steps.Runaway → started (sites tree) ≡ None)
+    → IsNotPrepared plan script old new (stop_of_start fault)
+start_not_made old mid new plan script text tree threads steps.Runaway source first second left runaway =
+    after_reading (List ℕ × Tree) (with_text plan_file) old new plan (text, tree) _ Untouched (Some runaway_at_start)
+    (reads_later (List ℕ × Tree) (with_text plan_file) old mid new plan (text, tree) second.read_faults source)
+    (after_reading (List Todo) (script_file (sites tree)) old new script threads _ Untouched (Some runaway_at_start)
+    (reads_since (List Todo) (script_file (sites tree)) old mid new script threads first left) (runaway refl, (refl, refl)))
+start_not_made old mid new plan script text tree threads steps.NoMemory source first second left runaway = tt
+
+-- a stop that is handed on
+stopped : {A : Type 0} (P : Stop → Type 0) (stop : Stop) (r : Result A Stop) → IsErrAnd r (λ e. e ≡ stop) → P stop → IfErr r P
+stopped P stop (Ok done) is holds = absurd is
+stopped P stop (Err other) is holds = subst P (sym is) holds
+
+pub stopped_at_plan : {A : Type 0} (old new : View) (plan script : List ℕ) (stop : Stop) (r : Result A Stop) → IsErrAnd r (λ e. e ≡ stop)
+    → StopsReading plan_file old new plan stop → IfErr r (IsNotPrepared plan script old new)
+stopped_at_plan old new plan script stop r is reading =
+    stopped (IsNotPrepared plan script old new) stop r is (plan_not_read old new plan script stop reading)
+
+pub stopped_at_script : {A : Type 0} (old mid new : View) (plan script text : List ℕ) (tree : Tree) (stop : Stop) (r : Result A Stop)
+    → IsErrAnd r (λ e. e ≡ stop) → Reads (with_text plan_file) old mid plan (text, tree) → OnlyReads old mid → OnlyReads mid new
+    → StopsReading (script_file (sites tree)) mid new script stop → IfErr r (IsNotPrepared plan script old new)
+stopped_at_script old mid new plan script text tree stop r is source first second reading =
+    stopped (IsNotPrepared plan script old new) stop r is (script_not_read old mid new plan script text tree stop source first second reading)
+
+pub stopped_at_start : {A : Type 0} (old mid new : View) (plan script text : List ℕ) (tree : Tree) (threads : List Todo) (fault : StepFault)
+    (r : Result A Stop) → IsErrAnd r (λ e. e ≡ stop_of_start fault) → Reads (with_text plan_file) old mid plan (text, tree) → OnlyReads old mid
+    → OnlyReads mid new → Reads (script_file (sites tree)) mid new script threads → (fault ≡ steps.Runaway → started (sites tree) ≡ None)
+    → IfErr r (IsNotPrepared plan script old new)
+stopped_at_start old mid new plan script text tree threads fault r is source first second left runaway =
+    stopped (IsNotPrepared plan script old new) (stop_of_start fault) r is
+    (start_not_made old mid new plan script text tree threads fault source first second left runaway)
+
+-- ---- a plan that has started
+
+-- before the first entry the whole script is left
+order_at_first : (script : Script) (entries : List Entry) → IsFitScript script → InFileOrder script.threads entries
+    → InFileOrder (rest script.threads []) entries
+order_at_first script entries fit order =
+    subst (λ (threads : List Todo). InFileOrder threads entries) (sym (rest_whole script.threads fit.lines)) order
+
+pub prepared : {S : Type 0} (runs : Stepper.Ghosts S) (old mid new : View) (plan name : List ℕ) (script : Script) (ready : Prepared S)
+    → Reads (with_text plan_file) old mid plan (ready.text.items, tree_of ready.plan) → OnlyReads old mid → OnlyReads mid new
+    → length ready.text.items ≤ 1048576 → IsFit (tree_of ready.plan)
+    → Reads (script_file (sites (tree_of ready.plan))) mid new name script.threads → IsFitScript script
+    → InFileOrder script.threads ready.entries.items → IsTrue (list_all is_fit_entry ready.entries.items)
+    → (count : ℕ) × (started (sites (tree_of ready.plan)) ≡ Some ((runs.state ready.stepper).world, count))
+    → runs.state ready.stepper ≡ settled_state (sites (tree_of ready.plan)) (runs.state ready.stepper).world
+    → IsPrepared runs plan name old new ready
+prepared runs old mid new plan name script ready source first second short fit left fit_script order fit_entries start at_rest = record {
+  source = reads_later (List ℕ × Tree) (with_text plan_file) old mid new plan (ready.text.items, tree_of ready.plan) second.read_faults source;
+  left = record {
+    threads = script.threads;
+    read = reads_since (List Todo) (script_file (sites (tree_of ready.plan))) old mid new name script.threads first left;
+    order = order_at_first script ready.entries.items fit_script order;
+    fit = fit_entries;
+  };
+  short = short;
+  fit = fit;
+  nodes = ap (λ s. s.nodes) at_rest;
+  nothing = ap (λ s. s.pending) at_rest;
+  started = run_started (sites (tree_of ready.plan)) (runs.state ready.stepper) start at_rest;
+}
+
+-- a world that was run has settled
+some_settled : (settled : Option (World × ℕ)) (world : World) → settled_world settled ≡ Some world → (found : World × ℕ) × (settled ≡ Some found)
+some_settled None world is = let no : ⊥ = cc in absurd no
+some_settled (Some found) world is = (found, refl)
+
+start_settles : (plan : List Site) (world : World) → run plan [] ≡ Some world → (found : World × ℕ) × (started plan ≡ Some found)
+start_settles plan world is = some_settled (started plan) world (sym (run_on_none plan (settled_world (started plan))) ∙ is)
+
+-- ---- the command
+
+module _ {D : Type 0} (members : Disk.Ghosts D) (plan script name : List ℕ) (limit : ℕ) (old mid new : View) (disk : D) where
+  -- a plan that has started was run
+  pub prepared_runs : {S : Type 0} (runs : Stepper.Ghosts S) (ready : Prepared S) (carried : Carried D) → OnlyReads old mid → KeepsFiles mid new
+      → IsPrepared runs plan script old mid ready
+      → RunsPrepared members (sites (tree_of ready.plan)) ready.text.items name limit ready.entries.items mid new disk carried
+      → Runs members plan script name limit old new disk carried
+  prepared_runs runs ready carried only keeps is_ready carries = record {
+    course = done.course;
+    performs = due_since old mid new (NewCalls members (sites tree) ready.text.items limit threads disk carried.disk done.course)
+        (RunCalls members plan script limit old new disk carried.disk done.course) carried.result only
+        (λ due calls. after_reading (List ℕ × Tree) (with_text plan_file) old new plan (ready.text.items, tree) _ done.course due
+        (reads_later (List ℕ × Tree) (with_text plan_file) old mid new plan (ready.text.items, tree) keeps.read_faults is_ready.source)
+        (after_reading (List Todo) (script_file (sites tree)) old new script threads _ done.course due
+        (reads_later (List Todo) (script_file (sites tree)) old mid new script threads keeps.read_faults is_ready.left.read)
+        (subst (RunCallsBy members (sites tree) ready.text.items limit threads disk carried.disk done.course due) (sym start.1) calls)))
+        done.performs;
+    leaves = done.leaves;
+    bound = done.bound;
+  }
+    where
+      tree : Tree
+      tree = tree_of ready.plan
+
+      threads : List Todo
+      threads = is_ready.left.threads
+
+      done : Carries members name (λ after. NewCalls members (sites tree) ready.text.items limit threads disk after) mid new disk carried
+      done = carries threads is_ready.left.order
+
+      start : (found : World × ℕ) × (started (sites tree) ≡ Some found)
+      start = start_settles (sites tree) (runs.state ready.stepper).world
+          (subst (λ (nodes : List Site). run nodes [] ≡ Some (runs.state ready.stepper).world) is_ready.nodes is_ready.started)
+
+  -- where none has, the disk is as it was
+  pub not_prepared_runs : (stop : Stop) → OnlyReads old mid → members.bound_to disk ≡ None → IsNotPrepared plan script old mid stop
+      → Runs members plan script name limit old mid disk (record { result = Err stop; disk = disk })
+  not_prepared_runs (stops.Refused refusal) only unbound calls = record {
+    course = Untouched;
+    performs = (
+      after_more (List ℕ × Tree) (with_text plan_file) old mid plan _ _
+          (λ source. after_more (List Todo) (script_file (sites source.1)) old mid script _ _
+          (λ threads course due runs_away. subst (RunCallsBy members (sites source.1) source.0 limit threads disk disk course due) (sym runs_away.0) runs_away.1))
+          Untouched (Some (ending_of refusal)) calls,
+      only.emitted,
+    );
+    leaves = λ tells. untouched_at_once members disk;
+    bound = inr unbound;
+  }
+  not_prepared_runs stops.SinkFailed only unbound none = absurd none
+  not_prepared_runs stops.NoMemory only unbound any = record {
+    course = Untouched;
+    performs = inr (AfterFile.no_memory, only.emitted);
+    leaves = λ tells. untouched_at_once members disk;
+    bound = inr unbound;
+  }

@@ -1,0 +1,214 @@
+-- A journal that is taken up: what a command has come to then.
+use Rattle.std.proofs.Common.{◌≡◌, ◌≢◌, ◌≤◌, inl, inr, ⊎_elim, ℕ, List, [], ◌++◌, Option, Some, None, IsSome, Result, Ok, Err, length, take, refl, sym, ◌∙◌, ap, subst}
+use Rattle.std.specs.Option.{ForSome}
+use Rattle.px_core.specs.Plan.{Site, Tree, tree_of, sites}
+use Rattle.px_event.specs.declared.entry.Entry.{Entry}
+use Rattle.px_exec.specs.Executive.{Executive, plan_of, IsTextOf, TellsBytes}
+use Rattle.px_journal.specs.Crash.{LeavesOnly}
+use Rattle.px_journal.specs.Journal.{IsUntouched}
+use Rattle.px_journal.specs.Layout.{Stands}
+use Rattle.px_journal.proofs.Moments.{grows_on, grows_length, left_before_or_after}
+use Rattle.px_output.specs.View.{View, Faulted, EmitsPart, OnlyReads, KeepsFiles}
+use Rattle.px_ports.specs.Host.{Rose}
+use Rattle.px_ports.specs.Moment.{Elapses, Stays}
+use Rattle.px_ports.specs.declared.disk.Disk
+use Rattle.px_ports.specs.declared.moment.Moment.{Moment}
+use Rattle.px_script.specs.Order.{InFileOrder}
+use Rattle.px_script.specs.Rest.{rest}
+use Rattle.px_script.specs.declared.todo.Todo.{Todo}
+use Rattle.px_sem.specs.Log.{IsLegal}
+use Rattle.px_sem.specs.declared.stepper.Stepper
+use Rattle.px_session.specs.Opened.{IsOpening, Reopens, IsNotReopened, IsReopenWhy}
+use Rattle.px_session.specs.Posted.{WasDue, LeavesSession}
+use Rattle.px_session.specs.Session.{Session, history_of, IsFront, HasOneHistory, LeavesFronts}
+use Rattle.px_session.specs.declared.fault.ReopenFault.{ReopenFault}
+use Rattle.px_session.specs.declared.fault.ReopenWhy.{ReopenWhy}
+use Rattle.px_session.specs.declared.fault.ReopenWhy.TheVariants as reopening
+use Rattle.px_session.specs.declared.reopening.Reopened.{Reopened}
+use Rattle.px_run.specs.Course.{Course, Untouched, Unread, GoneOn, Due, AfterFile, Leaves}
+use Rattle.px_run.specs.Ending.{Ending, session_ending, runaway_at_start, disk_fault, no_journal, journal_damaged, journal_plan, journal_runaway}
+use Rattle.px_run.specs.File.{Shows}
+use Rattle.px_run.specs.Finishing.{IsLeft, Carries, Finishes, Resumes, Traces}
+use Rattle.px_run.specs.Journaled.{IsSession, DueBehind, JournalRefuses, AfterJournal, ResumeCalls, TraceCalls}
+use Rattle.px_run.specs.Kinds.{script_file}
+use Rattle.px_run.specs.Stops.{PerformsDue, StopsReading, stop_of, stop_of_reopen, ending_of}
+use Rattle.px_run.specs.declared.ending.Stop.{Stop}
+use Rattle.px_run.specs.declared.ending.Stop.TheVariants as stops
+use Rattle.px_run.specs.declared.finishing.Carried.{Carried}
+use Rattle.px_output.specs.Printing.{Prints}
+use Rattle.px_output.specs.declared.printer.PrintFault.{PrintFault}
+use Rattle.px_run.proofs.Finished.{due_behind_since, opening_stands, due_printed, due_broken_off}
+use Rattle.px_run.proofs.Performing.{shows_later}
+use Rattle.px_run.proofs.Running.{due_since}
+
+-- ---- a journal that is not taken up
+
+module _ {D : Type 0} (members : Disk.Ghosts D) (journal : List ℕ) (Next : D → List ℕ → List Entry → Tree → Course → Due → Type 0) (view : View) (old : D) where
+  abbrev Calls : D → Course → Due → Type 0
+  Calls new course due = AfterJournal members old new (Next new) course due
+
+  pub not_taken_up : (fault : ReopenFault D) → IsNotReopened members journal old fault
+      → Carries members journal Calls view view old (record { result = Err (stop_of_reopen fault.why); disk = fault.disk })
+  not_taken_up fault refused = by fault.why refl refused.why
+    where
+      still : fault.why ≢ reopening.DiskFault → IsUntouched members old fault.disk
+      still other = record { content = refused.same other; elapses = refused.elapses }
+
+      refused_as : (why : ReopenWhy) → fault.why ≡ why → why ≢ reopening.DiskFault → PerformsDue view view (Calls fault.disk Untouched) (Err (stop_of_reopen why))
+          → Carries members journal Calls view view old (record { result = Err (stop_of_reopen fault.why); disk = fault.disk })
+      refused_as why is other performs = record {
+        course = Untouched;
+        performs = subst (λ (w : ReopenWhy). PerformsDue view view (Calls fault.disk Untouched) (Err (stop_of_reopen w))) (sym is) performs;
+        leaves = λ tells. still (λ e. other (sym is ∙ e));
+        bound = refused.bound;
+      }
+
+      by : (why : ReopenWhy) → fault.why ≡ why → IsReopenWhy members old fault.disk fault.why
+          → Carries members journal Calls view view old (record { result = Err (stop_of_reopen fault.why); disk = fault.disk })
+      by reopening.NoJournal is cause = refused_as reopening.NoJournal is (λ e. cc)
+          (AfterJournal.refused no_journal (JournalRefuses.none (subst (IsReopenWhy members old fault.disk) is cause)), refl)
+      by (reopening.Damaged at) is cause = refused_as (reopening.Damaged at) is (λ e. cc)
+          (AfterJournal.refused (journal_damaged at) (JournalRefuses.damaged at (subst (IsReopenWhy members old fault.disk) is cause)), refl)
+      by reopening.PlanRefused is cause =
+          let c = subst (IsReopenWhy members old fault.disk) is cause in
+          refused_as reopening.PlanRefused is (λ e. cc)
+          (AfterJournal.refused journal_plan (JournalRefuses.plan (c.0) (c.1) (c.3.0) (c.2) (c.3.1) (c.3.2)), refl)
+      by reopening.RunawayAtStart is cause =
+          let c = subst (IsReopenWhy members old fault.disk) is cause in
+          refused_as reopening.RunawayAtStart is (λ e. cc)
+          (AfterJournal.refused runaway_at_start (JournalRefuses.start_runs_away (c.0) (c.1) (c.3.0) (c.2) (c.3.1) (c.3.2)), refl)
+      by (reopening.Runaway at) is cause =
+          let c = subst (IsReopenWhy members old fault.disk) is cause in
+          refused_as (reopening.Runaway at) is (λ e. cc)
+          (AfterJournal.refused (journal_runaway at) (JournalRefuses.event_runs_away (c.0) (c.1) (c.3.0) at (c.2) (c.3.1) (c.3.2)), refl)
+      by reopening.NoMemory is cause = refused_as reopening.NoMemory is (λ e. cc) (inr (AfterJournal.no_memory, refl))
+      by reopening.DiskFault is cause = record {
+        course = Unread;
+        performs = subst (λ (w : ReopenWhy). PerformsDue view view (Calls fault.disk Unread) (Err (stop_of_reopen w))) (sym is)
+            (AfterJournal.disk_fails (subst (IsReopenWhy members old fault.disk) is cause), refl);
+        leaves = λ tells. refused.elapses;
+        bound = refused.bound;
+      }
+
+-- ---- a journal that is taken up
+
+-- each image since is one of the start, or stands for a front of the session's history
+pub fronts_since : {D : Type 0} (members : Disk.Ghosts D) (session : Session) (old opened new : D) → IsUntouched members old opened
+    → ((image : List ℕ) → members.images (members.moments opened) image → Stands image session.text session.first)
+    → LeavesOnly members.images (IsFront session) (members.moments opened) (members.moments new)
+    → LeavesFronts members (λ image. ⊥) session old new
+fronts_since members session old opened new untouched stands since = record {
+  each = record {
+    grows = grows_on (members.moments old) (members.moments opened) (members.moments new) (untouched.elapses).grows since.grows;
+    each = λ image left. ⊎_elim
+        (λ early. let from = (untouched.elapses).each image early in inl (subst (members.images (members.moments old)) (sym (from.2)) (from.1)))
+        (λ late. inr (inr (since.each image late)))
+        (left_before_or_after members.images (members.moments opened) (members.moments new) (length (members.moments old)) image since.grows left);
+  };
+  opened = (
+    length (members.moments opened),
+    grows_length (members.moments old) (members.moments opened) (untouched.elapses).grows,
+    grows_length (members.moments opened) (members.moments new) since.grows,
+    λ image left. stands image (subst (λ (ms : List Moment). members.images ms image) since.grows left),
+    since.each,
+  );
+}
+
+module _ {S D : Type 0} (runs : Stepper.Ghosts S) (members : Disk.Ghosts D) (script journal : List ℕ) (limit : ℕ) (old : D) (reopened : Reopened S D)
+    (r : Reopens members runs journal limit old reopened) (before mid now : View) (only : OnlyReads before mid) where
+  abbrev tree : Tree
+  tree = tree_of reopened.plan
+
+  -- the script is refused, or can't be read
+  pub resume_refused : (stop : Stop) (disk : D) → disk ≡ reopened.exec.opening.journal.disk → StopsReading (script_file (sites tree)) before mid script stop
+      → Resumes members script journal limit before mid old (record { result = Err stop; disk = disk })
+  resume_refused stop disk here stopped = record {
+    course = Untouched;
+    performs = by stop stopped;
+    leaves = λ tells. subst (IsUntouched members old) (sym here) r.untouched;
+    bound = inl (ap members.bound_to here ∙ r.bound);
+  }
+    where
+      by : (s : Stop) → StopsReading (script_file (sites tree)) before mid script s
+          → PerformsDue before mid (ResumeCalls members script limit before mid old disk Untouched) (Err s)
+      by (stops.Refused refusal) (seen, shows, refuses) = (
+        AfterJournal.opened r.text reopened.exec.opening.history tree Untouched (Some (ending_of refusal)) r.stands r.compiled r.settles
+            (AfterFile.refused seen (ending_of refusal) shows refuses),
+        only.emitted,
+      )
+      by stops.SinkFailed none = absurd none
+      by stops.NoMemory any = inr (AfterJournal.no_memory, only.emitted)
+
+  -- it is read, and a session goes on with what is left of it
+  pub resume_finished : (history : List Entry) (entries : List Entry) (carried : Carried D) → history ≡ reopened.exec.opening.history
+      → IsLeft (sites tree) script history before mid entries
+      → ((other : List ℕ) → mid.read_faults other ≤ now.read_faults other)
+      → ((text : List ℕ) → IsTextOf members reopened.exec text → Finishes members runs text reopened.exec entries mid now carried)
+      → Resumes members script journal limit before now old carried
+  resume_finished history entries carried same left later finishes = record {
+    course = GoneOn f.session;
+    performs = due_since before mid now _ (ResumeCalls members script limit before now old carried.disk (GoneOn f.session)) carried.result only goes_on f.performs;
+    leaves = λ tells.
+        let l = f.leaves tells in (
+          l.now,
+          fronts_since members f.session old reopened.exec.opening.journal.disk carried.disk r.untouched
+              (opening_stands members reopened.exec r.text f.session f.same_text f.same_first tells r.ready) l.since,
+        );
+    bound = inl (f.bound ∙ r.bound);
+  }
+    where
+      f : Finishes members runs r.text reopened.exec entries mid now carried
+      f = finishes r.text r.ready
+
+      is_session : IsSession (sites tree) r.text reopened.exec.opening.history limit left.threads f.session f.left
+      is_session = record {
+        same_text = f.same_text;
+        same_first = f.same_first;
+        legal = subst (λ (n : ℕ). IsLegal (sites tree) reopened.exec.opening.history n (f.session).log) (r.opening).most
+            (subst (λ (p : List Site). IsLegal p reopened.exec.opening.history reopened.exec.opening.limit (f.session).log) r.nodes f.legal);
+        due = subst (λ (n : ℕ). WasDue (sites tree) n (history_of f.session) (f.session).failed) (r.opening).most
+            (subst (λ (p : List Site). WasDue p reopened.exec.opening.limit (history_of f.session) (f.session).failed) r.nodes f.due);
+        entries = entries;
+        order = subst (λ (h : List Entry). InFileOrder (rest left.threads h) entries) same left.order;
+        front = f.front;
+      }
+
+      goes_on : (due : Due) → DueBehind members (plan_of runs reopened.exec) f.session f.left reopened.exec.opening.journal.disk carried.disk due
+          → ResumeCalls members script limit before now old carried.disk (GoneOn f.session) due
+      goes_on due behind =
+          let (seen, shows, spells) = left.read in
+          AfterJournal.opened r.text reopened.exec.opening.history tree (GoneOn f.session) due r.stands r.compiled r.settles
+          (AfterFile.read seen left.threads (GoneOn f.session) due (shows_later (script_file (sites tree)).limit before mid now script seen later shows) spells (
+            f.session,
+            refl,
+            (
+              f.left,
+              is_session,
+              due_behind_since members (plan_of runs reopened.exec) (sites tree) f.session f.left old reopened.exec.opening.journal.disk carried.disk due r.nodes r.faults behind,
+            ),
+          ))
+
+-- its trace is printed, or breaks off
+module _ {S D : Type 0} (runs : Stepper.Ghosts S) (members : Disk.Ghosts D) (journal : List ℕ) (limit : ℕ) (old : D) (reopened : Reopened S D)
+    (r : Reopens members runs journal limit old reopened) (before now : View) (disk : D) (here : disk ≡ reopened.exec.opening.journal.disk) where
+  abbrev traced_ending : Ending
+  traced_ending = session_ending (sites (tree_of reopened.plan)) reopened.exec.opening.history []
+
+  due_trace : TraceCalls members old disk Untouched (Some traced_ending)
+  due_trace = AfterJournal.opened r.text reopened.exec.opening.history (tree_of reopened.plan) Untouched (Some traced_ending) r.stands r.compiled r.settles (refl, refl)
+
+  traced : (result : Result Unit Stop) → PerformsDue before now (TraceCalls members old disk Untouched) result
+      → Traces members journal before now old (record { result = result; disk = disk })
+  traced result performs = record {
+    course = Untouched;
+    performs = performs;
+    leaves = λ tells. subst (IsUntouched members old) (sym here) r.untouched;
+    bound = inl (ap members.bound_to here ∙ r.bound);
+  }
+
+  pub trace_printed : Prints {T = Unit} before [] now [] traced_ending.text (Ok tt) → Traces members journal before now old (record { result = Ok tt; disk = disk })
+  trace_printed prints = traced (Ok tt) (due_printed before now (TraceCalls members old disk Untouched) traced_ending due_trace refl prints)
+
+  pub trace_broken_off : (fault : PrintFault) → Prints {T = Unit} before [] now [] traced_ending.text (Err fault)
+      → Traces members journal before now old (record { result = Err (stop_of fault); disk = disk })
+  trace_broken_off fault prints = traced (Err (stop_of fault)) (due_broken_off before now (TraceCalls members old disk Untouched) traced_ending fault due_trace prints)

@@ -1,0 +1,221 @@
+-- A session over a new journal, from the making of the journal and the end of the session.
+use Rattle.std.proofs.Common.{◌≡◌, ◌≤◌, ◌⊎◌, inl, inr, ⊎_elim, ℕ, List, [], Some, None, IsSome, Result, Ok, Err, length, take, refl, sym, ◌∙◌, ap, subst, arith, IsTrue}
+use Rattle.std.proofs.lemmas.List.{take_all}
+use Rattle.px_core.specs.Plan.{Site}
+use Rattle.px_event.specs.declared.entry.Entry.{Entry}
+use Rattle.px_exec.proofs.Keeping.{told_of}
+use Rattle.px_exec.specs.Executive.{Executive, plan_of, TellsBytes}
+use Rattle.px_journal.proofs.Moments.{grows_on, grows_length, left_before_or_after}
+use Rattle.px_journal.specs.Crash.{OldOrNew, LeavesOnly}
+use Rattle.px_journal.specs.Layout.{is_nothing, Stands}
+use Rattle.px_journal.specs.declared.fault.CreateWhy.{CreateWhy}
+use Rattle.px_journal.specs.declared.fault.CreateWhy.TheVariants as creating
+use Rattle.px_output.specs.View.{View, OnlyReads}
+use Rattle.px_ports.specs.Moment.{Images, LeftSince}
+use Rattle.px_ports.specs.declared.disk.Disk
+use Rattle.px_ports.specs.declared.moment.Moment.{Moment}
+use Rattle.px_script.specs.Order.{InFileOrder}
+use Rattle.px_script.specs.Rest.{rest}
+use Rattle.px_script.specs.declared.todo.Todo.{Todo}
+use Rattle.px_sem.specs.Log.{IsLegal}
+use Rattle.px_sem.specs.Run.{run}
+use Rattle.px_sem.specs.declared.stepper.Stepper
+use Rattle.px_session.specs.Opened.{LeavesNew, Creates, IsCreateWhy, IsNotCreated}
+use Rattle.px_session.specs.Posted.{WasDue}
+use Rattle.px_session.specs.Session.{Session, history_of, longest_of, IsEnd, IsFront, HasOneHistory, LeavesFronts}
+use Rattle.px_run.specs.Course.{Untouched, HalfMade, Made, Due}
+use Rattle.px_run.specs.Finishing.{Carries, Finishes}
+use Rattle.px_run.specs.Journaled.{IsSession, DueBehind, NewCalls}
+use Rattle.px_run.specs.Stops.{PerformsDue, stop_of_create, ending_of}
+use Rattle.px_run.specs.declared.ending.Stop.{Stop}
+use Rattle.px_run.specs.declared.ending.Stop.TheVariants as stops
+use Rattle.px_run.specs.declared.finishing.Carried.{Carried}
+use Rattle.px_run.proofs.Finished.{due_behind_since, opening_stands}
+use Rattle.px_run.proofs.Performing.{faulted_since}
+
+-- ---- what is due, seen from further off
+
+-- what is performed behind reads that touched nothing else
+pub due_since : (old mid new : View) (Calls More : Due → Type 0) (r : Result Unit Stop) → OnlyReads old mid
+    → ((due : Due) → Calls due → More due) → PerformsDue mid new Calls r → PerformsDue old new More r
+due_since old mid new Calls More (Ok done) only widen (ending, is, ends, emits) =
+    (ending, widen (Some ending) is, ends, rw (← only.emitted) emits)
+due_since old mid new Calls More (Err (stops.Refused refusal)) only widen (is, same) =
+    (widen (Some (ending_of refusal)) is, same ∙ only.emitted)
+due_since old mid new Calls More (Err stops.SinkFailed) only widen (ending, is, part, fault) =
+    (ending, widen (Some ending) is, rw (← only.emitted) part, faulted_since old mid new only fault)
+due_since old mid new Calls More (Err stops.NoMemory) only widen (inl (ending, is, part)) =
+    inl (ending, widen (Some ending) is, rw (← only.emitted) part)
+due_since old mid new Calls More (Err stops.NoMemory) only widen (inr (none, same)) = inr (widen None none, same ∙ only.emitted)
+
+reads_at_once : (now : View) → OnlyReads now now
+reads_at_once now = record { files = refl; emitted = refl; read_faults = λ name. omega arith; write_faults = refl; idle = refl }
+
+pub due_more : (old new : View) (Calls More : Due → Type 0) (r : Result Unit Stop) → ((due : Due) → Calls due → More due)
+    → PerformsDue old new Calls r → PerformsDue old new More r
+due_more old new Calls More r widen performs = due_since old old new Calls More r (reads_at_once old) widen performs
+
+-- ---- what a crash may leave
+
+-- what a crash at the last moment may leave
+left_at_end : (images : Images) (moments : List Moment) (image : List ℕ) → LeftSince images moments (length moments) image
+    → images moments image
+left_at_end images moments image since = subst (λ (ms : List Moment). images ms image) (take_all (since.0) moments (since.1)) (since.3)
+
+-- bytes that stand for the text and no event are a front of each session over a new journal
+front_of_none : (session : Session) (text bytes : List ℕ) → session.text ≡ text → session.first ≡ [] → Stands bytes text []
+    → IsFront session bytes
+front_of_none session text bytes same_text same_first stands = record {
+  more = [];
+  rest = longest_of session;
+  front = rw same_first refl;
+  stands = rw (same_text, same_first) stands;
+}
+
+end_of_none : (text bytes : List ℕ) → IsEnd (record { text = text; first = []; log = []; failed = None }) bytes → Stands bytes text []
+end_of_none text bytes (inl stands) = stands
+end_of_none text bytes (inr stands) = stands
+
+module _ {D : Type 0} (members : Disk.Ghosts D) where
+  -- a journal was made up to a moment, and each image since then is a front
+  fronts_behind : (session : Session) (text : List ℕ) (old mid new : D) → session.text ≡ text → session.first ≡ [] → IsSome (members.content old)
+      → LeavesNew members text old mid → take (length (members.moments mid)) (members.moments new) ≡ members.moments mid
+      → ((image : List ℕ) → members.images (members.moments mid) image → Stands image session.text session.first)
+      → ((image : List ℕ) → LeftSince members.images (members.moments new) (length (members.moments mid)) image → IsFront session image)
+      → LeavesFronts members (λ image. IsTrue (is_nothing image)) session old new
+  fronts_behind session text old mid new same_text same_first tells making grows stands since = record {
+    each = record {
+      grows = grows_on (members.moments old) (members.moments mid) (members.moments new) making.grows grows;
+      each = λ image left. ⊎_elim
+          (λ early. of_making image (made.each image early))
+          (λ late. inr (inr (since image late)))
+          (left_before_or_after members.images (members.moments mid) (members.moments new) (length (members.moments old)) image grows left);
+    };
+    opened = (
+      length (members.moments mid),
+      grows_length (members.moments old) (members.moments mid) making.grows,
+      grows_length (members.moments mid) (members.moments new) grows,
+      λ image left. stands image (subst (λ (ms : List Moment). members.images ms image) grows left),
+      since,
+    );
+  }
+    where
+      told : (bytes : List ℕ) × (members.content old ≡ Some bytes)
+      told = told_of (members.content old) tells
+
+      made : LeavesOnly members.images (OldOrNew (members.images (members.moments old)) text) (members.moments old) (members.moments mid)
+      made = making.each told.0 told.1
+
+      of_making : (image : List ℕ) → OldOrNew (members.images (members.moments old)) text image
+          → members.images (members.moments old) image ⊎ (IsTrue (is_nothing image) ⊎ IsFront session image)
+      of_making image (inl was) = inl was
+      of_making image (inr (inl nothing)) = inr (inl nothing)
+      of_making image (inr (inr stands)) = inr (inr (front_of_none session text image same_text same_first stands))
+
+  -- memory ran out right behind the making
+  fronts_of_none : (text : List ℕ) (old new : D) → TellsBytes members → LeavesNew members text old new
+      → HasOneHistory members (record { text = text; first = []; log = []; failed = None }) new
+      → LeavesFronts members (λ image. IsTrue (is_nothing image)) (record { text = text; first = []; log = []; failed = None }) old new
+  fronts_of_none text old new tells making now =
+      let told = told_of (members.content new) (tells new) in
+      fronts_behind (record { text = text; first = []; log = []; failed = None }) text old new new refl refl (tells old) making
+      (take_all (length (members.moments new)) (members.moments new) (omega arith))
+      (λ image left. end_of_none text image (now.left told.0 told.1 image left))
+      (λ image since. front_of_none (record { text = text; first = []; log = []; failed = None }) text image refl refl
+      (end_of_none text image (now.left told.0 told.1 image (left_at_end members.images (members.moments new) image since))))
+
+  -- ---- the two ends of a call
+
+  module _ (plan : List Site) (text name : List ℕ) (limit : ℕ) (entries : List Entry) (before now : View) (old : D) (threads : List Todo)
+      (order : InFileOrder (rest threads []) entries) where
+    -- a journal was made, and a session over it has ended
+    pub made_runs : {S : Type 0} (runs : Stepper.Ghosts S) (stepper : S) (exec : Executive S D) (carried : Carried D) → (runs.state stepper).nodes ≡ plan
+        → Creates members name text stepper limit old exec → Finishes members runs text exec entries before now carried
+        → Carries members name (λ new. NewCalls members plan text limit threads old new) before now old carried
+    made_runs {S} runs stepper exec carried nodes made finished = record {
+      course = Made finished.session;
+      performs = due_more before now (DueBehind members (plan_of runs exec) finished.session finished.left exec.opening.journal.disk carried.disk)
+          (NewCalls members plan text limit threads old carried.disk (Made finished.session)) carried.result
+          (λ due behind. NewCalls.made finished.session due made.was_nothing (finished.left, session, behind_here due behind)) finished.performs;
+      leaves = λ tells. ((finished.leaves tells).now, fronts tells);
+      bound = inl (finished.bound ∙ made.bound);
+    }
+      where
+        plan_is : plan_of runs exec ≡ plan
+        plan_is = ap (λ (s : S). (runs.state s).nodes) made.runs ∙ nodes
+
+        same_first : finished.session.first ≡ []
+        same_first = finished.same_first ∙ made.opening.first
+
+        session : IsSession plan text [] limit threads finished.session finished.left
+        session = record {
+          same_text = finished.same_text;
+          same_first = same_first;
+          legal = subst (λ (p : List Site). IsLegal p [] limit finished.session.log) plan_is
+              (subst (λ (h : List Entry). IsLegal (plan_of runs exec) h limit finished.session.log) made.opening.first
+              (subst (λ (l : ℕ). IsLegal (plan_of runs exec) exec.opening.history l finished.session.log) made.opening.most finished.legal));
+          due = subst (λ (p : List Site). WasDue p limit (history_of finished.session) finished.session.failed) plan_is
+              (subst (λ (l : ℕ). WasDue (plan_of runs exec) l (history_of finished.session) finished.session.failed) made.opening.most finished.due);
+          entries = entries;
+          order = order;
+          front = finished.front;
+        }
+
+        behind_here : (due : Due) → DueBehind members (plan_of runs exec) finished.session finished.left exec.opening.journal.disk carried.disk due
+            → DueBehind members plan finished.session finished.left old carried.disk due
+        behind_here due behind =
+            due_behind_since members (plan_of runs exec) plan finished.session finished.left old exec.opening.journal.disk carried.disk due
+            plan_is made.faults behind
+
+        fronts : TellsBytes members → LeavesFronts members (λ image. IsTrue (is_nothing image)) finished.session old carried.disk
+        fronts tells =
+            let leaves = finished.leaves tells in
+            fronts_behind finished.session text old exec.opening.journal.disk carried.disk finished.same_text same_first (tells old) made.leaves
+            leaves.since.grows
+            (opening_stands members exec text finished.session finished.same_text finished.same_first tells made.stands) leaves.since.each
+
+    -- none was made, or memory ran out right behind the making
+    not_made : (why : CreateWhy) (new : D) → IsSome (run plan []) → IsCreateWhy members text old new why → IsNotCreated members name text old (record { disk = new; why = why })
+        → Carries members name (λ new. NewCalls members plan text limit threads old new) before before old (record { result = Err (stop_of_create why); disk = new })
+    not_made creating.Exists new starts whole fault = record {
+      course = Untouched;
+      performs = (NewCalls.exists whole, refl);
+      leaves = λ tells. let told = told_of (members.content old) (tells old) in fault.untouched told.0 told.1 (whole told.0 told.1);
+      bound = fault.bound;
+    }
+    not_made creating.DiskFault new starts rose fault = record {
+      course = HalfMade text;
+      performs = (NewCalls.half_made rose, refl);
+      leaves = λ tells. (fault.leaves, fault.untouched);
+      bound = fault.bound;
+    }
+    not_made creating.NoMemory new starts (inl still) fault = record {
+      course = Untouched;
+      performs = inr (NewCalls.no_memory, refl);
+      leaves = λ tells. still;
+      bound = fault.bound;
+    }
+    not_made creating.NoMemory new starts (inr (nothing, history)) fault = record {
+      course = Made (record { text = text; first = []; log = []; failed = None });
+      performs = inr (NewCalls.made (record { text = text; first = []; log = []; failed = None }) None nothing (entries, session, DueBehind.no_memory refl), refl);
+      leaves = λ tells. (history, fronts_of_none text old new tells fault.leaves history);
+      bound = fault.bound;
+    }
+      where
+        session : IsSession plan text [] limit threads (record { text = text; first = []; log = []; failed = None }) entries
+        session = record {
+          same_text = refl;
+          same_first = refl;
+          legal = record { runs = starts; answers = tt };
+          due = tt;
+          entries = entries;
+          order = order;
+          front = refl;
+        }
+
+    pub not_made_runs : (why : CreateWhy) (new : D) (stop : Stop) → IsSome (run plan []) → stop ≡ stop_of_create why
+        → IsNotCreated members name text old (record { disk = new; why = why })
+        → Carries members name (λ new. NewCalls members plan text limit threads old new) before before old (record { result = Err stop; disk = new })
+    not_made_runs why new stop starts is fault =
+        subst (λ (s : Stop). Carries members name (λ new. NewCalls members plan text limit threads old new) before before old (record { result = Err s; disk = new }))
+        (sym is) (not_made why new starts fault.why fault)

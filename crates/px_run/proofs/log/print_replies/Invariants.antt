@@ -1,6 +1,0 @@
-use Rattle.px_run.specs.View.{view}
-use Rattle.px_run.proofs.Telling.{IsReplied}
-use Rattle.px_run.proofs.log.print_replies.Given as goal
-
-abbrev pub invariant-loop-logged : goal.invariant-loop-logged
-invariant-loop-logged g l = IsReplied l.log l.logged-index (view g.H.Host l.fn.host) l.fn.printer (view g.H.Host l.host) l.printer

@@ -1,0 +1,28 @@
+use Rattle.std.proofs.Common.{[], Ok, Err, ap, sym, ◌∙◌, append-nil}
+use Rattle.px_core.specs.Plan.{tree_of, sites}
+use Rattle.px_output.specs.View.{view}
+use Rattle.px_run.proofs.Resumed.{not_taken_up, trace_printed, trace_broken_off}
+use Rattle.px_run.proofs.trace.trace.Goals as goal
+
+pub returns-in-Err-clause-traces : goal.returns-in-Err-clause-traces
+returns-in-Err-clause-traces g c =
+    rw c.into.ensures (not_taken_up g.D.Disk c.args.journal.now _ (view g.H.Host c.args.host.now) c.args.disk c.in-Err.field-0 c.in-Err.ensures.refused)
+
+pub returns-in-Ok-print_log-clause-traces : goal.returns-in-Ok-print_log-clause-traces
+returns-in-Ok-print_log-clause-traces g c =
+    let reopened = c.in-Ok.reopened in
+    let r = c.in-Ok.ensures.reopened in
+    trace_printed g.S.Stepper g.D.Disk c.args.journal.now 100000 c.args.disk reopened r (view g.H.Host c.args.host.now) (view g.H.Host c.print_log.new.host) c.into_disk-disk.result
+    (c.into_disk-disk.ensures ∙ ap (λ j. j.disk) (c.into_parts-journal.ensures.journal ∙ r.opening.untouched))
+    (c.in-Ok-print_log.ensures.prints reopened.exec.opening.history
+    (c.deref.ensures.value ∙ c.into_parts-journal.ensures.history ∙ r.opening.now ∙ sym (append-nil reopened.exec.opening.history)))
+
+pub returns-clause-traces : goal.returns-clause-traces
+returns-clause-traces g c =
+    let reopened = c.in-Ok.reopened in
+    let r = c.in-Ok.ensures.reopened in
+    rw c.into-in-Err-print_log.ensures
+    (trace_broken_off g.S.Stepper g.D.Disk c.args.journal.now 100000 c.args.disk reopened r (view g.H.Host c.args.host.now) (view g.H.Host c.print_log.new.host) c.into_disk-disk.result
+    (c.into_disk-disk.ensures ∙ ap (λ j. j.disk) (c.into_parts-journal.ensures.journal ∙ r.opening.untouched)) c.in-Err-print_log.fault
+    (c.in-Err-print_log.ensures.prints reopened.exec.opening.history
+    (c.deref.ensures.value ∙ c.into_parts-journal.ensures.history ∙ r.opening.now ∙ sym (append-nil reopened.exec.opening.history))))

@@ -1,0 +1,121 @@
+-- WHAT THE COMMANDS WITH A JOURNAL CALL FOR.
+use Rattle.std.specs.Prelude.{◌≡◌, ◌≢◌, ◌⊎◌, ℕ, List, [], ◌++◌, Option, Some, None, IsSome, IsTrue, IsFalse}
+use Rattle.std.specs.Option.{ForSome}
+use Rattle.px_compile.specs.Compiled.{IsCompiled, IsRefused}
+use Rattle.px_core.specs.Plan.{Site, Tree, sites}
+use Rattle.px_event.specs.declared.entry.Entry.{Entry}
+use Rattle.px_exec.specs.Opening.{RunsAwayAt}
+use Rattle.px_journal.specs.Damage.{Damaged}
+use Rattle.px_journal.specs.Layout.{is_nothing, Stands}
+use Rattle.px_ports.specs.Host.{Rose}
+use Rattle.px_ports.specs.declared.disk.Disk
+use Rattle.px_script.specs.Order.{InFileOrder}
+use Rattle.px_script.specs.Rest.{rest}
+use Rattle.px_script.specs.declared.todo.Todo.{Todo}
+use Rattle.px_sem.specs.Log.{IsLegal, events_of}
+use Rattle.px_sem.specs.Run.{run, started}
+use Rattle.px_sem.specs.World.{World}
+use Rattle.px_session.specs.Posted.{entries_of, WasDue}
+use Rattle.px_session.specs.Session.{Session, history_of, unsure}
+use Rattle.px_syntax.specs.declared.fault.PlanFault.{PlanFault}
+use Rattle.px_syntax.specs.declared.fault.PlanFault.TheVariants.{NoMemory as PlanOutOfMemory}
+use Rattle.px_output.specs.View.{View}
+use Rattle.px_run.specs.Course.{Course, Untouched, Unread, HalfMade, Made, GoneOn, Due, EndsUntouched, AfterFile}
+use Rattle.px_run.specs.Ending.{Ending, session_ending, runaway_at_start, disk_fault, journal_exists, no_journal, journal_damaged, journal_plan, journal_runaway}
+use Rattle.px_run.specs.File.{with_text}
+use Rattle.px_run.specs.Kinds.{plan_file, script_file}
+
+-- A SESSION OF A SCRIPT over a text and the history at its opening: its log is legal, and is of a front of what the script
+-- has left behind that history, by rising line number, each once. Behind the log comes the entry whose append failed, where
+-- one did, which was to be accepted, and then those that were not posted.
+pub record IsSession (plan : List Site) (text : List ℕ) (first : List Entry) (limit : ℕ) (threads : List Todo)
+    (session : Session) (left : List Entry) : Type 0 where
+  pub same_text : session.text ≡ text
+  pub same_first : session.first ≡ first
+  pub legal : IsLegal plan first limit session.log
+  pub due : WasDue plan limit (history_of session) session.failed
+  pub entries : List Entry
+  pub order : InFileOrder (rest threads first) entries
+  pub front : entries ≡ entries_of session.log ++ (unsure session.failed ++ left)
+
+module _ {D : Type 0} (members : Disk.Ghosts D) where
+  -- what is due behind a session: its text where all is posted, a fault where an append failed
+  pub data DueBehind (plan : List Site) (session : Session) (left : List Entry) (old new : D) : Due → Type 0 where
+    whole : session.failed ≡ None → left ≡ [] → DueBehind plan session left old new (Some (session_ending plan session.first session.log))
+    failed : IsSome session.failed → Rose (members.faults old) (members.faults new) → DueBehind plan session left old new (Some disk_fault)
+    no_memory : session.failed ≡ None → DueBehind plan session left old new None
+
+  abbrev pub SessionCalls : List Site → List ℕ → List Entry → ℕ → List Todo → D → D → Session → Due → Type 0
+  SessionCalls plan text first limit threads old new session due =
+      (left : List Entry) × IsSession plan text first limit threads session left × DueBehind plan session left old new due
+
+  -- ---- `run`
+
+  -- a new journal: one stands there, a call of the disk fails on the way, or a session runs over it
+  pub data NewCalls (plan : List Site) (text : List ℕ) (limit : ℕ) (threads : List Todo) (old new : D) : Course → Due → Type 0 where
+    exists :
+        ForSome (members.content old) (λ told. IsFalse (is_nothing told))
+        → NewCalls plan text limit threads old new Untouched (Some journal_exists)
+    half_made :
+        Rose (members.faults old) (members.faults new) → NewCalls plan text limit threads old new (HalfMade text) (Some disk_fault)
+    made :
+        (session : Session) (due : Due) → ForSome (members.content old) (λ told. IsTrue (is_nothing told))
+        → SessionCalls plan text [] limit threads old new session due
+        → NewCalls plan text limit threads old new (Made session) due
+    no_memory : NewCalls plan text limit threads old new Untouched None
+
+  -- by what the start of the plan settles into
+  abbrev pub RunCallsBy : List Site → List ℕ → ℕ → List Todo → D → D → Course → Due → Option (World × ℕ) → Type 0
+  RunCallsBy plan text limit threads old new course due None = EndsUntouched course due runaway_at_start
+  RunCallsBy plan text limit threads old new course due (Some settled) = NewCalls plan text limit threads old new course due
+
+  -- the plan is read, then the script, then the plan starts, then its journal is made
+  abbrev pub RunCalls : List ℕ → List ℕ → ℕ → View → View → D → D → Course → Due → Type 0
+  RunCalls plan script limit before now old new course due =
+      AfterFile (with_text plan_file) before now plan (λ source.
+      AfterFile (script_file (sites source.1)) before now script (λ threads course due.
+      RunCallsBy (sites source.1) source.0 limit threads old new course due (started (sites source.1))))
+      course due
+
+  -- ---- `resume` and `trace`
+
+  -- why the journal of a disk is refused
+  pub data JournalRefuses (old : D) : Ending → Type 0 where
+    none : ForSome (members.content old) (λ told. IsTrue (is_nothing told)) → JournalRefuses old no_journal
+    damaged :
+        (at : ℕ) → ForSome (members.content old) (λ told. IsFalse (is_nothing told) × Damaged told at)
+        → JournalRefuses old (journal_damaged at)
+    plan :
+        (text : List ℕ) (first : List Entry) (fault : PlanFault) → ForSome (members.content old) (λ told. Stands told text first)
+        → fault ≢ PlanOutOfMemory → IsRefused text fault → JournalRefuses old journal_plan
+    start_runs_away :
+        (text : List ℕ) (first : List Entry) (tree : Tree) → ForSome (members.content old) (λ told. Stands told text first)
+        → IsCompiled text tree → started (sites tree) ≡ None → JournalRefuses old runaway_at_start
+    event_runs_away :
+        (text : List ℕ) (first : List Entry) (tree : Tree) (at : ℕ) → ForSome (members.content old) (λ told. Stands told text first)
+        → IsCompiled text tree → RunsAwayAt (sites tree) first at → JournalRefuses old (journal_runaway at)
+
+  -- what is due where a journal is read first: it is refused, or its plan and its history go on; or the disk fails, or
+  -- memory runs out
+  pub data AfterJournal (old new : D) (Next : List ℕ → List Entry → Tree → Course → Due → Type 0) : Course → Due → Type 0 where
+    no_memory : AfterJournal old new Next Untouched None
+    disk_fails : Rose (members.faults old) (members.faults new) → AfterJournal old new Next Unread (Some disk_fault)
+    refused : (ending : Ending) → JournalRefuses old ending → AfterJournal old new Next Untouched (Some ending)
+    opened :
+        (text : List ℕ) (first : List Entry) (tree : Tree) (course : Course) (due : Due)
+        → ForSome (members.content old) (λ told. Stands told text first) → IsCompiled text tree
+        → IsSome (run (sites tree) (events_of first)) → Next text first tree course due → AfterJournal old new Next course due
+
+  -- the journal is read, then the script, and a session goes on with what is left of it
+  abbrev pub ResumeCalls : List ℕ → ℕ → View → View → D → D → Course → Due → Type 0
+  ResumeCalls script limit before now old new course due =
+      AfterJournal old new (λ text first tree.
+      AfterFile (script_file (sites tree)) before now script (λ threads course due.
+      (session : Session) × (course ≡ GoneOn session)
+      × SessionCalls (sites tree) text first limit threads old new session due))
+      course due
+
+  -- the journal is read, and its history is printed
+  abbrev pub TraceCalls : D → D → Course → Due → Type 0
+  TraceCalls old new course due =
+      AfterJournal old new (λ text first tree course due. EndsUntouched course due (session_ending (sites tree) first [])) course due

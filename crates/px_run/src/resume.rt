@@ -1,0 +1,73 @@
+// The command `resume`: takes a journal up, posts what a script has left behind its history, and prints the text of the log.
+ghost use Rattle.std.specs.Prelude.{◌≡◌, ◌≤◌, None, IfOk, IfErr};
+ghost use Rattle.px_core.specs.Fit.{IsFit};
+ghost use Rattle.px_core.specs.Plan.{tree_of, sites};
+ghost use Rattle.px_output.specs.View.{view, KeepsFiles, OnlyReads};
+ghost use Rattle.px_run.specs.Finishing.{Resumes, IsLeft};
+ghost use Rattle.px_run.specs.Kinds.{script_file};
+ghost use Rattle.px_run.specs.Stops.{StopsReading};
+
+use crate::ending::Stop;
+use crate::finishing::{Carried, finish};
+use crate::reading::fetch_script;
+use px_core::Plan;
+use px_event::Entry;
+use px_ports::{Disk, Host};
+use px_script::rest;
+use px_sem::Stepper;
+use px_session::{ReopenFault, Reopened, reopen};
+use std::alloc::Global;
+
+/// Goes on with the journal of this name on the disk: posts what the script in the file has left behind the journal's
+/// history, which may grow to `limit` events, from 1 to 100,000, and prints the text of the whole.
+pub fn resume<H: Host, D: Disk, S: Stepper>(
+    alloc: Global,
+    script: &str,
+    journal: &str,
+    limit: u32,
+    host: &mut H,
+    disk: D,
+) -> Carried<D>
+    requires unbound { D.bound_to disk ≡ None }
+    requires least { 1 ≤ limit }
+    requires most { limit ≤ 100000 }
+    ensures resumes { Resumes D.Disk script.now journal.now limit (view H.Host host.old) (view H.Host host.new) disk result }
+    ensures keeps { KeepsFiles (view H.Host host.old) (view H.Host host.new) }
+{
+    let Reopened { plan, exec } = match reopen::<S, D>(alloc, disk, journal, limit) {
+        Ok(reopened) => reopened,
+        Err(ReopenFault { disk, why }) => {
+            return Carried {
+                result: Err(why.into()),
+                disk,
+            };
+        }
+    };
+    match entries_left(alloc, script, &plan, exec.history(), host) {
+        Ok(entries) => finish(alloc, &plan, exec, &entries, host),
+        Err(stop) => Carried {
+            result: Err(stop),
+            disk: exec.into_parts().journal.into_disk(),
+        },
+    }
+}
+
+/// What the script in a file has left behind a history.
+fn entries_left<H: Host>(
+    alloc: Global,
+    script: &str,
+    plan: &Plan,
+    history: &[Entry],
+    host: &mut H,
+) -> Result<Vec<Entry>, Stop>
+    requires { IsFit (tree_of plan.now) }
+    ensures ok { IfOk result (λ entries. IsLeft (sites (tree_of plan.now)) script.now history.now
+        (view H.Host host.old) (view H.Host host.new) entries.items) }
+    ensures err { IfErr result
+        (StopsReading (script_file (sites (tree_of plan.now))) (view H.Host host.old) (view H.Host host.new) script.now) }
+    ensures only { OnlyReads (view H.Host host.old) (view H.Host host.new) }
+{
+    let script = fetch_script(alloc, script, plan, host)?;
+    let entries = rest(alloc, script, history)?.into_entries(alloc)?;
+    Ok(entries)
+}

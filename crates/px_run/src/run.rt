@@ -1,0 +1,116 @@
+// The command `run`: reads a plan and a script, makes a journal, posts the script's lines, and prints the text of the log.
+ghost use Rattle.std.specs.Prelude.{◌≡◌, ◌≤◌, None, [], Some, length, IfOk, IfErr, IsTrue};
+ghost use Rattle.std.specs.List.{list_all};
+ghost use Rattle.px_core.specs.Fit.{IsFit};
+ghost use Rattle.px_core.specs.Plan.{tree_of, sites};
+ghost use Rattle.px_event.specs.Fit.{is_fit_entry};
+ghost use Rattle.px_output.specs.View.{view, KeepsFiles, OnlyReads};
+ghost use Rattle.px_sem.specs.Run.{run};
+ghost use Rattle.px_sem.specs.Stepper.{Pending};
+ghost use Rattle.px_run.specs.Finishing.{IsPrepared, IsNotPrepared, Runs, RunsPrepared};
+
+use crate::ending::Stop;
+use crate::finishing::{Carried, finish};
+use crate::reading::{Source, fetch_script, fetch_source};
+use px_core::Plan;
+use px_event::Entry;
+use px_journal::CreateFault;
+use px_ports::{Disk, Host};
+use px_sem::{Stepper, start};
+use px_session::create;
+use std::alloc::Global;
+
+/// What is to run: a plan with its text, what the script posts, and a stepper that has settled the start.
+#[derive(Drop)]
+struct Prepared<S: Stepper> {
+    text: Vec<u8>,
+    plan: Plan,
+    entries: Vec<Entry>,
+    stepper: S,
+}
+
+/// Runs the plan in one file by the script in another, with a journal of this name on the disk, whose history may grow to
+/// `limit` events, from 1 to 100,000. The disk isn't touched before plan and script are read and the plan has started.
+pub fn run<H: Host, D: Disk, S: Stepper>(
+    alloc: Global,
+    plan: &str,
+    script: &str,
+    journal: &str,
+    limit: u32,
+    host: &mut H,
+    disk: D,
+) -> Carried<D>
+    requires unbound { D.bound_to disk ≡ None }
+    requires least { 1 ≤ limit }
+    requires most { limit ≤ 100000 }
+    ensures runs { Runs D.Disk plan.now script.now journal.now limit (view H.Host host.old) (view H.Host host.new) disk result }
+    ensures keeps { KeepsFiles (view H.Host host.old) (view H.Host host.new) }
+{
+    match prepare::<H, S>(alloc, plan, script, host) {
+        Ok(prepared) => run_prepared(alloc, prepared, journal, limit, host, disk),
+        Err(stop) => Carried {
+            result: Err(stop),
+            disk,
+        },
+    }
+}
+
+/// Reads plan and script, and starts the plan.
+fn prepare<H: Host, S: Stepper>(
+    alloc: Global,
+    plan: &str,
+    script: &str,
+    host: &mut H,
+) -> Result<Prepared<S>, Stop>
+    ensures ok { IfOk result (IsPrepared S.Stepper plan.now script.now (view H.Host host.old) (view H.Host host.new)) }
+    ensures err { IfErr result (IsNotPrepared plan.now script.now (view H.Host host.old) (view H.Host host.new)) }
+    ensures only { OnlyReads (view H.Host host.old) (view H.Host host.new) }
+{
+    let Source { text, plan } = fetch_source(alloc, plan, host)?;
+    let entries = fetch_script(alloc, script, &plan, host)?.into_entries(alloc)?;
+    let stepper = start(alloc, &plan)?;
+    Ok(Prepared {
+        text,
+        plan,
+        entries,
+        stepper,
+    })
+}
+
+/// Makes the journal, posts the entries, and prints the text of the log.
+fn run_prepared<H: Host, D: Disk, S: Stepper>(
+    alloc: Global,
+    prepared: Prepared<S>,
+    journal: &str,
+    limit: u32,
+    host: &mut H,
+    disk: D,
+) -> Carried<D>
+    requires unbound { D.bound_to disk ≡ None }
+    requires least { 1 ≤ limit }
+    requires most { limit ≤ 100000 }
+    requires short { length prepared.text.items ≤ 1048576 }
+    requires fit { IsFit (tree_of prepared.plan) }
+    requires events { IsTrue (list_all is_fit_entry prepared.entries.items) }
+    requires nodes { (S.state prepared.stepper).nodes ≡ sites (tree_of prepared.plan) }
+    requires nothing { (S.state prepared.stepper).pending ≡ Pending.Nothing }
+    requires started { run (S.state prepared.stepper).nodes [] ≡ Some (S.state prepared.stepper).world }
+
+    ensures runs { RunsPrepared D.Disk (sites (tree_of prepared.plan)) prepared.text.items journal.now limit prepared.entries.items
+        (view H.Host host.old) (view H.Host host.new) disk result }
+    ensures keeps { KeepsFiles (view H.Host host.old) (view H.Host host.new) }
+{
+    let Prepared {
+        text,
+        plan,
+        entries,
+        stepper,
+    } = prepared;
+    match create(alloc, disk, journal, &text, stepper, limit) {
+        Ok(exec) => finish(alloc, &plan, exec, &entries, host),
+        Err(CreateFault { disk, why }) => Carried {
+            result: Err(why.into()),
+            disk,
+        },
+    }
+}

@@ -1,0 +1,50 @@
+-- A word that spells no number of 32 bits.
+use Rattle.std.proofs.Common.{◌≡◌, ℕ, ◌^◌, ◌<◌, ◌≤◌, true, List, [], ◌∷◌, length, refl, arith, Result, Ok, Err, None, inl, inr}
+use Rattle.std.specs.Prelude.{◌&&◌, nat_le}
+use Rattle.std.specs.List.{list_all}
+use Rattle.std.specs.Result.{OkIff, result_ok}
+use Rattle.std.specs.Str.Parse.{AllDigits, IsNumeral, digits_value, without_leading_plus}
+use Rattle.std.proofs.lemmas.Bool.{cases_Bool, and_parts, leb-true}
+use Rattle.std.proofs.lemmas.Str.Parse.{tells_digits, without_leading_plus_none}
+use Rattle.px_value.specs.Name.{is_digit}
+use Rattle.px_words.specs.Limit.{event_limit, is_digits, is_limit, count_of}
+
+all_digits : (ds : List ℕ) → list_all is_digit ds ≡ true → AllDigits 10 ds
+all_digits [] h = tells_digits.empty
+all_digits (c ∷ cs) h =
+    let parts : (is_digit c ≡ true) × (list_all is_digit cs ≡ true) = and_parts (is_digit c) (list_all is_digit cs) h in
+    let range : (nat_le 48 c ≡ true) × (nat_le c 57 ≡ true) = and_parts (nat_le 48 c) (nat_le c 57) parts.0 in
+    tells_digits.more c cs (leb-true 48 c range.0, leb-true c 57 range.1) (all_digits cs parts.1)
+
+-- digits are a numeral, which begins with no sign
+pub record IsPlain (ds : List ℕ) : Type 0 where
+  pub numeral : IsNumeral 10 ds
+  pub sign : without_leading_plus ds ≡ ds
+
+pub plain : (ds : List ℕ) → is_digits ds ≡ true → IsPlain ds
+plain [] h = cc
+plain (c ∷ cs) h =
+    let all : list_all is_digit (c ∷ cs) ≡ true =
+    (and_parts (nat_le 1 (length (c ∷ cs)) && nat_le (length (c ∷ cs)) 6) (list_all is_digit (c ∷ cs)) h).1 in
+    let digit : is_digit c ≡ true = (and_parts (is_digit c) (list_all is_digit cs) all).0 in
+    let low : 48 ≤ c = leb-true 48 c (and_parts (nat_le 48 c) (nat_le c 57) digit).0 in
+    record {
+      numeral = (omega arith, all_digits (c ∷ cs) all);
+      sign = without_leading_plus_none (c ∷ cs) (λ plus. absurd (omega arith));
+    }
+
+not_read : (ds : List ℕ) → is_digits ds ≡ true
+    → ¬ (IsNumeral 10 (without_leading_plus ds) × (digits_value 10 (without_leading_plus ds) < 2 ^ 32)) → None ≡ count_of ds
+not_read ds digits none = rw digits (elim (cases_Bool (is_limit (digits_value 10 ds))) [
+  | inl limit ↦
+      let most : digits_value 10 ds ≤ event_limit = leb-true (digits_value 10 ds) event_limit (and_parts (nat_le 1 (digits_value 10 ds)) (nat_le (digits_value 10 ds) event_limit) limit).1 in
+      absurd (none (rw (plain ds digits).sign ((plain ds digits).numeral, omega arith)))
+  | inr other ↦ rw other refl
+])
+
+-- where the library reads no number, there is none
+pub no_count : {E : Type 0} (ds : List ℕ) (read : Result ℕ E) → is_digits ds ≡ true
+    → OkIff read (IsNumeral 10 (without_leading_plus ds) × (digits_value 10 (without_leading_plus ds) < 2 ^ 32)) (digits_value 10 (without_leading_plus ds))
+    → result_ok read ≡ None → None ≡ count_of ds
+no_count ds (Ok count) digits parses none = cc
+no_count ds (Err fault) digits parses none = not_read ds digits parses

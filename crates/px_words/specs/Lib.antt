@@ -1,0 +1,5 @@
+pub mod Operands
+pub mod Limit
+pub mod Words
+pub mod Asked
+pub mod Listed

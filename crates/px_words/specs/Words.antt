@@ -1,0 +1,77 @@
+-- The command words: what they ask for.
+use Rattle.std.specs.Prelude.{ℕ, Bool, true, false, List, [], ◌∷◌, Option, Some, None, codes, if◌then◌else◌}
+use Rattle.std.specs.Option.{option_and_then}
+use Rattle.px_core.specs.Plan.{is_same}
+use Rattle.px_words.specs.Limit.{Limited, IsLimit, limited}
+use Rattle.px_words.specs.Operands.{operands, of_one, of_two, of_three}
+
+-- what the program can do
+pub data Command : Type 0 where
+  TraceStart : (plan : List ℕ) → Command
+  DryRun : (plan script : List ℕ) → Command
+  Check : (plan : List ℕ) → Command
+  Run : (plan script journal : List ℕ) (limit : ℕ) → Command
+  Resume : (script journal : List ℕ) (limit : ℕ) → Command
+  Trace : (journal : List ℕ) → Command
+
+-- the operands PLAN, SCRIPT and JOURNAL of a command, where it has them
+abbrev pub plan_of : Command → Option (List ℕ)
+plan_of (TraceStart plan) = Some plan
+plan_of (DryRun plan script) = Some plan
+plan_of (Check plan) = Some plan
+plan_of (Run plan script journal limit) = Some plan
+plan_of (Resume script journal limit) = None
+plan_of (Trace journal) = None
+
+abbrev pub script_of : Command → Option (List ℕ)
+script_of (TraceStart plan) = None
+script_of (DryRun plan script) = Some script
+script_of (Check plan) = None
+script_of (Run plan script journal limit) = Some script
+script_of (Resume script journal limit) = Some script
+script_of (Trace journal) = None
+
+abbrev pub journal_of : Command → Option (List ℕ)
+journal_of (TraceStart plan) = None
+journal_of (DryRun plan script) = None
+journal_of (Check plan) = None
+journal_of (Run plan script journal limit) = Some journal
+journal_of (Resume script journal limit) = Some journal
+journal_of (Trace journal) = Some journal
+
+-- the limit of a command, where it has one, is one that a history may have
+abbrev pub HasFitLimit : Command → Type 0
+HasFitLimit (TraceStart plan) = Unit {0}
+HasFitLimit (DryRun plan script) = Unit {0}
+HasFitLimit (Check plan) = Unit {0}
+HasFitLimit (Run plan script journal limit) = IsLimit limit
+HasFitLimit (Resume script journal limit) = IsLimit limit
+HasFitLimit (Trace journal) = Unit {0}
+
+-- whether a command runs its plan
+abbrev pub runs_plan : Command → Bool
+runs_plan (TraceStart plan) = true
+runs_plan (DryRun plan script) = true
+runs_plan (Check plan) = false
+runs_plan (Run plan script journal limit) = true
+runs_plan (Resume script journal limit) = true
+runs_plan (Trace journal) = true
+
+-- PLAN SCRIPT JOURNAL, and SCRIPT JOURNAL, with a limit
+abbrev pub run_of : Limited → Option Command
+run_of read = of_three (λ plan script journal. Run plan script journal read.limit) read.operands
+
+abbrev pub resume_of : Limited → Option Command
+resume_of read = of_two (λ script journal. Resume script journal read.limit) read.operands
+
+-- the command of the words, or none
+abbrev pub command : List (List ℕ) → Option Command
+command [] = None
+command (name ∷ words) =
+    if is_same name (codes "trace-start") then option_and_then (of_one TraceStart) (operands words)
+    else if is_same name (codes "dry-run") then option_and_then (of_two DryRun) (operands words)
+    else if is_same name (codes "check") then option_and_then (of_one Check) (operands words)
+    else if is_same name (codes "run") then option_and_then run_of (limited words)
+    else if is_same name (codes "resume") then option_and_then resume_of (limited words)
+    else if is_same name (codes "trace") then option_and_then (of_one Trace) (operands words)
+    else None
