@@ -21,4 +21,3 @@ pub use keyword::Keyword;
 pub use lexer::lex;
 pub use sign::Sign;
 pub use token::{Token, TokenKind};
-pub use word::{is_real_type, keyword_of};

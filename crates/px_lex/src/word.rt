@@ -33,14 +33,14 @@ pub(crate) fn split_run(text: &str) -> (&str, &str)
 }
 
 /// The keyword that a word is, if it is one.
-pub fn keyword_of(word: &[u8]) -> Option<Keyword>
+fn keyword_of(word: &[u8]) -> Option<Keyword>
     ensures { result ≡ keyword_of word.now }
 {
     row_of(&KEYWORDS, word)
 }
 
 /// Whether a word is the name of a type that is left out: Real, Date or Duration.
-pub fn is_real_type(word: &[u8]) -> bool
+fn is_real_type(word: &[u8]) -> bool
     ensures { result ≡ is_real_type word.now }
 {
     word == b"Real".as_slice() || word == b"Date".as_slice() || word == b"Duration".as_slice()
