@@ -3,7 +3,7 @@
 // The record goes behind the closed gate of the last place, with the next gate closed, and is synced before its gate is
 // opened by a write of its own. So a torn write of the record stands behind a closed gate, and whatever a torn write
 // leaves of the gate means closed or open over a record that is whole.
-ghost use Rattle.std.specs.Prelude.{◌≡◌, ◌≤◌, ◌<◌, ◌+◌, ◌-◌, ◌^◌, ◌++◌, [], ◌∷◌, ℕ, List, length, take, drop, IsTrue, OnOk, vec_capacity, vec_len};
+ghost use Rattle.std.specs.Prelude.{◌≡◌, ◌≤◌, ◌<◌, ◌+◌, ◌-◌, ◌^◌, ◌++◌, [], ◌∷◌, ℕ, List, length, take, drop, IsTrue, OnOk, is_some, vec_capacity, vec_len};
 ghost use Rattle.std.specs.Option.{ForSome};
 ghost use Rattle.byteorder.specs.Endian.{big_bytes};
 ghost use Rattle.px_event.specs.Fit.{is_fit_entry};
@@ -40,6 +40,7 @@ impl<D: Disk> Journal<D> {
         ensures keeps { ForSome (D.content self.old.disk)
             (λ _. KeepsHistories D.images (D.moments self.old.disk) (D.moments self.new.disk)) }
 
+        ensures tells { is_some (D.content self.new.disk) ≡ is_some (D.content self.old.disk) }
         ensures stays { StaysAttached (D.bound_to self.old.disk) (D.bound_to self.new.disk)
             (D.is_attached self.old.disk) (D.is_attached self.new.disk) }
         ensures cause { CountsFaults (D.faults self.old.disk) (D.faults self.new.disk) result }

@@ -43,6 +43,7 @@ impl<D: Disk> Journal<D> {
         ensures old_or_new { ForSome (D.content disk) (λ _. LeavesOnly D.images
             (OldOrNew (D.images (D.moments disk)) plan_text.now) (D.moments disk) (D.moments (disk_after result))) }
         ensures grows { take (length (D.moments disk)) (D.moments (disk_after result)) ≡ D.moments disk }
+        ensures tells { is_some (D.content (disk_after result)) ≡ is_some (D.content disk) }
         ensures stays { StaysAttached (D.bound_to disk) (D.bound_to (disk_after result))
             (D.is_attached disk) (D.is_attached (disk_after result)) }
     {
@@ -79,6 +80,7 @@ fn write_new<D: Disk>(alloc: Global, disk: &mut D, plan_text: &[u8]) -> Result<V
     ensures old_or_new { ForSome (D.content disk.old) (λ _. LeavesOnly D.images
         (OldOrNew (D.images (D.moments disk.old)) plan_text.now) (D.moments disk.old) (D.moments disk.new)) }
     ensures grows { take (length (D.moments disk.old)) (D.moments disk.new) ≡ D.moments disk.old }
+    ensures tells { is_some (D.content disk.new) ≡ is_some (D.content disk.old) }
     ensures stays { StaysAttached (D.bound_to disk.old) (D.bound_to disk.new)
         (D.is_attached disk.old) (D.is_attached disk.new) }
 {
@@ -119,11 +121,11 @@ fn close_master_gate<D: Disk>(disk: &mut D) -> Result<(), CreateWhy>
     ensures cause { IsErrOf result whys.DiskFault → Rose (D.faults disk.old) (D.faults disk.new) }
     ensures later { D.faults disk.old ≤ D.faults disk.new }
 
-    ensures tells { OnOk result (is_some (D.content disk.new) ≡ is_some (D.content disk.old)) }
     ensures old_or_nothing { ForSome (D.content disk.old) (λ _. LeavesOnly D.images
         (λ image. D.images (D.moments disk.old) image ⊎ IsTrue (is_nothing image))
         (D.moments disk.old) (D.moments disk.new)) }
     ensures grows { take (length (D.moments disk.old)) (D.moments disk.new) ≡ D.moments disk.old }
+    ensures tells { is_some (D.content disk.new) ≡ is_some (D.content disk.old) }
     ensures stays { StaysAttached (D.bound_to disk.old) (D.bound_to disk.new)
         (D.is_attached disk.old) (D.is_attached disk.new) }
 {
@@ -153,6 +155,7 @@ fn open_behind<D: Disk>(disk: &mut D, content: &[u8]) -> Result<(), DiskFault>
         → ForSome (D.content disk.old) (λ _. LeavesOnly D.images
         (λ image. IsTrue (is_nothing image) ⊎ Stands image text []) (D.moments disk.old) (D.moments disk.new)) }
     ensures grows { take (length (D.moments disk.old)) (D.moments disk.new) ≡ D.moments disk.old }
+    ensures tells { is_some (D.content disk.new) ≡ is_some (D.content disk.old) }
     ensures stays { StaysAttached (D.bound_to disk.old) (D.bound_to disk.new)
         (D.is_attached disk.old) (D.is_attached disk.new) }
     ensures cause { CountsFaults (D.faults disk.old) (D.faults disk.new) result }

@@ -2,7 +2,7 @@
 //
 // It writes nothing: what stands behind the first closed gate may stay there, since an append closes the next gate
 // before it opens this one.
-ghost use Rattle.std.specs.Prelude.{◌≡◌, ◌≤◌, ℕ, length, IsTrue, IsFalse, IfOk, IsErrOf, vec_capacity};
+ghost use Rattle.std.specs.Prelude.{◌≡◌, ◌≤◌, ℕ, length, IsTrue, IsFalse, IfOk, IsErrOf, is_some, vec_capacity};
 ghost use Rattle.std.specs.List.{list_all};
 ghost use Rattle.std.specs.Option.{ForSome};
 ghost use Rattle.px_event.specs.Fit.{is_fit_entry};
@@ -57,6 +57,7 @@ impl<D: Disk> Journal<D> {
 
         ensures writes_nothing { Elapses D.images Stays (D.moments disk) (D.moments (disk_recovered result)) }
         ensures same { ¬ IsNotRecovered result whys.DiskFault → D.content (disk_recovered result) ≡ D.content disk }
+        ensures tells { is_some (D.content (disk_recovered result)) ≡ is_some (D.content disk) }
         ensures stays { StaysAttached (D.bound_to disk) (D.bound_to (disk_recovered result))
             (D.is_attached disk) (D.is_attached (disk_recovered result)) }
     {
@@ -90,6 +91,7 @@ fn read_journal<D: Disk>(alloc: Global, disk: &mut D) -> Result<Read, RecoverWhy
         (λ told. Stands told read.plan.items read.history.items)) }
     ensures settled { IfOk result (λ read. IsSettled D.Disk disk.new) }
     ensures same { ¬ IsErrOf result whys.DiskFault → D.content disk.new ≡ D.content disk.old }
+    ensures tells { is_some (D.content disk.new) ≡ is_some (D.content disk.old) }
 
     ensures no_journal { IsErrOf result whys.NoJournal
         → ForSome (D.content disk.old) (λ told. IsTrue (is_nothing told)) }
