@@ -36,6 +36,7 @@ pub adds_nothing : {D : Type 0} (members : Disk.Ghosts D) (entry : Entry) (journ
 adds_nothing members entry journal = record {
   whole_or_not = λ text history ready told is. ready_leaves members journal text told history (WithOrWithout text history entry) ready is (λ bytes stands. inl stands);
   keeps = λ told is t early text front since. since;
+  tells = refl;
   moments = nothing_passes (members.moments journal.disk);
   name = refl;
   faults = omega arith;

@@ -60,7 +60,7 @@ module _ {S D : Type 0} (runs : Stepper.Ghosts S) (members : Disk.Ghosts D) wher
     accepted_open history log keeps unfailed grows kept adds = record {
       stands = λ text is. subst (IsReady members journal text) (sym grows) (kept text old.history ((open_of old keeps unfailed).stands text is));
       since = subst (λ (h : List Entry). KeepsSinceOpening members (with_parts old stepper journal h log None) h) (sym grows) (λ tells text is.
-          let told = told_of (members.content old.journal.disk) (tells old.journal.disk) in
+          let told = told_of (members.content old.journal.disk) (keeps.tells ∙ tells) in
           within_more members.images text old.opening.history old.history (accepted old.log) entry _ _ _ keeps.grown ((open_of old keeps unfailed).since tells text is)
           (adds.whole_or_not text old.history ((open_of old keeps unfailed).stands text is) (told.0) (told.1)));
     }
@@ -115,6 +115,7 @@ module _ {S D : Type 0} (runs : Stepper.Ghosts S) (members : Disk.Ghosts D) wher
     settled = moved ∙ ap (settled_state plan) (sym world_is);
     runs_to = ap (λ h. run plan (events_of h)) grows ∙ run_after plan old.opening.limit old.history (world_of runs old) entry reply keeps.runs_to due ∙ ap Some (sym world_is);
     name = adds.name ∙ keeps.name;
+    tells = adds.tells ∙ keeps.tells;
     moments = grows_on _ _ _ keeps.moments adds.moments;
     faults = omega (arith, keeps.faults, adds.faults);
     disk = replied_open old stepper journal entry history log reply keeps unfailed grows kept still adds;
@@ -145,6 +146,7 @@ module _ {S D : Type 0} (runs : Stepper.Ghosts S) (members : Disk.Ghosts D) wher
     settled = same ∙ keeps.settled ∙ ap (settled_state (plan_of runs old)) (sym world_is);
     runs_to = keeps.runs_to ∙ ap Some (sym world_is);
     name = adds.name ∙ keeps.name;
+    tells = adds.tells ∙ keeps.tells;
     moments = grows_on _ _ _ keeps.moments adds.moments;
     faults = omega (arith, keeps.faults, adds.faults);
     disk = record {
@@ -154,10 +156,10 @@ module _ {S D : Type 0} (runs : Stepper.Ghosts S) (members : Disk.Ghosts D) wher
       rose = rose_on _ _ _ keeps.faults rose;
       counted = omega arith;
       now = λ tells text is image left.
-          let told = told_of (members.content old.journal.disk) (tells old.journal.disk) in
+          let told = told_of (members.content old.journal.disk) (keeps.tells ∙ tells) in
           (adds.whole_or_not text old.history (was.stands text is) (told.0) (told.1)).each image (left_now members.images _ _ image adds.moments left);
       since = λ tells text is.
-          let told = told_of (members.content old.journal.disk) (tells old.journal.disk) in
+          let told = told_of (members.content old.journal.disk) (keeps.tells ∙ tells) in
           within_more members.images text old.opening.history old.history (accepted old.log) entry _ _ _ keeps.grown (was.since tells text is)
           (adds.whole_or_not text old.history (was.stands text is) (told.0) (told.1));
     };
@@ -191,6 +193,7 @@ module _ {S D : Type 0} (runs : Stepper.Ghosts S) (members : Disk.Ghosts D) wher
         settled = same ∙ keeps.settled ∙ ap (settled_state (plan_of runs old)) (sym (ap (λ (s : State). s.world) same));
         runs_to = keeps.runs_to ∙ ap Some (sym (ap (λ (s : State). s.world) same));
         name = keeps.name;
+        tells = keeps.tells;
         moments = keeps.moments;
         faults = keeps.faults;
         disk = moved old.failed keeps.disk;
@@ -224,12 +227,13 @@ module _ {S D : Type 0} (runs : Stepper.Ghosts S) (members : Disk.Ghosts D) wher
     settled = settled;
     runs_to = runs_to;
     name = refl;
+    tells = refl;
     moments = take_all (length (members.moments journal.disk)) (members.moments journal.disk) (omega arith);
     faults = omega arith;
     disk = record {
       stands = λ text is. is;
       since = λ tells text is.
-          let told = told_of (members.content journal.disk) (tells journal.disk) in
+          let told = told_of (members.content journal.disk) tells in
           ready_leaves members journal text (told.0) history _ is (told.1) (within_at_once text history);
     };
   }

@@ -1,5 +1,5 @@
 -- What a crash at a moment of a post may leave.
-use Rattle.std.specs.Prelude.{◌≡◌, ◌≤◌, ℕ, List, length, take}
+use Rattle.std.specs.Prelude.{◌≡◌, ◌≤◌, ℕ, List, length, take, is_some}
 use Rattle.std.specs.Option.{ForSome}
 use Rattle.px_event.specs.declared.entry.Entry.{Entry}
 use Rattle.px_journal.specs.Crash.{WithOrWithout, LeavesOnly, KeepsHistories}
@@ -16,6 +16,7 @@ pub record AddsAtMost {D : Type 0} (members : Disk.Ghosts D) (entry : Entry) (ol
   -- what each image since some moment begins with, the call doesn't take away
   pub keeps : ForSome (members.content old.disk)
       (λ _. KeepsHistories members.images (members.moments old.disk) (members.moments new.disk))
+  pub tells : is_some (members.content new.disk) ≡ is_some (members.content old.disk)
   pub moments : take (length (members.moments old.disk)) (members.moments new.disk) ≡ members.moments old.disk
   pub name : members.bound_to new.disk ≡ members.bound_to old.disk
   pub faults : members.faults old.disk ≤ members.faults new.disk

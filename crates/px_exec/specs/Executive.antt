@@ -1,5 +1,5 @@
 -- What an executive is, and what its type keeps from its opening on.
-use Rattle.std.specs.Prelude.{◌≡◌, ◌≤◌, ◌<◌, ◌^◌, ℕ, List, [], ◌∷◌, ◌++◌, length, take, Option, Some, None, IsSome, IsTrue}
+use Rattle.std.specs.Prelude.{◌≡◌, ◌≤◌, ◌<◌, ◌^◌, ℕ, List, [], ◌∷◌, ◌++◌, length, take, Option, Some, None, IsSome, IsTrue, is_some}
 use Rattle.px_core.specs.Plan.{Site}
 use Rattle.px_event.specs.Fit.{is_fit_entry}
 use Rattle.px_event.specs.declared.entry.Entry.{Entry}
@@ -51,9 +51,9 @@ moments_now members exec = members.moments exec.journal.disk
 abbrev pub IsTextOf : {S D : Type 0} → Disk.Ghosts D → Executive S D → List ℕ → Type 0
 IsTextOf members exec text = IsReady members exec.opening.journal text exec.opening.history
 
--- the disks of this kind tell their bytes
-abbrev pub TellsBytes : {D : Type 0} → Disk.Ghosts D → Type 0
-TellsBytes {D} members = (disk : D) → IsSome (members.content disk)
+-- the disk tells its bytes
+abbrev pub TellsBytes : {D : Type 0} → Disk.Ghosts D → D → Type 0
+TellsBytes members disk = IsSome (members.content disk)
 
 -- the bytes stand for the text and a front of a history, which has all that was there at first
 pub record StandsWithin (text : List ℕ) (first history : List Entry) (bytes : List ℕ) : Type 0 where
@@ -62,9 +62,9 @@ pub record StandsWithin (text : List ℕ) (first history : List Entry) (bytes : 
   pub front : history ≡ (first ++ more) ++ rest
   pub stands : Stands bytes text (first ++ more)
 
--- each image since the opening stands for the text and such a front
+-- each image since the opening stands for the text and such a front, where the disk told its bytes then
 abbrev pub KeepsSinceOpening : {S D : Type 0} → Disk.Ghosts D → Executive S D → List Entry → Type 0
-KeepsSinceOpening members exec history = TellsBytes members → (text : List ℕ) → IsTextOf members exec text
+KeepsSinceOpening members exec history = TellsBytes members exec.opening.journal.disk → (text : List ℕ) → IsTextOf members exec text
     → LeavesOnly members.images (StandsWithin text exec.opening.history history) (moments_then members exec)
     (moments_now members exec)
 
@@ -80,7 +80,7 @@ pub record IsClosed {S D : Type 0} (runs : Stepper.Ghosts S) (members : Disk.Gho
   pub settles : IsSome (run (plan_of runs exec) (events_of (exec.history ++ failed.entry ∷ [])))
   pub rose : Rose (members.faults exec.opening.journal.disk) failed.faults
   pub counted : failed.faults ≤ members.faults exec.journal.disk
-  pub now : TellsBytes members → (text : List ℕ) → IsTextOf members exec text → (image : List ℕ)
+  pub now : TellsBytes members exec.opening.journal.disk → (text : List ℕ) → IsTextOf members exec text → (image : List ℕ)
       → members.images (moments_now members exec) image → WithOrWithout text exec.history failed.entry image
   pub since : KeepsSinceOpening members exec (exec.history ++ failed.entry ∷ [])
 
@@ -102,8 +102,9 @@ pub record Keeps {S D : Type 0} (runs : Stepper.Ghosts S) (members : Disk.Ghosts
   -- the stepper stands for the plan, and its settled world is the run over the history
   pub settled : runs.state exec.stepper ≡ settled_state (plan_of runs exec) (world_of runs exec)
   pub runs_to : run (plan_of runs exec) (events_of exec.history) ≡ Some (world_of runs exec)
-  -- the disk has its name, and its moments and its faults go on from those then
+  -- the disk has its name and tells its bytes as it did then, and its moments and its faults go on from those then
   pub name : members.bound_to exec.journal.disk ≡ members.bound_to exec.opening.journal.disk
+  pub tells : is_some (members.content exec.journal.disk) ≡ is_some (members.content exec.opening.journal.disk)
   pub moments : take (length (moments_then members exec)) (moments_now members exec) ≡ moments_then members exec
   pub faults : members.faults exec.opening.journal.disk ≤ members.faults exec.journal.disk
   -- the journal stands for the history, or the executive is closed
