@@ -96,13 +96,13 @@ fn lay_below(
     Ok(())
 }
 
-/// The plan's nodes in preorder, each in its row.
-pub fn lay(alloc: Global, plan: &Plan) -> Result<Vec<Row>, NoMemory>
+/// The plan's nodes in preorder, each in its row, with room for so many.
+pub fn lay(alloc: Global, plan: &Plan, room: usize) -> Result<Vec<Row>, NoMemory>
     requires { IsFit (tree_of plan.now) }
     ensures sites { IfOk result (λ rows. sites_of rows.items ≡ sites (tree_of plan.now)) }
     ensures laid { IfOk result (λ rows. IsLaid rows.items) }
 {
-    let mut rows = Vec::new(alloc);
+    let mut rows = Vec::with_capacity(alloc, room)?;
     rows.push(row_of_root(alloc, &plan.root)?)?;
     lay_below(alloc, &plan.root, 0, &mut rows)?;
     Ok(rows)

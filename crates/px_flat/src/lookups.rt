@@ -15,6 +15,16 @@ use px_core::{Body, Conditions, Expr, Pair, Target};
 use px_value::{Name, NoMemory};
 use std::alloc::{AllocError, Global};
 
+// Adds a name after the others. It is copied only if it is not among them.
+fn add_name(alloc: Global, name: &Name, names: &mut IndexSet<Name>) -> Result<(), NoMemory>
+    ensures { OnOk result (names.new.keys ≡ with_name names.old.keys name.now) }
+{
+    if !names.contains(name) {
+        names.insert(name.copy(alloc)?)?;
+    }
+    Ok(())
+}
+
 // Adds the names that an expression looks up.
 #[cycle(add)]
 fn add(alloc: Global, expr: &Expr, names: &mut IndexSet<Name>) -> Result<(), NoMemory>
@@ -23,7 +33,7 @@ fn add(alloc: Global, expr: &Expr, names: &mut IndexSet<Name>) -> Result<(), NoM
     match expr {
         Expr::Cell { index, .. } => add(alloc, index, names)?,
         Expr::Look { name, args, .. } => {
-            names.insert(name.copy(alloc)?)?;
+            add_name(alloc, name, names)?;
             add_each(alloc, args, names)?;
         }
         Expr::Unary { arg, .. } => add(alloc, arg, names)?,

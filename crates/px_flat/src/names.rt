@@ -42,7 +42,7 @@ fn paths_of(alloc: Global, rows: &[Row]) -> Result<IndexSet<Path>, NoMemory>
     requires { IsLaid rows.now }
     ensures { IfOk result (λ paths. paths.keys ≡ paths_of (sites_of rows.now)) }
 {
-    let mut paths = IndexSet::new(alloc);
+    let mut paths = IndexSet::with_capacity(alloc, rows.len())?;
     for row in rows {
         paths.insert(row.path.copy(alloc)?)?;
     }
@@ -74,8 +74,8 @@ impl Names {
         requires { IsFit (tree_of plan.now) }
         ensures { IfOk result (λ names. plan_in names ≡ sites (tree_of plan.now)) }
     {
-        let rows = lay(alloc, plan)?;
         let ends = ends(alloc, plan)?;
+        let rows = lay(alloc, plan, ends.len())?;
         let extents = extents(alloc, &rows, &ends)?;
         let paths = paths_of(alloc, &rows)?;
         let slots = slots_of(alloc, &rows, &extents)?;

@@ -43,7 +43,7 @@ impl Slots {
         requires few { first + sum (map cells_of (map variable_data variables.now)) ≤ 131072 }
         ensures { IfOk result (λ slots. slots ≡ slots_from first (map variable_data variables.now)) }
     {
-        let mut map = IndexMap::new(alloc);
+        let mut map = IndexMap::with_capacity(alloc, variables.len())?;
         let mut cell = first;
         for variable in variables {
             let size = variable.size.unwrap_or(1);

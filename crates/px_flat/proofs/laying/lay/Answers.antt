@@ -10,7 +10,7 @@ pub lay_below-requires : goal.lay_below-requires
 lay_below-requires c =
     let root = c.args.plan.now.root in
     let is : IsRooted c.push.new.self.items root =
-    rooted c.new-rows.result.items c.push.new.self.items root _ c.new-rows.ensures.items c.in_ok-push.ensures.items
+    rooted c.in_ok-rows.rows.items c.push.new.self.items root _ c.in_ok-rows.ensures.items c.in_ok-push.ensures.items
     c.in_ok-row_of_root.ensures in
     record {
       number = omega (arith, is.long);
@@ -25,7 +25,7 @@ pub returns-clause-sites : goal.returns-clause-sites
 returns-clause-sites c =
     let root = c.args.plan.now.root in
     all_laid c.push.new.self.items c.lay_below.new.rows.items root
-    (rooted c.new-rows.result.items c.push.new.self.items root _ c.new-rows.ensures.items c.in_ok-push.ensures.items
+    (rooted c.in_ok-rows.rows.items c.push.new.self.items root _ c.in_ok-rows.ensures.items c.in_ok-push.ensures.items
     c.in_ok-row_of_root.ensures)
     c.in_ok-lay_below.ensures.sites
 
@@ -34,7 +34,7 @@ returns-clause-laid c =
     let root = c.args.plan.now.root in
     laid c.lay_below.new.rows.items (tree_of c.args.plan.now) c.in_ok-row_of_root.field-0
     (all_laid c.push.new.self.items c.lay_below.new.rows.items root
-    (rooted c.new-rows.result.items c.push.new.self.items root _ c.new-rows.ensures.items c.in_ok-push.ensures.items
+    (rooted c.in_ok-rows.rows.items c.push.new.self.items root _ c.in_ok-rows.ensures.items c.in_ok-push.ensures.items
     c.in_ok-row_of_root.ensures)
     c.in_ok-lay_below.ensures.sites)
     c.requires.siblings c.in_ok-lay_below.ensures.linked c.in_ok-lay_below.ensures.named

@@ -2,9 +2,7 @@ use Rattle.std.proofs.Common.{◌≡◌, rules, fold, map, ap, sym, ◌∙◌}
 use Rattle.std.specs.List.{flat_map}
 use Rattle.std.proofs.lemmas.List.{take_all}
 use Rattle.std.proofs.lemmas.List.Folds.{flat_map-map}
-use Rattle.indexmap.specs.IndexSet.{insert_key}
 use Rattle.px_core.specs.Expr.{term_of}
-use Rattle.px_core.specs.Plan.{is_same}
 use Rattle.px_flat.specs.Lookups.{with_name, lookups_in}
 use Rattle.px_flat.proofs.LookedUp.{names_then, each_lookup}
 use Rattle.px_flat.proofs.Terms.{look, binary}
@@ -15,8 +13,7 @@ add-returns-in_ok-add_each-in-Look t c =
     let keys = c.args.names.now.keys in
     let w = c.in-Look in
     c.in_ok-add_each-in-Look.ensures
-    ∙ (λ i. fold with_name (c.in_ok-insert-in-Look.ensures.keys i) (flat_map lookups_in (map term_of (c.deref-in-Look.ensures.value i))))
-    ∙ ap (λ name. fold with_name (insert_key is_same keys name) (flat_map lookups_in (map term_of w.args.items))) c.in_ok-copy-in-Look.ensures.copy
+    ∙ (λ i. fold with_name (c.in_ok-add_name-in-Look.ensures i) (flat_map lookups_in (map term_of (c.deref-in-Look.ensures.value i))))
     ∙ ap (fold with_name (with_name keys w.name)) (sym (each_lookup (map term_of w.args.items)))
     ∙ ap (λ term. fold with_name keys (lookups_in term)) (sym (look w.word w.name w.args w.tolerance))
     ∙ ap (λ e. fold with_name keys (lookups_in (term_of e))) (sym w.is)
