@@ -17,7 +17,7 @@ use Rattle.px_run.specs.Course.{Course}
 use Rattle.px_run.specs.Ending.{Ending, DryRunEndsBy, DryRunEnds, of_start, start_ending, nodes_ending}
 use Rattle.px_run.specs.File.{FileKind, Seen, Content, Longer, Unreadable, Shows, Refuses, Reads, After}
 use Rattle.px_run.specs.Headline.{CommandCallsFor, Delivers, Headline}
-use Rattle.px_run.specs.Journaled.{JournalRefuses}
+use Rattle.px_run.specs.Journaled.{JournalRefuses, HasNoJournal, CannotRun}
 use Rattle.px_run.specs.Kinds.{plan_file, script_file}
 use Rattle.px_run.proofs.Ends.{SessionEnds, StartEnds, RunEnds, JournalEnds, CommandEnds, ends_by}
 use Rattle.px_run.proofs.FileKinds.{IsKind, plan_kind, script_kind}
@@ -124,14 +124,14 @@ module _ {D : Type 0} (members : Disk.Ghosts D) (words : List (List ℕ)) (befor
 
   module _ (no_plan : option_and_then plan_of (command words) ≡ None) (journal : HasJournal words) where
     refused_caused : (ending : Ending) → JournalRefuses members old ending → IsCaused ending.status
-    refused_caused _ (JournalRefuses.none told) = Cause.journal_refused (inr (no_plan, journal, _, JournalRefuses.none told, refl))
-    refused_caused _ (JournalRefuses.damaged at told) = Cause.journal_refused (inr (no_plan, journal, _, JournalRefuses.damaged at told, refl))
-    refused_caused _ (JournalRefuses.plan text first fault told other refused) =
-        Cause.journal_refused (inr (no_plan, journal, _, JournalRefuses.plan text first fault told other refused, refl))
-    refused_caused _ (JournalRefuses.start_runs_away text first tree told compiled is) =
+    refused_caused _ (inl (HasNoJournal.nothing told)) = Cause.journal_refused (inr (no_plan, journal, _, inl (HasNoJournal.nothing told), refl))
+    refused_caused _ (inl (HasNoJournal.damaged at told)) = Cause.journal_refused (inr (no_plan, journal, _, inl (HasNoJournal.damaged at told), refl))
+    refused_caused _ (inr (text, first, told, CannotRun.plan fault other refused)) =
+        Cause.journal_refused (inr (no_plan, journal, _, inr (text, first, told, CannotRun.plan fault other refused), refl))
+    refused_caused _ (inr (text, first, told, CannotRun.start_runs_away tree compiled is)) =
         Cause.taken_up_runaway (no_plan, journal, text, first, tree, told, compiled, is)
-    refused_caused _ (JournalRefuses.event_runs_away text first tree at told compiled away) =
-        Cause.journal_refused (inr (no_plan, journal, _, JournalRefuses.event_runs_away text first tree at told compiled away, refl))
+    refused_caused _ (inr (text, first, told, CannotRun.event_runs_away tree at compiled away)) =
+        Cause.journal_refused (inr (no_plan, journal, _, inr (text, first, told, CannotRun.event_runs_away tree at compiled away), refl))
 
     -- the disk's plan and history are such
     taken_up : (text : List ℕ) (first : List Entry) (tree : Tree) (IsSuch : Tree → List Entry → Type 0)

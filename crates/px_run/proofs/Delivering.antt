@@ -14,7 +14,7 @@ use Rattle.px_run.specs.declared.ending.Refusal.{Refusal}
 use Rattle.px_run.specs.declared.ending.Stop.{Stop}
 use Rattle.px_run.specs.declared.ending.Stop.TheVariants as stops
 use Rattle.px_run.specs.declared.finishing.Carried.{Carried}
-use Rattle.px_run.specs.Course.{Course, Due, AfterFile}
+use Rattle.px_run.specs.Course.{Course, Untouched, TakenUp, Due, AfterFile}
 use Rattle.px_run.specs.Ending.{Ending, DryRunEnds, start_ending, nodes_ending}
 use Rattle.px_run.specs.File.{FileKind, Seen, Shows, After, with_text}
 use Rattle.px_run.specs.Finishing.{Performed}
@@ -36,13 +36,13 @@ module _ (before mid now : View) (only : OnlyPrints mid now) where
   after_later A kind name Next More ending widen (seen, shows, inr (part, spells, next)) =
       (seen, later kind.limit name seen shows, inr (part, spells, widen part next))
 
-  after_file_later : (A : Type 0) (kind : FileKind A) (name : List ℕ) (Next More : A → Course → Due → Type 0) (course : Course) (due : Due)
-      → ((part : A) → Next part course due → More part course due) → AfterFile kind before mid name Next course due
-      → AfterFile kind before now name More course due
-  after_file_later A kind name Next More _ _ widen AfterFile.no_memory = AfterFile.no_memory
-  after_file_later A kind name Next More _ _ widen (AfterFile.refused seen ending shows refuses) =
+  after_file_later : (A : Type 0) (kind : FileKind A) (name : List ℕ) (so_far : Course) (Next More : A → Course → Due → Type 0) (course : Course) (due : Due)
+      → ((part : A) → Next part course due → More part course due) → AfterFile kind before mid name so_far Next course due
+      → AfterFile kind before now name so_far More course due
+  after_file_later A kind name so_far Next More _ _ widen AfterFile.no_memory = AfterFile.no_memory
+  after_file_later A kind name so_far Next More _ _ widen (AfterFile.refused seen ending shows refuses) =
       AfterFile.refused seen ending (later kind.limit name seen shows) refuses
-  after_file_later A kind name Next More _ _ widen (AfterFile.read seen part course due shows spells next) =
+  after_file_later A kind name so_far Next More _ _ widen (AfterFile.read seen part course due shows spells next) =
       AfterFile.read seen part course due (later kind.limit name seen shows) spells (widen part next)
 
   due_later : (Calls More : Ending → Type 0) (due : Due) → ((ending : Ending) → Calls ending → More ending) → IsDue Calls due → IsDue More due
@@ -69,21 +69,23 @@ module _ (before mid now : View) (only : OnlyPrints mid now) where
         → AfterJournal members old new Next course due → AfterJournal members old new More course due
     after_journal_later Next More _ _ widen AfterJournal.no_memory = AfterJournal.no_memory
     after_journal_later Next More _ _ widen (AfterJournal.disk_fails rose) = AfterJournal.disk_fails rose
-    after_journal_later Next More _ _ widen (AfterJournal.refused ending refuses) = AfterJournal.refused ending refuses
+    after_journal_later Next More _ _ widen (AfterJournal.no_journal_there ending none) = AfterJournal.no_journal_there ending none
+    after_journal_later Next More _ _ widen (AfterJournal.not_run text first ending stands cannot) =
+        AfterJournal.not_run text first ending stands cannot
     after_journal_later Next More _ _ widen (AfterJournal.opened text first tree course due stands compiled runs next) =
         AfterJournal.opened text first tree course due stands compiled runs (widen text first tree course due next)
 
     run_later : (plan script : List ℕ) (limit : ℕ) (course : Course) (due : Due) → RunCalls members plan script limit before mid old new course due
         → RunCalls members plan script limit before now old new course due
     run_later plan script limit course due calls =
-        after_file_later (List ℕ × Tree) (with_text plan_file) plan _ _ course due
-        (λ source next. after_file_later (List Todo) (script_file (sites source.1)) script _ _ course due (λ threads ends. ends) next) calls
+        after_file_later (List ℕ × Tree) (with_text plan_file) plan Untouched _ _ course due
+        (λ source next. after_file_later (List Todo) (script_file (sites source.1)) script Untouched _ _ course due (λ threads ends. ends) next) calls
 
     resume_later : (script : List ℕ) (limit : ℕ) (course : Course) (due : Due) → ResumeCalls members script limit before mid old new course due
         → ResumeCalls members script limit before now old new course due
     resume_later script limit course due calls =
         after_journal_later _ _ course due
-        (λ text first tree c d next. after_file_later (List Todo) (script_file (sites tree)) script _ _ c d (λ threads ends. ends) next) calls
+        (λ text first tree c d next. after_file_later (List Todo) (script_file (sites tree)) script (TakenUp text first) _ _ c d (λ threads ends. ends) next) calls
 
     calls_later : (asked : Option Command) (course : Course) (due : Due) → CommandCallsFor members asked before mid old new course due
         → CommandCallsFor members asked before now old new course due

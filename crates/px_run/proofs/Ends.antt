@@ -14,7 +14,7 @@ use Rattle.px_sem.specs.Run.{run, started}
 use Rattle.px_sem.specs.World.{World}
 use Rattle.px_session.specs.Session.{Session}
 use Rattle.px_words.specs.Words.{Command, TraceStart, DryRun, Check, Run, Resume, Trace}
-use Rattle.px_run.specs.Course.{Course, GoneOn, Due, EndsUntouched, AfterFile}
+use Rattle.px_run.specs.Course.{Course, Untouched, TakenUp, GoneOn, Due, EndsIn, AfterFile}
 use Rattle.px_run.specs.Ending.{Ending, usage, runaway_at_start, session_ending}
 use Rattle.px_run.specs.File.{FileKind, Content, Longer, Unreadable, After, with_text}
 use Rattle.px_run.specs.Headline.{IsDue, TraceStartCalls, DryRunCalls, CheckCalls, CommandCallsFor}
@@ -24,13 +24,13 @@ use Rattle.px_run.specs.Kinds.{plan_file, script_file}
 -- ---- behind a file
 
 module _ (before now : View) where
-  after_due : (A : Type 0) (kind : FileKind A) (name : List ℕ) (Next : A → Course → Due → Type 0) (More : A → Ending → Type 0) (course : Course) (due : Due)
-      → ((part : A) (ending : Ending) → Next part course (Some ending) → More part ending) → AfterFile kind before now name Next course due
+  after_due : (A : Type 0) (kind : FileKind A) (name : List ℕ) (so_far : Course) (Next : A → Course → Due → Type 0) (More : A → Ending → Type 0) (course : Course) (due : Due)
+      → ((part : A) (ending : Ending) → Next part course (Some ending) → More part ending) → AfterFile kind before now name so_far Next course due
       → IsDue (After kind before now name More) due
-  after_due A kind name Next More _ _ widen AfterFile.no_memory = tt
-  after_due A kind name Next More _ _ widen (AfterFile.refused seen ending shows refuses) = (seen, shows, inl refuses)
-  after_due A kind name Next More _ _ widen (AfterFile.read seen part course None shows spells next) = tt
-  after_due A kind name Next More _ _ widen (AfterFile.read seen part course (Some ending) shows spells next) =
+  after_due A kind name so_far Next More _ _ widen AfterFile.no_memory = tt
+  after_due A kind name so_far Next More _ _ widen (AfterFile.refused seen ending shows refuses) = (seen, shows, inl refuses)
+  after_due A kind name so_far Next More _ _ widen (AfterFile.read seen part course None shows spells next) = tt
+  after_due A kind name so_far Next More _ _ widen (AfterFile.read seen part course (Some ending) shows spells next) =
       (seen, shows, inr (part, spells, widen part ending next))
 
   -- its text is another part of it
@@ -95,11 +95,11 @@ module _ {D : Type 0} (members : Disk.Ghosts D) (before now : View) (old new : D
   run_ends plan script limit course ending calls =
       without_text before now Tree plan_file plan
       (λ tree. After (script_file (sites tree)) before now script (λ threads. StartEnds (started (sites tree)))) ending
-      (after_due before now (List ℕ × Tree) (with_text plan_file) plan
-      (λ source. AfterFile (script_file (sites source.1)) before now script (λ threads c d.
+      (after_due before now (List ℕ × Tree) (with_text plan_file) plan Untouched
+      (λ source. AfterFile (script_file (sites source.1)) before now script Untouched (λ threads c d.
       RunCallsBy members (sites source.1) source.0 limit threads old new c d (started (sites source.1))))
       (λ source. After (script_file (sites source.1)) before now script (λ threads. StartEnds (started (sites source.1)))) course (Some ending)
-      (λ source e next. after_due before now (List Todo) (script_file (sites source.1)) script
+      (λ source e next. after_due before now (List Todo) (script_file (sites source.1)) script Untouched
       (λ threads c d. RunCallsBy members (sites source.1) source.0 limit threads old new c d (started (sites source.1)))
       (λ threads. StartEnds (started (sites source.1))) course (Some e)
       (λ threads f calls. start_ends (sites source.1) source.0 limit threads course f (started (sites source.1)) calls) next) calls)
@@ -121,7 +121,8 @@ module _ {D : Type 0} (members : Disk.Ghosts D) (before now : View) (old new : D
       → AfterJournal members old new Next course due → IsDue (JournalEnds More) due
   after_journal Next More _ _ widen AfterJournal.no_memory = tt
   after_journal Next More _ _ widen (AfterJournal.disk_fails rose) = inl (rose, refl)
-  after_journal Next More _ _ widen (AfterJournal.refused ending refuses) = inr (inl refuses)
+  after_journal Next More _ _ widen (AfterJournal.no_journal_there ending none) = inr (inl (inl none))
+  after_journal Next More _ _ widen (AfterJournal.not_run text first ending told cannot) = inr (inl (inr (text, first, told, cannot)))
   after_journal Next More _ _ widen (AfterJournal.opened text first tree course None told compiled runs next) = tt
   after_journal Next More _ _ widen (AfterJournal.opened text first tree course (Some ending) told compiled runs next) =
       inr (inr (text, first, tree, told, compiled, runs, widen text first tree ending next))
@@ -137,23 +138,23 @@ module _ {D : Type 0} (members : Disk.Ghosts D) (before now : View) (old new : D
   resume_ends : (script : List ℕ) (limit : ℕ) (course : Course) (ending : Ending) → ResumeCalls members script limit before now old new course (Some ending)
       → ResumeEnds script ending
   resume_ends script limit course ending calls =
-      after_journal (λ text first tree. AfterFile (script_file (sites tree)) before now script (λ threads c d.
+      after_journal (λ text first tree. AfterFile (script_file (sites tree)) before now script (TakenUp text first) (λ threads c d.
       (session : Session) × (c ≡ GoneOn session) × SessionCalls members (sites tree) text first limit threads old new session d))
       (λ tree. After (script_file (sites tree)) before now script (λ threads. SessionEnds)) course (Some ending)
-      (λ text first tree e next. after_due before now (List Todo) (script_file (sites tree)) script
+      (λ text first tree e next. after_due before now (List Todo) (script_file (sites tree)) script (TakenUp text first)
       (λ threads c d. (session : Session) × (c ≡ GoneOn session) × SessionCalls members (sites tree) text first limit threads old new session d)
       (λ threads. SessionEnds) course (Some e) (λ threads f calls. gone_on text first tree limit threads course f calls) next) calls
 
-  printed : (ending text : Ending) (course : Course) → text.status ≡ 0 → EndsUntouched course (Some ending) text → ending.status ≡ 0
-  printed ending text course whole (untouched, is) = let same : ending ≡ text = cc in rw same whole
+  printed : (so_far course : Course) (ending text : Ending) → text.status ≡ 0 → EndsIn so_far text course (Some ending) → ending.status ≡ 0
+  printed so_far course ending text whole (still, is) = let same : ending ≡ text = cc in rw same whole
 
   abbrev pub TraceEnds : Ending → Type 0
   TraceEnds = JournalEnds (λ tree ending. ending.status ≡ 0)
 
   trace_ends : (course : Course) (ending : Ending) → TraceCalls members old new course (Some ending) → TraceEnds ending
   trace_ends course ending calls =
-      after_journal (λ text first tree c d. EndsUntouched c d (session_ending (sites tree) first [])) (λ tree e. e.status ≡ 0) course (Some ending)
-      (λ text first tree e next. printed e (session_ending (sites tree) first []) course refl next) calls
+      after_journal (λ text first tree. EndsIn (TakenUp text first) (session_ending (sites tree) first [])) (λ tree e. e.status ≡ 0) course (Some ending)
+      (λ text first tree e next. printed (TakenUp text first) course e (session_ending (sites tree) first []) refl next) calls
 
   -- ---- whatever the command
 

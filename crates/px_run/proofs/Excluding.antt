@@ -20,7 +20,7 @@ use Rattle.px_sem.specs.Log.{events_of}
 use Rattle.px_sem.specs.Run.{posted, started, settled_world, run_on, run}
 use Rattle.px_sem.specs.World.{World}
 use Rattle.px_run.specs.Ending.{Ending, no_journal, journal_damaged, journal_plan, journal_runaway}
-use Rattle.px_run.specs.Journaled.{JournalRefuses}
+use Rattle.px_run.specs.Journaled.{JournalRefuses, HasNoJournal, CannotRun}
 use Rattle.px_run.proofs.FileKinds.{no_refused_plan}
 
 -- ---- runs
@@ -84,13 +84,13 @@ module _ {D : Type 0} (members : Disk.Ghosts D) (disk : D) (bytes text : List �
 
   -- it is refused only where its plan or its history runs away
   pub only_runs_away : (ending : Ending) → JournalRefuses members disk ending → RunsAway tree first ending
-  only_runs_away _ (JournalRefuses.none nothing) = absurd (stands_something bytes text first stands (nothing bytes told))
-  only_runs_away _ (JournalRefuses.damaged at damaged) = absurd (undamaged bytes text first stands at ((damaged bytes told).1))
-  only_runs_away _ (JournalRefuses.plan other others fault so some refused) =
+  only_runs_away _ (inl (HasNoJournal.nothing nothing)) = absurd (stands_something bytes text first stands (nothing bytes told))
+  only_runs_away _ (inl (HasNoJournal.damaged at damaged)) = absurd (undamaged bytes text first stands at ((damaged bytes told).1))
+  only_runs_away _ (inr (other, others, so, CannotRun.plan fault some refused)) =
       absurd (no_refused_plan other tree fault (subst (λ t. IsCompiled t tree) (sym (same_text other others so)) compiled) some refused)
-  only_runs_away _ (JournalRefuses.start_runs_away other others found so spells is) =
+  only_runs_away _ (inr (other, others, so, CannotRun.start_runs_away found spells is)) =
       RunsAway.start refl (ap (λ t. started (sites t)) (sym (same_tree other others found so spells)) ∙ is)
-  only_runs_away _ (JournalRefuses.event_runs_away other others found at so spells away) =
+  only_runs_away _ (inr (other, others, so, CannotRun.event_runs_away found at spells away)) =
       RunsAway.event at (subst (λ t. RunsAwayAt (sites t) first at) (same_tree other others found so spells)
       (subst (λ h. RunsAwayAt (sites found) h at) (same_first other others so) away))
 
@@ -113,22 +113,22 @@ module _ {D : Type 0} (members : Disk.Ghosts D) (disk : D) (bytes text : List �
 -- a disk is refused with one status
 same_kind : {D : Type 0} (members : Disk.Ghosts D) (disk : D) (bytes : List ℕ) (first second : Ending) → members.content disk ≡ Some bytes
     → JournalRefuses members disk first → first.status ≡ 5 → JournalRefuses members disk second → second.status ≡ 5
-same_kind members disk bytes first _ told refuses status (JournalRefuses.none nothing) = refl
-same_kind members disk bytes first _ told refuses status (JournalRefuses.damaged at damaged) = refl
-same_kind members disk bytes first _ told refuses status (JournalRefuses.plan text history fault so other refused) = refl
-same_kind members disk bytes first _ told refuses status (JournalRefuses.start_runs_away text history tree so compiled is) =
+same_kind members disk bytes first _ told refuses status (inl (HasNoJournal.nothing nothing)) = refl
+same_kind members disk bytes first _ told refuses status (inl (HasNoJournal.damaged at damaged)) = refl
+same_kind members disk bytes first _ told refuses status (inr (text, history, so, CannotRun.plan fault other refused)) = refl
+same_kind members disk bytes first _ told refuses status (inr (text, history, so, CannotRun.start_runs_away tree compiled is)) =
     sym (refused_at_start members disk bytes text history tree told (so bytes told) compiled first is refuses) ∙ status
-same_kind members disk bytes first _ told refuses status (JournalRefuses.event_runs_away text history tree at so compiled away) = refl
+same_kind members disk bytes first _ told refuses status (inr (text, history, so, CannotRun.event_runs_away tree at compiled away)) = refl
 
 pub one_status : {D : Type 0} (members : Disk.Ghosts D) (disk : D) (bytes : List ℕ) (first second : Ending) → members.content disk ≡ Some bytes
     → JournalRefuses members disk first → JournalRefuses members disk second → second.status ≡ first.status
-one_status members disk bytes _ second told (JournalRefuses.none nothing) also =
-    same_kind members disk bytes no_journal second told (JournalRefuses.none nothing) refl also
-one_status members disk bytes _ second told (JournalRefuses.damaged at damaged) also =
-    same_kind members disk bytes (journal_damaged at) second told (JournalRefuses.damaged at damaged) refl also
-one_status members disk bytes _ second told (JournalRefuses.plan text history fault so other refused) also =
-    same_kind members disk bytes journal_plan second told (JournalRefuses.plan text history fault so other refused) refl also
-one_status members disk bytes _ second told (JournalRefuses.start_runs_away text history tree so compiled is) also =
+one_status members disk bytes _ second told (inl (HasNoJournal.nothing nothing)) also =
+    same_kind members disk bytes no_journal second told (inl (HasNoJournal.nothing nothing)) refl also
+one_status members disk bytes _ second told (inl (HasNoJournal.damaged at damaged)) also =
+    same_kind members disk bytes (journal_damaged at) second told (inl (HasNoJournal.damaged at damaged)) refl also
+one_status members disk bytes _ second told (inr (text, history, so, CannotRun.plan fault other refused)) also =
+    same_kind members disk bytes journal_plan second told (inr (text, history, so, CannotRun.plan fault other refused)) refl also
+one_status members disk bytes _ second told (inr (text, history, so, CannotRun.start_runs_away tree compiled is)) also =
     refused_at_start members disk bytes text history tree told (so bytes told) compiled second is also
-one_status members disk bytes _ second told (JournalRefuses.event_runs_away text history tree at so compiled away) also =
-    same_kind members disk bytes (journal_runaway at) second told (JournalRefuses.event_runs_away text history tree at so compiled away) refl also
+one_status members disk bytes _ second told (inr (text, history, so, CannotRun.event_runs_away tree at compiled away)) also =
+    same_kind members disk bytes (journal_runaway at) second told (inr (text, history, so, CannotRun.event_runs_away tree at compiled away)) refl also

@@ -28,10 +28,10 @@ use Rattle.px_run.specs.declared.ending.Stop.{Stop}
 
 -- at the opening each image stands for the text and the history
 pub opening_stands : {S D : Type 0} (members : Disk.Ghosts D) (exec : Executive S D) (text : List ℕ) (session : Session) → session.text ≡ text
-    → session.first ≡ exec.opening.history → TellsBytes members → IsTextOf members exec text → (image : List ℕ)
+    → session.first ≡ exec.opening.history → TellsBytes members exec.opening.journal.disk → IsTextOf members exec text → (image : List ℕ)
     → members.images (members.moments exec.opening.journal.disk) image → Stands image session.text session.first
 opening_stands members exec text session same_text same_first tells ready image left =
-    let told = told_of (members.content exec.opening.journal.disk) (tells exec.opening.journal.disk) in
+    let told = told_of (members.content exec.opening.journal.disk) tells in
     subst (λ (t : List ℕ). Stands image t session.first) (sym same_text)
     (subst (λ (h : List Entry). Stands image text h) (sym same_first)
     (subst (λ (bytes : List ℕ). Stands bytes text exec.opening.history) (sym (ready.settled told.0 told.1 image left)) (ready.stands told.0 told.1)))

@@ -45,16 +45,16 @@ reads_since : (A : Type 0) (kind : FileKind A) (old mid new : View) (name : List
     → Reads kind mid new name part → Reads kind old new name part
 reads_since A kind old mid new name part only (seen, shows, spells) = (seen, shows_since kind.limit old mid new name seen only shows, spells)
 
-after_reading : (A : Type 0) (kind : FileKind A) (old new : View) (name : List ℕ) (part : A) (Next : A → Course → Due → Type 0)
-    (course : Course) (due : Due) → Reads kind old new name part → Next part course due → AfterFile kind old new name Next course due
-after_reading A kind old new name part Next course due (seen, shows, spells) next = AfterFile.read seen part course due shows spells next
+after_reading : (A : Type 0) (kind : FileKind A) (old new : View) (name : List ℕ) (part : A) (so_far : Course) (Next : A → Course → Due → Type 0)
+    (course : Course) (due : Due) → Reads kind old new name part → Next part course due → AfterFile kind old new name so_far Next course due
+after_reading A kind old new name part so_far Next course due (seen, shows, spells) next = AfterFile.read seen part course due shows spells next
 
-after_more : (A : Type 0) (kind : FileKind A) (old new : View) (name : List ℕ) (Next More : A → Course → Due → Type 0)
+after_more : (A : Type 0) (kind : FileKind A) (old new : View) (name : List ℕ) (so_far : Course) (Next More : A → Course → Due → Type 0)
     → ((part : A) (course : Course) (due : Due) → Next part course due → More part course due)
-    → (course : Course) (due : Due) → AfterFile kind old new name Next course due → AfterFile kind old new name More course due
-after_more A kind old new name Next More widen _ _ AfterFile.no_memory = AfterFile.no_memory
-after_more A kind old new name Next More widen _ _ (AfterFile.refused seen ending shows refuses) = AfterFile.refused seen ending shows refuses
-after_more A kind old new name Next More widen _ _ (AfterFile.read seen part course due shows spells next) =
+    → (course : Course) (due : Due) → AfterFile kind old new name so_far Next course due → AfterFile kind old new name so_far More course due
+after_more A kind old new name so_far Next More widen _ _ AfterFile.no_memory = AfterFile.no_memory
+after_more A kind old new name so_far Next More widen _ _ (AfterFile.refused seen ending shows refuses) = AfterFile.refused seen ending shows refuses
+after_more A kind old new name so_far Next More widen _ _ (AfterFile.read seen part course due shows spells next) =
     AfterFile.read seen part course due shows spells (widen part course due next)
 
 -- ---- what stops the preparation
@@ -74,7 +74,7 @@ plan_not_read old new plan script stops.NoMemory any = tt
 script_not_read : (old mid new : View) (plan script text : List ℕ) (tree : Tree) (stop : Stop) → Reads (with_text plan_file) old mid plan (text, tree)
     → OnlyReads old mid → OnlyReads mid new → StopsReading (script_file (sites tree)) mid new script stop → IsNotPrepared plan script old new stop
 script_not_read old mid new plan script text tree (stops.Refused refusal) source first second (seen, shows, refuses) =
-    after_reading (List ℕ × Tree) (with_text plan_file) old new plan (text, tree) _ Untouched (Some (ending_of refusal))
+    after_reading (List ℕ × Tree) (with_text plan_file) old new plan (text, tree) Untouched _ Untouched (Some (ending_of refusal))
     (reads_later (List ℕ × Tree) (with_text plan_file) old mid new plan (text, tree) second.read_faults source)
     (AfterFile.refused seen (ending_of refusal) (shows_since (script_file (sites tree)).limit old mid new script seen first shows) refuses)
 script_not_read old mid new plan script text tree stops.SinkFailed source first second none = none
@@ -85,9 +85,9 @@ start_not_made : (old mid new : View) (plan script text : List ℕ) (tree : Tree
     → Reads (script_file (sites tree)) mid new script threads → (fault ≡ steps.Runaway → started (sites tree) ≡ None)
     → IsNotPrepared plan script old new (stop_of_start fault)
 start_not_made old mid new plan script text tree threads steps.Runaway source first second left runaway =
-    after_reading (List ℕ × Tree) (with_text plan_file) old new plan (text, tree) _ Untouched (Some runaway_at_start)
+    after_reading (List ℕ × Tree) (with_text plan_file) old new plan (text, tree) Untouched _ Untouched (Some runaway_at_start)
     (reads_later (List ℕ × Tree) (with_text plan_file) old mid new plan (text, tree) second.read_faults source)
-    (after_reading (List Todo) (script_file (sites tree)) old new script threads _ Untouched (Some runaway_at_start)
+    (after_reading (List Todo) (script_file (sites tree)) old new script threads Untouched _ Untouched (Some runaway_at_start)
     (reads_since (List Todo) (script_file (sites tree)) old mid new script threads first left) (runaway refl, (refl, refl)))
 start_not_made old mid new plan script text tree threads steps.NoMemory source first second left runaway = tt
 
@@ -195,8 +195,8 @@ module _ {D : Type 0} (members : Disk.Ghosts D) (plan script name : List ℕ) (l
   not_prepared_runs (stops.Refused refusal) only unbound calls = record {
     course = Untouched;
     performs = (
-      after_more (List ℕ × Tree) (with_text plan_file) old mid plan _ _
-          (λ source. after_more (List Todo) (script_file (sites source.1)) old mid script _ _
+      after_more (List ℕ × Tree) (with_text plan_file) old mid plan Untouched _ _
+          (λ source. after_more (List Todo) (script_file (sites source.1)) old mid script Untouched _ _
           (λ threads course due runs_away. subst (RunCallsBy members (sites source.1) source.0 limit threads disk disk course due) (sym runs_away.0) runs_away.1))
           Untouched (Some (ending_of refusal)) calls,
       only.emitted,

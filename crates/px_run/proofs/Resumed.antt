@@ -1,5 +1,6 @@
 -- A journal that is taken up: what a command has come to then.
 use Rattle.std.proofs.Common.{◌≡◌, ◌≢◌, ◌≤◌, inl, inr, ⊎_elim, ℕ, List, [], ◌++◌, Option, Some, None, IsSome, Result, Ok, Err, length, take, refl, sym, ◌∙◌, ap, subst}
+use Rattle.std.specs.Prelude.{is_some}
 use Rattle.std.specs.Option.{ForSome}
 use Rattle.px_core.specs.Plan.{Site, Tree, tree_of, sites}
 use Rattle.px_event.specs.declared.entry.Entry.{Entry}
@@ -20,16 +21,16 @@ use Rattle.px_sem.specs.Log.{IsLegal}
 use Rattle.px_sem.specs.declared.stepper.Stepper
 use Rattle.px_session.specs.Opened.{IsOpening, Reopens, IsNotReopened, IsReopenWhy}
 use Rattle.px_session.specs.Posted.{WasDue, LeavesSession}
-use Rattle.px_session.specs.Session.{Session, history_of, IsFront, HasOneHistory, LeavesFronts}
+use Rattle.px_session.specs.Session.{Session, unposted, history_of, IsFront, HasOneHistory, LeavesFronts}
 use Rattle.px_session.specs.declared.fault.ReopenFault.{ReopenFault}
 use Rattle.px_session.specs.declared.fault.ReopenWhy.{ReopenWhy}
 use Rattle.px_session.specs.declared.fault.ReopenWhy.TheVariants as reopening
 use Rattle.px_session.specs.declared.reopening.Reopened.{Reopened}
-use Rattle.px_run.specs.Course.{Course, Untouched, Unread, GoneOn, Due, AfterFile, Leaves}
+use Rattle.px_run.specs.Course.{Course, Untouched, Unread, TakenUp, GoneOn, Due, AfterFile, Leaves}
 use Rattle.px_run.specs.Ending.{Ending, session_ending, runaway_at_start, disk_fault, no_journal, journal_damaged, journal_plan, journal_runaway}
 use Rattle.px_run.specs.File.{Shows}
 use Rattle.px_run.specs.Finishing.{IsLeft, Carries, Finishes, Resumes, Traces}
-use Rattle.px_run.specs.Journaled.{IsSession, DueBehind, JournalRefuses, AfterJournal, ResumeCalls, TraceCalls}
+use Rattle.px_run.specs.Journaled.{IsSession, DueBehind, HasNoJournal, CannotRun, AfterJournal, ResumeCalls, TraceCalls}
 use Rattle.px_run.specs.Kinds.{script_file}
 use Rattle.px_run.specs.Stops.{PerformsDue, StopsReading, stop_of, stop_of_reopen, ending_of}
 use Rattle.px_run.specs.declared.ending.Stop.{Stop}
@@ -37,6 +38,7 @@ use Rattle.px_run.specs.declared.ending.Stop.TheVariants as stops
 use Rattle.px_run.specs.declared.finishing.Carried.{Carried}
 use Rattle.px_output.specs.Printing.{Prints}
 use Rattle.px_output.specs.declared.printer.PrintFault.{PrintFault}
+use Rattle.px_session.proofs.Leaving.{one_history}
 use Rattle.px_run.proofs.Finished.{due_behind_since, opening_stands, due_printed, due_broken_off}
 use Rattle.px_run.proofs.Performing.{shows_later}
 use Rattle.px_run.proofs.Running.{due_since}
@@ -63,24 +65,36 @@ module _ {D : Type 0} (members : Disk.Ghosts D) (journal : List ℕ) (Next : D �
         bound = refused.bound;
       }
 
+      -- the journal was read, and its plan or its history can't be run
+      not_run_as : (why : ReopenWhy) → fault.why ≡ why → why ≢ reopening.DiskFault → (text : List ℕ) (first : List Entry)
+          → HasOneHistory members (unposted text first) fault.disk
+          → PerformsDue view view (Calls fault.disk (TakenUp text first)) (Err (stop_of_reopen why))
+          → Carries members journal Calls view view old (record { result = Err (stop_of_reopen fault.why); disk = fault.disk })
+      not_run_as why is other text first left performs = record {
+        course = TakenUp text first;
+        performs = subst (λ (w : ReopenWhy). PerformsDue view view (Calls fault.disk (TakenUp text first)) (Err (stop_of_reopen w))) (sym is) performs;
+        leaves = λ tells. (still (λ e. other (sym is ∙ e)), left);
+        bound = refused.bound;
+      }
+
       by : (why : ReopenWhy) → fault.why ≡ why → IsReopenWhy members old fault.disk fault.why
           → Carries members journal Calls view view old (record { result = Err (stop_of_reopen fault.why); disk = fault.disk })
       by reopening.NoJournal is cause = refused_as reopening.NoJournal is (λ e. cc)
-          (AfterJournal.refused no_journal (JournalRefuses.none (subst (IsReopenWhy members old fault.disk) is cause)), refl)
+          (AfterJournal.no_journal_there no_journal (HasNoJournal.nothing (subst (IsReopenWhy members old fault.disk) is cause)), refl)
       by (reopening.Damaged at) is cause = refused_as (reopening.Damaged at) is (λ e. cc)
-          (AfterJournal.refused (journal_damaged at) (JournalRefuses.damaged at (subst (IsReopenWhy members old fault.disk) is cause)), refl)
+          (AfterJournal.no_journal_there (journal_damaged at) (HasNoJournal.damaged at (subst (IsReopenWhy members old fault.disk) is cause)), refl)
       by reopening.PlanRefused is cause =
           let c = subst (IsReopenWhy members old fault.disk) is cause in
-          refused_as reopening.PlanRefused is (λ e. cc)
-          (AfterJournal.refused journal_plan (JournalRefuses.plan (c.0) (c.1) (c.3.0) (c.2) (c.3.1) (c.3.2)), refl)
+          not_run_as reopening.PlanRefused is (λ e. cc) (c.0) (c.1) (c.3)
+          (AfterJournal.not_run (c.0) (c.1) journal_plan (c.2) (CannotRun.plan (c.4.0) (c.4.1) (c.4.2)), refl)
       by reopening.RunawayAtStart is cause =
           let c = subst (IsReopenWhy members old fault.disk) is cause in
-          refused_as reopening.RunawayAtStart is (λ e. cc)
-          (AfterJournal.refused runaway_at_start (JournalRefuses.start_runs_away (c.0) (c.1) (c.3.0) (c.2) (c.3.1) (c.3.2)), refl)
+          not_run_as reopening.RunawayAtStart is (λ e. cc) (c.0) (c.1) (c.3)
+          (AfterJournal.not_run (c.0) (c.1) runaway_at_start (c.2) (CannotRun.start_runs_away (c.4.0) (c.4.1) (c.4.2)), refl)
       by (reopening.Runaway at) is cause =
           let c = subst (IsReopenWhy members old fault.disk) is cause in
-          refused_as (reopening.Runaway at) is (λ e. cc)
-          (AfterJournal.refused (journal_runaway at) (JournalRefuses.event_runs_away (c.0) (c.1) (c.3.0) at (c.2) (c.3.1) (c.3.2)), refl)
+          not_run_as (reopening.Runaway at) is (λ e. cc) (c.0) (c.1) (c.3)
+          (AfterJournal.not_run (c.0) (c.1) (journal_runaway at) (c.2) (CannotRun.event_runs_away (c.4.0) at (c.4.1) (c.4.2)), refl)
       by reopening.NoMemory is cause = refused_as reopening.NoMemory is (λ e. cc) (inr (AfterJournal.no_memory, refl))
       by reopening.DiskFault is cause = record {
         course = Unread;
@@ -91,6 +105,13 @@ module _ {D : Type 0} (members : Disk.Ghosts D) (journal : List ℕ) (Next : D �
       }
 
 -- ---- a journal that is taken up
+
+-- what an opening leaves of the disk
+left_taken_up : {S D : Type 0} (members : Disk.Ghosts D) (runs : Stepper.Ghosts S) (journal : List ℕ) (limit : ℕ) (old : D) (reopened : Reopened S D)
+    → (r : Reopens members runs journal limit old reopened)
+    → Leaves members old reopened.exec.opening.journal.disk (TakenUp r.text reopened.exec.opening.history)
+left_taken_up members runs journal limit old reopened r =
+    (r.untouched, one_history members reopened.exec.opening.journal r.text reopened.exec.opening.history r.ready)
 
 -- each image since is one of the start, or stands for a front of the session's history
 pub fronts_since : {D : Type 0} (members : Disk.Ghosts D) (session : Session) (old opened new : D) → IsUntouched members old opened
@@ -119,25 +140,29 @@ module _ {S D : Type 0} (runs : Stepper.Ghosts S) (members : Disk.Ghosts D) (scr
   abbrev tree : Tree
   tree = tree_of reopened.plan
 
+  abbrev taken_up : Course
+  taken_up = TakenUp r.text reopened.exec.opening.history
+
   -- the script is refused, or can't be read
   pub resume_refused : (stop : Stop) (disk : D) → disk ≡ reopened.exec.opening.journal.disk → StopsReading (script_file (sites tree)) before mid script stop
       → Resumes members script journal limit before mid old (record { result = Err stop; disk = disk })
   resume_refused stop disk here stopped = record {
-    course = Untouched;
+    course = taken_up;
     performs = by stop stopped;
-    leaves = λ tells. subst (IsUntouched members old) (sym here) r.untouched;
+    leaves = λ tells. subst (λ (d : D). Leaves members old d taken_up) (sym here) (left_taken_up members runs journal limit old reopened r);
     bound = inl (ap members.bound_to here ∙ r.bound);
   }
     where
       by : (s : Stop) → StopsReading (script_file (sites tree)) before mid script s
-          → PerformsDue before mid (ResumeCalls members script limit before mid old disk Untouched) (Err s)
+          → PerformsDue before mid (ResumeCalls members script limit before mid old disk taken_up) (Err s)
       by (stops.Refused refusal) (seen, shows, refuses) = (
-        AfterJournal.opened r.text reopened.exec.opening.history tree Untouched (Some (ending_of refusal)) r.stands r.compiled r.settles
+        AfterJournal.opened r.text reopened.exec.opening.history tree taken_up (Some (ending_of refusal)) r.stands r.compiled r.settles
             (AfterFile.refused seen (ending_of refusal) shows refuses),
         only.emitted,
       )
       by stops.SinkFailed none = absurd none
-      by stops.NoMemory any = inr (AfterJournal.no_memory, only.emitted)
+      by stops.NoMemory any =
+          inr (AfterJournal.opened r.text reopened.exec.opening.history tree taken_up None r.stands r.compiled r.settles AfterFile.no_memory, only.emitted)
 
   -- it is read, and a session goes on with what is left of it
   pub resume_finished : (history : List Entry) (entries : List Entry) (carried : Carried D) → history ≡ reopened.exec.opening.history
@@ -149,10 +174,11 @@ module _ {S D : Type 0} (runs : Stepper.Ghosts S) (members : Disk.Ghosts D) (scr
     course = GoneOn f.session;
     performs = due_since before mid now _ (ResumeCalls members script limit before now old carried.disk (GoneOn f.session)) carried.result only goes_on f.performs;
     leaves = λ tells.
-        let l = f.leaves tells in (
+        let told = ap is_some (r.untouched).content ∙ tells in
+        let l = f.leaves told in (
           l.now,
           fronts_since members f.session old reopened.exec.opening.journal.disk carried.disk r.untouched
-              (opening_stands members reopened.exec r.text f.session f.same_text f.same_first tells r.ready) l.since,
+              (opening_stands members reopened.exec r.text f.session f.same_text f.same_first told r.ready) l.since,
         );
     bound = inl (f.bound ∙ r.bound);
   }
@@ -194,21 +220,24 @@ module _ {S D : Type 0} (runs : Stepper.Ghosts S) (members : Disk.Ghosts D) (jou
   abbrev traced_ending : Ending
   traced_ending = session_ending (sites (tree_of reopened.plan)) reopened.exec.opening.history []
 
-  due_trace : TraceCalls members old disk Untouched (Some traced_ending)
-  due_trace = AfterJournal.opened r.text reopened.exec.opening.history (tree_of reopened.plan) Untouched (Some traced_ending) r.stands r.compiled r.settles (refl, refl)
+  abbrev taken_up : Course
+  taken_up = TakenUp r.text reopened.exec.opening.history
 
-  traced : (result : Result Unit Stop) → PerformsDue before now (TraceCalls members old disk Untouched) result
+  due_trace : TraceCalls members old disk taken_up (Some traced_ending)
+  due_trace = AfterJournal.opened r.text reopened.exec.opening.history (tree_of reopened.plan) taken_up (Some traced_ending) r.stands r.compiled r.settles (refl, refl)
+
+  traced : (result : Result Unit Stop) → PerformsDue before now (TraceCalls members old disk taken_up) result
       → Traces members journal before now old (record { result = result; disk = disk })
   traced result performs = record {
-    course = Untouched;
+    course = taken_up;
     performs = performs;
-    leaves = λ tells. subst (IsUntouched members old) (sym here) r.untouched;
+    leaves = λ tells. subst (λ (d : D). Leaves members old d taken_up) (sym here) (left_taken_up members runs journal limit old reopened r);
     bound = inl (ap members.bound_to here ∙ r.bound);
   }
 
   pub trace_printed : Prints {T = Unit} before [] now [] traced_ending.text (Ok tt) → Traces members journal before now old (record { result = Ok tt; disk = disk })
-  trace_printed prints = traced (Ok tt) (due_printed before now (TraceCalls members old disk Untouched) traced_ending due_trace refl prints)
+  trace_printed prints = traced (Ok tt) (due_printed before now (TraceCalls members old disk taken_up) traced_ending due_trace refl prints)
 
   pub trace_broken_off : (fault : PrintFault) → Prints {T = Unit} before [] now [] traced_ending.text (Err fault)
       → Traces members journal before now old (record { result = Err (stop_of fault); disk = disk })
-  trace_broken_off fault prints = traced (Err (stop_of fault)) (due_broken_off before now (TraceCalls members old disk Untouched) traced_ending fault due_trace prints)
+  trace_broken_off fault prints = traced (Err (stop_of fault)) (due_broken_off before now (TraceCalls members old disk taken_up) traced_ending fault due_trace prints)

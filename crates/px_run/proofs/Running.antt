@@ -22,7 +22,7 @@ use Rattle.px_sem.specs.Run.{run}
 use Rattle.px_sem.specs.declared.stepper.Stepper
 use Rattle.px_session.specs.Opened.{LeavesNew, Creates, IsCreateWhy, IsNotCreated}
 use Rattle.px_session.specs.Posted.{WasDue}
-use Rattle.px_session.specs.Session.{Session, history_of, longest_of, IsEnd, IsFront, HasOneHistory, LeavesFronts}
+use Rattle.px_session.specs.Session.{Session, unposted, history_of, longest_of, IsEnd, IsFront, HasOneHistory, LeavesFronts}
 use Rattle.px_run.specs.Course.{Untouched, HalfMade, Made, Due}
 use Rattle.px_run.specs.Finishing.{Carries, Finishes}
 use Rattle.px_run.specs.Journaled.{IsSession, DueBehind, NewCalls}
@@ -72,7 +72,7 @@ front_of_none session text bytes same_text same_first stands = record {
   stands = rw (same_text, same_first) stands;
 }
 
-end_of_none : (text bytes : List ℕ) → IsEnd (record { text = text; first = []; log = []; failed = None }) bytes → Stands bytes text []
+end_of_none : (text bytes : List ℕ) → IsEnd (unposted text []) bytes → Stands bytes text []
 end_of_none text bytes (inl stands) = stands
 end_of_none text bytes (inr stands) = stands
 
@@ -113,15 +113,14 @@ module _ {D : Type 0} (members : Disk.Ghosts D) where
       of_making image (inr (inr stands)) = inr (inr (front_of_none session text image same_text same_first stands))
 
   -- memory ran out right behind the making
-  fronts_of_none : (text : List ℕ) (old new : D) → TellsBytes members → LeavesNew members text old new
-      → HasOneHistory members (record { text = text; first = []; log = []; failed = None }) new
-      → LeavesFronts members (λ image. IsTrue (is_nothing image)) (record { text = text; first = []; log = []; failed = None }) old new
-  fronts_of_none text old new tells making now =
-      let told = told_of (members.content new) (tells new) in
-      fronts_behind (record { text = text; first = []; log = []; failed = None }) text old new new refl refl (tells old) making
+  fronts_of_none : (text : List ℕ) (old new : D) → TellsBytes members old → TellsBytes members new → LeavesNew members text old new
+      → HasOneHistory members (unposted text []) new → LeavesFronts members (λ image. IsTrue (is_nothing image)) (unposted text []) old new
+  fronts_of_none text old new told_then tells making now =
+      let told = told_of (members.content new) tells in
+      fronts_behind (unposted text []) text old new new refl refl told_then making
       (take_all (length (members.moments new)) (members.moments new) (omega arith))
       (λ image left. end_of_none text image (now.left told.0 told.1 image left))
-      (λ image since. front_of_none (record { text = text; first = []; log = []; failed = None }) text image refl refl
+      (λ image since. front_of_none (unposted text []) text image refl refl
       (end_of_none text image (now.left told.0 told.1 image (left_at_end members.images (members.moments new) image since))))
 
   -- ---- the two ends of a call
@@ -137,7 +136,7 @@ module _ {D : Type 0} (members : Disk.Ghosts D) where
       performs = due_more before now (DueBehind members (plan_of runs exec) finished.session finished.left exec.opening.journal.disk carried.disk)
           (NewCalls members plan text limit threads old carried.disk (Made finished.session)) carried.result
           (λ due behind. NewCalls.made finished.session due made.was_nothing (finished.left, session, behind_here due behind)) finished.performs;
-      leaves = λ tells. ((finished.leaves tells).now, fronts tells);
+      leaves = λ tells. ((finished.leaves (made.tells ∙ tells)).now, fronts tells);
       bound = inl (finished.bound ∙ made.bound);
     }
       where
@@ -167,12 +166,12 @@ module _ {D : Type 0} (members : Disk.Ghosts D) where
             due_behind_since members (plan_of runs exec) plan finished.session finished.left old exec.opening.journal.disk carried.disk due
             plan_is made.faults behind
 
-        fronts : TellsBytes members → LeavesFronts members (λ image. IsTrue (is_nothing image)) finished.session old carried.disk
+        fronts : TellsBytes members old → LeavesFronts members (λ image. IsTrue (is_nothing image)) finished.session old carried.disk
         fronts tells =
-            let leaves = finished.leaves tells in
-            fronts_behind finished.session text old exec.opening.journal.disk carried.disk finished.same_text same_first (tells old) made.leaves
+            let leaves = finished.leaves (made.tells ∙ tells) in
+            fronts_behind finished.session text old exec.opening.journal.disk carried.disk finished.same_text same_first tells made.leaves
             leaves.since.grows
-            (opening_stands members exec text finished.session finished.same_text finished.same_first tells made.stands) leaves.since.each
+            (opening_stands members exec text finished.session finished.same_text finished.same_first (made.tells ∙ tells) made.stands) leaves.since.each
 
     -- none was made, or memory ran out right behind the making
     not_made : (why : CreateWhy) (new : D) → IsSome (run plan []) → IsCreateWhy members text old new why → IsNotCreated members name text old (record { disk = new; why = why })
@@ -180,7 +179,7 @@ module _ {D : Type 0} (members : Disk.Ghosts D) where
     not_made creating.Exists new starts whole fault = record {
       course = Untouched;
       performs = (NewCalls.exists whole, refl);
-      leaves = λ tells. let told = told_of (members.content old) (tells old) in fault.untouched told.0 told.1 (whole told.0 told.1);
+      leaves = λ tells. let told = told_of (members.content old) tells in fault.untouched told.0 told.1 (whole told.0 told.1);
       bound = fault.bound;
     }
     not_made creating.DiskFault new starts rose fault = record {
@@ -196,13 +195,13 @@ module _ {D : Type 0} (members : Disk.Ghosts D) where
       bound = fault.bound;
     }
     not_made creating.NoMemory new starts (inr (nothing, history)) fault = record {
-      course = Made (record { text = text; first = []; log = []; failed = None });
-      performs = inr (NewCalls.made (record { text = text; first = []; log = []; failed = None }) None nothing (entries, session, DueBehind.no_memory refl), refl);
-      leaves = λ tells. (history, fronts_of_none text old new tells fault.leaves history);
+      course = Made (unposted text []);
+      performs = inr (NewCalls.made (unposted text []) None nothing (entries, session, DueBehind.no_memory refl), refl);
+      leaves = λ tells. (history, fronts_of_none text old new tells (fault.tells ∙ tells) fault.leaves history);
       bound = fault.bound;
     }
       where
-        session : IsSession plan text [] limit threads (record { text = text; first = []; log = []; failed = None }) entries
+        session : IsSession plan text [] limit threads (unposted text []) entries
         session = record {
           same_text = refl;
           same_first = refl;

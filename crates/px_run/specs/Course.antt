@@ -1,12 +1,13 @@
 -- What became of the journal in a call, and what is due to be printed then.
 use Rattle.std.specs.Prelude.{◌≡◌, ◌⊎◌, ℕ, List, Option, Some, None, IsTrue, IsFalse}
 use Rattle.std.specs.Option.{ForSome}
+use Rattle.px_event.specs.declared.entry.Entry.{Entry}
 use Rattle.px_journal.specs.Journal.{IsUntouched}
 use Rattle.px_journal.specs.Layout.{is_nothing}
 use Rattle.px_ports.specs.Moment.{Elapses, Stays}
 use Rattle.px_ports.specs.declared.disk.Disk
 use Rattle.px_session.specs.Opened.{LeavesNew}
-use Rattle.px_session.specs.Session.{Session, HasOneHistory, LeavesFronts}
+use Rattle.px_session.specs.Session.{Session, unposted, HasOneHistory, LeavesFronts}
 use Rattle.px_run.specs.Ending.{Ending}
 use Rattle.px_run.specs.File.{FileKind, Seen, Shows, Spells, Refuses}
 use Rattle.px_output.specs.View.{View}
@@ -25,6 +26,8 @@ pub data Course : Type 0 where
   HalfMade : (text : List ℕ) → Course
   -- a journal was made, and lines were posted
   Made : Session → Course
+  -- a journal of this text and history was taken up, and nothing was written
+  TakenUp : (text : List ℕ) (history : List Entry) → Course
   -- a journal was taken up, and lines were posted
   GoneOn : Session → Course
 
@@ -37,19 +40,21 @@ module _ {D : Type 0} (members : Disk.Ghosts D) where
       LeavesNew members text old new × ForSome (members.content old) (λ told. IsFalse (is_nothing told) → IsUntouched members old new)
   Leaves old new (Made session) =
       HasOneHistory members session new × LeavesFronts members (λ image. IsTrue (is_nothing image)) session old new
+  Leaves old new (TakenUp text history) = IsUntouched members old new × HasOneHistory members (unposted text history) new
   Leaves old new (GoneOn session) = HasOneHistory members session new × LeavesFronts members (λ image. ⊥) session old new
 
--- a call that ends before a journal is touched
-abbrev pub EndsUntouched : Course → Due → Ending → Type 0
-EndsUntouched course due ending = (course ≡ Untouched) × (due ≡ Some ending)
+-- a call of this course ends so
+abbrev pub EndsIn : Course → Ending → Course → Due → Type 0
+EndsIn so_far ending course due = (course ≡ so_far) × (due ≡ Some ending)
 
--- what is due where a file is read first: it is refused, or what it spells goes on; or memory runs out
-pub data AfterFile {A : Type 0} (kind : FileKind A) (old new : View) (name : List ℕ) (Next : A → Course → Due → Type 0) :
-    Course → Due → Type 0 where
-  no_memory : AfterFile kind old new name Next Untouched None
+-- What is due where a file is read, in a call that has had this course so far: the file is refused, or what it spells goes on;
+-- or memory runs out.
+pub data AfterFile {A : Type 0} (kind : FileKind A) (old new : View) (name : List ℕ) (so_far : Course)
+    (Next : A → Course → Due → Type 0) : Course → Due → Type 0 where
+  no_memory : AfterFile kind old new name so_far Next so_far None
   refused :
       (seen : Seen) (ending : Ending) → Shows kind.limit old new name seen → Refuses kind seen ending
-      → AfterFile kind old new name Next Untouched (Some ending)
+      → AfterFile kind old new name so_far Next so_far (Some ending)
   read :
       (seen : Seen) (part : A) (course : Course) (due : Due) → Shows kind.limit old new name seen → Spells kind seen part
-      → Next part course due → AfterFile kind old new name Next course due
+      → Next part course due → AfterFile kind old new name so_far Next course due

@@ -18,7 +18,7 @@ use Rattle.px_sem.specs.Stepper.{Pending}
 use Rattle.px_sem.specs.declared.stepper.Stepper
 use Rattle.px_session.specs.Posted.{entries_of, WasDue, LeavesSession}
 use Rattle.px_session.specs.Session.{Session, history_of, unsure, IsBoundAtMost}
-use Rattle.px_run.specs.Course.{Course, Untouched, Due, EndsUntouched, AfterFile, Leaves}
+use Rattle.px_run.specs.Course.{Course, Untouched, Due, EndsIn, AfterFile, Leaves}
 use Rattle.px_run.specs.Ending.{runaway_at_start}
 use Rattle.px_run.specs.File.{Reads, with_text}
 use Rattle.px_words.specs.Words.{Command}
@@ -51,9 +51,9 @@ pub record IsPrepared {S : Type 0} (runs : Stepper.Ghosts S) (plan script : List
 -- or they are not: a file is refused, or the start runs away
 abbrev pub IsNotPrepared : List ℕ → List ℕ → View → View → Stop → Type 0
 IsNotPrepared plan script before now (stops.Refused refusal) =
-    AfterFile (with_text plan_file) before now plan (λ source.
-    AfterFile (script_file (sites source.1)) before now script (λ threads course due.
-    (started (sites source.1) ≡ None) × EndsUntouched course due runaway_at_start))
+    AfterFile (with_text plan_file) before now plan Untouched (λ source.
+    AfterFile (script_file (sites source.1)) before now script Untouched (λ threads course due.
+    (started (sites source.1) ≡ None) × EndsIn Untouched runaway_at_start course due))
     Untouched (Some (ending_of refusal))
 IsNotPrepared plan script before now stops.SinkFailed = ⊥
 IsNotPrepared plan script before now stops.NoMemory = Unit {0}
@@ -63,7 +63,7 @@ module _ {D : Type 0} (members : Disk.Ghosts D) where
   pub record Carries (name : List ℕ) (Calls : D → Course → Due → Type 0) (before now : View) (old : D) (carried : Carried D) : Type 0 where
     pub course : Course
     pub performs : PerformsDue before now (Calls carried.disk course) carried.result
-    pub leaves : TellsBytes members → Leaves members old carried.disk course
+    pub leaves : TellsBytes members old → Leaves members old carried.disk course
     pub bound : IsBoundAtMost members name carried.disk
 
   -- the end of a session over this text: its log is legal and of a front of the entries, and what is due behind it is
@@ -78,7 +78,7 @@ module _ {D : Type 0} (members : Disk.Ghosts D) where
     pub due : WasDue (plan_of runs exec) exec.opening.limit (history_of session) session.failed
     pub front : entries ≡ entries_of session.log ++ (unsure session.failed ++ left)
     pub performs : PerformsDue before now (DueBehind members (plan_of runs exec) session left exec.opening.journal.disk carried.disk) carried.result
-    pub leaves : TellsBytes members → LeavesSession members session exec.opening.journal.disk carried.disk
+    pub leaves : TellsBytes members exec.opening.journal.disk → LeavesSession members session exec.opening.journal.disk carried.disk
     pub bound : members.bound_to carried.disk ≡ members.bound_to exec.opening.journal.disk
     pub grows : take (length (members.moments exec.opening.journal.disk)) (members.moments carried.disk) ≡ members.moments exec.opening.journal.disk
     pub faults : members.faults exec.opening.journal.disk ≤ members.faults carried.disk
@@ -106,5 +106,5 @@ module _ {D : Type 0} (members : Disk.Ghosts D) where
   pub record Performed (asked : Option Command) (before now : View) (old : D) (carried : Carried D) : Type 0 where
     pub course : Course
     pub performs : PerformsDue before now (CommandCallsFor members asked before now old carried.disk course) carried.result
-    pub leaves : TellsBytes members → Leaves members old carried.disk course
+    pub leaves : TellsBytes members old → Leaves members old carried.disk course
     pub bound : IsBoundFor members asked carried.disk

@@ -69,9 +69,9 @@ pub data Delivers (old new : View) (ending : Ending) : ℕ → Type 0 where
 pub data Headline {D : Type 0} (members : Disk.Ghosts D) (words : List (List ℕ)) (before now : View) (old new : D) : ℕ → Type 0 where
   delivered :
       (course : Course) (ending : Ending) (status : ℕ) → CommandCallsFor members (command words) before now old new course (Some ending)
-      → (TellsBytes members → Leaves members old new course) → Delivers before now ending status
+      → (TellsBytes members old → Leaves members old new course) → Delivers before now ending status
       → Headline members words before now old new status
   nothing_emitted :
       (course : Course) → CommandCallsFor members (command words) before now old new course None
-      → (TellsBytes members → Leaves members old new course) → now.emitted ≡ before.emitted
+      → (TellsBytes members old → Leaves members old new course) → now.emitted ≡ before.emitted
       → Headline members words before now old new 10

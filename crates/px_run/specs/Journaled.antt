@@ -20,7 +20,7 @@ use Rattle.px_session.specs.Session.{Session, history_of, unsure}
 use Rattle.px_syntax.specs.declared.fault.PlanFault.{PlanFault}
 use Rattle.px_syntax.specs.declared.fault.PlanFault.TheVariants.{NoMemory as PlanOutOfMemory}
 use Rattle.px_output.specs.View.{View}
-use Rattle.px_run.specs.Course.{Course, Untouched, Unread, HalfMade, Made, GoneOn, Due, EndsUntouched, AfterFile}
+use Rattle.px_run.specs.Course.{Course, Untouched, Unread, HalfMade, Made, TakenUp, GoneOn, Due, EndsIn, AfterFile}
 use Rattle.px_run.specs.Ending.{Ending, session_ending, runaway_at_start, disk_fault, journal_exists, no_journal, journal_damaged, journal_plan, journal_runaway}
 use Rattle.px_run.specs.File.{with_text}
 use Rattle.px_run.specs.Kinds.{plan_file, script_file}
@@ -37,6 +37,15 @@ pub record IsSession (plan : List Site) (text : List ℕ) (first : List Entry) (
   pub entries : List Entry
   pub order : InFileOrder (rest threads first) entries
   pub front : entries ≡ entries_of session.log ++ (unsure session.failed ++ left)
+
+-- why the plan and the history of a journal can't be run
+pub data CannotRun (text : List ℕ) (first : List Entry) : Ending → Type 0 where
+  plan : (fault : PlanFault) → fault ≢ PlanOutOfMemory → IsRefused text fault → CannotRun text first journal_plan
+  start_runs_away :
+      (tree : Tree) → IsCompiled text tree → started (sites tree) ≡ None → CannotRun text first runaway_at_start
+  event_runs_away :
+      (tree : Tree) (at : ℕ) → IsCompiled text tree → RunsAwayAt (sites tree) first at
+      → CannotRun text first (journal_runaway at)
 
 module _ {D : Type 0} (members : Disk.Ghosts D) where
   -- what is due behind a session: its text where all is posted, a fault where an append failed
@@ -66,51 +75,54 @@ module _ {D : Type 0} (members : Disk.Ghosts D) where
 
   -- by what the start of the plan settles into
   abbrev pub RunCallsBy : List Site → List ℕ → ℕ → List Todo → D → D → Course → Due → Option (World × ℕ) → Type 0
-  RunCallsBy plan text limit threads old new course due None = EndsUntouched course due runaway_at_start
+  RunCallsBy plan text limit threads old new course due None = EndsIn Untouched runaway_at_start course due
   RunCallsBy plan text limit threads old new course due (Some settled) = NewCalls plan text limit threads old new course due
 
   -- the plan is read, then the script, then the plan starts, then its journal is made
   abbrev pub RunCalls : List ℕ → List ℕ → ℕ → View → View → D → D → Course → Due → Type 0
   RunCalls plan script limit before now old new course due =
-      AfterFile (with_text plan_file) before now plan (λ source.
-      AfterFile (script_file (sites source.1)) before now script (λ threads course due.
+      AfterFile (with_text plan_file) before now plan Untouched (λ source.
+      AfterFile (script_file (sites source.1)) before now script Untouched (λ threads course due.
       RunCallsBy (sites source.1) source.0 limit threads old new course due (started (sites source.1))))
       course due
 
   -- ---- `resume` and `trace`
 
-  -- why the journal of a disk is refused
-  pub data JournalRefuses (old : D) : Ending → Type 0 where
-    none : ForSome (members.content old) (λ told. IsTrue (is_nothing told)) → JournalRefuses old no_journal
+  -- why a disk has no journal
+  pub data HasNoJournal (old : D) : Ending → Type 0 where
+    nothing : ForSome (members.content old) (λ told. IsTrue (is_nothing told)) → HasNoJournal old no_journal
     damaged :
         (at : ℕ) → ForSome (members.content old) (λ told. IsFalse (is_nothing told) × Damaged told at)
-        → JournalRefuses old (journal_damaged at)
-    plan :
-        (text : List ℕ) (first : List Entry) (fault : PlanFault) → ForSome (members.content old) (λ told. Stands told text first)
-        → fault ≢ PlanOutOfMemory → IsRefused text fault → JournalRefuses old journal_plan
-    start_runs_away :
-        (text : List ℕ) (first : List Entry) (tree : Tree) → ForSome (members.content old) (λ told. Stands told text first)
-        → IsCompiled text tree → started (sites tree) ≡ None → JournalRefuses old runaway_at_start
-    event_runs_away :
-        (text : List ℕ) (first : List Entry) (tree : Tree) (at : ℕ) → ForSome (members.content old) (λ told. Stands told text first)
-        → IsCompiled text tree → RunsAwayAt (sites tree) first at → JournalRefuses old (journal_runaway at)
+        → HasNoJournal old (journal_damaged at)
+
+  -- the disk stands for the text and the history
+  abbrev pub StandsFor : D → List ℕ → List Entry → Type 0
+  StandsFor old text first = ForSome (members.content old) (λ told. Stands told text first)
+
+  -- why the journal of a disk is refused
+  abbrev pub JournalRefuses : D → Ending → Type 0
+  JournalRefuses old ending =
+      HasNoJournal old ending ⊎ ((text : List ℕ) × (first : List Entry) × StandsFor old text first × CannotRun text first ending)
 
   -- what is due where a journal is read first: it is refused, or its plan and its history go on; or the disk fails, or
   -- memory runs out
   pub data AfterJournal (old new : D) (Next : List ℕ → List Entry → Tree → Course → Due → Type 0) : Course → Due → Type 0 where
     no_memory : AfterJournal old new Next Untouched None
     disk_fails : Rose (members.faults old) (members.faults new) → AfterJournal old new Next Unread (Some disk_fault)
-    refused : (ending : Ending) → JournalRefuses old ending → AfterJournal old new Next Untouched (Some ending)
+    no_journal_there : (ending : Ending) → HasNoJournal old ending → AfterJournal old new Next Untouched (Some ending)
+    not_run :
+        (text : List ℕ) (first : List Entry) (ending : Ending) → StandsFor old text first → CannotRun text first ending
+        → AfterJournal old new Next (TakenUp text first) (Some ending)
     opened :
-        (text : List ℕ) (first : List Entry) (tree : Tree) (course : Course) (due : Due)
-        → ForSome (members.content old) (λ told. Stands told text first) → IsCompiled text tree
-        → IsSome (run (sites tree) (events_of first)) → Next text first tree course due → AfterJournal old new Next course due
+        (text : List ℕ) (first : List Entry) (tree : Tree) (course : Course) (due : Due) → StandsFor old text first
+        → IsCompiled text tree → IsSome (run (sites tree) (events_of first)) → Next text first tree course due
+        → AfterJournal old new Next course due
 
   -- the journal is read, then the script, and a session goes on with what is left of it
   abbrev pub ResumeCalls : List ℕ → ℕ → View → View → D → D → Course → Due → Type 0
   ResumeCalls script limit before now old new course due =
       AfterJournal old new (λ text first tree.
-      AfterFile (script_file (sites tree)) before now script (λ threads course due.
+      AfterFile (script_file (sites tree)) before now script (TakenUp text first) (λ threads course due.
       (session : Session) × (course ≡ GoneOn session)
       × SessionCalls (sites tree) text first limit threads old new session due))
       course due
@@ -118,4 +130,4 @@ module _ {D : Type 0} (members : Disk.Ghosts D) where
   -- the journal is read, and its history is printed
   abbrev pub TraceCalls : D → D → Course → Due → Type 0
   TraceCalls old new course due =
-      AfterJournal old new (λ text first tree course due. EndsUntouched course due (session_ending (sites tree) first [])) course due
+      AfterJournal old new (λ text first tree. EndsIn (TakenUp text first) (session_ending (sites tree) first [])) course due

@@ -48,7 +48,7 @@ module _ {S D : Type 0} (runs : Stepper.Ghosts S) (members : Disk.Ghosts D) (exe
     pub ready_now : IsReady members exec.journal (keeps.text.0) exec.history
     ready_now = open_now.stands (keeps.text.0) (keeps.text.1)
 
-    leaves_open : TellsBytes members → (text : List ℕ) → IsTextOf members exec text
+    leaves_open : TellsBytes members exec.opening.journal.disk → (text : List ℕ) → IsTextOf members exec text
         → LeavesSession members (session_of text exec) exec.opening.journal.disk exec.journal.disk
     leaves_open tells text is =
         let ready = open_now.stands text is in
@@ -72,7 +72,7 @@ module _ {S D : Type 0} (runs : Stepper.Ghosts S) (members : Disk.Ghosts D) (exe
     longer text = ap (λ h. h ++ failed.entry ∷ []) keeps.grown
         ∙ sym (ap (λ (f : Option Failed). (exec.opening.history ++ accepted exec.log) ++ unsure (option_map (λ (f : Failed). f.entry) f)) closed)
 
-    leaves_closed : ReadsAreLeft members → TellsBytes members → (text : List ℕ) → IsTextOf members exec text
+    leaves_closed : ReadsAreLeft members → TellsBytes members exec.opening.journal.disk → (text : List ℕ) → IsTextOf members exec text
         → LeavesSession members (session_of text exec) exec.opening.journal.disk exec.journal.disk
     leaves_closed law tells text is =
         let either : (image : List ℕ) → members.images (members.moments exec.journal.disk) image → IsEnd (session_of text exec) image =
@@ -92,7 +92,7 @@ module _ {S D : Type 0} (runs : Stepper.Ghosts S) (members : Disk.Ghosts D) (exe
     rose_since : Rose (members.faults exec.opening.journal.disk) (members.faults exec.journal.disk)
     rose_since = omega (arith, closed_now.rose, closed_now.counted)
 
-  pub leaves_session : ReadsAreLeft members → TellsBytes members → (text : List ℕ) → IsTextOf members exec text
+  pub leaves_session : ReadsAreLeft members → TellsBytes members exec.opening.journal.disk → (text : List ℕ) → IsTextOf members exec text
       → LeavesSession members (session_of text exec) exec.opening.journal.disk exec.journal.disk
   leaves_session law tells text is = by exec.failed refl
     where
@@ -140,7 +140,8 @@ closes {S} {D} runs members was after law keeps same entries posted front due di
   few = on_ok (length posted.history.items < 2 ^ 32) posted.end
       (λ ok. let few = (ready ok).few in omega (arith, few, ap length history_is));
   disk = λ tells text is.
-      let left = leaves_session runs members after keeps law tells text (subst (λ (o : Opening S D). IsReady members o.journal text o.history) (sym same) is) in
+      let told = subst (λ (o : Opening S D). TellsBytes members o.journal.disk) (sym same) tells in
+      let left = leaves_session runs members after keeps law told text (subst (λ (o : Opening S D). IsReady members o.journal text o.history) (sym same) is) in
       subst (λ (o : Opening S D). LeavesSession members (record { text = text; first = o.history; log = posted.log.items; failed = failed_entry after }) o.journal.disk posted.disk) same
       (subst (λ (l : Log). LeavesSession members (record { text = text; first = after.opening.history; log = l; failed = failed_entry after }) after.opening.journal.disk posted.disk) (sym log_is)
       (subst (λ (d : D). LeavesSession members (session_of text after) after.opening.journal.disk d) (sym disk_is) left));

@@ -1,6 +1,7 @@
 -- From what the calls of a journal leave of a disk to what a session leaves.
 use Rattle.std.proofs.Common.{◌≡◌, ◌≤◌, ◌⊎◌, inl, inr, ⊎_elim, ℕ, List, [], ◌∷◌, ◌++◌, Some, None, length, take, refl, sym, ◌∙◌, ap, subst, arith, append-nil, IsTrue, IsFalse}
 use Rattle.std.specs.Option.{ForSome}
+use Rattle.px_event.specs.declared.entry.Entry.{Entry}
 use Rattle.px_journal.specs.Crash.{OldOrNew, LeavesOnly}
 use Rattle.px_journal.specs.Journal.{IsReady, IsUntouched}
 use Rattle.px_journal.specs.Layout.{is_nothing, Stands}
@@ -10,7 +11,7 @@ use Rattle.px_ports.specs.Moment.{LeftSince, Stays}
 use Rattle.px_ports.specs.declared.disk.Disk
 use Rattle.px_session.specs.Attached.{IsOnlyRead}
 use Rattle.px_session.specs.Opened.{LeavesNew}
-use Rattle.px_session.specs.Session.{Session, HasOneHistory}
+use Rattle.px_session.specs.Session.{unposted, HasOneHistory}
 
 module _ {D : Type 0} (members : Disk.Ghosts D) where
   pub untouched_at_once : (disk : D) → IsUntouched members disk disk
@@ -59,10 +60,14 @@ module _ {D : Type 0} (members : Disk.Ghosts D) where
           (λ was. inl (from_before old mid reads image (left_now members.images (members.moments old) (members.moments mid) image reads.elapses.grows was)))
           (λ new. inr new)
 
-  -- a journal that stands for a text and no event
-  pub one_history : (journal : Journal D) (text : List ℕ) → IsReady members journal text []
-      → HasOneHistory members (record { text = text; first = []; log = []; failed = None }) journal.disk
-  one_history journal text ready = record {
-    read = λ told is. inl (ready.stands told is);
-    left = λ told is image left. inl (subst (λ (b : List ℕ). Stands b text []) (sym (ready.settled told is image left)) (ready.stands told is));
+  -- a journal that stands for a text and a history
+  pub one_history : (journal : Journal D) (text : List ℕ) (history : List Entry) → IsReady members journal text history
+      → HasOneHistory members (unposted text history) journal.disk
+  one_history journal text history ready = record {
+    read = λ told is. inl (stands told is);
+    left = λ told is image left.
+        inl (subst (λ (b : List ℕ). Stands b text (history ++ [])) (sym (ready.settled told is image left)) (stands told is));
   }
+    where
+      stands : (told : List ℕ) → members.content journal.disk ≡ Some told → Stands told text (history ++ [])
+      stands told is = subst (Stands told text) (sym (append-nil history)) (ready.stands told is)

@@ -1,5 +1,6 @@
 -- A new session, from the calls that make it.
 use Rattle.std.proofs.Common.{◌≡◌, ◌≤◌, inl, inr, ℕ, List, [], ◌∷◌, ◌++◌, Some, None, IsErrAnd, Result, Ok, Err, IfErr, length, take, refl, sym, ◌∙◌, ap, subst, arith, IsTrue, IsFalse}
+use Rattle.std.specs.Prelude.{is_some}
 use Rattle.std.specs.Option.{ForSome}
 use Rattle.px_event.specs.declared.entry.Entry.{Entry}
 use Rattle.px_exec.specs.Executive.{Opening, Executive}
@@ -18,7 +19,7 @@ use Rattle.px_sem.specs.declared.stepper.Stepper
 use Rattle.px_session.specs.Attached.{IsAttached, IsNotAttached}
 use Rattle.px_session.specs.Opened.{LeavesNew, IsOpening, Creates, IsCreateWhy, IsNotCreated}
 use Rattle.px_journal.proofs.Creating.{nothing_or_not}
-use Rattle.px_session.specs.Session.{HasOneHistory}
+use Rattle.px_session.specs.Session.{unposted, HasOneHistory}
 use Rattle.px_session.proofs.Leaving.{untouched_at_once, untouched_read, untouched_on, new_read, new_on, one_history}
 
 module _ {D : Type 0} (members : Disk.Ghosts D) (name text : List ℕ) (old mid : D) where
@@ -26,6 +27,7 @@ module _ {D : Type 0} (members : Disk.Ghosts D) (name text : List ℕ) (old mid 
   unattached failed = record {
     why = failed.rose;
     leaves = new_read members text old mid failed.reads;
+    tells = ap is_some (failed.reads).bytes;
     untouched = λ told is whole. untouched_read members old mid failed.reads;
     bound = failed.bound;
     faults = failed.faults;
@@ -35,12 +37,15 @@ module _ {D : Type 0} (members : Disk.Ghosts D) (name text : List ℕ) (old mid 
       (each : ForSome (members.content mid)
       (λ _. LeavesOnly members.images (OldOrNew (members.images (members.moments mid)) text) (members.moments mid) (members.moments new)))
       (stays : StaysAttached (members.bound_to mid) (members.bound_to new) (members.is_attached mid) (members.is_attached new))
-      (later : members.faults mid ≤ members.faults new) where
+      (later : members.faults mid ≤ members.faults new) (telling : is_some (members.content new) ≡ is_some (members.content mid)) where
     leaves : LeavesNew members text old new
     leaves = new_on members text old mid new was.reads (record { grows = grows; each = each })
 
     bound : members.bound_to new ≡ Some name
     bound = stays.bound ∙ was.bound
+
+    tells : is_some (members.content new) ≡ is_some (members.content old)
+    tells = telling ∙ ap is_some (was.reads).bytes
 
     kept : ForSome (members.content mid) (λ told. IsFalse (is_nothing told) → IsUntouched members mid new)
         → ForSome (members.content old) (λ told. IsFalse (is_nothing told) → IsUntouched members old new)
@@ -53,6 +58,7 @@ module _ {D : Type 0} (members : Disk.Ghosts D) (name text : List ℕ) (old mid 
     uncreated why cause untouched = record {
       why = by why cause;
       leaves = leaves;
+      tells = tells;
       untouched = kept untouched;
       bound = inl bound;
       faults = omega (arith, was.faults, later);
@@ -83,6 +89,7 @@ module _ {D : Type 0} (members : Disk.Ghosts D) (name text : List ℕ) (old mid 
           (subst (IsReady members journal text) (sym none) ready);
       was_nothing = λ told is. nothing told ((was.reads).bytes ∙ is);
       leaves = subst (LeavesNew members text old) (sym here) leaves;
+      tells = ap (λ (d : D). is_some (members.content d)) here ∙ tells;
       bound = ap members.bound_to here ∙ bound;
       faults = subst (λ (d : D). members.faults old ≤ members.faults d) (sym here) (omega (arith, was.faults, later));
     }
@@ -108,9 +115,10 @@ module _ {D : Type 0} (members : Disk.Ghosts D) (name text : List ℕ) (old mid 
     made_in_vain journal here ready nothing = record {
       why = inr (
         λ told is. nothing told ((was.reads).bytes ∙ is),
-        subst (HasOneHistory members (record { text = text; first = []; log = []; failed = None })) here (one_history members journal text ready),
+        subst (HasOneHistory members (unposted text [])) here (one_history members journal text [] ready),
       );
       leaves = leaves;
+      tells = tells;
       untouched = λ told is whole. absurd (nothing_or_not (is_nothing told) (nothing told ((was.reads).bytes ∙ is)) whole);
       bound = inl bound;
       faults = omega (arith, was.faults, later);

@@ -28,6 +28,7 @@ use Rattle.px_sem.specs.declared.stepper.Stepper
 use Rattle.px_journal.specs.declared.journal.Journal.{Journal}
 use Rattle.px_session.specs.Attached.{IsAttached, IsNotAttached}
 use Rattle.px_session.specs.Opened.{IsRunWhy, IsReopenWhy, IsNotReopened, IsOpening, Reopens}
+use Rattle.px_session.specs.Session.{unposted, HasOneHistory}
 use Rattle.px_session.specs.declared.reopening.Reopened.{Reopened}
 use Rattle.px_session.proofs.Leaving.{untouched_on}
 use Rattle.px_session.specs.Whys.{of_recover, of_start, of_open}
@@ -77,9 +78,9 @@ module _ {D : Type 0} (members : Disk.Ghosts D) (name : List ℕ) (old mid : D) 
     -- it was read, and can't be run
     pub not_run : {T : Type 0} (text : List ℕ) (history : List Entry) (r : Result T (ReopenFault D))
         → ForSome (members.content mid) (λ told. Stands told text history) → members.content new ≡ members.content mid
-        → IfErr r (λ fault. fault.disk ≡ new) → IfErr r (λ fault. IsRunWhy text history fault.why) → IfErr r (IsNotReopened members name old)
-    not_run text history (Ok done) stands same here why = tt
-    not_run text history (Err fault) stands same here why =
+        → HasOneHistory members (unposted text history) new → IfErr r (λ fault. fault.disk ≡ new) → IfErr r (λ fault. IsRunWhy text history fault.why) → IfErr r (IsNotReopened members name old)
+    not_run text history (Ok done) stands same left here why = tt
+    not_run text history (Err fault) stands same left here why =
         subst (λ (d : D). IsNotReopened members name old (record { disk = d; why = fault.why })) (sym here)
         (refused_with fault.why (by fault.why why) (λ other. same))
       where
@@ -89,9 +90,9 @@ module _ {D : Type 0} (members : Disk.Ghosts D) (name : List ℕ) (old mid : D) 
         by : (w : ReopenWhy) → IsRunWhy text history w → IsReopenWhy members old new w
         by reopening.NoJournal cause = absurd cause
         by (reopening.Damaged at) cause = absurd cause
-        by reopening.PlanRefused cause = (text, history, before, cause)
-        by reopening.RunawayAtStart cause = (text, history, before, cause)
-        by (reopening.Runaway at) cause = (text, history, before, cause)
+        by reopening.PlanRefused cause = (text, history, before, left, cause)
+        by reopening.RunawayAtStart cause = (text, history, before, left, cause)
+        by (reopening.Runaway at) cause = (text, history, before, left, cause)
         by reopening.DiskFault cause = absurd cause
         by reopening.NoMemory cause = tt
 

@@ -1,5 +1,5 @@
 -- What opens a session over a journal, and why there is none.
-use Rattle.std.specs.Prelude.{◌≡◌, ◌≢◌, ◌≤◌, ◌⊎◌, ℕ, List, [], length, take, None, Some, IsSome, IsTrue, IsFalse}
+use Rattle.std.specs.Prelude.{◌≡◌, ◌≢◌, ◌≤◌, ◌⊎◌, ℕ, List, [], length, take, None, Some, IsSome, IsTrue, IsFalse, is_some}
 use Rattle.std.specs.Option.{ForSome}
 use Rattle.px_compile.specs.Compiled.{IsCompiled, IsRefused}
 use Rattle.px_core.specs.Fit.{IsFit}
@@ -21,7 +21,7 @@ use Rattle.px_ports.specs.declared.disk.Disk
 use Rattle.px_sem.specs.Log.{events_of}
 use Rattle.px_sem.specs.Run.{run, started}
 use Rattle.px_sem.specs.declared.stepper.Stepper
-use Rattle.px_session.specs.Session.{HasOneHistory, IsBoundAtMost}
+use Rattle.px_session.specs.Session.{unposted, HasOneHistory, IsBoundAtMost}
 use Rattle.px_session.specs.declared.fault.ReopenFault.{ReopenFault}
 use Rattle.px_session.specs.declared.fault.ReopenWhy.{ReopenWhy}
 use Rattle.px_session.specs.declared.fault.ReopenWhy.TheVariants as reopening
@@ -64,6 +64,7 @@ module _ {D : Type 0} (members : Disk.Ghosts D) where
     pub stands : IsTextOf members exec text
     pub was_nothing : ForSome (members.content old) (λ told. IsTrue (is_nothing told))
     pub leaves : LeavesNew text old exec.opening.journal.disk
+    pub tells : is_some (members.content exec.opening.journal.disk) ≡ is_some (members.content old)
     pub bound : members.bound_to exec.opening.journal.disk ≡ Some name
     pub faults : members.faults old ≤ members.faults exec.opening.journal.disk
 
@@ -74,11 +75,12 @@ module _ {D : Type 0} (members : Disk.Ghosts D) where
   IsCreateWhy text old new creating.DiskFault = Rose (members.faults old) (members.faults new)
   IsCreateWhy text old new creating.NoMemory = IsUntouched members old new
       ⊎ (ForSome (members.content old) (λ told. IsTrue (is_nothing told))
-      × HasOneHistory members (record { text = text; first = []; log = []; failed = None }) new)
+      × HasOneHistory members (unposted text []) new)
 
   pub record IsNotCreated (name text : List ℕ) (old : D) (fault : CreateFault D) : Type 0 where
     pub why : IsCreateWhy text old fault.disk fault.why
     pub leaves : LeavesNew text old fault.disk
+    pub tells : is_some (members.content fault.disk) ≡ is_some (members.content old)
     pub untouched : ForSome (members.content old) (λ told. IsFalse (is_nothing told) → IsUntouched members old fault.disk)
     pub bound : IsBoundAtMost members name fault.disk
     pub faults : members.faults old ≤ members.faults fault.disk
@@ -100,10 +102,11 @@ module _ {D : Type 0} (members : Disk.Ghosts D) where
     pub bound : members.bound_to reopened.exec.opening.journal.disk ≡ Some name
     pub faults : members.faults old ≤ members.faults reopened.exec.opening.journal.disk
 
-  -- the disk stands for a text and a history of which this holds
-  abbrev pub StandsFor : D → (List ℕ → List Entry → Type 0) → Type 0
-  StandsFor disk IsSuch = (text : List ℕ) × (history : List Entry)
-      × ForSome (members.content disk) (λ told. Stands told text history) × IsSuch text history
+  -- the disk stood for a text and a history of which this holds, and stands for them
+  abbrev pub StandsFor : D → D → (List ℕ → List Entry → Type 0) → Type 0
+  StandsFor old new IsSuch = (text : List ℕ) × (history : List Entry)
+      × ForSome (members.content old) (λ told. Stands told text history) × HasOneHistory members (unposted text history) new
+      × IsSuch text history
 
   -- why no session goes on
   abbrev pub IsReopenWhy : D → D → ReopenWhy → Type 0
@@ -112,7 +115,7 @@ module _ {D : Type 0} (members : Disk.Ghosts D) where
       ForSome (members.content old) (λ told. IsFalse (is_nothing told) × Damaged told at)
   IsReopenWhy old new reopening.DiskFault = Rose (members.faults old) (members.faults new)
   IsReopenWhy old new reopening.NoMemory = Unit {0}
-  IsReopenWhy old new why = StandsFor old (λ text history. IsRunWhy text history why)
+  IsReopenWhy old new why = StandsFor old new (λ text history. IsRunWhy text history why)
 
   pub record IsNotReopened (name : List ℕ) (old : D) (fault : ReopenFault D) : Type 0 where
     pub why : IsReopenWhy old fault.disk fault.why

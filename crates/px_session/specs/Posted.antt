@@ -69,7 +69,7 @@ module _ {D : Type 0} (members : Disk.Ghosts D) where
     pub runs_on : IsSome (run (plan_of runs exec) (events_of posted.history.items))
     pub fit : OnOk posted.end (IsTrue (list_all is_fit_entry posted.history.items))
     pub few : OnOk posted.end (length posted.history.items < 2 ^ 32)
-    pub disk : TellsBytes members → (text : List ℕ) → IsTextOf members exec text
+    pub disk : TellsBytes members exec.opening.journal.disk → (text : List ℕ) → IsTextOf members exec text
         → LeavesSession (record { text = text; first = exec.opening.history; log = posted.log.items; failed = failed })
         exec.opening.journal.disk posted.disk
     pub grows : take (length (members.moments exec.opening.journal.disk)) (members.moments posted.disk)

@@ -16,6 +16,10 @@ pub record Session : Type 0 where
   pub log : Log
   pub failed : Option Entry
 
+-- one in which nothing was posted
+abbrev pub unposted : List ℕ → List Entry → Session
+unposted text history = record { text = text; first = history; log = []; failed = None }
+
 -- every acknowledged event
 abbrev pub history_of : Session → List Entry
 history_of session = session.first ++ accepted session.log

@@ -1,4 +1,5 @@
 use Rattle.std.proofs.Common.{Err, ap, refl}
+use Rattle.px_session.proofs.Leaving.{one_history}
 use Rattle.px_session.proofs.Taking.{not_recovered, not_run, taken_up}
 use Rattle.px_session.proofs.reopening.reopen.Goals as goal
 
@@ -7,7 +8,8 @@ returns-in-Ok-recover-clause-refused g c =
     let read = c.in-Ok-recover.recovered in
     let told = c.in-Ok-recover.ensures in
     not_run g.D.Disk c.args.name.now c.args.disk c.in-Ok.disk c.in-Ok.ensures.attached read.journal.disk told.writes_nothing told.stays told.later
-    read.plan.items read.history.items c.run_recovered.result told.stands (told.same (λ none. none)) c.run_recovered.ensures.handed_back
+    read.plan.items read.history.items c.run_recovered.result told.stands (told.same (λ none. none))
+    (one_history g.D.Disk read.journal read.plan.items read.history.items told.read) c.run_recovered.ensures.handed_back
     c.run_recovered.ensures.why
 
 pub returns-in-Err-recover-clause-refused : goal.returns-in-Err-recover-clause-refused

@@ -5,6 +5,10 @@ use Rattle.px_session.specs.Opened.{IsRunWhy}
 use Rattle.px_session.proofs.Taking.{not_opened}
 use Rattle.px_session.proofs.reopening.run_recovered.Goals as goal
 
+pub returns-in-Ok-open-clause-compiled : goal.returns-in-Ok-open-clause-compiled
+returns-in-Ok-open-clause-compiled g c =
+    subst (λ text. IsCompiled text (tree_of c.in-Ok.started.0)) c.deref.ensures.value c.in-Ok.ensures.compiled
+
 pub returns-in-Err-clause-why : goal.returns-in-Err-clause-why
 returns-in-Err-clause-why g c =
     let history = c.args.recovered.history.items in
