@@ -1,5 +1,5 @@
 // The way of a text to the host: it gathers in a buffer, and goes out in large pieces until the sink fails.
-ghost use Rattle.std.specs.Prelude.{◌≡◌, []};
+ghost use Rattle.std.specs.Prelude.{◌≡◌, ◌<◌, [], length, OnOk};
 ghost use Rattle.px_output.specs.declared.printer.PrintFault.TheVariants.{NoMemory as OutOfMemory};
 ghost use Rattle.px_output.specs.Printing.{Prints};
 ghost use Rattle.px_output.specs.View.{view, OnlyPrints};
@@ -49,7 +49,8 @@ pub fn emit_all<H: Host>(host: &mut H, text: &[u8]) -> Result<(), PrintFault>
     Ok(())
 }
 
-/// What is printed and not yet emitted. To contracts it is that text.
+/// What is printed and not yet emitted, which after each call that succeeds is less than a piece. To contracts it is that
+/// text.
 #[derive(Drop)]
 pub struct Printer {
     alloc: Global,
@@ -80,6 +81,7 @@ impl Printer {
     pub fn start<H: Host>(&mut self, host: &mut H) -> Result<(), PrintFault>
         ensures prints { Prints (view H.Host host.old) self.old (view H.Host host.new) self.new
             (start_text) result }
+        ensures short { OnOk result (length self.new < 65536) }
         ensures only { OnlyPrints (view H.Host host.old) (view H.Host host.new) }
     {
         push_start(self.alloc, &mut self.buffer)?;
@@ -96,6 +98,7 @@ impl Printer {
     ) -> Result<(), PrintFault>
         ensures prints { Prints (view H.Host host.old) self.old (view H.Host host.new) self.new
             (heading_text position entry.now) result }
+        ensures short { OnOk result (length self.new < 65536) }
         ensures only { OnlyPrints (view H.Host host.old) (view H.Host host.new) }
     {
         push_heading(self.alloc, position, entry, &mut self.buffer)?;
@@ -112,6 +115,7 @@ impl Printer {
     ) -> Result<(), PrintFault>
         ensures prints { Prints (view H.Host host.old) self.old (view H.Host host.new) self.new
             (step_text number moves.now) result }
+        ensures short { OnOk result (length self.new < 65536) }
         ensures only { OnlyPrints (view H.Host host.old) (view H.Host host.new) }
     {
         push_step(self.alloc, number, moves, &mut self.buffer)?;
@@ -123,6 +127,7 @@ impl Printer {
     pub fn quiet<H: Host>(&mut self, host: &mut H, count: u32) -> Result<(), PrintFault>
         ensures prints { Prints (view H.Host host.old) self.old (view H.Host host.new) self.new
             (quiet_text count) result }
+        ensures short { OnOk result (length self.new < 65536) }
         ensures only { OnlyPrints (view H.Host host.old) (view H.Host host.new) }
     {
         push_quiet(self.alloc, count, &mut self.buffer)?;
@@ -134,6 +139,7 @@ impl Printer {
     pub fn reply<H: Host>(&mut self, host: &mut H, logged: &LogEntry) -> Result<(), PrintFault>
         ensures prints { Prints (view H.Host host.old) self.old (view H.Host host.new) self.new
             (reply_line logged.now.entry.thread logged.now.entry.line logged.now.reply) result }
+        ensures short { OnOk result (length self.new < 65536) }
         ensures only { OnlyPrints (view H.Host host.old) (view H.Host host.new) }
     {
         let line = LoggedLine {
@@ -150,6 +156,7 @@ impl Printer {
     pub fn standing<H: Host>(&mut self, host: &mut H, standing: Standing) -> Result<(), PrintFault>
         ensures prints { Prints (view H.Host host.old) self.old (view H.Host host.new) self.new
             (standing_text standing) result }
+        ensures short { OnOk result (length self.new < 65536) }
         ensures only { OnlyPrints (view H.Host host.old) (view H.Host host.new) }
     {
         push_standing(self.alloc, &standing, &mut self.buffer)?;
@@ -167,6 +174,7 @@ impl Printer {
     // Emits the buffer where it has grown to a piece.
     fn emit_piece<H: Host>(&mut self, host: &mut H) -> Result<(), PrintFault>
         ensures prints { Prints (view H.Host host.old) self.old (view H.Host host.new) self.new [] result }
+        ensures short { OnOk result (length self.new < 65536) }
         ensures only { OnlyPrints (view H.Host host.old) (view H.Host host.new) }
     {
         if self.buffer.len() >= PIECE {
