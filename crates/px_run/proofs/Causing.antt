@@ -126,8 +126,8 @@ module _ {D : Type 0} (members : Disk.Ghosts D) (words : List (List ℕ)) (befor
     refused_caused : (ending : Ending) → JournalRefuses members old ending → IsCaused ending.status
     refused_caused _ (inl (HasNoJournal.nothing told)) = Cause.journal_refused (inr (no_plan, journal, _, inl (HasNoJournal.nothing told), refl))
     refused_caused _ (inl (HasNoJournal.damaged at told)) = Cause.journal_refused (inr (no_plan, journal, _, inl (HasNoJournal.damaged at told), refl))
-    refused_caused _ (inr (text, first, told, CannotRun.plan fault other refused)) =
-        Cause.journal_refused (inr (no_plan, journal, _, inr (text, first, told, CannotRun.plan fault other refused), refl))
+    refused_caused _ (inr (text, first, told, CannotRun.no_plan fault other refused)) =
+        Cause.journal_refused (inr (no_plan, journal, _, inr (text, first, told, CannotRun.no_plan fault other refused), refl))
     refused_caused _ (inr (text, first, told, CannotRun.start_runs_away tree compiled is)) =
         Cause.taken_up_runaway (no_plan, journal, text, first, tree, told, compiled, is)
     refused_caused _ (inr (text, first, told, CannotRun.event_runs_away tree at compiled away)) =

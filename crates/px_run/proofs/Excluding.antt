@@ -86,7 +86,7 @@ module _ {D : Type 0} (members : Disk.Ghosts D) (disk : D) (bytes text : List �
   pub only_runs_away : (ending : Ending) → JournalRefuses members disk ending → RunsAway tree first ending
   only_runs_away _ (inl (HasNoJournal.nothing nothing)) = absurd (stands_something bytes text first stands (nothing bytes told))
   only_runs_away _ (inl (HasNoJournal.damaged at damaged)) = absurd (undamaged bytes text first stands at ((damaged bytes told).1))
-  only_runs_away _ (inr (other, others, so, CannotRun.plan fault some refused)) =
+  only_runs_away _ (inr (other, others, so, CannotRun.no_plan fault some refused)) =
       absurd (no_refused_plan other tree fault (subst (λ t. IsCompiled t tree) (sym (same_text other others so)) compiled) some refused)
   only_runs_away _ (inr (other, others, so, CannotRun.start_runs_away found spells is)) =
       RunsAway.start refl (ap (λ t. started (sites t)) (sym (same_tree other others found so spells)) ∙ is)
@@ -115,7 +115,7 @@ same_kind : {D : Type 0} (members : Disk.Ghosts D) (disk : D) (bytes : List ℕ)
     → JournalRefuses members disk first → first.status ≡ 5 → JournalRefuses members disk second → second.status ≡ 5
 same_kind members disk bytes first _ told refuses status (inl (HasNoJournal.nothing nothing)) = refl
 same_kind members disk bytes first _ told refuses status (inl (HasNoJournal.damaged at damaged)) = refl
-same_kind members disk bytes first _ told refuses status (inr (text, history, so, CannotRun.plan fault other refused)) = refl
+same_kind members disk bytes first _ told refuses status (inr (text, history, so, CannotRun.no_plan fault other refused)) = refl
 same_kind members disk bytes first _ told refuses status (inr (text, history, so, CannotRun.start_runs_away tree compiled is)) =
     sym (refused_at_start members disk bytes text history tree told (so bytes told) compiled first is refuses) ∙ status
 same_kind members disk bytes first _ told refuses status (inr (text, history, so, CannotRun.event_runs_away tree at compiled away)) = refl
@@ -126,8 +126,8 @@ one_status members disk bytes _ second told (inl (HasNoJournal.nothing nothing))
     same_kind members disk bytes no_journal second told (inl (HasNoJournal.nothing nothing)) refl also
 one_status members disk bytes _ second told (inl (HasNoJournal.damaged at damaged)) also =
     same_kind members disk bytes (journal_damaged at) second told (inl (HasNoJournal.damaged at damaged)) refl also
-one_status members disk bytes _ second told (inr (text, history, so, CannotRun.plan fault other refused)) also =
-    same_kind members disk bytes journal_plan second told (inr (text, history, so, CannotRun.plan fault other refused)) refl also
+one_status members disk bytes _ second told (inr (text, history, so, CannotRun.no_plan fault other refused)) also =
+    same_kind members disk bytes journal_plan second told (inr (text, history, so, CannotRun.no_plan fault other refused)) refl also
 one_status members disk bytes _ second told (inr (text, history, so, CannotRun.start_runs_away tree compiled is)) also =
     refused_at_start members disk bytes text history tree told (so bytes told) compiled second is also
 one_status members disk bytes _ second told (inr (text, history, so, CannotRun.event_runs_away tree at compiled away)) also =

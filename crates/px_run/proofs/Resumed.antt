@@ -86,7 +86,7 @@ module _ {D : Type 0} (members : Disk.Ghosts D) (journal : List ℕ) (Next : D �
       by reopening.PlanRefused is cause =
           let c = subst (IsReopenWhy members old fault.disk) is cause in
           not_run_as reopening.PlanRefused is (λ e. cc) (c.0) (c.1) (c.3)
-          (AfterJournal.not_run (c.0) (c.1) journal_plan (c.2) (CannotRun.plan (c.4.0) (c.4.1) (c.4.2)), refl)
+          (AfterJournal.not_run (c.0) (c.1) journal_plan (c.2) (CannotRun.no_plan (c.4.0) (c.4.1) (c.4.2)), refl)
       by reopening.RunawayAtStart is cause =
           let c = subst (IsReopenWhy members old fault.disk) is cause in
           not_run_as reopening.RunawayAtStart is (λ e. cc) (c.0) (c.1) (c.3)

@@ -40,7 +40,7 @@ pub record IsSession (plan : List Site) (text : List ℕ) (first : List Entry) (
 
 -- why the plan and the history of a journal can't be run
 pub data CannotRun (text : List ℕ) (first : List Entry) : Ending → Type 0 where
-  plan : (fault : PlanFault) → fault ≢ PlanOutOfMemory → IsRefused text fault → CannotRun text first journal_plan
+  no_plan : (fault : PlanFault) → fault ≢ PlanOutOfMemory → IsRefused text fault → CannotRun text first journal_plan
   start_runs_away :
       (tree : Tree) → IsCompiled text tree → started (sites tree) ≡ None → CannotRun text first runaway_at_start
   event_runs_away :
