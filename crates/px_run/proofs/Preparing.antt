@@ -166,9 +166,9 @@ module _ {D : Type 0} (members : Disk.Ghosts D) (plan script name : List ℕ) (l
     course = done.course;
     performs = due_since old mid new (NewCalls members (sites tree) ready.text.items limit threads disk carried.disk done.course)
         (RunCalls members plan script limit old new disk carried.disk done.course) carried.result only
-        (λ due calls. after_reading (List ℕ × Tree) (with_text plan_file) old new plan (ready.text.items, tree) _ done.course due
+        (λ due calls. after_reading (List ℕ × Tree) (with_text plan_file) old new plan (ready.text.items, tree) Untouched _ done.course due
         (reads_later (List ℕ × Tree) (with_text plan_file) old mid new plan (ready.text.items, tree) keeps.read_faults is_ready.source)
-        (after_reading (List Todo) (script_file (sites tree)) old new script threads _ done.course due
+        (after_reading (List Todo) (script_file (sites tree)) old new script threads Untouched _ done.course due
         (reads_later (List Todo) (script_file (sites tree)) old mid new script threads keeps.read_faults is_ready.left.read)
         (subst (RunCallsBy members (sites tree) ready.text.items limit threads disk carried.disk done.course due) (sym start.1) calls)))
         done.performs;

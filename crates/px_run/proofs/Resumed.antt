@@ -220,24 +220,24 @@ module _ {S D : Type 0} (runs : Stepper.Ghosts S) (members : Disk.Ghosts D) (jou
   abbrev traced_ending : Ending
   traced_ending = session_ending (sites (tree_of reopened.plan)) reopened.exec.opening.history []
 
-  abbrev taken_up : Course
-  taken_up = TakenUp r.text reopened.exec.opening.history
+  abbrev traced_course : Course
+  traced_course = TakenUp r.text reopened.exec.opening.history
 
-  due_trace : TraceCalls members old disk taken_up (Some traced_ending)
-  due_trace = AfterJournal.opened r.text reopened.exec.opening.history (tree_of reopened.plan) taken_up (Some traced_ending) r.stands r.compiled r.settles (refl, refl)
+  due_trace : TraceCalls members old disk traced_course (Some traced_ending)
+  due_trace = AfterJournal.opened r.text reopened.exec.opening.history (tree_of reopened.plan) traced_course (Some traced_ending) r.stands r.compiled r.settles (refl, refl)
 
-  traced : (result : Result Unit Stop) → PerformsDue before now (TraceCalls members old disk taken_up) result
+  traced : (result : Result Unit Stop) → PerformsDue before now (TraceCalls members old disk traced_course) result
       → Traces members journal before now old (record { result = result; disk = disk })
   traced result performs = record {
-    course = taken_up;
+    course = traced_course;
     performs = performs;
-    leaves = λ tells. subst (λ (d : D). Leaves members old d taken_up) (sym here) (left_taken_up members runs journal limit old reopened r);
+    leaves = λ tells. subst (λ (d : D). Leaves members old d traced_course) (sym here) (left_taken_up members runs journal limit old reopened r);
     bound = inl (ap members.bound_to here ∙ r.bound);
   }
 
   pub trace_printed : Prints {T = Unit} before [] now [] traced_ending.text (Ok tt) → Traces members journal before now old (record { result = Ok tt; disk = disk })
-  trace_printed prints = traced (Ok tt) (due_printed before now (TraceCalls members old disk taken_up) traced_ending due_trace refl prints)
+  trace_printed prints = traced (Ok tt) (due_printed before now (TraceCalls members old disk traced_course) traced_ending due_trace refl prints)
 
   pub trace_broken_off : (fault : PrintFault) → Prints {T = Unit} before [] now [] traced_ending.text (Err fault)
       → Traces members journal before now old (record { result = Err (stop_of fault); disk = disk })
-  trace_broken_off fault prints = traced (Err (stop_of fault)) (due_broken_off before now (TraceCalls members old disk taken_up) traced_ending fault due_trace prints)
+  trace_broken_off fault prints = traced (Err (stop_of fault)) (due_broken_off before now (TraceCalls members old disk traced_course) traced_ending fault due_trace prints)
