@@ -11,7 +11,7 @@
 //! the content of the file P
 //! ---- script
 //! the content of the file S
-//! ---- faults fetch=NUMBER emit=NUMBER device=NUMBER piece=NUMBER
+//! ---- faults fetch=NUMBER emit=NUMBER device=NUMBER stop=NUMBER image=IMAGE piece=NUMBER
 //! ---- journal BYTES
 //! ---- answers STATUS
 //! the text that is emitted
@@ -24,7 +24,9 @@
 //! The BYTES are what a read of the disk gives before the call and after it, in hexadecimal, two digits a byte; blanks and
 //! line feeds between them say nothing. A row without `journal` has an empty disk, and one without `leaves` leaves the disk
 //! as it was. In `faults` stands which fetch, emit or device call fails, each counted from 1, and how many bytes the sink
-//! takes at once; what isn't named doesn't fail, and the sink takes all.
+//! takes at once; what isn't named doesn't fail, and the sink takes all. With `stop` each device call behind so many fails,
+//! as in a power cut, and `leaves` then tells the IMAGE of a crash: `stable` is what was synced last, and the number of a
+//! byte what a read gives with this byte in place of each that was written since; without IMAGE it is what a read gives.
 //!
 //! A row that doesn't hold is printed with what was answered in place of what had to be, and at the end the number of rows
 //! that hold.

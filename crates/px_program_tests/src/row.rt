@@ -13,7 +13,7 @@ pub(crate) struct Row<'a> {
     pub(crate) journal: &'a str,
     /// The status, a line feed, and the text without its last line feed.
     pub(crate) answer: &'a str,
-    /// The bytes of the disk after the call, in hexadecimal.
+    /// The picked image of the disk after the call, in hexadecimal.
     pub(crate) leaves: &'a str,
 }
 

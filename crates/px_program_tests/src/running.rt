@@ -1,6 +1,6 @@
 // A call of the program over a host in memory that has two files, and a disk in memory.
 use crate::faults::Faults;
-use px_ports::{MemDisk, MemFile, MemHost, Pick};
+use px_ports::{MemDisk, MemFile, MemHost};
 use px_run::{Done, plexil};
 use std::alloc::Global;
 
@@ -14,7 +14,7 @@ pub(crate) struct Call<'a> {
     pub(crate) faults: Faults,
 }
 
-/// The status of a call, what was emitted, and what a read of the disk gives then.
+/// The status of a call, what was emitted, and the picked image of the disk then.
 #[derive(Drop)]
 pub(crate) struct Answer {
     pub(crate) status: u8,
@@ -61,12 +61,17 @@ pub(crate) fn answer_of(alloc: Global, call: Call<'_>) -> anyhow::Result<Answer>
     let words = words_of(alloc, call.words)?;
     let mut host = host_of(alloc, call)?;
     let failing = listed(alloc, call.faults.device)?;
-    let disk = MemDisk::new(alloc, call.journal.to_vec(alloc)?, failing, None)?;
+    let disk = MemDisk::new(
+        alloc,
+        call.journal.to_vec(alloc)?,
+        failing,
+        call.faults.stop,
+    )?;
 
     let Done { status, disk } = plexil(alloc, &words, &mut host, disk);
     Ok(Answer {
         status,
         text: String::from_utf8(host.emitted().to_vec(alloc)?)?,
-        left: disk.image(alloc, Pick::Reads)?,
+        left: disk.image(alloc, call.faults.image)?,
     })
 }
