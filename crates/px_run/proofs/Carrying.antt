@@ -1,17 +1,15 @@
 -- What each command has come to, as one of the program's.
-use Rattle.std.proofs.Common.{◌≡◌, inl, inr, ℕ, List, Option, Some, None, Result, Ok, Err, refl, sym, ◌∙◌, ap, subst}
-use Rattle.px_exec.specs.Executive.{TellsBytes}
-use Rattle.px_journal.specs.Journal.{IsUntouched}
+use Rattle.std.proofs.Common.{◌≡◌, inl, inr, ℕ, List, Option, Some, None, Result, Ok, Err, refl}
 use Rattle.px_output.specs.View.{View}
 use Rattle.px_ports.specs.declared.disk.Disk
 use Rattle.px_session.specs.Session.{IsBoundAtMost}
 use Rattle.px_session.proofs.Leaving.{untouched_at_once}
 use Rattle.px_words.specs.Words.{Command, TraceStart, DryRun, Check, Run, Resume, Trace, journal_of}
-use Rattle.px_run.specs.Course.{Course, Untouched, Due}
-use Rattle.px_run.specs.Ending.{Ending, usage}
-use Rattle.px_run.specs.Finishing.{Carries, Performed, Runs, Resumes, Traces}
+use Rattle.px_run.specs.Course.{Untouched}
+use Rattle.px_run.specs.Ending.{Ending}
+use Rattle.px_run.specs.Finishing.{Performed, Runs, Resumes, Traces}
 use Rattle.px_run.specs.Headline.{TraceStartCalls, DryRunCalls, CheckCalls, CommandCallsFor, Plainly, IsBoundFor}
-use Rattle.px_run.specs.Stops.{Performs, PerformsDue, ending_of}
+use Rattle.px_run.specs.Stops.{Performs, PerformsDue}
 use Rattle.px_run.specs.declared.ending.Refusal.TheVariants as refusals
 use Rattle.px_run.specs.declared.ending.Stop.{Stop}
 use Rattle.px_run.specs.declared.ending.Stop.TheVariants as stops

@@ -1,6 +1,6 @@
 -- What the bytes of a journal exclude of one another: what stands for a text and a history is refused only where that runs
 -- away.
-use Rattle.std.proofs.Common.{◌≡◌, inl, inr, ℕ, ◌+◌, ◌<◌, List, [], ◌∷◌, ◌++◌, length, Option, Some, None, IsSome, IsTrue, refl, arith, ap, subst, sym, ◌∙◌, append_assoc}
+use Rattle.std.proofs.Common.{◌≡◌, inl, inr, ℕ, ◌<◌, List, [], ◌∷◌, ◌++◌, length, Option, Some, None, IsSome, IsTrue, refl, arith, ap, subst, sym, ◌∙◌, append_assoc}
 use Rattle.std.specs.Option.{ForSome}
 use Rattle.std.proofs.lemmas.List.{map-append}
 use Rattle.px_core.specs.Plan.{Site, Tree, sites}
@@ -9,7 +9,7 @@ use Rattle.px_event.specs.declared.event.Event.{Event}
 use Rattle.px_compile.specs.Compiled.{IsCompiled}
 use Rattle.px_compile.proofs.Refusals.{one_plan}
 use Rattle.px_exec.specs.Opening.{RunsAwayAt}
-use Rattle.px_journal.specs.Layout.{heading, is_nothing, next_gate, Stands}
+use Rattle.px_journal.specs.Layout.{is_nothing, next_gate, Stands}
 use Rattle.px_journal.proofs.Appending.{closed_within}
 use Rattle.px_journal.proofs.Creating.{not_nothing, nothing_or_not}
 use Rattle.px_journal.proofs.Histories.{length-heading}

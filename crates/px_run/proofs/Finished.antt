@@ -1,5 +1,5 @@
 -- The end of a session, from what its posts have come to and what was printed.
-use Rattle.std.proofs.Common.{◌≡◌, ◌≤◌, inl, inr, ℕ, List, [], ◌++◌, Option, Some, None, IsSome, Result, Ok, Err, IsErrOf, refl, sym, ◌∙◌, ap, subst, arith}
+use Rattle.std.proofs.Common.{◌≡◌, ◌≤◌, inl, inr, ℕ, List, [], ◌++◌, Some, Result, Ok, Err, IsErrOf, refl, sym, ◌∙◌, ap, subst, arith}
 use Rattle.px_core.specs.Plan.{Site}
 use Rattle.px_event.specs.declared.entry.Entry.{Entry}
 use Rattle.px_exec.proofs.Keeping.{told_of}
@@ -14,7 +14,7 @@ use Rattle.px_ports.specs.declared.disk.Disk
 use Rattle.px_sem.specs.Log.{Log, accepted}
 use Rattle.px_sem.specs.Text.{text_of}
 use Rattle.px_sem.specs.declared.stepper.Stepper
-use Rattle.px_session.specs.Posted.{Posts, WasDue, EndsBy, LeavesSession}
+use Rattle.px_session.specs.Posted.{Posts, WasDue, EndsBy}
 use Rattle.px_session.specs.Session.{Session}
 use Rattle.px_session.specs.declared.posting.PostStop.{PostStop}
 use Rattle.px_session.specs.declared.posting.PostStop.TheVariants as posting

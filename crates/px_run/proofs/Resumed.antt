@@ -1,34 +1,29 @@
 -- A journal that is taken up: what a command has come to then.
-use Rattle.std.proofs.Common.{◌≡◌, ◌≢◌, ◌≤◌, inl, inr, ⊎_elim, ℕ, List, [], ◌++◌, Option, Some, None, IsSome, Result, Ok, Err, length, take, refl, sym, ◌∙◌, ap, subst}
+use Rattle.std.proofs.Common.{◌≡◌, ◌≢◌, ◌≤◌, inl, inr, ⊎_elim, ℕ, List, [], Some, None, Result, Ok, Err, length, refl, sym, ◌∙◌, ap, subst}
 use Rattle.std.specs.Prelude.{is_some}
-use Rattle.std.specs.Option.{ForSome}
 use Rattle.px_core.specs.Plan.{Site, Tree, tree_of, sites}
 use Rattle.px_event.specs.declared.entry.Entry.{Entry}
-use Rattle.px_exec.specs.Executive.{Executive, plan_of, IsTextOf, TellsBytes}
+use Rattle.px_exec.specs.Executive.{plan_of, IsTextOf}
 use Rattle.px_journal.specs.Crash.{LeavesOnly}
 use Rattle.px_journal.specs.Journal.{IsUntouched}
 use Rattle.px_journal.specs.Layout.{Stands}
 use Rattle.px_journal.proofs.Moments.{grows_on, grows_length, left_before_or_after}
-use Rattle.px_output.specs.View.{View, Faulted, EmitsPart, OnlyReads, KeepsFiles}
-use Rattle.px_ports.specs.Host.{Rose}
-use Rattle.px_ports.specs.Moment.{Elapses, Stays}
+use Rattle.px_output.specs.View.{View, OnlyReads}
 use Rattle.px_ports.specs.declared.disk.Disk
 use Rattle.px_ports.specs.declared.moment.Moment.{Moment}
 use Rattle.px_script.specs.Order.{InFileOrder}
 use Rattle.px_script.specs.Rest.{rest}
-use Rattle.px_script.specs.declared.todo.Todo.{Todo}
 use Rattle.px_sem.specs.Log.{IsLegal}
 use Rattle.px_sem.specs.declared.stepper.Stepper
-use Rattle.px_session.specs.Opened.{IsOpening, Reopens, IsNotReopened, IsReopenWhy}
-use Rattle.px_session.specs.Posted.{WasDue, LeavesSession}
+use Rattle.px_session.specs.Opened.{Reopens, IsNotReopened, IsReopenWhy}
+use Rattle.px_session.specs.Posted.{WasDue}
 use Rattle.px_session.specs.Session.{Session, unposted, history_of, IsFront, HasOneHistory, LeavesFronts}
 use Rattle.px_session.specs.declared.fault.ReopenFault.{ReopenFault}
 use Rattle.px_session.specs.declared.fault.ReopenWhy.{ReopenWhy}
 use Rattle.px_session.specs.declared.fault.ReopenWhy.TheVariants as reopening
 use Rattle.px_session.specs.declared.reopening.Reopened.{Reopened}
 use Rattle.px_run.specs.Course.{Course, Untouched, Unread, TakenUp, GoneOn, Due, AfterFile, Leaves}
-use Rattle.px_run.specs.Ending.{Ending, session_ending, runaway_at_start, disk_fault, no_journal, journal_damaged, journal_plan, journal_runaway}
-use Rattle.px_run.specs.File.{Shows}
+use Rattle.px_run.specs.Ending.{Ending, session_ending, runaway_at_start, no_journal, journal_damaged, journal_plan, journal_runaway}
 use Rattle.px_run.specs.Finishing.{IsLeft, Carries, Finishes, Resumes, Traces}
 use Rattle.px_run.specs.Journaled.{IsSession, DueBehind, HasNoJournal, CannotRun, AfterJournal, ResumeCalls, TraceCalls}
 use Rattle.px_run.specs.Kinds.{script_file}

@@ -1,5 +1,5 @@
 -- What became of the journal in a call, and what is due to be printed then.
-use Rattle.std.specs.Prelude.{◌≡◌, ◌⊎◌, ℕ, List, Option, Some, None, IsTrue, IsFalse}
+use Rattle.std.specs.Prelude.{◌≡◌, ℕ, List, Option, Some, None, IsTrue, IsFalse}
 use Rattle.std.specs.Option.{ForSome}
 use Rattle.px_event.specs.declared.entry.Entry.{Entry}
 use Rattle.px_journal.specs.Journal.{IsUntouched}

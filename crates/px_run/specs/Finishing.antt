@@ -1,13 +1,12 @@
 -- What the commands with a journal have come to, part by part.
-use Rattle.std.specs.Prelude.{◌≡◌, ◌≢◌, ◌≤◌, ◌⊎◌, ℕ, List, [], ◌++◌, Option, Some, None, IsSome, IsTrue, length, take}
+use Rattle.std.specs.Prelude.{◌≡◌, ◌≤◌, ℕ, List, [], ◌++◌, Option, Some, None, IsTrue, length, take}
 use Rattle.std.specs.List.{list_all}
 use Rattle.px_core.specs.Fit.{IsFit}
 use Rattle.px_core.specs.Plan.{Site, tree_of, sites}
 use Rattle.px_event.specs.Fit.{is_fit_entry}
 use Rattle.px_event.specs.declared.entry.Entry.{Entry}
-use Rattle.px_exec.specs.Executive.{Executive, plan_of, IsTextOf, TellsBytes}
+use Rattle.px_exec.specs.Executive.{Executive, plan_of, TellsBytes}
 use Rattle.px_output.specs.View.{View}
-use Rattle.px_ports.specs.Host.{Rose}
 use Rattle.px_ports.specs.declared.disk.Disk
 use Rattle.px_script.specs.Order.{InFileOrder}
 use Rattle.px_script.specs.Rest.{rest}

@@ -1,5 +1,5 @@
 -- What the posts of a session have come to, by what the executive keeps.
-use Rattle.std.proofs.Common.{◌≡◌, ◌≤◌, ◌<◌, ◌+◌, ◌^◌, ◌⊎◌, inl, inr, ⊎_elim, ℕ, List, [], ◌∷◌, ◌++◌, Option, Some, None, IsSome, Result, Ok, Err, OnOk, IsErrOf, length, take, refl, sym, ◌∙◌, ap, subst, arith, append-nil, IsTrue}
+use Rattle.std.proofs.Common.{◌≡◌, ◌≤◌, ◌<◌, ◌+◌, ◌^◌, inl, inr, ⊎_elim, ℕ, List, [], ◌∷◌, ◌++◌, Option, Some, None, IsSome, Result, Ok, Err, OnOk, IsErrOf, length, take, refl, sym, ◌∙◌, ap, subst, arith, append-nil, IsTrue}
 use Rattle.std.proofs.lemmas.List.{length-map}
 use Rattle.std.specs.List.{list_all}
 use Rattle.std.specs.Option.{option_map, ForSome}
@@ -18,7 +18,7 @@ use Rattle.px_sem.specs.Log.{Log, IsLegal, accepted, answer, events_of}
 use Rattle.px_sem.specs.Run.{run}
 use Rattle.px_sem.specs.declared.stepper.Stepper
 use Rattle.px_session.specs.Posted.{failed_entry, WasDue, IsDueNow, FailedWasDue, EndsBy, PostsFront, LeavesSession, Posts}
-use Rattle.px_session.specs.Session.{Session, history_of, longest_of, unsure, IsEnd, IsFront, HasOneHistory}
+use Rattle.px_session.specs.Session.{Session, longest_of, unsure, IsEnd}
 use Rattle.px_session.specs.declared.posting.Posted.{Posted}
 use Rattle.px_session.specs.declared.posting.PostStop.{PostStop}
 use Rattle.px_session.specs.declared.posting.PostStop.TheVariants as stops

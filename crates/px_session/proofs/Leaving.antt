@@ -1,12 +1,11 @@
 -- From what the calls of a journal leave of a disk to what a session leaves.
-use Rattle.std.proofs.Common.{◌≡◌, ◌≤◌, ◌⊎◌, inl, inr, ⊎_elim, ℕ, List, [], ◌∷◌, ◌++◌, Some, None, length, take, refl, sym, ◌∙◌, ap, subst, arith, append-nil, IsTrue, IsFalse}
-use Rattle.std.specs.Option.{ForSome}
+use Rattle.std.proofs.Common.{◌≡◌, inl, inr, ⊎_elim, ℕ, List, [], ◌++◌, Some, length, take, refl, sym, ◌∙◌, subst, append-nil}
 use Rattle.px_event.specs.declared.entry.Entry.{Entry}
-use Rattle.px_journal.specs.Crash.{OldOrNew, LeavesOnly}
+use Rattle.px_journal.specs.Crash.{OldOrNew}
 use Rattle.px_journal.specs.Journal.{IsReady, IsUntouched}
-use Rattle.px_journal.specs.Layout.{is_nothing, Stands}
+use Rattle.px_journal.specs.Layout.{Stands}
 use Rattle.px_journal.specs.declared.journal.Journal.{Journal}
-use Rattle.px_journal.proofs.Moments.{grows_on, grows_length, left_now, left_before_or_after, elapses_none, elapses_on}
+use Rattle.px_journal.proofs.Moments.{grows_on, left_now, left_before_or_after, elapses_none, elapses_on}
 use Rattle.px_ports.specs.Moment.{LeftSince, Stays}
 use Rattle.px_ports.specs.declared.disk.Disk
 use Rattle.px_session.specs.Attached.{IsOnlyRead}

@@ -1,5 +1,5 @@
 -- A new session, from the calls that make it.
-use Rattle.std.proofs.Common.{◌≡◌, ◌≤◌, inl, inr, ℕ, List, [], ◌∷◌, ◌++◌, Some, None, IsErrAnd, Result, Ok, Err, IfErr, length, take, refl, sym, ◌∙◌, ap, subst, arith, IsTrue, IsFalse}
+use Rattle.std.proofs.Common.{◌≡◌, ◌≤◌, inl, inr, ℕ, List, [], Some, IsErrAnd, Result, Ok, Err, IfErr, length, take, refl, sym, ◌∙◌, ap, subst, arith, IsTrue, IsFalse}
 use Rattle.std.specs.Prelude.{is_some}
 use Rattle.std.specs.Option.{ForSome}
 use Rattle.px_event.specs.declared.entry.Entry.{Entry}
@@ -17,7 +17,7 @@ use Rattle.px_ports.specs.Host.{Rose}
 use Rattle.px_ports.specs.declared.disk.Disk
 use Rattle.px_sem.specs.declared.stepper.Stepper
 use Rattle.px_session.specs.Attached.{IsAttached, IsNotAttached}
-use Rattle.px_session.specs.Opened.{LeavesNew, IsOpening, Creates, IsCreateWhy, IsNotCreated}
+use Rattle.px_session.specs.Opened.{LeavesNew, Creates, IsCreateWhy, IsNotCreated}
 use Rattle.px_journal.proofs.Creating.{nothing_or_not}
 use Rattle.px_session.specs.Session.{unposted, HasOneHistory}
 use Rattle.px_session.proofs.Leaving.{untouched_at_once, untouched_read, untouched_on, new_read, new_on, one_history}

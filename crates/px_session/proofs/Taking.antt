@@ -1,5 +1,5 @@
 -- A session that goes on, from the calls that take its journal up.
-use Rattle.std.proofs.Common.{◌≡◌, ◌≢◌, ◌≤◌, inl, inr, ℕ, List, [], Some, None, IsSome, Result, Ok, Err, IfOk, IfErr, IsErrAnd, refl, sym, ◌∙◌, ap, subst, arith, IsTrue, IsFalse}
+use Rattle.std.proofs.Common.{◌≡◌, ◌≢◌, ◌≤◌, inl, ℕ, List, None, IsSome, Result, Ok, Err, IfOk, IfErr, IsErrAnd, refl, sym, ◌∙◌, ap, subst, arith, IsTrue, IsFalse}
 use Rattle.std.specs.Option.{ForSome}
 use Rattle.px_compile.specs.Compiled.{IsCompiled}
 use Rattle.px_core.specs.Fit.{IsFit}
@@ -10,9 +10,8 @@ use Rattle.px_exec.specs.Opening.{IsWhy, RunsAwayAt}
 use Rattle.px_exec.specs.declared.fault.OpenWhy.{OpenWhy}
 use Rattle.px_exec.specs.declared.fault.OpenWhy.TheVariants as opening
 use Rattle.px_journal.specs.Damage.{Damaged}
-use Rattle.px_journal.specs.Journal.{IsNotRecovered, IsReady, IsUntouched}
+use Rattle.px_journal.specs.Journal.{IsReady, IsUntouched}
 use Rattle.px_journal.specs.Layout.{is_nothing, Stands}
-use Rattle.px_journal.specs.declared.fault.RecoverFault.{RecoverFault}
 use Rattle.px_journal.specs.declared.fault.RecoverWhy.{RecoverWhy}
 use Rattle.px_journal.specs.declared.fault.RecoverWhy.TheVariants as recovering
 use Rattle.px_journal.proofs.Moments.{elapses_on}

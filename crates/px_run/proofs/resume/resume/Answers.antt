@@ -1,7 +1,6 @@
-use Rattle.std.proofs.Common.{ap, subst, sym, ◌∙◌}
-use Rattle.px_core.specs.Plan.{tree_of, sites}
+use Rattle.std.proofs.Common.{ap, subst, ◌∙◌}
 use Rattle.px_output.specs.View.{view}
-use Rattle.px_run.specs.Finishing.{Finishes, IsLeft}
+use Rattle.px_run.specs.Finishing.{Finishes}
 use Rattle.px_run.proofs.Resumed.{not_taken_up, resume_refused, resume_finished}
 use Rattle.px_run.proofs.resume.resume.Goals as goal
 

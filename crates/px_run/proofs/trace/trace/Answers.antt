@@ -1,5 +1,4 @@
-use Rattle.std.proofs.Common.{[], Ok, Err, ap, sym, ◌∙◌, append-nil}
-use Rattle.px_core.specs.Plan.{tree_of, sites}
+use Rattle.std.proofs.Common.{ap, sym, ◌∙◌, append-nil}
 use Rattle.px_output.specs.View.{view}
 use Rattle.px_run.proofs.Resumed.{not_taken_up, trace_printed, trace_broken_off}
 use Rattle.px_run.proofs.trace.trace.Goals as goal

@@ -1,4 +1,4 @@
-use Rattle.std.proofs.Common.{Err, ap, refl}
+use Rattle.std.proofs.Common.{refl}
 use Rattle.px_session.proofs.Leaving.{one_history}
 use Rattle.px_session.proofs.Taking.{not_recovered, not_run, taken_up}
 use Rattle.px_session.proofs.reopening.reopen.Goals as goal
