@@ -3,6 +3,7 @@ use Rattle.std.proofs.Common.{◌≡◌, ◌≤◌, ◌⊎◌, inl, inr, ⊎_eli
 use Rattle.std.specs.Prelude.{Result, Ok, Err}
 use Rattle.std.proofs.lemmas.Bool.{cases_lt}
 use Rattle.std.proofs.lemmas.List.{take-take, take_all, length-take}
+use Rattle.std.specs.Option.{ForSome}
 use Rattle.px_ports.specs.Disk.{Told, OnlyReads, Writes, Syncs}
 use Rattle.px_ports.specs.Moment.{Images, LeftSince, Torn, Elapses, Stays}
 use Rattle.px_ports.specs.declared.disk.DiskFault.{DiskFault}
@@ -60,6 +61,13 @@ module _ (images : Images) where
     tells = syncs.tells ∙ writes.tells;
     elapses = elapses_on (Torn at (length bytes)) before then now writes.elapses syncs.elapses;
   }
+
+  -- a sync, and calls behind it that only read
+  pub settled_on : (old mid new : Told) (before then now : List Moment) → Syncs images old mid before then (Ok tt) → OnlyReads images mid new then now
+      → ForSome new (λ told. (image : List ℕ) → images now image → image ≡ told)
+  settled_on old mid new before then now syncs reads told is image left =
+      let from = reads.elapses.each image (left_now then now image reads.elapses.grows left) in
+      from.2 ∙ syncs.settled told (sym (reads.bytes ∙ syncs.bytes) ∙ is) (from.0) (from.1)
 
   module _ (left : List ℕ → Type 0) where
     -- what a call makes of the images from before it

@@ -37,7 +37,8 @@ impl<D: Disk> Journal<D> {
     ///
     /// `NoJournal` comes exactly where the file has fewer than 13 bytes or its first is 0, and `Damaged` exactly where
     /// its first isn't 0 and the layout is broken, at the first place that is; an image that a journal's calls left is
-    /// never damaged. `DiskFault` comes only where a call of the disk failed.
+    /// never damaged. `DiskFault` comes only where a call of the disk failed. Behind every other answer a crash leaves
+    /// just what a read gives.
     pub fn recover(alloc: Global, disk: D) -> Result<Recovered<D>, RecoverFault<D>>
         requires { IsTrue (D.is_attached disk) }
 
@@ -57,6 +58,7 @@ impl<D: Disk> Journal<D> {
 
         ensures writes_nothing { Elapses D.images Stays (D.moments disk) (D.moments (disk_recovered result)) }
         ensures same { ¬ IsNotRecovered result whys.DiskFault → D.content (disk_recovered result) ≡ D.content disk }
+        ensures settled { ¬ IsNotRecovered result whys.DiskFault → IsSettled D.Disk (disk_recovered result) }
         ensures tells { is_some (D.content (disk_recovered result)) ≡ is_some (D.content disk) }
         ensures stays { StaysAttached (D.bound_to disk) (D.bound_to (disk_recovered result))
             (D.is_attached disk) (D.is_attached (disk_recovered result)) }
@@ -89,8 +91,8 @@ fn read_journal<D: Disk>(alloc: Global, disk: &mut D) -> Result<Read, RecoverWhy
     ensures gate { IfOk result (λ read. read.gate ≡ next_gate read.plan.items read.history.items) }
     ensures stands { IfOk result (λ read. ForSome (D.content disk.old)
         (λ told. Stands told read.plan.items read.history.items)) }
-    ensures settled { IfOk result (λ read. IsSettled D.Disk disk.new) }
     ensures same { ¬ IsErrOf result whys.DiskFault → D.content disk.new ≡ D.content disk.old }
+    ensures settled { ¬ IsErrOf result whys.DiskFault → IsSettled D.Disk disk.new }
     ensures tells { is_some (D.content disk.new) ≡ is_some (D.content disk.old) }
 
     ensures no_journal { IsErrOf result whys.NoJournal
@@ -104,8 +106,8 @@ fn read_journal<D: Disk>(alloc: Global, disk: &mut D) -> Result<Read, RecoverWhy
     ensures stays { StaysAttached (D.bound_to disk.old) (D.bound_to disk.new)
         (D.is_attached disk.old) (D.is_attached disk.new) }
 {
-    let buffer = Vec::with_capacity(alloc, BUFFER_ROOM)?;
     disk.sync()?;
+    let buffer = Vec::with_capacity(alloc, BUFFER_ROOM)?;
     let (plan, history, gate) = read_stable(alloc, disk)?;
     Ok(Read {
         plan,

@@ -1,6 +1,7 @@
 -- A journal that is taken up: what a command has come to then.
 use Rattle.std.proofs.Common.{◌≡◌, ◌≢◌, ◌≤◌, inl, inr, ⊎_elim, ℕ, List, [], Some, None, Result, Ok, Err, length, refl, sym, ◌∙◌, ap, subst}
 use Rattle.std.specs.Prelude.{is_some}
+use Rattle.std.specs.Option.{ForSome}
 use Rattle.px_core.specs.Plan.{Site, Tree, tree_of, sites}
 use Rattle.px_event.specs.declared.entry.Entry.{Entry}
 use Rattle.px_exec.specs.Executive.{plan_of, IsTextOf}
@@ -17,12 +18,12 @@ use Rattle.px_sem.specs.Log.{IsLegal}
 use Rattle.px_sem.specs.declared.stepper.Stepper
 use Rattle.px_session.specs.Opened.{Reopens, IsNotReopened, IsReopenWhy}
 use Rattle.px_session.specs.Posted.{WasDue}
-use Rattle.px_session.specs.Session.{Session, unposted, history_of, IsFront, HasOneHistory, LeavesFronts}
+use Rattle.px_session.specs.Session.{Session, history_of, IsFront, LeavesFronts}
 use Rattle.px_session.specs.declared.fault.ReopenFault.{ReopenFault}
 use Rattle.px_session.specs.declared.fault.ReopenWhy.{ReopenWhy}
 use Rattle.px_session.specs.declared.fault.ReopenWhy.TheVariants as reopening
 use Rattle.px_session.specs.declared.reopening.Reopened.{Reopened}
-use Rattle.px_run.specs.Course.{Course, Untouched, Unread, TakenUp, GoneOn, Due, AfterFile, Leaves}
+use Rattle.px_run.specs.Course.{Course, Settled, Unread, TakenUp, GoneOn, Due, AfterFile, Leaves}
 use Rattle.px_run.specs.Ending.{Ending, session_ending, runaway_at_start, no_journal, journal_damaged, journal_plan, journal_runaway}
 use Rattle.px_run.specs.Finishing.{IsLeft, Carries, Finishes, Resumes, Traces}
 use Rattle.px_run.specs.Journaled.{IsSession, DueBehind, HasNoJournal, CannotRun, AfterJournal, ResumeCalls, TraceCalls}
@@ -51,24 +52,27 @@ module _ {D : Type 0} (members : Disk.Ghosts D) (journal : List ℕ) (Next : D �
       still : fault.why ≢ reopening.DiskFault → IsUntouched members old fault.disk
       still other = record { content = refused.same other; elapses = refused.elapses }
 
-      refused_as : (why : ReopenWhy) → fault.why ≡ why → why ≢ reopening.DiskFault → PerformsDue view view (Calls fault.disk Untouched) (Err (stop_of_reopen why))
+      refused_as : (why : ReopenWhy) → fault.why ≡ why → why ≢ reopening.DiskFault → PerformsDue view view (Calls fault.disk Settled) (Err (stop_of_reopen why))
           → Carries members journal Calls view view old (record { result = Err (stop_of_reopen fault.why); disk = fault.disk })
       refused_as why is other performs = record {
-        course = Untouched;
-        performs = subst (λ (w : ReopenWhy). PerformsDue view view (Calls fault.disk Untouched) (Err (stop_of_reopen w))) (sym is) performs;
-        leaves = λ tells. still (λ e. other (sym is ∙ e));
+        course = Settled;
+        performs = subst (λ (w : ReopenWhy). PerformsDue view view (Calls fault.disk Settled) (Err (stop_of_reopen w))) (sym is) performs;
+        leaves = λ tells. (still (λ e. other (sym is ∙ e)), refused.settled (λ e. other (sym is ∙ e)));
         bound = refused.bound;
       }
 
       -- the journal was read, and its plan or its history can't be run
       not_run_as : (why : ReopenWhy) → fault.why ≡ why → why ≢ reopening.DiskFault → (text : List ℕ) (first : List Entry)
-          → HasOneHistory members (unposted text first) fault.disk
-          → PerformsDue view view (Calls fault.disk (TakenUp text first)) (Err (stop_of_reopen why))
+          → ForSome (members.content old) (λ told. Stands told text first) → PerformsDue view view (Calls fault.disk (TakenUp text first)) (Err (stop_of_reopen why))
           → Carries members journal Calls view view old (record { result = Err (stop_of_reopen fault.why); disk = fault.disk })
-      not_run_as why is other text first left performs = record {
+      not_run_as why is other text first stands performs = record {
         course = TakenUp text first;
         performs = subst (λ (w : ReopenWhy). PerformsDue view view (Calls fault.disk (TakenUp text first)) (Err (stop_of_reopen w))) (sym is) performs;
-        leaves = λ tells. (still (λ e. other (sym is ∙ e)), left);
+        leaves = λ tells. (
+          still (λ e. other (sym is ∙ e)),
+          one_history members fault.disk text first (refused.settled (λ e. other (sym is ∙ e)))
+              (λ told here. stands told (sym (refused.same (λ e. other (sym is ∙ e))) ∙ here)),
+        );
         bound = refused.bound;
       }
 
@@ -80,16 +84,16 @@ module _ {D : Type 0} (members : Disk.Ghosts D) (journal : List ℕ) (Next : D �
           (AfterJournal.no_journal_there (journal_damaged at) (HasNoJournal.damaged at (subst (IsReopenWhy members old fault.disk) is cause)), refl)
       by reopening.PlanRefused is cause =
           let c = subst (IsReopenWhy members old fault.disk) is cause in
-          not_run_as reopening.PlanRefused is (λ e. cc) (c.0) (c.1) (c.3)
-          (AfterJournal.not_run (c.0) (c.1) journal_plan (c.2) (CannotRun.no_plan (c.4.0) (c.4.1) (c.4.2)), refl)
+          not_run_as reopening.PlanRefused is (λ e. cc) (c.0) (c.1) (c.2)
+          (AfterJournal.not_run (c.0) (c.1) journal_plan (c.2) (CannotRun.no_plan (c.3.0) (c.3.1) (c.3.2)), refl)
       by reopening.RunawayAtStart is cause =
           let c = subst (IsReopenWhy members old fault.disk) is cause in
-          not_run_as reopening.RunawayAtStart is (λ e. cc) (c.0) (c.1) (c.3)
-          (AfterJournal.not_run (c.0) (c.1) runaway_at_start (c.2) (CannotRun.start_runs_away (c.4.0) (c.4.1) (c.4.2)), refl)
+          not_run_as reopening.RunawayAtStart is (λ e. cc) (c.0) (c.1) (c.2)
+          (AfterJournal.not_run (c.0) (c.1) runaway_at_start (c.2) (CannotRun.start_runs_away (c.3.0) (c.3.1) (c.3.2)), refl)
       by (reopening.Runaway at) is cause =
           let c = subst (IsReopenWhy members old fault.disk) is cause in
-          not_run_as (reopening.Runaway at) is (λ e. cc) (c.0) (c.1) (c.3)
-          (AfterJournal.not_run (c.0) (c.1) (journal_runaway at) (c.2) (CannotRun.event_runs_away (c.4.0) at (c.4.1) (c.4.2)), refl)
+          not_run_as (reopening.Runaway at) is (λ e. cc) (c.0) (c.1) (c.2)
+          (AfterJournal.not_run (c.0) (c.1) (journal_runaway at) (c.2) (CannotRun.event_runs_away (c.3.0) at (c.3.1) (c.3.2)), refl)
       by reopening.NoMemory is cause = refused_as reopening.NoMemory is (λ e. cc) (inr (AfterJournal.no_memory, refl))
       by reopening.DiskFault is cause = record {
         course = Unread;
@@ -106,7 +110,7 @@ left_taken_up : {S D : Type 0} (members : Disk.Ghosts D) (runs : Stepper.Ghosts 
     → (r : Reopens members runs journal limit old reopened)
     → Leaves members old reopened.exec.opening.journal.disk (TakenUp r.text reopened.exec.opening.history)
 left_taken_up members runs journal limit old reopened r =
-    (r.untouched, one_history members reopened.exec.opening.journal r.text reopened.exec.opening.history r.ready)
+    (r.untouched, one_history members reopened.exec.opening.journal.disk r.text reopened.exec.opening.history (r.ready).settled (r.ready).stands)
 
 -- each image since is one of the start, or stands for a front of the session's history
 pub fronts_since : {D : Type 0} (members : Disk.Ghosts D) (session : Session) (old opened new : D) → IsUntouched members old opened

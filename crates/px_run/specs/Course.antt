@@ -2,7 +2,7 @@
 use Rattle.std.specs.Prelude.{◌≡◌, ℕ, List, Option, Some, None, IsTrue, IsFalse}
 use Rattle.std.specs.Option.{ForSome}
 use Rattle.px_event.specs.declared.entry.Entry.{Entry}
-use Rattle.px_journal.specs.Journal.{IsUntouched}
+use Rattle.px_journal.specs.Journal.{IsSettled, IsUntouched}
 use Rattle.px_journal.specs.Layout.{is_nothing}
 use Rattle.px_ports.specs.Moment.{Elapses, Stays}
 use Rattle.px_ports.specs.declared.disk.Disk
@@ -20,6 +20,8 @@ Due = Option Ending
 pub data Course : Type 0 where
   -- nothing was written
   Untouched : Course
+  -- the same, and a crash leaves just what a read gives
+  Settled : Course
   -- nothing was written, but a call of the disk has failed, behind which a read may give something else
   Unread : Course
   -- the journal of this text was to be made, and a call of the disk failed on the way; one that stood there was not touched
@@ -35,6 +37,7 @@ module _ {D : Type 0} (members : Disk.Ghosts D) where
   -- WHAT EACH COURSE LEAVES OF THE DISK
   abbrev pub Leaves : D → D → Course → Type 0
   Leaves old new Untouched = IsUntouched members old new
+  Leaves old new Settled = IsUntouched members old new × IsSettled members new
   Leaves old new Unread = Elapses members.images Stays (members.moments old) (members.moments new)
   Leaves old new (HalfMade text) =
       LeavesNew members text old new × ForSome (members.content old) (λ told. IsFalse (is_nothing told) → IsUntouched members old new)

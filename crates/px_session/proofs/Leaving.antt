@@ -1,10 +1,10 @@
 -- From what the calls of a journal leave of a disk to what a session leaves.
 use Rattle.std.proofs.Common.{◌≡◌, inl, inr, ⊎_elim, ℕ, List, [], ◌++◌, Some, length, take, refl, sym, ◌∙◌, subst, append-nil}
+use Rattle.std.specs.Option.{ForSome}
 use Rattle.px_event.specs.declared.entry.Entry.{Entry}
 use Rattle.px_journal.specs.Crash.{OldOrNew}
-use Rattle.px_journal.specs.Journal.{IsReady, IsUntouched}
+use Rattle.px_journal.specs.Journal.{IsSettled, IsUntouched}
 use Rattle.px_journal.specs.Layout.{Stands}
-use Rattle.px_journal.specs.declared.journal.Journal.{Journal}
 use Rattle.px_journal.proofs.Moments.{grows_on, left_now, left_before_or_after, elapses_none, elapses_on}
 use Rattle.px_ports.specs.Moment.{LeftSince, Stays}
 use Rattle.px_ports.specs.declared.disk.Disk
@@ -59,14 +59,13 @@ module _ {D : Type 0} (members : Disk.Ghosts D) where
           (λ was. inl (from_before old mid reads image (left_now members.images (members.moments old) (members.moments mid) image reads.elapses.grows was)))
           (λ new. inr new)
 
-  -- a journal that stands for a text and a history
-  pub one_history : (journal : Journal D) (text : List ℕ) (history : List Entry) → IsReady members journal text history
-      → HasOneHistory members (unposted text history) journal.disk
-  one_history journal text history ready = record {
-    read = λ told is. inl (stands told is);
-    left = λ told is image left.
-        inl (subst (λ (b : List ℕ). Stands b text (history ++ [])) (sym (ready.settled told is image left)) (stands told is));
+  -- a disk that is settled, and stands for a text and a history
+  pub one_history : (disk : D) (text : List ℕ) (history : List Entry) → IsSettled members disk
+      → ForSome (members.content disk) (λ told. Stands told text history) → HasOneHistory members (unposted text history) disk
+  one_history disk text history settled stands = record {
+    read = λ told is. inl (all told is);
+    left = λ told is image left. inl (subst (λ (b : List ℕ). Stands b text (history ++ [])) (sym (settled told is image left)) (all told is));
   }
     where
-      stands : (told : List ℕ) → members.content journal.disk ≡ Some told → Stands told text (history ++ [])
-      stands told is = subst (Stands told text) (sym (append-nil history)) (ready.stands told is)
+      all : (told : List ℕ) → members.content disk ≡ Some told → Stands told text (history ++ [])
+      all told is = subst (Stands told text) (sym (append-nil history)) (stands told is)

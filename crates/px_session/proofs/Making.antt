@@ -115,7 +115,7 @@ module _ {D : Type 0} (members : Disk.Ghosts D) (name text : List ℕ) (old mid 
     made_in_vain journal here ready nothing = record {
       why = inr (
         λ told is. nothing told ((was.reads).bytes ∙ is),
-        subst (HasOneHistory members (unposted text [])) here (one_history members journal text [] ready),
+        subst (HasOneHistory members (unposted text [])) here (one_history members journal.disk text [] ready.settled ready.stands),
       );
       leaves = leaves;
       tells = tells;

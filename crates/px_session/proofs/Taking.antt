@@ -10,7 +10,7 @@ use Rattle.px_exec.specs.Opening.{IsWhy, RunsAwayAt}
 use Rattle.px_exec.specs.declared.fault.OpenWhy.{OpenWhy}
 use Rattle.px_exec.specs.declared.fault.OpenWhy.TheVariants as opening
 use Rattle.px_journal.specs.Damage.{Damaged}
-use Rattle.px_journal.specs.Journal.{IsReady, IsUntouched}
+use Rattle.px_journal.specs.Journal.{IsReady, IsSettled, IsUntouched}
 use Rattle.px_journal.specs.Layout.{is_nothing, Stands}
 use Rattle.px_journal.specs.declared.fault.RecoverWhy.{RecoverWhy}
 use Rattle.px_journal.specs.declared.fault.RecoverWhy.TheVariants as recovering
@@ -27,7 +27,6 @@ use Rattle.px_sem.specs.declared.stepper.Stepper
 use Rattle.px_journal.specs.declared.journal.Journal.{Journal}
 use Rattle.px_session.specs.Attached.{IsAttached, IsNotAttached}
 use Rattle.px_session.specs.Opened.{IsRunWhy, IsReopenWhy, IsNotReopened, IsOpening, Reopens}
-use Rattle.px_session.specs.Session.{unposted, HasOneHistory}
 use Rattle.px_session.specs.declared.reopening.Reopened.{Reopened}
 use Rattle.px_session.proofs.Leaving.{untouched_on}
 use Rattle.px_session.specs.Whys.{of_recover, of_start, of_open}
@@ -41,6 +40,7 @@ module _ {D : Type 0} (members : Disk.Ghosts D) (name : List ℕ) (old mid : D) 
     why = failed.rose;
     elapses = (failed.reads).elapses;
     same = λ other. (failed.reads).bytes;
+    settled = λ other. absurd (other refl);
     bound = failed.bound;
     faults = failed.faults;
   }
@@ -49,11 +49,12 @@ module _ {D : Type 0} (members : Disk.Ghosts D) (name : List ℕ) (old mid : D) 
       (stays : StaysAttached (members.bound_to mid) (members.bound_to new) (members.is_attached mid) (members.is_attached new))
       (later : members.faults mid ≤ members.faults new) where
     refused_with : (why : ReopenWhy) → IsReopenWhy members old new why → (why ≢ reopening.DiskFault → members.content new ≡ members.content mid)
-        → IsNotReopened members name old (record { disk = new; why = why })
-    refused_with why cause same = record {
+        → (why ≢ reopening.DiskFault → IsSettled members new) → IsNotReopened members name old (record { disk = new; why = why })
+    refused_with why cause same settled = record {
       why = cause;
       elapses = elapses_on members.images Stays (members.moments old) (members.moments mid) (members.moments new) (was.reads).elapses writes_nothing;
       same = λ other. same other ∙ (was.reads).bytes;
+      settled = settled;
       bound = inl (stays.bound ∙ was.bound);
       faults = omega (arith, was.faults, later);
     }
@@ -63,25 +64,28 @@ module _ {D : Type 0} (members : Disk.Ghosts D) (name : List ℕ) (old mid : D) 
         → (why ≡ recovering.NoJournal → ForSome (members.content mid) (λ told. IsTrue (is_nothing told)))
         → ((at : ℕ) → why ≡ recovering.Damaged at → ForSome (members.content mid) (λ told. IsFalse (is_nothing told) × Damaged told at))
         → (why ≡ recovering.DiskFault → Rose (members.faults mid) (members.faults new))
-        → (why ≢ recovering.DiskFault → members.content new ≡ members.content mid)
+        → (why ≢ recovering.DiskFault → members.content new ≡ members.content mid) → (why ≢ recovering.DiskFault → IsSettled members new)
         → IsNotReopened members name old (record { disk = new; why = shown })
-    not_recovered why shown is none damaged rose same =
+    not_recovered why shown is none damaged rose same settled =
         subst (λ (w : ReopenWhy). IsNotReopened members name old (record { disk = new; why = w })) (sym is) (by why refl)
       where
         by : (w : RecoverWhy) → why ≡ w → IsNotReopened members name old (record { disk = new; why = of_recover w })
-        by recovering.NoJournal is = refused_with reopening.NoJournal (λ told here. none is told ((was.reads).bytes ∙ here)) (λ other. same (λ e. let both = sym is ∙ e in cc))
-        by (recovering.Damaged at) is = refused_with (reopening.Damaged at) (λ told here. damaged at is told ((was.reads).bytes ∙ here)) (λ other. same (λ e. let both = sym is ∙ e in cc))
-        by recovering.DiskFault is = let more = rose is in refused_with reopening.DiskFault (omega (arith, was.faults, more)) (λ other. absurd (other refl))
+        by recovering.NoJournal is = refused_with reopening.NoJournal (λ told here. none is told ((was.reads).bytes ∙ here))
+            (λ other. same (λ e. let both = sym is ∙ e in cc)) (λ other. settled (λ e. let both = sym is ∙ e in cc))
+        by (recovering.Damaged at) is = refused_with (reopening.Damaged at) (λ told here. damaged at is told ((was.reads).bytes ∙ here))
+            (λ other. same (λ e. let both = sym is ∙ e in cc)) (λ other. settled (λ e. let both = sym is ∙ e in cc))
+        by recovering.DiskFault is = let more = rose is in refused_with reopening.DiskFault (omega (arith, was.faults, more)) (λ other. absurd (other refl)) (λ other. absurd (other refl))
         by recovering.NoMemory is = refused_with reopening.NoMemory tt (λ other. same (λ e. let both = sym is ∙ e in cc))
+            (λ other. settled (λ e. let both = sym is ∙ e in cc))
 
     -- it was read, and can't be run
     pub not_run : {T : Type 0} (text : List ℕ) (history : List Entry) (r : Result T (ReopenFault D))
         → ForSome (members.content mid) (λ told. Stands told text history) → members.content new ≡ members.content mid
-        → HasOneHistory members (unposted text history) new → IfErr r (λ fault. fault.disk ≡ new) → IfErr r (λ fault. IsRunWhy text history fault.why) → IfErr r (IsNotReopened members name old)
-    not_run text history (Ok done) stands same left here why = tt
-    not_run text history (Err fault) stands same left here why =
+        → IsSettled members new → IfErr r (λ fault. fault.disk ≡ new) → IfErr r (λ fault. IsRunWhy text history fault.why) → IfErr r (IsNotReopened members name old)
+    not_run text history (Ok done) stands same settled here why = tt
+    not_run text history (Err fault) stands same settled here why =
         subst (λ (d : D). IsNotReopened members name old (record { disk = d; why = fault.why })) (sym here)
-        (refused_with fault.why (by fault.why why) (λ other. same))
+        (refused_with fault.why (by fault.why why) (λ other. same) (λ other. settled))
       where
         before : ForSome (members.content old) (λ told. Stands told text history)
         before told is = stands told ((was.reads).bytes ∙ is)
@@ -89,9 +93,9 @@ module _ {D : Type 0} (members : Disk.Ghosts D) (name : List ℕ) (old mid : D) 
         by : (w : ReopenWhy) → IsRunWhy text history w → IsReopenWhy members old new w
         by reopening.NoJournal cause = absurd cause
         by (reopening.Damaged at) cause = absurd cause
-        by reopening.PlanRefused cause = (text, history, before, left, cause)
-        by reopening.RunawayAtStart cause = (text, history, before, left, cause)
-        by (reopening.Runaway at) cause = (text, history, before, left, cause)
+        by reopening.PlanRefused cause = (text, history, before, cause)
+        by reopening.RunawayAtStart cause = (text, history, before, cause)
+        by (reopening.Runaway at) cause = (text, history, before, cause)
         by reopening.DiskFault cause = absurd cause
         by reopening.NoMemory cause = tt
 

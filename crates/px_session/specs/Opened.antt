@@ -9,7 +9,7 @@ use Rattle.px_exec.specs.Executive.{Executive, plan_of, IsTextOf}
 use Rattle.px_exec.specs.Opening.{RunsAwayAt}
 use Rattle.px_journal.specs.Crash.{OldOrNew, LeavesOnly}
 use Rattle.px_journal.specs.Damage.{Damaged}
-use Rattle.px_journal.specs.Journal.{IsUntouched}
+use Rattle.px_journal.specs.Journal.{IsSettled, IsUntouched}
 use Rattle.px_journal.specs.Layout.{is_nothing, Stands}
 use Rattle.px_journal.specs.declared.journal.Journal.{Journal}
 use Rattle.px_journal.specs.declared.fault.CreateFault.{CreateFault}
@@ -102,12 +102,6 @@ module _ {D : Type 0} (members : Disk.Ghosts D) where
     pub bound : members.bound_to reopened.exec.opening.journal.disk ≡ Some name
     pub faults : members.faults old ≤ members.faults reopened.exec.opening.journal.disk
 
-  -- the disk stood for a text and a history of which this holds, and stands for them
-  abbrev pub StandsFor : D → D → (List ℕ → List Entry → Type 0) → Type 0
-  StandsFor old new IsSuch = (text : List ℕ) × (history : List Entry)
-      × ForSome (members.content old) (λ told. Stands told text history) × HasOneHistory members (unposted text history) new
-      × IsSuch text history
-
   -- why no session goes on
   abbrev pub IsReopenWhy : D → D → ReopenWhy → Type 0
   IsReopenWhy old new reopening.NoJournal = ForSome (members.content old) (λ told. IsTrue (is_nothing told))
@@ -115,12 +109,14 @@ module _ {D : Type 0} (members : Disk.Ghosts D) where
       ForSome (members.content old) (λ told. IsFalse (is_nothing told) × Damaged told at)
   IsReopenWhy old new reopening.DiskFault = Rose (members.faults old) (members.faults new)
   IsReopenWhy old new reopening.NoMemory = Unit {0}
-  IsReopenWhy old new why = StandsFor old new (λ text history. IsRunWhy text history why)
+  IsReopenWhy old new why = (text : List ℕ) × (history : List Entry)
+      × ForSome (members.content old) (λ told. Stands told text history) × IsRunWhy text history why
 
   pub record IsNotReopened (name : List ℕ) (old : D) (fault : ReopenFault D) : Type 0 where
     pub why : IsReopenWhy old fault.disk fault.why
-    -- nothing was written; but behind a failed call a read may give something else
+    -- nothing was written; but behind a failed call a read may give something else, and a crash leave more than one image
     pub elapses : Elapses members.images Stays (members.moments old) (members.moments fault.disk)
     pub same : fault.why ≢ reopening.DiskFault → members.content fault.disk ≡ members.content old
+    pub settled : fault.why ≢ reopening.DiskFault → IsSettled members fault.disk
     pub bound : IsBoundAtMost members name fault.disk
     pub faults : members.faults old ≤ members.faults fault.disk

@@ -59,6 +59,6 @@ module _ {D : Type 0} (members : Disk.Ghosts D) where
         × ((image : List ℕ) → members.images (take t (members.moments new)) image → Stands image session.text session.first)
         × ((image : List ℕ) → LeftSince members.images (members.moments new) t image → IsFront session image)
 
-  -- the disk was not bound, and is bound to this name at most
+  -- the disk is bound to this name, or to none
   abbrev pub IsBoundAtMost : List ℕ → D → Type 0
   IsBoundAtMost name disk = (members.bound_to disk ≡ Some name) ⊎ (members.bound_to disk ≡ None)

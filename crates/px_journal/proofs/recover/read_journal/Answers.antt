@@ -1,7 +1,7 @@
-use Rattle.std.proofs.Common.{Err, sym, ◌∙◌, ap}
+use Rattle.std.proofs.Common.{Err, ◌∙◌, ap}
 use Rattle.px_ports.specs.Moment.{Stays}
 use Rattle.px_journal.specs.declared.fault.RecoverWhy.TheVariants as whys
-use Rattle.px_journal.proofs.Moments.{elapses_on, left_now}
+use Rattle.px_journal.proofs.Moments.{elapses_on, settled_on}
 use Rattle.px_journal.proofs.Walking.{err_is}
 use Rattle.px_journal.proofs.recover.read_journal.Goals as goal
 
@@ -16,8 +16,8 @@ returns-in_err-plan-clause-writes_nothing g c = elapses_on g.D.Disk.images Stays
 pub returns-clause-writes_nothing : goal.returns-clause-writes_nothing
 returns-clause-writes_nothing g c = elapses_on g.D.Disk.images Stays _ _ _ c.sync.ensures.syncs.elapses c.read_stable.ensures.reads.elapses
 
+pub returns-in_err-plan-clause-settled : goal.returns-in_err-plan-clause-settled
+returns-in_err-plan-clause-settled g c = λ other. settled_on g.D.Disk.images _ _ _ _ _ _ c.in_ok-sync.ensures.syncs c.read_stable.ensures.reads
+
 pub returns-clause-settled : goal.returns-clause-settled
-returns-clause-settled g c = λ told is image left.
-    let reads = c.read_stable.ensures.reads in
-    let from = reads.elapses.each image (left_now g.D.Disk.images _ _ image reads.elapses.grows left) in
-    from.2 ∙ c.in_ok-sync.ensures.syncs.settled told (sym (reads.bytes ∙ c.in_ok-sync.ensures.syncs.bytes) ∙ is) (from.0) (from.1)
+returns-clause-settled g c = λ other. settled_on g.D.Disk.images _ _ _ _ _ _ c.in_ok-sync.ensures.syncs c.read_stable.ensures.reads

@@ -1,5 +1,4 @@
 use Rattle.std.proofs.Common.{refl}
-use Rattle.px_session.proofs.Leaving.{one_history}
 use Rattle.px_session.proofs.Taking.{not_recovered, not_run, taken_up}
 use Rattle.px_session.proofs.reopening.reopen.Goals as goal
 
@@ -8,16 +7,15 @@ returns-in-Ok-recover-clause-refused g c =
     let read = c.in-Ok-recover.recovered in
     let told = c.in-Ok-recover.ensures in
     not_run g.D.Disk c.args.name.now c.args.disk c.in-Ok.disk c.in-Ok.ensures.attached read.journal.disk told.writes_nothing told.stays told.later
-    read.plan.items read.history.items c.run_recovered.result told.stands (told.same (λ none. none))
-    (one_history g.D.Disk read.journal read.plan.items read.history.items told.read) c.run_recovered.ensures.handed_back
-    c.run_recovered.ensures.why
+    read.plan.items read.history.items c.run_recovered.result told.stands (told.same (λ none. none)) (told.read).settled
+    c.run_recovered.ensures.handed_back c.run_recovered.ensures.why
 
 pub returns-in-Err-recover-clause-refused : goal.returns-in-Err-recover-clause-refused
 returns-in-Err-recover-clause-refused g c =
     let fault = c.in-Err-recover.field-0 in
     let told = c.in-Err-recover.ensures in
     not_recovered g.D.Disk c.args.name.now c.args.disk c.in-Ok.disk c.in-Ok.ensures.attached fault.disk told.writes_nothing told.stays told.later
-    fault.why c.into.result c.into.ensures told.no_journal told.damaged told.cause told.same
+    fault.why c.into.result c.into.ensures told.no_journal told.damaged told.cause told.same told.settled
 
 pub returns-in-Ok-recover-clause-reopened : goal.returns-in-Ok-recover-clause-reopened
 returns-in-Ok-recover-clause-reopened g c =
