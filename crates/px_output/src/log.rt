@@ -23,6 +23,9 @@ use std::alloc::Global;
 
 /// Prints the text of a log that goes on from a history. The whole history, which ends with the accepted
 /// entries of the log, has to settle.
+///
+/// `SinkFailed` comes only where an emit failed or took nothing, `NoMemory` where memory ran out; a front of the text is
+/// emitted then.
 pub fn print_log<H: Host, S: Stepper>(
     alloc: Global,
     plan: &Plan,

@@ -1,6 +1,6 @@
 // The way of a text to the host: it gathers in a buffer, and goes out in large pieces until the sink fails.
-ghost use Rattle.std.specs.Prelude.{◌≡◌, ◌<◌, [], length, OnOk};
-ghost use Rattle.px_output.specs.declared.printer.PrintFault.TheVariants.{NoMemory as OutOfMemory};
+ghost use Rattle.std.specs.Prelude.{◌≡◌, ◌<◌, [], length, OnOk, IfErr};
+ghost use Rattle.px_output.specs.declared.printer.PrintFault.TheVariants.{SinkFailed, NoMemory as OutOfMemory};
 ghost use Rattle.px_output.specs.Printing.{Prints};
 ghost use Rattle.px_output.specs.View.{view, OnlyPrints};
 ghost use Rattle.px_sem.specs.Text.{start_text, heading_text, step_text, quiet_text, reply_line, standing_text};
@@ -16,13 +16,14 @@ use std::alloc::Global;
 use std::marker::Model;
 
 /// How many bytes a buffered text has before it is emitted.
-pub const PIECE: usize = 64 * 1024;
+const PIECE: usize = 64 * 1024;
 
 /// Why a text was not printed to its end.
 #[derive(Clone, Copy, Debug, PartialEq, Eq)]
 pub enum PrintFault {
     /// The sink failed, or took nothing.
     SinkFailed,
+    /// Memory ran out.
     NoMemory,
 }
 
@@ -34,9 +35,10 @@ impl From<NoMemory> for PrintFault {
     }
 }
 
-/// Emits all of the text, however little the sink takes at once.
+/// Emits all of the text, however little the sink takes at once. It takes no memory, so only the sink can fail.
 pub fn emit_all<H: Host>(host: &mut H, text: &[u8]) -> Result<(), PrintFault>
     ensures prints { Prints (view H.Host host.old) text.now (view H.Host host.new) [] [] result }
+    ensures of_the_sink { IfErr result (λ fault. fault ≡ SinkFailed) }
     ensures only { OnlyPrints (view H.Host host.old) (view H.Host host.new) }
 {
     let mut rest = text;
@@ -163,17 +165,19 @@ impl Printer {
         self.emit_piece(host)
     }
 
-    /// Emits what is left.
+    /// Emits what is left. Only the sink can fail.
     pub fn finish<H: Host>(self, host: &mut H) -> Result<(), PrintFault>
         ensures prints { Prints (view H.Host host.old) self (view H.Host host.new) [] [] result }
+        ensures of_the_sink { IfErr result (λ fault. fault ≡ SinkFailed) }
         ensures only { OnlyPrints (view H.Host host.old) (view H.Host host.new) }
     {
         emit_all(host, &self.buffer)
     }
 
-    // Emits the buffer where it has grown to a piece.
+    // Emits the buffer where it has grown to a piece. Only the sink can fail.
     fn emit_piece<H: Host>(&mut self, host: &mut H) -> Result<(), PrintFault>
         ensures prints { Prints (view H.Host host.old) self.old (view H.Host host.new) self.new [] result }
+        ensures of_the_sink { IfErr result (λ fault. fault ≡ SinkFailed) }
         ensures short { OnOk result (length self.new < 65536) }
         ensures only { OnlyPrints (view H.Host host.old) (view H.Host host.new) }
     {

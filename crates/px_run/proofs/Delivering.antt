@@ -4,7 +4,7 @@ use Rattle.px_core.specs.Plan.{Tree, sites}
 use Rattle.px_event.specs.declared.entry.Entry.{Entry}
 use Rattle.px_ports.specs.Host.{Emits}
 use Rattle.px_ports.specs.declared.disk.Disk
-use Rattle.px_output.specs.declared.printer.PrintFault.TheVariants.{SinkFailed, NoMemory}
+use Rattle.px_output.specs.declared.printer.PrintFault.TheVariants.{SinkFailed}
 use Rattle.px_output.specs.Printing.{Prints}
 use Rattle.px_output.specs.View.{View, Faulted, EmitsPart, OnlyPrints, KeepsFiles}
 use Rattle.px_output.proofs.Printed.{emits_nothing, emitted_whole, emitted_part, piece_printed}
@@ -164,9 +164,3 @@ pub emits_till_fault : (old new : View) (ending : Ending) (text : List ℕ) → 
 emits_till_fault old new ending text is prints =
     let ((left, leaves), faulted) = piece_printed {T = Unit} old new [] text [] text (Err SinkFailed) refl prints in
     Delivers.sink_fault (subst (EmitsPart old new) is (emitted_part old new left text leaves)) faulted
-
-pub emits_in_memory : (old new : View) (ending : Ending) (text : List ℕ) → text ≡ ending.text
-    → Prints {T = Unit} old text new [] [] (Err NoMemory) → Delivers old new ending 10
-emits_in_memory old new ending text is prints =
-    let (left, leaves) = piece_printed {T = Unit} old new [] text [] text (Err NoMemory) refl prints in
-    Delivers.no_memory (subst (EmitsPart old new) is (emitted_part old new left text leaves))

@@ -17,7 +17,7 @@ use crate::run::run;
 use crate::trace::trace;
 use crate::trace_start::trace_start;
 use px_naive::Naive;
-use px_output::{PrintFault, emit_all};
+use px_output::emit_all;
 use px_ports::{Disk, Host};
 use px_sem::Stepper;
 use px_words::Command;
@@ -28,6 +28,7 @@ use std::alloc::Global;
 pub struct Done<D> {
     /// The status that the process ends with.
     pub status: u8,
+    /// The disk, handed back.
     pub disk: D,
 }
 
@@ -67,7 +68,8 @@ pub fn plexil<H: Host, D: Disk>(alloc: Global, words: &[String], host: &mut H, d
     plexil_with::<H, D, Naive>(alloc, words, host, disk)
 }
 
-// The same over any stepper.
+// The same over any stepper. What each status tells follows from the headline alone, so it is shown here, apart from the
+// body.
 fn plexil_with<H: Host, D: Disk, S: Stepper>(
     alloc: Global,
     words: &[String],
@@ -165,7 +167,6 @@ fn refuse<H: Host>(alloc: Global, refusal: Refusal, host: &mut H) -> Status
     };
     match emit_all(host, text.as_bytes()) {
         Ok(()) => refusal.status(),
-        Err(PrintFault::SinkFailed) => Status::SinkFault,
-        Err(PrintFault::NoMemory) => Status::NoMemory,
+        Err(_) => Status::SinkFault,
     }
 }
