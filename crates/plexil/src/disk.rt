@@ -165,7 +165,11 @@ fn counted<T>(faults: &mut u64, answer: io::Result<T>) -> Result<T, DiskFault>
 fn open_if_there<R: Files>(rt: &R, name: &str) -> io::Result<Option<R::File>> {
     let opened = match File::options().read(true).write(true).open(rt, name) {
         Err(fault) if fault.kind() == ErrorKind::NotFound => return Ok(None),
-        Err(fault) if fault.kind() == ErrorKind::PermissionDenied => File::open(rt, name),
+        Err(fault)
+            if matches!(
+                fault.kind(),
+                ErrorKind::PermissionDenied | ErrorKind::ReadOnlyFilesystem
+            ) => { File::open(rt, name) }
         opened => opened,
     };
     let file = opened?;
