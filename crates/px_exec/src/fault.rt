@@ -13,6 +13,7 @@ pub enum OpenWhy {
     /// The event at this place of the history, from 1, is the first that doesn't settle.
     #[error("event {at} does not settle")]
     Runaway { at: u32 },
+    /// Memory ran out.
     #[error("out of memory")]
     NoMemory,
 }
@@ -22,10 +23,11 @@ pub enum OpenWhy {
 pub struct OpenFault<D: Disk> {
     /// The journal, handed back as it was.
     pub journal: Journal<D>,
+    /// The reason.
     pub why: OpenWhy,
 }
 
-/// Why a post was not accepted. World, history and disk are as before, but for `DiskFault`.
+/// Why a post was not accepted. World and history are as before, and the disk too, but for `DiskFault`.
 #[derive(Clone, Copy, Debug, Drop, Error, PartialEq, Eq)]
 pub enum PostFault {
     /// An earlier post was answered `DiskFault`. The disk had counted so many faults then.
@@ -34,8 +36,8 @@ pub enum PostFault {
     /// The plan's root had finished.
     #[error("the plan has finished")]
     PlanFinished,
-    /// The history had as many events as it may have.
-    #[error("the history has {limit} events")]
+    /// The history had at least as many events as it may have.
+    #[error("the history may have {limit} events")]
     Full { limit: u32 },
     /// The plan would not have settled after the event.
     #[error("the plan would run away")]

@@ -10,8 +10,11 @@ use px_sem::{LogEntry, Stepper};
 /// The parts of an executive that outlive it.
 #[derive(Drop)]
 pub struct Parts<D: Disk> {
+    /// The journal, which stands for the history, or where an append failed perhaps for one event more.
     pub journal: Journal<D>,
+    /// The accepted entries, those of the opening in front.
     pub history: Vec<Entry>,
+    /// The posts since the opening that were answered over the history, with their replies.
     pub log: Vec<LogEntry>,
 }
 

@@ -19,10 +19,10 @@ impl<S: Stepper, D: Disk> Exec<S, D> {
     /// image of a crash from then on has it.
     ///
     /// The answers are tried in this order. `Closed` comes exactly where an earlier post was answered `DiskFault`;
-    /// `PlanFinished` where the root has finished; `Full` where the history has as many events as it may have;
+    /// `PlanFinished` where the root has finished; `Full` where the history has at least as many events as it may have;
     /// `Runaway` where the event doesn't settle; `DiskFault` only where a call of the disk failed, and closes the
-    /// executive. `NoMemory` may come in place of each but `Closed` and `DiskFault`, before any call of the disk. `Ok`
-    /// and the three refusals over the history are logged.
+    /// executive. `NoMemory` may come in place of each but `Closed`, and before any call of the disk. `Ok` and the three
+    /// refusals over the history are logged.
     pub fn post(
         &mut self,
         alloc: Global,

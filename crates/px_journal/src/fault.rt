@@ -42,6 +42,7 @@ impl From<AllocError> for CreateWhy {
 pub struct CreateFault<D> {
     /// The disk, handed back.
     pub disk: D,
+    /// The reason.
     pub why: CreateWhy,
 }
 
@@ -57,6 +58,7 @@ pub enum RecoverWhy {
     /// A call of the disk failed.
     #[error("the disk failed")]
     DiskFault,
+    /// Memory ran out.
     #[error("out of memory")]
     NoMemory,
 }
@@ -88,7 +90,8 @@ impl<T: Drop> From<AllocFailed<T>> for RecoverWhy {
 /// A journal was not read.
 #[derive(Drop)]
 pub struct RecoverFault<D> {
-    /// The disk, handed back.
+    /// The disk, handed back. Nothing was written to it; but for `DiskFault` a crash leaves just what a read gives.
     pub disk: D,
+    /// The reason.
     pub why: RecoverWhy,
 }

@@ -22,9 +22,11 @@ pub struct Journal<D: Disk> {
 /// A journal that was read, and what it stands for.
 #[derive(Drop)]
 pub struct Recovered<D: Disk> {
+    /// The journal, ready for the next entry.
     pub journal: Journal<D>,
     /// The plan's text.
     pub plan: Vec<u8>,
+    /// The entries, in their order.
     pub history: Vec<Entry>,
 }
 

@@ -35,7 +35,7 @@ pub trait Disk {
     ghost faults: { Self → ℕ };
 
     /// Binds the disk to a name and attaches it. A name without a file stands for a file of 0 bytes, which the first
-    /// write makes.
+    /// write makes. After a fault the disk is bound to the name or as before, and no more attached than before.
     fn attach(&mut self, name: &str) -> Result<(), DiskFault>
         requires { IsFreeFor name.now (bound_to self.old) }
         ensures attaches { Attaches name.now (bound_to self.old) (bound_to self.new)
@@ -66,7 +66,8 @@ pub trait Disk {
             (moments self.old) (moments self.new) }
         ensures cause { CountsFaults (faults self.old) (faults self.new) result };
 
-    /// Writes the bytes at this place, over what is there and past the end.
+    /// Writes the bytes at this place, counted from 0 and at most the length, over what is there and past the end. After
+    /// a fault a read may give something else, and a crash leaves what one in the same write might have left.
     fn write_at(&mut self, at: u64, bytes: &[u8]) -> Result<(), DiskFault>
         requires attached { IsTrue (is_attached self.old) }
         requires within { ForSome (content self.old) (λ told. at ≤ length told) }
@@ -76,7 +77,8 @@ pub trait Disk {
             (is_attached self.old) (is_attached self.new) }
         ensures cause { CountsFaults (faults self.old) (faults self.new) result };
 
-    /// Settles what a read gives.
+    /// Settles what a read gives: after `Ok` a crash leaves just that. After a fault a read may give something else, and
+    /// a crash leaves an image from before.
     fn sync(&mut self) -> Result<(), DiskFault>
         requires { IsTrue (is_attached self.old) }
         ensures syncs { Syncs images (content self.old) (content self.new)

@@ -58,8 +58,8 @@ pub trait Host {
     /// How many emits took no byte and didn't fail, up to 2^64 - 1.
     ghost idle: { Self → ℕ };
 
-    /// The file of this name, if it has at most `limit` bytes. A name without a file is a failed
-    /// call.
+    /// The file of this name, if it has at most `limit` bytes. `Failed`: it can't be read, or nothing has the name.
+    /// `NoMemory`: memory ran out.
     fn fetch(&mut self, alloc: Global, name: &str, limit: usize) -> Result<Fetched, HostFault>
         ensures content { IfOk result (Fetches (files self.old) name.now limit) }
         ensures cause { CountsReads name.now (read_faults self.old) (read_faults self.new) result }
@@ -71,7 +71,7 @@ pub trait Host {
         ensures idle { idle self.new ≡ idle self.old };
 
     /// Appends bytes from the front to what was emitted, and answers how many. An answer of 0 is a
-    /// fault of the sink, at which the caller has to end.
+    /// fault of the sink, at which the caller has to end. `Failed`: nothing was appended. `NoMemory` never comes.
     fn emit(&mut self, bytes: &[u8]) -> Result<usize, HostFault>
         requires { 0 < length bytes.now }
 

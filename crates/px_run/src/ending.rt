@@ -34,6 +34,7 @@ pub enum Status {
     SinkFault = 8,
     /// A call of the disk failed.
     DiskFault = 9,
+    /// Memory ran out.
     NoMemory = 10,
 }
 
@@ -75,6 +76,7 @@ pub enum Stop {
     Refused(Refusal),
     /// The sink failed, or took nothing.
     SinkFailed,
+    /// Memory ran out.
     NoMemory,
 }
 

@@ -21,7 +21,9 @@ use std::alloc::Global;
 /// What a command has come to, and the disk that it was handed.
 #[derive(Drop)]
 pub struct Carried<D> {
+    /// Whether it was carried out to its end.
     pub result: Result<(), Stop>,
+    /// The disk, handed back.
     pub disk: D,
 }
 

@@ -19,11 +19,14 @@ use std::alloc::Global;
 /// A plan with the text that spells it.
 #[derive(Drop)]
 pub struct Source {
+    /// The bytes of the file.
     pub text: Vec<u8>,
+    /// The plan that they spell.
     pub plan: Plan,
 }
 
-/// Reads the plan in the file of this name, and keeps its text.
+/// Reads the plan in the file of this name, and keeps its text. It stops where the file can't be read, has over
+/// 1,048,576 bytes or spells no plan that can be run, or where memory runs out.
 pub fn fetch_source<H: Host>(alloc: Global, name: &str, host: &mut H) -> Result<Source, Stop>
     ensures ok { IfOk result (λ source. Reads (with_text plan_file) (view H.Host host.old) (view H.Host host.new) name.now
         (source.text.items, tree_of source.plan)) }
@@ -38,7 +41,7 @@ pub fn fetch_source<H: Host>(alloc: Global, name: &str, host: &mut H) -> Result<
     Ok(Source { text, plan })
 }
 
-/// Reads the plan in the file of this name.
+/// Reads the plan in the file of this name. It stops where `fetch_source` does.
 pub fn fetch_plan<H: Host>(alloc: Global, name: &str, host: &mut H) -> Result<Plan, Stop>
     ensures ok { IfOk result (λ plan.
         Reads plan_file (view H.Host host.old) (view H.Host host.new) name.now (tree_of plan)) }
@@ -50,7 +53,8 @@ pub fn fetch_plan<H: Host>(alloc: Global, name: &str, host: &mut H) -> Result<Pl
     Ok(fetch_source(alloc, name, host)?.plan)
 }
 
-/// Reads the script for this plan in the file of this name.
+/// Reads the script for this plan in the file of this name. It stops where the file can't be read, has over 16,777,216
+/// bytes or a faulty line, or where memory runs out.
 pub fn fetch_script<H: Host>(
     alloc: Global,
     name: &str,

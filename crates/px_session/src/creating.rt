@@ -15,7 +15,8 @@ use std::alloc::Global;
 /// history may grow to `limit` events, from 1 to 100,000. The stepper has settled the start of the plan.
 ///
 /// `Exists` comes exactly where a journal stands there already, and nothing is written then; `DiskFault` only where a call
-/// of the disk failed.
+/// of the disk failed; `NoMemory` where memory ran out before the first write, or behind the last: then the journal stands
+/// for the text and no event.
 pub fn create<S: Stepper, D: Disk>(
     alloc: Global,
     disk: D,

@@ -22,14 +22,16 @@ pub enum ReopenWhy {
     Runaway { at: u32 },
     /// A call of the disk failed.
     DiskFault,
+    /// Memory ran out.
     NoMemory,
 }
 
 /// A journal was not taken up.
 #[derive(Drop)]
 pub struct ReopenFault<D> {
-    /// The disk, handed back. Nothing was written to it.
+    /// The disk, handed back. Nothing was written to it; but for `DiskFault` a crash leaves just what a read gives.
     pub disk: D,
+    /// The reason.
     pub why: ReopenWhy,
 }
 

@@ -16,6 +16,7 @@ use std::alloc::Global;
 pub enum PostStop {
     /// A call of the disk failed. A crash leaves the history with the event or without it.
     DiskFault,
+    /// Memory ran out before one of them.
     NoMemory,
 }
 

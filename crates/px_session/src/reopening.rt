@@ -33,7 +33,9 @@ pub struct Reopened<S: Stepper, D: Disk> {
 /// Binds the disk to the journal's name, reads the journal there, compiles its plan and runs its history. The history may
 /// grow to `limit` events, from 1 to 100,000. Nothing is written.
 ///
-/// The first of these that refuses decides the error.
+/// The first of these that refuses decides the error: `DiskFault`, only where a call of the disk failed; `NoJournal` and
+/// `Damaged`, by the disk's bytes; `PlanRefused`, `RunawayAtStart` and `Runaway`, by the journal's text and history; or
+/// `NoMemory`.
 pub fn reopen<S: Stepper, D: Disk>(
     alloc: Global,
     disk: D,
