@@ -1,0 +1,58 @@
+-- No cell of a table is at two places.
+use Rattle.std.proofs.Common.{◌≡◌, ◌≢◌, ℕ, suc, true, ◌||◌, nat_eq, List, [], ◌∷◌, ◌++◌, length, get_or, AllPairs, refl, ap, sym, ◌∙◌, arith, inl, inr}
+use Rattle.std.specs.List.{concat}
+use Rattle.std.proofs.lemmas.Bool.{eq-eqb, cases_Bool}
+use Rattle.std.proofs.lemmas.List.Elements.{All-append}
+use Rattle.std.proofs.lemmas.List.Kept.{AllPairs-cons}
+use Rattle.std.proofs.lemmas.List.Folds.{list_any-append, list_any_at}
+use Rattle.px_links.specs.declared.cell.Cell.{Cell}
+use Rattle.px_links.specs.declared.cell.Ends.{Ends}
+use Rattle.px_links.specs.Links.{IsOnce}
+use Rattle.px_links.specs.Lists.{has, nth}
+use Rattle.px_links.specs.Keeping.{IsTable}
+use Rattle.px_links.proofs.Linking.{has_head, or_true}
+use Rattle.px_links.proofs.Tables.{within, one_holder}
+
+-- what the lists have together, one of them has
+concat_has : (lists : List (List ℕ)) (cell : ℕ) → has (concat lists) cell ≡ true
+    → (list : ℕ) × (has (nth lists list) cell ≡ true)
+concat_has [] cell has_it = absurd (cc)
+concat_has (first ∷ lists) cell has_it = elim (cases_Bool (has first cell)) [
+  | inl here ↦ (0, here)
+  | inr other ↦
+      let rest = concat_has lists cell (sym (list_any-append (nat_eq cell) first (concat lists)
+      ∙ ap (λ b. b || has (concat lists) cell) other) ∙ has_it) in
+      (suc rest.0, rest.1)
+]
+
+pairs_append : (list more : List ℕ) → AllPairs (λ a b. a ≢ b) list → AllPairs (λ a b. a ≢ b) more
+    → ((cell : ℕ) → has list cell ≡ true → has more cell ≡ true → ⊥) → AllPairs (λ a b. a ≢ b) (list ++ more)
+pairs_append [] more once others apart = others
+pairs_append (cell ∷ list) more once others apart = AllPairs-cons (λ a b. a ≢ b) cell (list ++ more)
+    (All-append (λ other. cell ≢ other) list more
+    (λ k d below. once 0 (suc k) d (omega arith) (omega arith))
+    (λ k d below same. apart cell (has_head cell list) (list_any_at (nat_eq cell) more k d below (eq-eqb cell _ same))))
+    (pairs_append list more (λ i j d before below. once (suc i) (suc j) d (omega arith) (omega arith)) others
+    (λ other has_it has_too. apart other (or_true (nat_eq other cell) has_it) has_too))
+
+once-concat : (lists : List (List ℕ)) → ((list : ℕ) → AllPairs (λ a b. a ≢ b) (nth lists list))
+    → ((list other cell : ℕ) → has (nth lists list) cell ≡ true → has (nth lists other) cell ≡ true → list ≡ other)
+    → AllPairs (λ a b. a ≢ b) (concat lists)
+once-concat [] once one = λ i j d before below. absurd (omega arith)
+once-concat (first ∷ lists) once one = pairs_append first (concat lists) (once 0)
+    (once-concat lists (λ list. once (suc list)) (λ list other cell has_it has_too.
+    let same : suc list ≡ suc other = one (suc list) (suc other) cell has_it has_too in omega arith))
+    (λ cell has_it has_too.
+    let behind = concat_has lists cell has_too in
+    let same : 0 ≡ suc behind.0 = one 0 (suc behind.0) cell has_it behind.1 in
+    omega arith)
+
+pub table-once : (cells : List Cell) (ends : List Ends) (lists : List (List ℕ)) → IsTable cells ends lists
+    → IsOnce (record { cells = length cells; lists = lists })
+table-once cells ends lists table = record {
+  within = λ k d below.
+      let place = concat_has lists (get_or (concat lists) k d)
+      (list_any_at (nat_eq (get_or (concat lists) k d)) (concat lists) k d below (eq-eqb _ _ refl)) in
+      within cells ends lists table place.0 (get_or (concat lists) k d) place.1;
+  once = once-concat lists table.once (one_holder cells ends lists table);
+}

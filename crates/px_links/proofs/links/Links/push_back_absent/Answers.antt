@@ -1,0 +1,32 @@
+use Rattle.std.proofs.Common.{◌≡◌, length, not, Option, Some, None, is_some, false, ap, sym, ◌∙◌, if◌then◌else◌, refl}
+use Rattle.px_links.specs.Links.{LinksData, pushed}
+use Rattle.px_links.specs.Lists.{with_last}
+use Rattle.px_links.specs.Keeping.{lists_in}
+use Rattle.px_links.proofs.Handing.{kept, data_is}
+use Rattle.px_links.proofs.Reading.{holder_now}
+use Rattle.px_links.proofs.links.Links.push_back_absent.Goals as goal
+
+none_of : {A : Type 0} (found : Option A) → is_some found ≡ false → found ≡ None
+none_of None is = refl
+none_of (Some x) is = absurd (cc)
+
+pub link_last-requires-clause-absent : goal.link_last-requires-clause-absent
+link_last-requires-clause-absent c = rw (c.deref_mut.ensures.value) (
+    holder_now c.self.inside c.args.self.now c.self.view_is c.self.invariant c.args.cell ∙ sym c.holds.ensures.answer
+    ∙ none_of c.holds.result (sym c.is_some.ensures ∙ c.if-is_some.false))
+
+pub invariant_of-self : goal.invariant_of-self
+invariant_of-self c = kept c.self.inside c.link_last.new.cells c.link_last.new.ends _ c.link_last.ensures
+    (c.link_last.auto.cells ∙ c.deref_mut.ensures.len) (c.link_last.auto.ends ∙ c.deref_mut-2.ensures.len)
+
+pub returns-clause-links : goal.returns-clause-links
+returns-clause-links c =
+    data_is c.self.inside c.link_last.new.cells c.link_last.new.ends _ c.link_last.ensures
+    (c.link_last.auto.cells ∙ c.deref_mut.ensures.len) (c.link_last.auto.ends ∙ c.deref_mut-2.ensures.len)
+    ∙ (λ i. record {
+      cells = length c.self.inside.cells.items;
+      lists = with_last (lists_in (c.deref_mut.ensures.value i) (c.deref_mut-2.ensures.value i)) c.args.list c.args.cell;
+    })
+    ∙ ap (λ (links : LinksData). pushed links c.args.list c.args.cell) c.self.view_is
+    ∙ ap (λ found. if not (is_some found) then pushed c.args.self.now c.args.list c.args.cell else c.args.self.now)
+    (sym (none_of c.holds.result (sym c.is_some.ensures ∙ c.if-is_some.false)) ∙ c.holds.ensures.answer)
