@@ -13,6 +13,7 @@ use itoa::Buffer;
 use std::alloc::{AllocError, Global};
 use std::hash::{Hash, Hasher};
 use std::marker::Model;
+use std::sync::ArcStr;
 use thiserror::Error;
 
 /// The most bytes that a name has.
@@ -36,21 +37,23 @@ impl From<AllocError> for NameFault {
     }
 }
 
-/// An identifier, or the name `#..` that a node without a label is given: 1 to 64 bytes of ASCII.
+/// An identifier, or the name `#..` that a node without a label is given: 1 to 64 bytes of ASCII. Its text is shared with
+/// its copies.
 #[derive(Debug, Drop)]
 pub struct Name {
-    text: String,
+    text: ArcStr,
 }
 
 impl Model for Name {
-    ghost use Rattle.std.specs.Prelude.{ℕ, List, IsTrue, string_bytes};
+    ghost use Rattle.std.specs.Prelude.{ℕ, List, IsTrue};
+    ghost use Rattle.std.specs.Arc.{arc_str_bytes};
     ghost use Rattle.px_value.specs.Name.{is_name};
 
     ghost Value = { List ℕ };
 
-    ghost view = { λ n. string_bytes n.text };
+    ghost view = { λ n. arc_str_bytes n.text };
 
-    ghost invariant = { λ n. IsTrue (is_name (string_bytes n.text)) };
+    ghost invariant = { λ n. IsTrue (is_name (arc_str_bytes n.text)) };
 }
 
 impl Name {
@@ -63,7 +66,7 @@ impl Name {
     {
         if is_name(text.as_bytes()) {
             Ok(Name {
-                text: String::from_str(alloc, text)?,
+                text: ArcStr::from_str(alloc, text)?,
             })
         } else {
             Err(NameFault::NotAName)
@@ -77,7 +80,9 @@ impl Name {
         let mut digits = Buffer::new();
         let mut text = String::from_str(alloc, "#")?;
         text.push_str(digits.format(k))?;
-        Ok(Name { text })
+        Ok(Name {
+            text: ArcStr::from_string(text)?,
+        })
     }
 
     /// The name's text.
@@ -89,12 +94,12 @@ impl Name {
     }
 
     /// An equal name.
-    pub fn copy(&self, alloc: Global) -> Result<Name, AllocError>
+    pub fn copy(&self, _alloc: Global) -> Result<Name, AllocError>
         ensures copy { IfOk result (λ name. name ≡ self.now) }
         ensures name { IsTrue (is_name self.now) }
     {
         Ok(Name {
-            text: String::from_str(alloc, self.text.as_str())?,
+            text: self.text.clone()?,
         })
     }
 }

@@ -14,6 +14,7 @@ use crate::name::{Name, is_name};
 use std::alloc::{AllocError, Global};
 use std::hash::{Hash, Hasher};
 use std::marker::Model;
+use std::sync::ArcStr;
 use thiserror::Error;
 
 /// The most bytes that a path has.
@@ -37,21 +38,23 @@ impl From<AllocError> for PathFault {
     }
 }
 
-/// The path of a node: the names from the root to it, joined by dots, of at most 5,000 bytes.
+/// The path of a node: the names from the root to it, joined by dots, of at most 5,000 bytes. Its text is
+/// shared with its copies.
 #[derive(Debug, Drop)]
 pub struct Path {
-    text: String,
+    text: ArcStr,
 }
 
 impl Model for Path {
-    ghost use Rattle.std.specs.Prelude.{ℕ, List, IsTrue, string_bytes};
+    ghost use Rattle.std.specs.Prelude.{ℕ, List, IsTrue};
+    ghost use Rattle.std.specs.Arc.{arc_str_bytes};
     ghost use Rattle.px_value.specs.Path.{is_path};
 
     ghost Value = { List ℕ };
 
-    ghost view = { λ p. string_bytes p.text };
+    ghost view = { λ p. arc_str_bytes p.text };
 
-    ghost invariant = { λ p. IsTrue (is_path (string_bytes p.text)) };
+    ghost invariant = { λ p. IsTrue (is_path (arc_str_bytes p.text)) };
 }
 
 impl Path {
@@ -64,7 +67,7 @@ impl Path {
     {
         if is_path(text.as_bytes()) {
             Ok(Path {
-                text: String::from_str(alloc, text)?,
+                text: ArcStr::from_str(alloc, text)?,
             })
         } else {
             Err(PathFault::NotAPath)
@@ -76,7 +79,7 @@ impl Path {
         ensures { IfOk result (λ path. path ≡ name.now) }
     {
         Ok(Path {
-            text: String::from_str(alloc, name.as_str())?,
+            text: ArcStr::from_str(alloc, name.as_str())?,
         })
     }
 
@@ -88,7 +91,9 @@ impl Path {
         let mut text = String::from_str(alloc, self.text.as_str())?;
         text.push_str(".")?;
         text.push_str(name.as_str())?;
-        Ok(Path { text })
+        Ok(Path {
+            text: ArcStr::from_string(text)?,
+        })
     }
 
     /// The path's text.
@@ -100,11 +105,11 @@ impl Path {
     }
 
     /// An equal path.
-    pub fn copy(&self, alloc: Global) -> Result<Path, AllocError>
+    pub fn copy(&self, _alloc: Global) -> Result<Path, AllocError>
         ensures { IfOk result (λ path. path ≡ self.now) }
     {
         Ok(Path {
-            text: String::from_str(alloc, self.text.as_str())?,
+            text: self.text.clone()?,
         })
     }
 }

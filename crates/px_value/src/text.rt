@@ -11,6 +11,7 @@ ghost use Rattle.px_value.specs.declared.text.TextFault.TheVariants.{NoMemory as
 use std::alloc::{AllocError, Global};
 use std::hash::{Hash, Hasher};
 use std::marker::Model;
+use std::sync::ArcStr;
 use thiserror::Error;
 
 /// The most bytes that a text has.
@@ -34,21 +35,22 @@ impl From<AllocError> for TextFault {
     }
 }
 
-/// A UTF-8 text of at most 1,024 bytes (PLEXIL reference manual, "Expressions").
+/// A UTF-8 text of at most 1,024 bytes (PLEXIL reference manual, "Expressions"). It is shared with its copies.
 #[derive(Debug, Drop)]
 pub struct Text {
-    text: String,
+    text: ArcStr,
 }
 
 impl Model for Text {
-    ghost use Rattle.std.specs.Prelude.{ℕ, List, IsTrue, string_bytes};
+    ghost use Rattle.std.specs.Prelude.{ℕ, List, IsTrue};
+    ghost use Rattle.std.specs.Arc.{arc_str_bytes};
     ghost use Rattle.px_value.specs.Text.{is_short_text};
 
     ghost Value = { List ℕ };
 
-    ghost view = { λ t. string_bytes t.text };
+    ghost view = { λ t. arc_str_bytes t.text };
 
-    ghost invariant = { λ t. IsTrue (is_short_text (string_bytes t.text)) };
+    ghost invariant = { λ t. IsTrue (is_short_text (arc_str_bytes t.text)) };
 }
 
 impl Text {
@@ -61,7 +63,7 @@ impl Text {
     {
         if text.len() <= TEXT_LIMIT {
             Ok(Text {
-                text: String::from_str(alloc, text)?,
+                text: ArcStr::from_str(alloc, text)?,
             })
         } else {
             Err(TextFault::TooLong)
@@ -77,11 +79,11 @@ impl Text {
     }
 
     /// An equal text.
-    pub fn copy(&self, alloc: Global) -> Result<Text, AllocError>
+    pub fn copy(&self, _alloc: Global) -> Result<Text, AllocError>
         ensures { IfOk result (λ text. text ≡ self.now) }
     {
         Ok(Text {
-            text: String::from_str(alloc, self.text.as_str())?,
+            text: self.text.clone()?,
         })
     }
 
@@ -92,7 +94,9 @@ impl Text {
     {
         let mut text = String::from_str(alloc, self.text.as_str())?;
         text.push_str(other.as_str())?;
-        Ok(Text { text })
+        Ok(Text {
+            text: ArcStr::from_string(text)?,
+        })
     }
 }
 
