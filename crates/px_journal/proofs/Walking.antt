@@ -23,6 +23,7 @@ pub record HasRead {D : Type 0} (members : Disk.Ghosts D) (old now : D) (plan : 
   pub few : length history ≤ 100000
   pub front : ForSome (members.content old) (λ told. Front told plan history)
   pub reads : OnlyReads members.images (members.content old) (members.content now) (members.moments old) (members.moments now)
+  pub unwritten : members.writes now ≡ members.writes old
   pub stays : StaysAttached (members.bound_to old) (members.bound_to now) (members.is_attached old) (members.is_attached now)
   pub later : members.faults old ≤ members.faults now
 
@@ -35,9 +36,10 @@ module _ {D : Type 0} (members : Disk.Ghosts D) (old now : D) (plan : List ℕ) 
   pub read_next : (new : D) (entry : Entry) (next : ℕ) → IsTrue (is_fit_entry entry) → next ≡ gate + 1 + length (record_bytes entry) → next < size → length history < 100000
       → ForSome (members.content now) (λ told. Opens (record_bytes entry) (drop gate told))
       → OnlyReads members.images (members.content now) (members.content new) (members.moments now) (members.moments new)
+      → members.writes new ≡ members.writes now
       → StaysAttached (members.bound_to now) (members.bound_to new) (members.is_attached now) (members.is_attached new)
       → members.faults now ≤ members.faults new → HasRead members old new plan size (history ++ entry ∷ []) next
-  read_next new entry next fit next_is within few opens reads stays later = record {
+  read_next new entry next fit next_is within few opens reads unwritten stays later = record {
     place = omega (arith, next_is, read.place, next_gate-push plan history entry);
     within = within;
     fit = fits-push history entry read.fit fit;
@@ -45,6 +47,7 @@ module _ {D : Type 0} (members : Disk.Ghosts D) (old now : D) (plan : List ℕ) 
     front = λ told is. Front-push told plan history entry (read.front told is) fit
         (subst (λ (n : ℕ). Opens (record_bytes entry) (drop n told)) read.place (opens told (now_told told is)));
     reads = reads_on members.images _ _ _ _ _ _ read.reads reads;
+    unwritten = unwritten ∙ read.unwritten;
     stays = record { bound = stays.bound ∙ read.stays.bound; attached = stays.attached ∙ read.stays.attached };
     later = omega (arith, read.later, later);
   }
@@ -78,6 +81,7 @@ read_nothing members disk plan size within front =
       few = omega arith;
       front = front;
       reads = reads_none members.images (members.content disk) (members.moments disk);
+      unwritten = refl;
       stays = record { bound = refl; attached = refl };
       later = omega arith;
     }

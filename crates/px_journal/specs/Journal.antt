@@ -34,10 +34,15 @@ pub record IsReady {D : Type 0} (members : Disk.Ghosts D) (journal : Journal D) 
   pub attached : IsTrue (members.is_attached journal.disk)
   pub room : 9319 ≤ vec_capacity journal.buffer
 
--- no write was made: what a read gives is the same, and each image since is one of before
+-- no write was made, not even one of no byte, and each image since is one of before
+pub record IsUnwritten {D : Type 0} (members : Disk.Ghosts D) (old new : D) : Type 0 where
+  pub writes : members.writes new ≡ members.writes old
+  pub elapses : Elapses members.images Stays (members.moments old) (members.moments new)
+
+-- no write was made, and what a read gives is the same
 pub record IsUntouched {D : Type 0} (members : Disk.Ghosts D) (old new : D) : Type 0 where
   pub content : members.content new ≡ members.content old
-  pub elapses : Elapses members.images Stays (members.moments old) (members.moments new)
+  pub unwritten : IsUnwritten members old new
 
 -- the disk after a call that takes it, which a journal has then or a fault hands back
 abbrev pub disk_after : {D : Type 0} → Result (Journal D) (CreateFault D) → D

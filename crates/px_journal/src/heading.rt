@@ -33,6 +33,7 @@ pub(crate) fn read_length<D: Disk>(disk: &mut D, size: u64) -> Result<u32, Recov
 
     ensures reads { OnlyReads D.images (D.content disk.old) (D.content disk.new)
         (D.moments disk.old) (D.moments disk.new) }
+    ensures unwritten { D.writes disk.new ≡ D.writes disk.old }
     ensures stays { StaysAttached (D.bound_to disk.old) (D.bound_to disk.new)
         (D.is_attached disk.old) (D.is_attached disk.new) }
 {
@@ -95,6 +96,7 @@ pub(crate) fn read_text<D: Disk>(
 
     ensures reads { OnlyReads D.images (D.content disk.old) (D.content disk.new)
         (D.moments disk.old) (D.moments disk.new) }
+    ensures unwritten { D.writes disk.new ≡ D.writes disk.old }
     ensures stays { StaysAttached (D.bound_to disk.old) (D.bound_to disk.new)
         (D.is_attached disk.old) (D.is_attached disk.new) }
 {

@@ -104,6 +104,7 @@ pub(crate) fn next_record<D: Disk>(
 
     ensures reads { OnlyReads D.images (D.content disk.old) (D.content disk.new)
         (D.moments disk.old) (D.moments disk.new) }
+    ensures unwritten { D.writes disk.new ≡ D.writes disk.old }
     ensures stays { StaysAttached (D.bound_to disk.old) (D.bound_to disk.new)
         (D.is_attached disk.old) (D.is_attached disk.new) }
 {

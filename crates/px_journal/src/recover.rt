@@ -8,9 +8,8 @@ ghost use Rattle.std.specs.Option.{ForSome};
 ghost use Rattle.px_event.specs.Fit.{is_fit_entry};
 ghost use Rattle.px_ports.specs.Disk.{OnlyReads, StaysAttached};
 ghost use Rattle.px_ports.specs.Host.{Rose};
-ghost use Rattle.px_ports.specs.Moment.{Elapses, Stays};
 ghost use Rattle.px_journal.specs.Damage.{Damaged};
-ghost use Rattle.px_journal.specs.Journal.{IsReady, IsSettled, IsNotRecovered, IsWhole, disk_recovered};
+ghost use Rattle.px_journal.specs.Journal.{IsReady, IsSettled, IsUnwritten, IsNotRecovered, IsWhole, disk_recovered};
 ghost use Rattle.px_journal.specs.Layout.{is_nothing, next_gate, Stands};
 ghost use Rattle.px_journal.specs.declared.fault.RecoverWhy.TheVariants as whys;
 
@@ -56,7 +55,7 @@ impl<D: Disk> Journal<D> {
             → Rose (D.faults disk) (D.faults (disk_recovered result)) }
         ensures later { D.faults disk ≤ D.faults (disk_recovered result) }
 
-        ensures writes_nothing { Elapses D.images Stays (D.moments disk) (D.moments (disk_recovered result)) }
+        ensures writes_nothing { IsUnwritten D.Disk disk (disk_recovered result) }
         ensures same { ¬ IsNotRecovered result whys.DiskFault → D.content (disk_recovered result) ≡ D.content disk }
         ensures settled { ¬ IsNotRecovered result whys.DiskFault → IsSettled D.Disk (disk_recovered result) }
         ensures tells { is_some (D.content (disk_recovered result)) ≡ is_some (D.content disk) }
@@ -102,7 +101,7 @@ fn read_journal<D: Disk>(alloc: Global, disk: &mut D) -> Result<Read, RecoverWhy
     ensures cause { IsErrOf result whys.DiskFault → Rose (D.faults disk.old) (D.faults disk.new) }
     ensures later { D.faults disk.old ≤ D.faults disk.new }
 
-    ensures writes_nothing { Elapses D.images Stays (D.moments disk.old) (D.moments disk.new) }
+    ensures writes_nothing { IsUnwritten D.Disk disk.old disk.new }
     ensures stays { StaysAttached (D.bound_to disk.old) (D.bound_to disk.new)
         (D.is_attached disk.old) (D.is_attached disk.new) }
 {
@@ -140,6 +139,7 @@ fn read_stable<D: Disk>(
 
     ensures reads { OnlyReads D.images (D.content disk.old) (D.content disk.new)
         (D.moments disk.old) (D.moments disk.new) }
+    ensures unwritten { D.writes disk.new ≡ D.writes disk.old }
     ensures stays { StaysAttached (D.bound_to disk.old) (D.bound_to disk.new)
         (D.is_attached disk.old) (D.is_attached disk.new) }
 {

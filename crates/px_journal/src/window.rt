@@ -66,6 +66,7 @@ impl Window {
 
         ensures reads { OnlyReads D.images (D.content disk.old) (D.content disk.new)
             (D.moments disk.old) (D.moments disk.new) }
+        ensures unwritten { D.writes disk.new ≡ D.writes disk.old }
         ensures stays { StaysAttached (D.bound_to disk.old) (D.bound_to disk.new)
             (D.is_attached disk.old) (D.is_attached disk.new) }
         ensures cause { CountsFaults (D.faults disk.old) (D.faults disk.new) result }
@@ -106,6 +107,7 @@ fn read_front<D: Disk>(
         (λ told. take count buffer.new ≡ slice_range told place (place + count))) }
     ensures reads { OnlyReads D.images (D.content disk.old) (D.content disk.new)
         (D.moments disk.old) (D.moments disk.new) }
+    ensures unwritten { D.writes disk.new ≡ D.writes disk.old }
     ensures stays { StaysAttached (D.bound_to disk.old) (D.bound_to disk.new)
         (D.is_attached disk.old) (D.is_attached disk.new) }
     ensures cause { CountsFaults (D.faults disk.old) (D.faults disk.new) result }

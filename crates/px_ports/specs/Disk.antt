@@ -27,10 +27,11 @@ pub record StaysAttached (bound_old bound_new : Option (List ℕ)) (attached_old
   pub bound : bound_new ≡ bound_old
   pub attached : attached_new ≡ attached_old
 
--- a call fails only where the count rose, and the count never falls
+-- a call fails only where the count rose; the count never falls, and Ok leaves it as it was
 pub record CountsFaults {T : Type 0} (before now : ℕ) (result : Result T DiskFault) : Type 0 where
   pub later : before ≤ now
   pub failed : IsErr result → Rose before now
+  pub kept : OnOk result (now ≡ before)
 
 -- no byte changes, and no image
 pub record OnlyReads (images : Images) (old new : Told) (before now : List Moment) : Type 0 where

@@ -1,5 +1,6 @@
 -- How the moments of a disk in memory follow on one another. Before its first moment the disk is empty.
-use Rattle.std.specs.Prelude.{◌≡◌, ◌≤◌, ℕ, List, [], ◌∷◌, length, replicate}
+use Rattle.std.specs.Prelude.{◌≡◌, ◌≤◌, ℕ, Bool, true, false, List, [], ◌∷◌, length, replicate}
+use Rattle.std.specs.List.{filter}
 use Rattle.px_ports.specs.Moment.{Images, overwritten, Torn}
 use Rattle.px_ports.specs.declared.moment.Moment.{Moment}
 use Rattle.px_ports.specs.declared.moment.Moment.TheVariants.{Began, Wrote, FailedToWrite, Settled}
@@ -27,6 +28,16 @@ Leaves left read (Wrote at bytes ∷ more) =
     Leaves (LeftByWrite left at (length bytes) (overwritten at bytes read)) (overwritten at bytes read) more
 Leaves left read (FailedToWrite at n ∷ more) = Leaves (LeftByWrite left at n read) read more
 Leaves left read (Settled ∷ more) = Leaves (λ image. image ≡ read) read more
+
+-- a write was asked for, also one that failed
+abbrev pub is_write : Moment → Bool
+is_write (Wrote at bytes) = true
+is_write (FailedToWrite at n) = true
+is_write moment = false
+
+-- how many writes were asked for at these moments
+abbrev pub writes_in : List Moment → ℕ
+writes_in moments = length (filter is_write moments)
 
 -- what a read gives, and what a crash leaves, after all these moments
 abbrev pub read_of : List Moment → List ℕ

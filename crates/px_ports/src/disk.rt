@@ -5,7 +5,7 @@ ghost use Rattle.px_ports.specs.Moment.{Images};
 ghost use Rattle.px_ports.specs.Disk.{Told, IsFreeFor, Attaches, StaysAttached, CountsFaults, OnlyReads, Writes, Syncs};
 ghost use Rattle.px_ports.specs.declared.moment.Moment.{Moment};
 
-/// A call of a disk failed. Its count of faults has risen.
+/// A call of a disk failed. Its count of faults has risen, as it does at no call that succeeds.
 #[derive(Clone, Copy, Debug, PartialEq, Eq)]
 pub struct DiskFault;
 
@@ -34,6 +34,9 @@ pub trait Disk {
     /// How many calls have failed, up to 2^64 - 1.
     ghost faults: { Self → ℕ };
 
+    /// How many writes were asked for, as far as the disk counts them: also those of no byte, and those that failed.
+    ghost writes: { Self → ℕ };
+
     /// Binds the disk to a name and attaches it. A name without a file stands for a file of 0 bytes, which the first
     /// write makes. After a fault the disk is bound to the name or as before, and no more attached than before.
     fn attach(&mut self, name: &str) -> Result<(), DiskFault>
@@ -42,6 +45,7 @@ pub trait Disk {
             (is_attached self.old) (is_attached self.new) result }
         ensures reads { OnlyReads images (content self.old) (content self.new)
             (moments self.old) (moments self.new) }
+        ensures unwritten { writes self.new ≡ writes self.old }
         ensures cause { CountsFaults (faults self.old) (faults self.new) result };
 
     /// The number of bytes.
@@ -52,6 +56,7 @@ pub trait Disk {
             (is_attached self.old) (is_attached self.new) }
         ensures reads { OnlyReads images (content self.old) (content self.new)
             (moments self.old) (moments self.new) }
+        ensures unwritten { writes self.new ≡ writes self.old }
         ensures cause { CountsFaults (faults self.old) (faults self.new) result };
 
     /// Fills `into` with the bytes from this place on, which have to be there. After a fault `into` may hold anything.
@@ -64,6 +69,7 @@ pub trait Disk {
             (is_attached self.old) (is_attached self.new) }
         ensures reads { OnlyReads images (content self.old) (content self.new)
             (moments self.old) (moments self.new) }
+        ensures unwritten { writes self.new ≡ writes self.old }
         ensures cause { CountsFaults (faults self.old) (faults self.new) result };
 
     /// Writes the bytes at this place, counted from 0 and at most the length, over what is there and past the end. After
@@ -75,6 +81,7 @@ pub trait Disk {
             (moments self.old) (moments self.new) result }
         ensures stays { StaysAttached (bound_to self.old) (bound_to self.new)
             (is_attached self.old) (is_attached self.new) }
+        ensures counted { writes self.old ≤ writes self.new }
         ensures cause { CountsFaults (faults self.old) (faults self.new) result };
 
     /// Settles what a read gives: after `Ok` a crash leaves just that. After a fault a read may give something else, and
@@ -85,6 +92,7 @@ pub trait Disk {
             (moments self.old) (moments self.new) result }
         ensures stays { StaysAttached (bound_to self.old) (bound_to self.new)
             (is_attached self.old) (is_attached self.new) }
+        ensures unwritten { writes self.new ≡ writes self.old }
         ensures cause { CountsFaults (faults self.old) (faults self.new) result };
 
     /// The count of calls that have failed, which stays at 2^64 - 1 once it is there.

@@ -2,7 +2,7 @@
 ghost use Rattle.std.specs.Prelude.{◌≡◌, ◌≤◌, ◌+◌, Some, length, slice_range, IfOk, OnOk};
 ghost use Rattle.px_ports.specs.Disk.{CountsFaults, Writes, Syncs};
 ghost use Rattle.px_ports.specs.MemDisk.{IsNew, AttachesNext, ReadsNext, WritesNext, SyncsNext};
-ghost use Rattle.px_ports.specs.Replay.{read_of, images_of, picked};
+ghost use Rattle.px_ports.specs.Replay.{read_of, images_of, picked, writes_in};
 ghost use Rattle.px_ports.specs.ReplayLaws.{reads_are_left, none_is_longer};
 
 use crate::calls::Calls;
@@ -79,6 +79,8 @@ impl Disk for MemDisk {
     ghost images = { images_of };
 
     ghost faults = { λ disk. disk.calls.faults };
+
+    ghost writes = { λ disk. writes_in disk.contents.moments };
 
     ghost reads_are_left = { λ disk. reads_are_left disk.contents.moments };
 

@@ -50,7 +50,7 @@ module _ {D : Type 0} (members : Disk.Ghosts D) (journal : List ℕ) (Next : D �
   not_taken_up fault refused = by fault.why refl refused.why
     where
       still : fault.why ≢ reopening.DiskFault → IsUntouched members old fault.disk
-      still other = record { content = refused.same other; elapses = refused.elapses }
+      still other = record { content = refused.same other; unwritten = refused.unwritten }
 
       refused_as : (why : ReopenWhy) → fault.why ≡ why → why ≢ reopening.DiskFault → PerformsDue view view (Calls fault.disk Settled) (Err (stop_of_reopen why))
           → Carries members journal Calls view view old (record { result = Err (stop_of_reopen fault.why); disk = fault.disk })
@@ -99,7 +99,7 @@ module _ {D : Type 0} (members : Disk.Ghosts D) (journal : List ℕ) (Next : D �
         course = Unread;
         performs = subst (λ (w : ReopenWhy). PerformsDue view view (Calls fault.disk Unread) (Err (stop_of_reopen w))) (sym is)
             (AfterJournal.disk_fails (subst (IsReopenWhy members old fault.disk) is cause), refl);
-        leaves = λ tells. refused.elapses;
+        leaves = λ tells. refused.unwritten;
         bound = refused.bound;
       }
 
@@ -119,15 +119,15 @@ pub fronts_since : {D : Type 0} (members : Disk.Ghosts D) (session : Session) (o
     → LeavesFronts members (λ image. ⊥) session old new
 fronts_since members session old opened new untouched stands since = record {
   each = record {
-    grows = grows_on (members.moments old) (members.moments opened) (members.moments new) (untouched.elapses).grows since.grows;
+    grows = grows_on (members.moments old) (members.moments opened) (members.moments new) ((untouched.unwritten).elapses).grows since.grows;
     each = λ image left. ⊎_elim
-        (λ early. let from = (untouched.elapses).each image early in inl (subst (members.images (members.moments old)) (sym (from.2)) (from.1)))
+        (λ early. let from = ((untouched.unwritten).elapses).each image early in inl (subst (members.images (members.moments old)) (sym (from.2)) (from.1)))
         (λ late. inr (inr (since.each image late)))
         (left_before_or_after members.images (members.moments opened) (members.moments new) (length (members.moments old)) image since.grows left);
   };
   opened = (
     length (members.moments opened),
-    grows_length (members.moments old) (members.moments opened) (untouched.elapses).grows,
+    grows_length (members.moments old) (members.moments opened) ((untouched.unwritten).elapses).grows,
     grows_length (members.moments opened) (members.moments new) since.grows,
     λ image left. stands image (subst (λ (ms : List Moment). members.images ms image) since.grows left),
     since.each,

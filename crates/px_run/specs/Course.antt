@@ -2,9 +2,8 @@
 use Rattle.std.specs.Prelude.{◌≡◌, ℕ, List, Option, Some, None, IsTrue, IsFalse}
 use Rattle.std.specs.Option.{ForSome}
 use Rattle.px_event.specs.declared.entry.Entry.{Entry}
-use Rattle.px_journal.specs.Journal.{IsSettled, IsUntouched}
+use Rattle.px_journal.specs.Journal.{IsSettled, IsUnwritten, IsUntouched}
 use Rattle.px_journal.specs.Layout.{is_nothing}
-use Rattle.px_ports.specs.Moment.{Elapses, Stays}
 use Rattle.px_ports.specs.declared.disk.Disk
 use Rattle.px_session.specs.Opened.{LeavesNew}
 use Rattle.px_session.specs.Session.{Session, unposted, HasOneHistory, LeavesFronts}
@@ -38,7 +37,7 @@ module _ {D : Type 0} (members : Disk.Ghosts D) where
   abbrev pub Leaves : D → D → Course → Type 0
   Leaves old new Untouched = IsUntouched members old new
   Leaves old new Settled = IsUntouched members old new × IsSettled members new
-  Leaves old new Unread = Elapses members.images Stays (members.moments old) (members.moments new)
+  Leaves old new Unread = IsUnwritten members old new
   Leaves old new (HalfMade text) =
       LeavesNew members text old new × ForSome (members.content old) (λ told. IsFalse (is_nothing told) → IsUntouched members old new)
   Leaves old new (Made session) =

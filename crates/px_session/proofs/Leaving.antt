@@ -3,60 +3,68 @@ use Rattle.std.proofs.Common.{◌≡◌, inl, inr, ⊎_elim, ℕ, List, [], ◌+
 use Rattle.std.specs.Option.{ForSome}
 use Rattle.px_event.specs.declared.entry.Entry.{Entry}
 use Rattle.px_journal.specs.Crash.{OldOrNew}
-use Rattle.px_journal.specs.Journal.{IsSettled, IsUntouched}
+use Rattle.px_journal.specs.Journal.{IsSettled, IsUnwritten, IsUntouched}
 use Rattle.px_journal.specs.Layout.{Stands}
 use Rattle.px_journal.proofs.Moments.{grows_on, left_now, left_before_or_after, elapses_none, elapses_on}
 use Rattle.px_ports.specs.Moment.{LeftSince, Stays}
 use Rattle.px_ports.specs.declared.disk.Disk
-use Rattle.px_session.specs.Attached.{IsOnlyRead}
 use Rattle.px_session.specs.Opened.{LeavesNew}
 use Rattle.px_session.specs.Session.{unposted, HasOneHistory}
 
 module _ {D : Type 0} (members : Disk.Ghosts D) where
   pub untouched_at_once : (disk : D) → IsUntouched members disk disk
-  untouched_at_once disk = record { content = refl; elapses = elapses_none members.images (members.moments disk) }
+  untouched_at_once disk = record {
+    content = refl;
+    unwritten = record { writes = refl; elapses = elapses_none members.images (members.moments disk) };
+  }
 
-  pub untouched_read : (old new : D) → IsOnlyRead members old new → IsUntouched members old new
-  untouched_read old new reads = record { content = reads.bytes; elapses = reads.elapses }
+  pub unwritten_on : (old mid new : D) → IsUnwritten members old mid → IsUnwritten members mid new → IsUnwritten members old new
+  unwritten_on old mid new first second = record {
+    writes = second.writes ∙ first.writes;
+    elapses = elapses_on members.images Stays (members.moments old) (members.moments mid) (members.moments new) first.elapses second.elapses;
+  }
 
-  pub untouched_on : (old mid new : D) → IsOnlyRead members old mid → IsUntouched members mid new → IsUntouched members old new
-  untouched_on old mid new reads untouched = record {
-    content = untouched.content ∙ reads.bytes;
-    elapses = elapses_on members.images Stays (members.moments old) (members.moments mid) (members.moments new) reads.elapses untouched.elapses;
+  pub untouched_on : (old mid new : D) → IsUntouched members old mid → IsUntouched members mid new → IsUntouched members old new
+  untouched_on old mid new first second = record {
+    content = second.content ∙ first.content;
+    unwritten = unwritten_on old mid new first.unwritten second.unwritten;
   }
 
   -- what a crash at a moment of a reading call may leave is an image from before
-  from_before : (old new : D) → IsOnlyRead members old new → (image : List ℕ) → LeftSince members.images (members.moments new) (length (members.moments old)) image
+  from_before : (old new : D) → IsUntouched members old new → (image : List ℕ) → LeftSince members.images (members.moments new) (length (members.moments old)) image
       → members.images (members.moments old) image
-  from_before old new reads image since =
-      let from = reads.elapses.each image since in
+  from_before old new untouched image since =
+      let from = ((untouched.unwritten).elapses).each image since in
       subst (members.images (members.moments old)) (sym (from.2)) (from.1)
 
-  pub new_read : (text : List ℕ) (old new : D) → IsOnlyRead members old new → LeavesNew members text old new
-  new_read text old new reads = record {
-    grows = reads.elapses.grows;
-    each = λ told is. record { grows = reads.elapses.grows; each = λ image since. inl (from_before old new reads image since) };
+  pub new_read : (text : List ℕ) (old new : D) → IsUntouched members old new → LeavesNew members text old new
+  new_read text old new untouched = record {
+    grows = ((untouched.unwritten).elapses).grows;
+    each = λ told is. record {
+      grows = ((untouched.unwritten).elapses).grows;
+      each = λ image since. inl (from_before old new untouched image since);
+    };
   }
 
-  -- a call that only reads, and then one that makes a journal
-  pub new_on : (text : List ℕ) (old mid new : D) → IsOnlyRead members old mid → LeavesNew members text mid new → LeavesNew members text old new
-  new_on text old mid new reads leaves = record {
+  -- a call that writes nothing, and then one that makes a journal
+  pub new_on : (text : List ℕ) (old mid new : D) → IsUntouched members old mid → LeavesNew members text mid new → LeavesNew members text old new
+  new_on text old mid new untouched leaves = record {
     grows = all;
     each = λ told is. record {
       grows = all;
       each = λ image since. ⊎_elim
-          (λ early. inl (from_before old mid reads image early))
-          (λ late. older image ((leaves.each told (reads.bytes ∙ is)).each image late))
+          (λ early. inl (from_before old mid untouched image early))
+          (λ late. older image ((leaves.each told (untouched.content ∙ is)).each image late))
           (left_before_or_after members.images (members.moments mid) (members.moments new) (length (members.moments old)) image leaves.grows since);
     };
   }
     where
       all : take (length (members.moments old)) (members.moments new) ≡ members.moments old
-      all = grows_on (members.moments old) (members.moments mid) (members.moments new) reads.elapses.grows leaves.grows
+      all = grows_on (members.moments old) (members.moments mid) (members.moments new) ((untouched.unwritten).elapses).grows leaves.grows
 
       older : (image : List ℕ) → OldOrNew (members.images (members.moments mid)) text image → OldOrNew (members.images (members.moments old)) text image
       older image = ⊎_elim
-          (λ was. inl (from_before old mid reads image (left_now members.images (members.moments old) (members.moments mid) image reads.elapses.grows was)))
+          (λ was. inl (from_before old mid untouched image (left_now members.images (members.moments old) (members.moments mid) image ((untouched.unwritten).elapses).grows was)))
           (λ new. inr new)
 
   -- a disk that is settled, and stands for a text and a history

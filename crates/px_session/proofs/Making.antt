@@ -20,15 +20,15 @@ use Rattle.px_session.specs.Attached.{IsAttached, IsNotAttached}
 use Rattle.px_session.specs.Opened.{LeavesNew, Creates, IsCreateWhy, IsNotCreated}
 use Rattle.px_journal.proofs.Creating.{nothing_or_not}
 use Rattle.px_session.specs.Session.{unposted, HasOneHistory}
-use Rattle.px_session.proofs.Leaving.{untouched_at_once, untouched_read, untouched_on, new_read, new_on, one_history}
+use Rattle.px_session.proofs.Leaving.{untouched_at_once, untouched_on, new_read, new_on, one_history}
 
 module _ {D : Type 0} (members : Disk.Ghosts D) (name text : List ℕ) (old mid : D) where
   pub unattached : IsNotAttached members name old mid → IsNotCreated members name text old (record { disk = mid; why = whys.DiskFault })
   unattached failed = record {
     why = failed.rose;
-    leaves = new_read members text old mid failed.reads;
-    tells = ap is_some (failed.reads).bytes;
-    untouched = λ told is whole. untouched_read members old mid failed.reads;
+    leaves = new_read members text old mid failed.untouched;
+    tells = ap is_some (failed.untouched).content;
+    untouched = λ told is whole. failed.untouched;
     bound = failed.bound;
     faults = failed.faults;
   }
@@ -39,17 +39,17 @@ module _ {D : Type 0} (members : Disk.Ghosts D) (name text : List ℕ) (old mid 
       (stays : StaysAttached (members.bound_to mid) (members.bound_to new) (members.is_attached mid) (members.is_attached new))
       (later : members.faults mid ≤ members.faults new) (telling : is_some (members.content new) ≡ is_some (members.content mid)) where
     leaves : LeavesNew members text old new
-    leaves = new_on members text old mid new was.reads (record { grows = grows; each = each })
+    leaves = new_on members text old mid new was.untouched (record { grows = grows; each = each })
 
     bound : members.bound_to new ≡ Some name
     bound = stays.bound ∙ was.bound
 
     tells : is_some (members.content new) ≡ is_some (members.content old)
-    tells = telling ∙ ap is_some (was.reads).bytes
+    tells = telling ∙ ap is_some (was.untouched).content
 
     kept : ForSome (members.content mid) (λ told. IsFalse (is_nothing told) → IsUntouched members mid new)
         → ForSome (members.content old) (λ told. IsFalse (is_nothing told) → IsUntouched members old new)
-    kept untouched told is whole = untouched_on members old mid new was.reads (untouched told ((was.reads).bytes ∙ is) whole)
+    kept untouched told is whole = untouched_on members old mid new was.untouched (untouched told ((was.untouched).content ∙ is) whole)
 
     -- no journal was made
     pub uncreated : (why : CreateWhy) → IsCreateWhy members text mid new why
@@ -65,10 +65,10 @@ module _ {D : Type 0} (members : Disk.Ghosts D) (name text : List ℕ) (old mid 
     }
       where
         by : (w : CreateWhy) → IsCreateWhy members text mid new w → IsCreateWhy members text old new w
-        by whys.Exists whole = λ told is. whole told ((was.reads).bytes ∙ is)
+        by whys.Exists whole = λ told is. whole told ((was.untouched).content ∙ is)
         by whys.DiskFault rose = omega (arith, was.faults, rose)
-        by whys.NoMemory (inl still) = inl (untouched_on members old mid new was.reads still)
-        by whys.NoMemory (inr (nothing, stands)) = inr (λ told is. nothing told ((was.reads).bytes ∙ is), stands)
+        by whys.NoMemory (inl still) = inl (untouched_on members old mid new was.untouched still)
+        by whys.NoMemory (inr (nothing, stands)) = inr (λ told is. nothing told ((was.untouched).content ∙ is), stands)
 
     -- one was made, and an executive opened over it
     pub created : {S : Type 0} (runs : Stepper.Ghosts S) (stepper : S) (limit : ℕ) (journal : Journal D) (history : List Entry) (exec : Executive S D) → journal.disk ≡ new
@@ -87,7 +87,7 @@ module _ {D : Type 0} (members : Disk.Ghosts D) (name text : List ℕ) (old mid 
       };
       stands = subst (λ (o : Opening S D). IsReady members o.journal text o.history) (sym opens.opening)
           (subst (IsReady members journal text) (sym none) ready);
-      was_nothing = λ told is. nothing told ((was.reads).bytes ∙ is);
+      was_nothing = λ told is. nothing told ((was.untouched).content ∙ is);
       leaves = subst (LeavesNew members text old) (sym here) leaves;
       tells = ap (λ (d : D). is_some (members.content d)) here ∙ tells;
       bound = ap members.bound_to here ∙ bound;
@@ -114,12 +114,12 @@ module _ {D : Type 0} (members : Disk.Ghosts D) (name text : List ℕ) (old mid 
         → ForSome (members.content mid) (λ told. IsTrue (is_nothing told)) → IsNotCreated members name text old (record { disk = new; why = whys.NoMemory })
     made_in_vain journal here ready nothing = record {
       why = inr (
-        λ told is. nothing told ((was.reads).bytes ∙ is),
+        λ told is. nothing told ((was.untouched).content ∙ is),
         subst (HasOneHistory members (unposted text [])) here (one_history members journal.disk text [] ready.settled ready.stands),
       );
       leaves = leaves;
       tells = tells;
-      untouched = λ told is whole. absurd (nothing_or_not (is_nothing told) (nothing told ((was.reads).bytes ∙ is)) whole);
+      untouched = λ told is whole. absurd (nothing_or_not (is_nothing told) (nothing told ((was.untouched).content ∙ is)) whole);
       bound = inl bound;
       faults = omega (arith, was.faults, later);
     }

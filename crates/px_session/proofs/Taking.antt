@@ -10,14 +10,12 @@ use Rattle.px_exec.specs.Opening.{IsWhy, RunsAwayAt}
 use Rattle.px_exec.specs.declared.fault.OpenWhy.{OpenWhy}
 use Rattle.px_exec.specs.declared.fault.OpenWhy.TheVariants as opening
 use Rattle.px_journal.specs.Damage.{Damaged}
-use Rattle.px_journal.specs.Journal.{IsReady, IsSettled, IsUntouched}
+use Rattle.px_journal.specs.Journal.{IsReady, IsSettled, IsUnwritten, IsUntouched}
 use Rattle.px_journal.specs.Layout.{is_nothing, Stands}
 use Rattle.px_journal.specs.declared.fault.RecoverWhy.{RecoverWhy}
 use Rattle.px_journal.specs.declared.fault.RecoverWhy.TheVariants as recovering
-use Rattle.px_journal.proofs.Moments.{elapses_on}
 use Rattle.px_ports.specs.Disk.{StaysAttached}
 use Rattle.px_ports.specs.Host.{Rose}
-use Rattle.px_ports.specs.Moment.{Elapses, Stays}
 use Rattle.px_ports.specs.declared.disk.Disk
 use Rattle.px_sem.specs.Log.{events_of}
 use Rattle.px_sem.specs.Run.{run, started}
@@ -28,7 +26,7 @@ use Rattle.px_journal.specs.declared.journal.Journal.{Journal}
 use Rattle.px_session.specs.Attached.{IsAttached, IsNotAttached}
 use Rattle.px_session.specs.Opened.{IsRunWhy, IsReopenWhy, IsNotReopened, IsOpening, Reopens}
 use Rattle.px_session.specs.declared.reopening.Reopened.{Reopened}
-use Rattle.px_session.proofs.Leaving.{untouched_on}
+use Rattle.px_session.proofs.Leaving.{untouched_on, unwritten_on}
 use Rattle.px_session.specs.Whys.{of_recover, of_start, of_open}
 use Rattle.px_session.specs.declared.fault.ReopenFault.{ReopenFault}
 use Rattle.px_session.specs.declared.fault.ReopenWhy.{ReopenWhy}
@@ -38,22 +36,22 @@ module _ {D : Type 0} (members : Disk.Ghosts D) (name : List ℕ) (old mid : D) 
   pub not_attached : IsNotAttached members name old mid → IsNotReopened members name old (record { disk = mid; why = reopening.DiskFault })
   not_attached failed = record {
     why = failed.rose;
-    elapses = (failed.reads).elapses;
-    same = λ other. (failed.reads).bytes;
+    unwritten = (failed.untouched).unwritten;
+    same = λ other. (failed.untouched).content;
     settled = λ other. absurd (other refl);
     bound = failed.bound;
     faults = failed.faults;
   }
 
-  module _ (was : IsAttached members name old mid) (new : D) (writes_nothing : Elapses members.images Stays (members.moments mid) (members.moments new))
+  module _ (was : IsAttached members name old mid) (new : D) (writes_nothing : IsUnwritten members mid new)
       (stays : StaysAttached (members.bound_to mid) (members.bound_to new) (members.is_attached mid) (members.is_attached new))
       (later : members.faults mid ≤ members.faults new) where
     refused_with : (why : ReopenWhy) → IsReopenWhy members old new why → (why ≢ reopening.DiskFault → members.content new ≡ members.content mid)
         → (why ≢ reopening.DiskFault → IsSettled members new) → IsNotReopened members name old (record { disk = new; why = why })
     refused_with why cause same settled = record {
       why = cause;
-      elapses = elapses_on members.images Stays (members.moments old) (members.moments mid) (members.moments new) (was.reads).elapses writes_nothing;
-      same = λ other. same other ∙ (was.reads).bytes;
+      unwritten = unwritten_on members old mid new (was.untouched).unwritten writes_nothing;
+      same = λ other. same other ∙ (was.untouched).content;
       settled = settled;
       bound = inl (stays.bound ∙ was.bound);
       faults = omega (arith, was.faults, later);
@@ -70,9 +68,9 @@ module _ {D : Type 0} (members : Disk.Ghosts D) (name : List ℕ) (old mid : D) 
         subst (λ (w : ReopenWhy). IsNotReopened members name old (record { disk = new; why = w })) (sym is) (by why refl)
       where
         by : (w : RecoverWhy) → why ≡ w → IsNotReopened members name old (record { disk = new; why = of_recover w })
-        by recovering.NoJournal is = refused_with reopening.NoJournal (λ told here. none is told ((was.reads).bytes ∙ here))
+        by recovering.NoJournal is = refused_with reopening.NoJournal (λ told here. none is told ((was.untouched).content ∙ here))
             (λ other. same (λ e. let both = sym is ∙ e in cc)) (λ other. settled (λ e. let both = sym is ∙ e in cc))
-        by (recovering.Damaged at) is = refused_with (reopening.Damaged at) (λ told here. damaged at is told ((was.reads).bytes ∙ here))
+        by (recovering.Damaged at) is = refused_with (reopening.Damaged at) (λ told here. damaged at is told ((was.untouched).content ∙ here))
             (λ other. same (λ e. let both = sym is ∙ e in cc)) (λ other. settled (λ e. let both = sym is ∙ e in cc))
         by recovering.DiskFault is = let more = rose is in refused_with reopening.DiskFault (omega (arith, was.faults, more)) (λ other. absurd (other refl)) (λ other. absurd (other refl))
         by recovering.NoMemory is = refused_with reopening.NoMemory tt (λ other. same (λ e. let both = sym is ∙ e in cc))
@@ -88,7 +86,7 @@ module _ {D : Type 0} (members : Disk.Ghosts D) (name : List ℕ) (old mid : D) 
         (refused_with fault.why (by fault.why why) (λ other. same) (λ other. settled))
       where
         before : ForSome (members.content old) (λ told. Stands told text history)
-        before told is = stands told ((was.reads).bytes ∙ is)
+        before told is = stands told ((was.untouched).content ∙ is)
 
         by : (w : ReopenWhy) → IsRunWhy text history w → IsReopenWhy members old new w
         by reopening.NoJournal cause = absurd cause
@@ -112,7 +110,7 @@ module _ {D : Type 0} (members : Disk.Ghosts D) (name : List ℕ) (old mid : D) 
       text = text;
       ready = subst (λ (h : List Entry). IsReady members reopened.exec.opening.journal text h) (sym opening.first)
           (subst (λ (j : Journal D). IsReady members j text history) (sym opening.opened) ready);
-      stands = λ told is. subst (λ (h : List Entry). Stands told text h) (sym opening.first) (stands told ((was.reads).bytes ∙ is));
+      stands = λ told is. subst (λ (h : List Entry). Stands told text h) (sym opening.first) (stands told ((was.untouched).content ∙ is));
       compiled = compiled;
       fit = fit;
       nodes = nodes;
@@ -127,7 +125,7 @@ module _ {D : Type 0} (members : Disk.Ghosts D) (name : List ℕ) (old mid : D) 
         failed = opening.failed;
       };
       untouched = subst (λ (d : D). IsUntouched members old d) (sym disk_is)
-          (untouched_on members old mid new was.reads (record { content = same; elapses = writes_nothing }));
+          (untouched_on members old mid new was.untouched (record { content = same; unwritten = writes_nothing }));
       bound = ap members.bound_to disk_is ∙ stays.bound ∙ was.bound;
       faults = subst (λ (d : D). members.faults old ≤ members.faults d) (sym disk_is) (omega (arith, was.faults, later));
     }

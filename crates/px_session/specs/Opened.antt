@@ -9,14 +9,13 @@ use Rattle.px_exec.specs.Executive.{Executive, plan_of, IsTextOf}
 use Rattle.px_exec.specs.Opening.{RunsAwayAt}
 use Rattle.px_journal.specs.Crash.{OldOrNew, LeavesOnly}
 use Rattle.px_journal.specs.Damage.{Damaged}
-use Rattle.px_journal.specs.Journal.{IsSettled, IsUntouched}
+use Rattle.px_journal.specs.Journal.{IsSettled, IsUnwritten, IsUntouched}
 use Rattle.px_journal.specs.Layout.{is_nothing, Stands}
 use Rattle.px_journal.specs.declared.journal.Journal.{Journal}
 use Rattle.px_journal.specs.declared.fault.CreateFault.{CreateFault}
 use Rattle.px_journal.specs.declared.fault.CreateWhy.{CreateWhy}
 use Rattle.px_journal.specs.declared.fault.CreateWhy.TheVariants as creating
 use Rattle.px_ports.specs.Host.{Rose}
-use Rattle.px_ports.specs.Moment.{Elapses, Stays}
 use Rattle.px_ports.specs.declared.disk.Disk
 use Rattle.px_sem.specs.Log.{events_of}
 use Rattle.px_sem.specs.Run.{run, started}
@@ -115,7 +114,7 @@ module _ {D : Type 0} (members : Disk.Ghosts D) where
   pub record IsNotReopened (name : List ℕ) (old : D) (fault : ReopenFault D) : Type 0 where
     pub why : IsReopenWhy old fault.disk fault.why
     -- nothing was written; but behind a failed call a read may give something else, and a crash leave more than one image
-    pub elapses : Elapses members.images Stays (members.moments old) (members.moments fault.disk)
+    pub unwritten : IsUnwritten members old fault.disk
     pub same : fault.why ≢ reopening.DiskFault → members.content fault.disk ≡ members.content old
     pub settled : fault.why ≢ reopening.DiskFault → IsSettled members fault.disk
     pub bound : IsBoundAtMost members name fault.disk

@@ -25,7 +25,10 @@ returns-then-branch-lt-TEXT_PLACE-clause-old_or_nothing g c = λ told is.
 pub returns-in_err-read_at-clause-untouched : goal.returns-in_err-read_at-clause-untouched
 returns-in_err-read_at-clause-untouched g c = λ told is other. record {
   content = c.read_at.ensures.reads.bytes ∙ c.len.ensures.reads.bytes;
-  elapses = elapses_on g.D.Disk.images Stays _ _ _ c.len.ensures.reads.elapses c.read_at.ensures.reads.elapses;
+  unwritten = record {
+    writes = c.read_at.ensures.unwritten ∙ c.len.ensures.unwritten;
+    elapses = elapses_on g.D.Disk.images Stays _ _ _ c.len.ensures.reads.elapses c.read_at.ensures.reads.elapses;
+  };
 }
 
 pub returns-in_err-read_at-clause-old_or_nothing : goal.returns-in_err-read_at-clause-old_or_nothing
@@ -40,7 +43,10 @@ returns-then-gate-ne-CLOSED-clause-exists g c = λ refused told is.
 pub returns-then-gate-ne-CLOSED-clause-untouched : goal.returns-then-gate-ne-CLOSED-clause-untouched
 returns-then-gate-ne-CLOSED-clause-untouched g c = λ told is other. record {
   content = c.read_at.ensures.reads.bytes ∙ c.len.ensures.reads.bytes;
-  elapses = elapses_on g.D.Disk.images Stays _ _ _ c.len.ensures.reads.elapses c.read_at.ensures.reads.elapses;
+  unwritten = record {
+    writes = c.read_at.ensures.unwritten ∙ c.len.ensures.unwritten;
+    elapses = elapses_on g.D.Disk.images Stays _ _ _ c.len.ensures.reads.elapses c.read_at.ensures.reads.elapses;
+  };
 }
 
 pub returns-then-gate-ne-CLOSED-clause-old_or_nothing : goal.returns-then-gate-ne-CLOSED-clause-old_or_nothing

@@ -45,5 +45,5 @@ loop-window-preserved g c =
     let opens = rw c.in-Some.is at c.in_ok-entry.ensures.opens in
     let next = read_next g.D.Disk c.args.disk.now _ c.args.plan.now c.args.size c.loop-window.history.items c.loop-window.gate read
     c.next_record.new.disk c.in-Some.entry c.in-Some.next (found.0) (found.2) (found.3)
-    (omega (arith, count, room_in_history _ (omega (arith, count, read.few)) (found.1))) opens c.next_record.ensures.reads c.next_record.ensures.stays c.next_record.ensures.later in
+    (omega (arith, count, room_in_history _ (omega (arith, count, read.few)) (found.1))) opens c.next_record.ensures.reads c.next_record.ensures.unwritten c.next_record.ensures.stays c.next_record.ensures.later in
     (rw c.in_ok-push-in-Some.ensures.items next, λ told is. c.in_ok-entry.ensures.shows told (read.reads.bytes ∙ is), c.in_ok-entry.ensures.inside)

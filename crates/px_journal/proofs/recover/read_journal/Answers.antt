@@ -11,10 +11,16 @@ returns-in_err-plan-clause-damaged g c = λ at refused told is.
     c.in_err-plan.ensures.damaged at (ap Err why) told (c.in_ok-sync.ensures.syncs.bytes ∙ is)
 
 pub returns-in_err-plan-clause-writes_nothing : goal.returns-in_err-plan-clause-writes_nothing
-returns-in_err-plan-clause-writes_nothing g c = elapses_on g.D.Disk.images Stays _ _ _ c.sync.ensures.syncs.elapses c.read_stable.ensures.reads.elapses
+returns-in_err-plan-clause-writes_nothing g c = record {
+  writes = c.read_stable.ensures.unwritten ∙ c.sync.ensures.unwritten;
+  elapses = elapses_on g.D.Disk.images Stays _ _ _ c.sync.ensures.syncs.elapses c.read_stable.ensures.reads.elapses;
+}
 
 pub returns-clause-writes_nothing : goal.returns-clause-writes_nothing
-returns-clause-writes_nothing g c = elapses_on g.D.Disk.images Stays _ _ _ c.sync.ensures.syncs.elapses c.read_stable.ensures.reads.elapses
+returns-clause-writes_nothing g c = record {
+  writes = c.read_stable.ensures.unwritten ∙ c.sync.ensures.unwritten;
+  elapses = elapses_on g.D.Disk.images Stays _ _ _ c.sync.ensures.syncs.elapses c.read_stable.ensures.reads.elapses;
+}
 
 pub returns-in_err-plan-clause-settled : goal.returns-in_err-plan-clause-settled
 returns-in_err-plan-clause-settled g c = λ other. settled_on g.D.Disk.images _ _ _ _ _ _ c.in_ok-sync.ensures.syncs c.read_stable.ensures.reads
