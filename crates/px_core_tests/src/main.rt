@@ -1,8 +1,8 @@
 //! Compiles the plans of rows, and says which of their core plans aren't those that they have to be.
 //!
 //! The rows are the file `stdin`, in tables: blocks, variables and priorities, conditions, expressions, the forms of blocks,
-//! terms joined in halves, `if`, `while` and `for`, names and what they mean, and forms in one another. Each core plan in it
-//! was worked out by hand, from the tables of docs/LANGUAGE.md. A row is
+//! terms joined in halves, `if`, `while` and `for`, names and what they mean, forms in one another, tokens, and long plans.
+//! Each core plan in it was worked out by hand, from the tables of docs/LANGUAGE.md. A row is
 //!
 //! ```text
 //! NAME
@@ -13,21 +13,33 @@
 //! ====
 //! ```
 //!
-//! where the line feed before a mark belongs to the mark. A row that doesn't hold is printed with the core plan that was
-//! compiled in place of the one that had to be, and at the end the number of rows that hold.
+//! where the line feed before a mark belongs to the mark. The text of a long plan is made of parts. Such a row is
 //!
-//! `printed` has the form of the lines. `limits` has plans with as many nodes and with as long a path as there may be, which
-//! are no rows because of their length.
+//! ```text
+//! NAME
+//! ---- parts
+//! the parts, each a line: how often it stands there, a blank, and the part, with `#` where the number is to stand
+//! ---- answers
+//! the number of nodes, or what the text is refused for
+//! ====
+//! ```
+//!
+//! A row that doesn't hold is printed with what was compiled in place of what had to be, and at the end the number of rows
+//! that hold.
+//!
+//! `printed` has the form of the lines, and `no_text` bytes that are no text and hence no rows.
 #![tactic(auto)]
 
 mod compiled;
-mod limits;
+mod made;
+mod no_text;
 mod printed;
 mod row;
 
-use compiled::compiled;
+use compiled::{answer_of, compiled};
+use made::text_of;
 use printed::push_plan;
-use row::Row;
+use row::{Row, Source};
 use std::alloc::Global;
 use std::io;
 
@@ -49,8 +61,8 @@ fn main(rt: HostRuntime) -> anyhow::Result<()> {
         println!(rt; "not ended: {rest}")?;
     }
     println!(rt; "{held} rows hold")?;
-    let limits = limits::held(&rt, alloc)?;
-    println!(rt; "{limits} limits hold")?;
+    let refused = no_text::held(&rt, alloc)?;
+    println!(rt; "{refused} are no text")?;
     Ok(())
 }
 
@@ -60,17 +72,20 @@ fn holds(rt: &impl Print, alloc: Global, spelled: &str) -> anyhow::Result<bool> 
         println!(rt; "no row: {spelled}")?;
         return Ok(false);
     };
-    let answered = core_of(alloc, row.plan)?;
-    if answered.as_str() == row.core {
+    let (plan, answered) = match row.plan {
+        Source::Text(text) => (text, core_of(alloc, text)?),
+        Source::Parts(parts) => (parts, answer_of(alloc, text_of(alloc, parts)?.as_bytes())?),
+    };
+    if answered.as_str() == row.wanted {
         return Ok(true);
     }
-    println!(rt; "{}\n{}\n{answered}\n====", row.name, row.plan)?;
+    println!(rt; "{}\n{plan}\n{answered}\n====", row.name)?;
     Ok(false)
 }
 
 // The core plan of a text, line by line, or why there is none.
 fn core_of(alloc: Global, text: &str) -> anyhow::Result<String> {
-    let plan = match compiled(alloc, text)? {
+    let plan = match compiled(alloc, text.as_bytes())? {
         Ok(plan) => plan,
         Err(refusal) => return Ok(refusal),
     };
