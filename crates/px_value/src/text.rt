@@ -123,28 +123,3 @@ impl Hash for Text {
         self.as_str().hash(state);
     }
 }
-
-#[cfg(test)]
-mod tests {
-    use super::*;
-    use std::test::Fail;
-
-    #[test]
-    fn a_text_has_at_most_1024_bytes(rt: HostRuntime) -> Result<(), Fail> {
-        let mut text = String::new(rt.alloc());
-        for _ in 0..TEXT_LIMIT / 2 {
-            text.push_str("é")?;
-        }
-        let made = Text::new(rt.alloc(), text.as_str())?;
-        assert_eq!(rt; made.as_str(), text.as_str());
-        assert!(rt; made.copy(rt.alloc())? == made);
-        text.push_str("x")?;
-        assert!(rt;
-            matches!(
-                Text::new(rt.alloc(), text.as_str()),
-                Err(TextFault::TooLong)
-            )
-        );
-        Ok(())
-    }
-}

@@ -44,26 +44,3 @@ impl Value {
         })
     }
 }
-
-#[cfg(test)]
-mod tests {
-    use super::*;
-    use std::test::Fail;
-
-    #[test]
-    fn a_copy_is_equal(rt: HostRuntime) -> Result<(), Fail> {
-        for value in [
-            Value::Unknown,
-            Value::Boolean(true),
-            Value::Integer(-7),
-            Value::Text(Text::new(rt.alloc(), "rock")?),
-            Value::State(NodeState::Failing),
-            Value::Outcome(Outcome::Failure),
-            Value::Failure(Failure::ParentExited),
-            Value::Handle(Handle::CommandDenied),
-        ] {
-            assert!(rt; value.copy(rt.alloc())? == value);
-        }
-        Ok(())
-    }
-}
