@@ -84,19 +84,3 @@ pub(crate) fn word<'a>(
         Err(NameFault::NoMemory) => Err(LexFault::NoMemory),
     }
 }
-
-#[cfg(test)]
-mod tests {
-    use super::*;
-
-    #[test]
-    fn a_word_of_the_table_is_a_keyword(rt: HostRuntime) {
-        assert_eq!(rt;
-            keyword_of(b"ITERATION_ENDED"),
-            Some(Keyword::IterationEnded)
-        );
-        assert_eq!(rt; keyword_of(b"ITERATION"), None);
-        assert!(rt; is_real_type(b"Duration"));
-        assert!(rt; !is_real_type(b"Durations"));
-    }
-}
