@@ -6,7 +6,5 @@
 
 pub mod laws;
 mod plan;
-#[cfg(test)]
-mod tests;
 
 pub use plan::{TEXT_LIMIT, compile};

@@ -58,6 +58,3 @@ count_trees (node ∷ nodes) = omega (arith, count_first node (trees nodes), cou
 -- a node and those below it
 pub node_count : (node : CoreNode) → nodes_of node ≡ 1 + sum (map nodes_of (out-CoreNode node).children.items)
 node_count node = omega (arith, ap count_of (before_rest node NoNode), count_trees (out-CoreNode node).children.items)
-
-pub count_made : (made : CoreNode-F CoreNode) → count_of (tree_of_node (roll-CoreNode made)) ≡ 1 + sum (map nodes_of made.children.items)
-count_made made = omega (arith, ap (λ (f : Tree → Tree). count_of (f NoNode)) (fold-roll-CoreNode (Tree → Tree) branch made), count_trees made.children.items)

@@ -12,8 +12,6 @@ mod expr;
 pub mod laws;
 mod node;
 mod plan;
-#[cfg(test)]
-mod tests;
 mod variable;
 
 pub use body::{Body, Pair, Target};
