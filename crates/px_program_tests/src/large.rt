@@ -1,4 +1,5 @@
-// Plans, scripts and texts that are as large as may be, or larger by one. They are tests and no rows, as they are made.
+// Plans, scripts and texts that are as large as may be, or larger by one, and scripts that are no text. They are tests and
+// no rows, as they are made, or as rows are text.
 use crate::faults::Faults;
 use crate::running::{Answer, Call, answer_of};
 use std::alloc::Global;
@@ -71,6 +72,34 @@ fn a_script_has_at_most_16777216_bytes(rt: HostRuntime) -> Result<(), Fail> {
     Ok(())
 }
 
+// What a dry run prints of a plan that waits, and of a report from the second line.
+const REPORTED: &str = "event 0: start
+step 1
+  A: INACTIVE -> WAITING
+quiet 1
+event 1: thread 1 line 2 set x = true
+quiet 0
+thread 1 line 2: accepted 1
+plan running
+";
+
+#[test]
+fn bytes_that_are_no_text_stand_in_comments_alone(rt: HostRuntime) -> Result<(), Fail> {
+    let alloc = rt.alloc();
+    let refusal = "script refused: line 2 kind 1\n";
+    let cases: [(&[u8], u8, &str); 3] = [
+        (b" # \xff\xc3 \nset x = true", 0, REPORTED),
+        (b"set x = true\nset \xff = true", 4, refusal),
+        (b"\n\xff# a", 4, refusal),
+    ];
+    for (script, wanted, text) in cases {
+        let answer = answer(alloc, "dry-run P S", GO.as_bytes(), script, Faults::NONE)?;
+        assert_eq!(rt; answer.text.as_str(), text);
+        assert_eq!(rt; answer.status, wanted);
+    }
+    Ok(())
+}
+
 // So many lines that report something to a plan that waits for something else.
 fn many_lines(alloc: Global, count: usize) -> anyhow::Result<String> {
     let mut text = String::new(alloc);
@@ -84,9 +113,19 @@ fn many_lines(alloc: Global, count: usize) -> anyhow::Result<String> {
 fn a_script_of_100000_lines_is_posted_whole(rt: HostRuntime) -> Result<(), Fail> {
     let alloc = rt.alloc();
     let last = "thread 1 line 100000: accepted 100000\nplan running\n";
-    let refusal = "script refused: line 100001 kind 5\n";
-    for (count, wanted, end) in [(100_000, 0, last), (100_001, 4, refusal)] {
-        let lines = many_lines(alloc, count)?;
+    let cases: [(&str, u8, &str); 4] = [
+        ("# end\n\n", 0, last),
+        ("set x = true", 4, "script refused: line 100001 kind 5\n"),
+        (
+            "\n# so\nset x = true\nx",
+            4,
+            "script refused: line 100003 kind 5\n",
+        ),
+        ("x\nset x = true", 4, "script refused: line 100001 kind 1\n"),
+    ];
+    for (rest, wanted, end) in cases {
+        let mut lines = many_lines(alloc, 100_000)?;
+        lines.push_str(rest)?;
         let answer = answer(
             alloc,
             "dry-run P S",
@@ -94,8 +133,8 @@ fn a_script_of_100000_lines_is_posted_whole(rt: HostRuntime) -> Result<(), Fail>
             lines.as_bytes(),
             Faults::NONE,
         )?;
-        assert_eq!(rt; answer.status, wanted, "{count}");
-        assert!(rt; answer.text.as_str().ends_with(end), "{count}");
+        assert_eq!(rt; answer.status, wanted, "{rest}");
+        assert!(rt; answer.text.as_str().ends_with(end), "{rest}");
     }
     Ok(())
 }
