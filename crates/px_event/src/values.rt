@@ -87,36 +87,3 @@ impl Hash for Values {
         self.as_slice().hash(state);
     }
 }
-
-#[cfg(test)]
-mod tests {
-    use super::*;
-    use std::test::Fail;
-
-    #[test]
-    fn values_are_the_vector_that_they_were_made_of(rt: HostRuntime) -> Result<(), Fail> {
-        let given = vec![in rt.alloc(); Value::Integer(4), Value::Unknown, Value::Boolean(true)]?;
-        let values = Values::from(given);
-        assert_eq!(rt; values.as_slice().len(), 3);
-        assert!(rt; values.as_slice()[1] == Value::Unknown);
-        assert!(rt; values.copy(rt.alloc())? == values);
-        assert_eq!(rt; values.into_vec().len(), 3);
-        Ok(())
-    }
-
-    #[test]
-    fn values_differ_in_a_value_or_in_their_number(rt: HostRuntime) -> Result<(), Fail> {
-        let alloc = rt.alloc();
-        let values = Values::from(vec![in alloc; Value::Integer(4), Value::Unknown]?);
-        for other in [
-            Vec::new(alloc),
-            vec![in alloc; Value::Integer(4)]?,
-            vec![in alloc; Value::Integer(4), Value::Unknown, Value::Unknown]?,
-            vec![in alloc; Value::Unknown, Value::Integer(4)]?,
-            vec![in alloc; Value::Integer(4), Value::Boolean(false)]?,
-        ] {
-            assert!(rt; Values::from(other) != values);
-        }
-        Ok(())
-    }
-}

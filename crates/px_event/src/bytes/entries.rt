@@ -239,6 +239,3 @@ fn handle_of(code: u8) -> Option<Handle>
         _ => return None,
     })
 }
-
-#[cfg(test)]
-mod tests;
