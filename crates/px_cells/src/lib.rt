@@ -6,8 +6,6 @@
 
 mod cells;
 mod marked;
-#[cfg(test)]
-mod tests;
 
 pub use cells::Cells;
 pub use marked::Marked;
