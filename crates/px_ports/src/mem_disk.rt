@@ -166,6 +166,3 @@ fn copy_part(bytes: &[u8], at: usize, into: &mut [u8])
 {
     into.copy_from_slice(&bytes[at..at + into.len()]);
 }
-
-#[cfg(test)]
-mod tests;

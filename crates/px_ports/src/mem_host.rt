@@ -150,6 +150,3 @@ impl Host for MemHost {
         Ok(count)
     }
 }
-
-#[cfg(test)]
-mod tests;
