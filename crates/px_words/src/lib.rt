@@ -11,8 +11,6 @@ mod command;
 mod count;
 mod limited;
 mod operands;
-#[cfg(test)]
-mod tests;
 
 pub use command::Command;
 pub use limited::EVENT_LIMIT;
