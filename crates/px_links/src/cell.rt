@@ -5,7 +5,7 @@ ghost use Rattle.px_links.specs.Keeping.{IsTable, cell_at, lists_in};
 ghost use Rattle.px_links.specs.Relinking.{past, with_next, with_before};
 
 /// A cell's neighbours in its list, and the number of that list; all None where it is in no list.
-#[derive(Clone, Copy, Debug)]
+#[derive(Clone, Copy)]
 pub struct Cell {
     pub next: Option<u32>,
     pub before: Option<u32>,
@@ -22,7 +22,7 @@ impl Cell {
 }
 
 /// The first and the last cell of a list; None where it is empty.
-#[derive(Clone, Copy, Debug)]
+#[derive(Clone, Copy)]
 pub struct Ends {
     pub first: Option<u32>,
     pub last: Option<u32>,

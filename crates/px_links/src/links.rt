@@ -9,7 +9,7 @@ use std::marker::Model;
 
 /// Lists of cells, both by number; a cell is in at most one list. Calls take numbers below the counts that `new` was
 /// given, and those counts stay. No call but `new` takes memory or walks a list.
-#[derive(Debug, Drop)]
+#[derive(Drop)]
 pub struct Links {
     cells: Vec<Cell>,
     ends: Vec<Ends>,

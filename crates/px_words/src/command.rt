@@ -10,7 +10,7 @@ use crate::limited::Limited;
 use crate::operands::Operands;
 
 /// What the program can do.
-#[derive(Clone, Copy, Debug, PartialEq, Eq)]
+#[derive(Clone, Copy)]
 pub enum Command<'a> {
     /// Prints the trace of the plan's start.
     TraceStart {
