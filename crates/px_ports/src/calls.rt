@@ -9,7 +9,7 @@ use crate::disk::DiskFault;
 use std::marker::Model;
 
 /// The calls of a disk in memory: those that were made, and those that fail.
-#[derive(Debug, Drop)]
+#[derive(Drop)]
 pub struct Calls {
     failing: Vec<u32>,
     stop_after: Option<u32>,

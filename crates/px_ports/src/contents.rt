@@ -12,7 +12,7 @@ use std::alloc::Global;
 use std::marker::Model;
 
 /// Bytes, and all that has happened to them since the beginning.
-#[derive(Debug, Drop)]
+#[derive(Drop)]
 pub struct Contents {
     moments: Vec<Moment>,
     bytes: Vec<u8>,

@@ -7,7 +7,7 @@ use std::marker::Model;
 
 /// The names of the fetches that failed, in order. How often a name is there is the host's count of
 /// failed fetches of that name.
-#[derive(Debug, Drop)]
+#[derive(Drop)]
 pub struct FailedFetches {
     names: Vec<String>,
 }

@@ -6,7 +6,7 @@ ghost use Rattle.px_ports.specs.Host.{Files, Fetches, CountsReads, EmitsFront, C
 use std::alloc::{AllocError, AllocFailed, Global};
 
 /// What a fetch found.
-#[derive(Debug, Drop)]
+#[derive(Drop)]
 pub enum Fetched {
     /// The file, whole.
     Whole(Vec<u8>),

@@ -13,7 +13,7 @@ use std::alloc::Global;
 use std::marker::Model;
 
 /// A file of a `MemHost`.
-#[derive(Debug, Drop)]
+#[derive(Drop)]
 pub struct MemFile {
     /// The name that a fetch asks for.
     pub name: String,
@@ -22,7 +22,7 @@ pub struct MemFile {
 }
 
 /// A host that holds its files and keeps the emitted text. Of files with one name the first counts.
-#[derive(Debug, Drop)]
+#[derive(Drop)]
 pub struct MemHost {
     files: Vec<MemFile>,
     failing_fetches: Vec<u32>,

@@ -6,7 +6,7 @@ use std::alloc::Global;
 use std::marker::Model;
 
 /// Bytes in order. To contracts they are a list.
-#[derive(Debug, Drop)]
+#[derive(Drop)]
 pub struct Bytes {
     items: Vec<u8>,
 }
@@ -38,7 +38,7 @@ impl Bytes {
 }
 
 /// What happened to the bytes of a disk at a moment.
-#[derive(Debug, Drop)]
+#[derive(Drop)]
 pub enum Moment {
     /// The disk began, with these bytes, all of them settled.
     Began(Bytes),
