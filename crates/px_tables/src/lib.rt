@@ -7,7 +7,5 @@
 mod arrivals;
 pub mod laws;
 mod rows;
-#[cfg(test)]
-mod tests;
 
 pub use rows::dest;
