@@ -11,7 +11,7 @@ use px_value::NoMemory;
 use std::alloc::Global;
 
 /// A post as its line tells of it: the thread and the line that it comes from, and what it was answered.
-#[derive(Clone, Copy, Debug, PartialEq, Eq)]
+#[derive(Clone, Copy)]
 pub struct LoggedLine {
     pub thread: u8,
     pub line: u32,
@@ -53,41 +53,5 @@ fn push_answer(reply: Reply, out: &mut Vec<u8>) -> Result<(), NoMemory>
         Reply::PlanFinished => push_all(out, &["refused plan finished"]),
         Reply::Full => push_all(out, &["refused full"]),
         Reply::Runaway => push_all(out, &["refused runaway"]),
-    }
-}
-
-#[cfg(test)]
-mod tests {
-    use super::*;
-    use std::test::Fail;
-
-    #[test]
-    fn a_line_has_its_post_and_the_reply(rt: HostRuntime) -> Result<(), Fail> {
-        for (thread, line, reply, text) in [
-            (1, 1, Reply::Runaway, "thread 1 line 1: refused runaway\n"),
-            (
-                1,
-                2,
-                Reply::Accepted { position: 1 },
-                "thread 1 line 2: accepted 1\n",
-            ),
-            (8, 30, Reply::Full, "thread 8 line 30: refused full\n"),
-            (
-                2,
-                5,
-                Reply::PlanFinished,
-                "thread 2 line 5: refused plan finished\n",
-            ),
-        ] {
-            let mut out = Vec::new(rt.alloc());
-            let entry = LoggedLine {
-                thread,
-                line,
-                reply,
-            };
-            push_reply(rt.alloc(), &entry, &mut out)?;
-            assert_eq!(rt; out.as_slice(), text.as_bytes());
-        }
-        Ok(())
     }
 }

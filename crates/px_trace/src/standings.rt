@@ -36,35 +36,3 @@ fn push_finished(
     push_failure(failure, out)?;
     push_all(out, &["\n"])
 }
-
-#[cfg(test)]
-mod tests {
-    use super::*;
-    use std::test::Fail;
-
-    #[test]
-    fn a_plan_runs_or_has_finished(rt: HostRuntime) -> Result<(), Fail> {
-        for (standing, text) in [
-            (Standing::Running, "plan running\n"),
-            (
-                Standing::Finished {
-                    outcome: Outcome::Success,
-                    failure: None,
-                },
-                "plan finished SUCCESS\n",
-            ),
-            (
-                Standing::Finished {
-                    outcome: Outcome::Failure,
-                    failure: Some(Failure::InvariantConditionFailed),
-                },
-                "plan finished FAILURE INVARIANT_CONDITION_FAILED\n",
-            ),
-        ] {
-            let mut out = Vec::new(rt.alloc());
-            push_standing(rt.alloc(), &standing, &mut out)?;
-            assert_eq!(rt; out.as_slice(), text.as_bytes());
-        }
-        Ok(())
-    }
-}
