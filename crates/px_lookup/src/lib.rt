@@ -6,8 +6,6 @@
 
 mod look_state;
 mod reports;
-#[cfg(test)]
-mod tests;
 
 pub use look_state::LookState;
 pub use reports::Reports;

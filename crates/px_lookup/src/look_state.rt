@@ -6,7 +6,7 @@ use px_value::Name;
 use std::marker::Model;
 
 /// A state of the outside that plans look up: a name and arguments.
-#[derive(Debug, Drop, PartialEq, Eq, Hash)]
+#[derive(Drop, PartialEq, Eq, Hash)]
 pub struct LookState {
     name: Name,
     args: Values,

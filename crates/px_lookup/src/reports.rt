@@ -14,7 +14,7 @@ use std::alloc::Global;
 use std::marker::Model;
 
 /// What one report changed.
-#[derive(Debug, Drop)]
+#[derive(Drop)]
 pub enum Change {
     /// It took the place of this value.
     Replaced { at: usize, old: Value },
@@ -23,7 +23,7 @@ pub enum Change {
 }
 
 /// The last value of each reported state, in the order in which the states were first reported.
-#[derive(Debug, Drop)]
+#[derive(Drop)]
 pub struct Reports {
     values: IndexMap<LookState, Value>,
     /// What each report since the mark changed, in their order.
