@@ -11,6 +11,5 @@ pub mod Strings
 pub mod Orders
 pub mod Equality
 pub mod Fitness
-pub mod Leaf
 pub mod Reading
 pub mod Rests

@@ -7,7 +7,7 @@ use std::alloc::AllocFailed;
 use thiserror::Error;
 
 /// What is wrong with a line. Each kind has the number that is told of it.
-#[derive(Clone, Copy, Debug)]
+#[derive(Clone, Copy)]
 pub(crate) enum FaultKind {
     /// It has none of the shapes of a line.
     BadLine = 1,

@@ -21,8 +21,6 @@ mod place;
 mod read;
 mod script;
 mod set_line;
-#[cfg(test)]
-mod tests;
 mod text;
 mod todo;
 mod todos;

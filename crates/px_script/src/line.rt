@@ -2,7 +2,7 @@
 use px_event::{Cond, Event};
 
 /// What a thread does at a line.
-#[derive(Debug, Drop, PartialEq, Eq)]
+#[derive(Drop, PartialEq, Eq)]
 pub enum What {
     /// It posts the event.
     Post(Event),
@@ -11,7 +11,7 @@ pub enum What {
 }
 
 /// A line at which a thread does something.
-#[derive(Debug, Drop, PartialEq, Eq)]
+#[derive(Drop, PartialEq, Eq)]
 pub struct Line {
     /// Its number in the script, from 1.
     pub number: u32,

@@ -9,7 +9,7 @@ use crate::line::Line;
 use std::marker::Model;
 
 /// Lines in order. To contracts they are a list.
-#[derive(Debug, Drop)]
+#[derive(Drop)]
 pub struct Lines {
     items: Vec<Line>,
 }

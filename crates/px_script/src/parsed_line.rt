@@ -14,7 +14,7 @@ use std::alloc::Global;
 use std::str;
 
 /// What a line says.
-#[derive(Debug, Drop)]
+#[derive(Drop)]
 pub(crate) enum ParsedLine {
     Nothing,
     /// The thread posts the event.

@@ -6,7 +6,7 @@ ghost use Rattle.px_script.specs.Place.{is_sign, ends_place, behind_byte, place_
 use crate::text::trim;
 
 /// How a byte stands to the quotes before it.
-#[derive(Clone, Copy, Debug)]
+#[derive(Clone, Copy)]
 pub(crate) enum Quoting {
     /// Outside quotes.
     Outside,

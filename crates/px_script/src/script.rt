@@ -2,7 +2,7 @@
 use crate::todos::Todos;
 
 /// What the threads do.
-#[derive(Debug, Drop, PartialEq, Eq)]
+#[derive(Drop, PartialEq, Eq)]
 pub struct Script {
     /// The threads with a line, in rising order.
     pub threads: Todos,

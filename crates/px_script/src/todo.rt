@@ -2,7 +2,7 @@
 use crate::lines::Lines;
 
 /// A thread's lines.
-#[derive(Debug, Drop, PartialEq, Eq)]
+#[derive(Drop, PartialEq, Eq)]
 pub struct Todo {
     /// From 1 to 8.
     pub thread: u8,

@@ -9,7 +9,7 @@ use crate::todo::Todo;
 use std::marker::Model;
 
 /// Threads in order, each with its lines. To contracts they are a list.
-#[derive(Debug, Drop)]
+#[derive(Drop)]
 pub struct Todos {
     items: Vec<Todo>,
 }
