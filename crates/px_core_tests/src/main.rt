@@ -27,7 +27,8 @@
 //! A row that doesn't hold is printed with what was compiled in place of what had to be, and at the end the number of rows
 //! that hold.
 //!
-//! `printed` has the form of the lines, and `no_text` bytes that are no text and hence no rows.
+//! `printed` has the form of the lines, and `no_text` bytes that are no text and hence no rows. The long plans take
+//! minutes in `rt try`, which needs `--seconds 500` for them.
 #![tactic(auto)]
 
 mod compiled;
