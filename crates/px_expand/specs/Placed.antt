@@ -10,7 +10,7 @@ use Rattle.px_expand.specs.Scope.{Scope, Table}
 use Rattle.px_expand.specs.Shown.{added_terms}
 
 abbrev pub place_terms : PlaceData → Place
-place_terms place = record { path = place.path; name = place.name; added = added_terms place.added }
+place_terms place = record { path = place.path; name = place.name; added = added_terms place.added.value }
 
 -- nodes side by side
 abbrev pub trees_of : List CoreNode → Tree

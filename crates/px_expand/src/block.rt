@@ -14,11 +14,11 @@ ghost use Rattle.px_expand.specs.Nodes.{alone, child};
 ghost use Rattle.px_expand.specs.Placed.{place_terms, trees_of};
 ghost use Rattle.px_expand.specs.Size.{actions_reach, block_reach, body_reach, branch_reach, else_if_reach, else_reach, guarded_reach};
 
-use crate::branches::{Entered, into_for, into_if, into_while};
+use crate::branches::{Entered, EnteredFor, into_for, into_if, into_while};
 use crate::children::name_of;
 use crate::closing::close_all;
 use crate::entering::enter_block;
-use crate::forms::{follows, repeated, where_not_found};
+use crate::forms::{counted, follows, repeated, where_not_found};
 use crate::names::{Generated, named};
 use crate::opened::OpenIf;
 use crate::place::Place;
@@ -157,10 +157,15 @@ fn for_loop(
     ensures node { IfOk result (λ node. tree_of_node node ≡ alone (body_core scope.old (place_terms place)
         (For variable.now first (text_of test.now) (text_of step.now) (branch_of branch.now)))) }
 {
-    let (entered, own) = into_for(alloc, scope, &place, variable, test, step, branch)?;
+    let EnteredFor {
+        inner,
+        turn,
+        branch: own,
+    } = into_for(alloc, scope, &place, variable, test, step, branch)?;
+    let body = own.path.copy(alloc)?;
     let node = block(alloc, scope, own, &branch.block)?;
     scope.leave();
-    entered.close(alloc, place, &variable.name, first, node)
+    counted(alloc, place, inner, &variable.name, first, turn, body, node)
 }
 
 #[cycle(block)]
@@ -257,9 +262,9 @@ fn chain(
     let mut guarded = first;
     for other in others {
         let behind = Generated::Else.name(alloc)?;
-        let opened = opened(alloc, scope, place, guarded, Some(behind))?;
-        place = else_place(alloc, &opened.place.path)?;
-        outer.push(opened)?;
+        let next = else_place(alloc, &place.path)?;
+        outer.push(opened(alloc, scope, place, guarded, Some(behind))?)?;
+        place = next;
         guarded = other;
     }
     let node = last(alloc, scope, place, guarded, otherwise)?;

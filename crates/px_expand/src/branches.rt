@@ -1,28 +1,27 @@
 // Going into nodes that have branches: what is made on the way to a branch.
 ghost use Rattle.std.specs.Prelude.{◌≡◌, ◌+◌, ◌<◌, ◌≤◌, max, length, IfOk, IfSome, OnOk};
-ghost use Rattle.px_value.specs.Path.{below};
 ghost use Rattle.px_core.specs.Expr.{term_of};
-ghost use Rattle.px_core.specs.Plan.{NoNode, tree_of_node};
+ghost use Rattle.px_core.specs.Plan.{NoNode};
 ghost use Rattle.px_syntax.specs.Block.{branch_of, guarded_of};
 ghost use Rattle.px_syntax.specs.Expr.{term_of as text_of};
 ghost use Rattle.px_expand.specs.Adding.{nothing};
 ghost use Rattle.px_expand.specs.Chain.{branch_in, open_scope, stands, test_in};
 ghost use Rattle.px_expand.specs.Core.{branch_name, for_scope, if_seen, loop_seen, while_scope};
-ghost use Rattle.px_expand.specs.Forms.{counted, loop_path, where_found};
+ghost use Rattle.px_expand.specs.Forms.{loop_path, where_found};
 ghost use Rattle.px_expand.specs.Names.{body_name, generated, loop_name, then_name};
-ghost use Rattle.px_expand.specs.Nodes.{alone, child, paths_of};
-ghost use Rattle.px_expand.specs.Placed.{node_of, place_terms};
+ghost use Rattle.px_expand.specs.Nodes.{child, paths_of};
+ghost use Rattle.px_expand.specs.Placed.{place_terms};
 ghost use Rattle.px_expand.specs.Resolving.{resolved};
 ghost use Rattle.px_expand.specs.Size.{branch_reach, guarded_reach, through};
 
 use crate::conditions::Added;
 use crate::entering::{enter_if, enter_loop};
-use crate::forms::{Turn, counted, where_found};
+use crate::forms::{Turn, where_found};
 use crate::names::{Generated, named};
 use crate::place::Place;
 use crate::resolve::resolved;
 use crate::scope::Scope;
-use px_core::{CoreNode, Expr};
+use px_core::Expr;
 use px_syntax::{Branch, Guarded, Identifier, SurfaceExpr};
 use px_value::{Name, NoMemory, PATH_LIMIT, Path};
 use std::alloc::Global;
@@ -92,35 +91,15 @@ pub(crate) fn into_while(
     })
 }
 
-/// What is made on the way to the branch of a `for`: where its loop stands, its test and step, and the branch's path.
+/// What is made on the way to the branch of a `for`: where its loop stands, its test and step, and where the branch stands.
 #[derive(Drop)]
 pub(crate) struct EnteredFor {
     pub(crate) inner: Place,
-    pub(crate) turn: Turn,
-    pub(crate) body: Path,
+    pub(crate) turn: Box<Turn>,
+    pub(crate) branch: Place,
 }
 
-impl EnteredFor {
-    /// The `for` in its place, with its branch.
-    pub(crate) fn close(
-        self,
-        alloc: Global,
-        place: Place,
-        variable: &Name,
-        first: i32,
-        branch: CoreNode,
-    ) -> Result<CoreNode, NoMemory>
-        requires room { length place.path + 12 ≤ PATH_LIMIT }
-        requires inner { place_terms self.inner ≡ child place.path loop_name nothing }
-        ensures { IfOk result (λ node. tree_of_node node ≡ alone (counted (place_terms place) variable.now first
-            (term_of self.turn.test) (term_of self.turn.next) self.body (node_of branch))) }
-    {
-        let EnteredFor { inner, turn, body } = self;
-        counted(alloc, place, inner, variable, first, turn, body, branch)
-    }
-}
-
-/// Goes into a `for`. Gives where its branch stands, too.
+/// Goes into a `for`.
 pub(crate) fn into_for(
     alloc: Global,
     scope: &mut Scope,
@@ -129,21 +108,19 @@ pub(crate) fn into_for(
     test: &SurfaceExpr,
     step: &SurfaceExpr,
     branch: &Branch,
-) -> Result<(EnteredFor, Place), NoMemory>
+) -> Result<EnteredFor, NoMemory>
     requires { length place.now.path + through loop_name (max 6 (branch_reach body_name (branch_of branch.now))) ≤ PATH_LIMIT }
     ensures scope { OnOk result (scope.new
         ≡ for_scope scope.old (place_terms place.now) variable.now.name (branch_of branch.now)) }
-    ensures inner { IfOk result (λ made. place_terms made.0.inner ≡ child place.now.path loop_name nothing) }
-    ensures test { IfOk result (λ made. term_of made.0.turn.test ≡ resolved
+    ensures inner { IfOk result (λ made. place_terms made.inner ≡ child place.now.path loop_name nothing) }
+    ensures test { IfOk result (λ made. term_of made.turn.value.test ≡ resolved
         (for_scope scope.old (place_terms place.now) variable.now.name (branch_of branch.now)) (text_of test.now)) }
-    ensures next { IfOk result (λ made. term_of made.0.turn.next ≡ resolved
+    ensures next { IfOk result (λ made. term_of made.turn.value.next ≡ resolved
         (for_scope scope.old (place_terms place.now) variable.now.name (branch_of branch.now)) (text_of step.now)) }
-    ensures body { IfOk result (λ made. made.0.body
-        ≡ below (loop_path place.now.path) (branch_name body_name (branch_of branch.now))) }
-    ensures branch { IfOk result (λ made. place_terms made.1 ≡ child (loop_path place.now.path)
+    ensures branch { IfOk result (λ made. place_terms made.branch ≡ child (loop_path place.now.path)
         (branch_name body_name (branch_of branch.now)) (where_found (loop_path place.now.path))) }
 {
-    let inner = Place::generated(alloc, &place.path, Generated::Loop, Added::nothing())?;
+    let inner = Place::generated(alloc, &place.path, Generated::Loop, Added::nothing(alloc)?)?;
     let turn = enter_turn(
         alloc,
         scope,
@@ -154,9 +131,12 @@ pub(crate) fn into_for(
         step,
         branch,
     )?;
-    let own = branch_place(alloc, &inner.path, Generated::Body, branch)?;
-    let body = own.path.copy(alloc)?;
-    Ok((EnteredFor { inner, turn, body }, own))
+    let branch = branch_place(alloc, &inner.path, Generated::Body, branch)?;
+    Ok(EnteredFor {
+        inner,
+        turn,
+        branch,
+    })
 }
 
 /// Goes into a `for` whose loop stands at a path.
@@ -169,14 +149,14 @@ fn enter_turn(
     test: &SurfaceExpr,
     step: &SurfaceExpr,
     branch: &Branch,
-) -> Result<Turn, NoMemory>
+) -> Result<Box<Turn>, NoMemory>
     requires path { path.now ≡ loop_path place.now.path }
     requires room { length path.now + length (branch_name body_name (branch_of branch.now)) < PATH_LIMIT }
     ensures scope { OnOk result (scope.new
         ≡ for_scope scope.old (place_terms place.now) variable.now.name (branch_of branch.now)) }
-    ensures test { IfOk result (λ turn. term_of turn.test ≡ resolved
+    ensures test { IfOk result (λ turn. term_of turn.value.test ≡ resolved
         (for_scope scope.old (place_terms place.now) variable.now.name (branch_of branch.now)) (text_of test.now)) }
-    ensures next { IfOk result (λ turn. term_of turn.next ≡ resolved
+    ensures next { IfOk result (λ turn. term_of turn.value.next ≡ resolved
         (for_scope scope.old (place_terms place.now) variable.now.name (branch_of branch.now)) (text_of step.now)) }
 {
     enter_loop(alloc, scope, place, path, branch, Some(&variable.name))?;
@@ -189,15 +169,16 @@ fn turn_of(
     scope: &Scope,
     test: &SurfaceExpr,
     step: &SurfaceExpr,
-) -> Result<Turn, NoMemory>
+) -> Result<Box<Turn>, NoMemory>
     requires { 0 < length scope.now }
-    ensures test { IfOk result (λ turn. term_of turn.test ≡ resolved scope.now (text_of test.now)) }
-    ensures next { IfOk result (λ turn. term_of turn.next ≡ resolved scope.now (text_of step.now)) }
+    ensures test { IfOk result (λ turn. term_of turn.value.test ≡ resolved scope.now (text_of test.now)) }
+    ensures next { IfOk result (λ turn. term_of turn.value.next ≡ resolved scope.now (text_of step.now)) }
 {
-    Ok(Turn {
+    let turn = Turn {
         test: resolved(alloc, scope, test)?,
         next: resolved(alloc, scope, step)?,
-    })
+    };
+    Ok(Box::new(alloc, turn)?)
 }
 
 /// Where the branch of a test stands in the node at a path.

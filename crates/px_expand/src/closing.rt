@@ -1,5 +1,5 @@
 // Closing an `if` that was opened, and a chain of them.
-ghost use Rattle.std.specs.Prelude.{◌≡◌, ◌∷◌, drop, length, IfOk, OnOk};
+ghost use Rattle.std.specs.Prelude.{◌≡◌, ◌∷◌, [], drop, length, IfOk, OnOk};
 ghost use Rattle.std.specs.Option.{option_to_list};
 ghost use Rattle.px_core.specs.Plan.{tree_of_node};
 ghost use Rattle.px_expand.specs.Chain.{all_closed, closed};
@@ -35,11 +35,22 @@ fn side_by_side(
 ) -> Result<Vec<CoreNode>, NoMemory>
     ensures { IfOk result (λ nodes. nodes.items ≡ first ∷ option_to_list behind) }
 {
-    let mut nodes = vec![in alloc; first]?;
-    if let Some(node) = behind {
-        nodes.push(node)?;
+    match behind {
+        None => only_one(alloc, first),
+        Some(node) => both(alloc, first, node),
     }
-    Ok(nodes)
+}
+
+fn only_one(alloc: Global, node: CoreNode) -> Result<Vec<CoreNode>, NoMemory>
+    ensures { IfOk result (λ nodes. nodes.items ≡ node ∷ []) }
+{
+    Ok(vec![in alloc; node]?)
+}
+
+fn both(alloc: Global, first: CoreNode, behind: CoreNode) -> Result<Vec<CoreNode>, NoMemory>
+    ensures { IfOk result (λ nodes. nodes.items ≡ first ∷ behind ∷ []) }
+{
+    Ok(vec![in alloc; first, behind]?)
 }
 
 /// The `if`s of a chain round the last of them, from the inner ones out.

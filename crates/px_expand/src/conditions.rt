@@ -11,7 +11,7 @@ use px_core::{BinaryOp, Conditions, Expr, Kind};
 use px_value::{NoMemory, Path};
 use std::alloc::Global;
 
-/// Of each condition what is given, if anything is.
+/// Of each condition what is given, if anything is. It is large, and is handed on in a box.
 #[derive(Drop)]
 pub(crate) struct Given {
     pub(crate) start: Option<Expr>,
@@ -24,7 +24,7 @@ pub(crate) struct Given {
     pub(crate) invariant: Option<Expr>,
 }
 
-/// What the form round a node adds to its Start and its Skip.
+/// What the form round a node adds to its Start and its Skip. It is handed on in a box, too.
 #[derive(Drop)]
 pub(crate) struct Added {
     pub(crate) start: Option<Expr>,
@@ -32,21 +32,22 @@ pub(crate) struct Added {
 }
 
 impl Added {
-    pub(crate) fn nothing() -> Added
-        ensures { added_terms result ≡ nothing }
+    pub(crate) fn nothing(alloc: Global) -> Result<Box<Added>, NoMemory>
+        ensures { IfOk result (λ made. added_terms made.value ≡ nothing) }
     {
-        Added {
+        let added = Added {
             start: None,
             skip: None,
-        }
+        };
+        Ok(Box::new(alloc, added)?)
     }
 }
 
 impl Given {
-    pub(crate) fn none() -> Given
-        ensures { given_terms result ≡ none_given }
+    pub(crate) fn none(alloc: Global) -> Result<Box<Given>, NoMemory>
+        ensures { IfOk result (λ made. given_terms made.value ≡ none_given) }
     {
-        Given {
+        let given = Given {
             start: None,
             end: None,
             exit: None,
@@ -55,47 +56,36 @@ impl Given {
             pre: None,
             post: None,
             invariant: None,
-        }
+        };
+        Ok(Box::new(alloc, given)?)
     }
 
     /// Adds what the form round the node adds. After an error what is given is of no use.
-    pub(crate) fn add(&mut self, alloc: Global, added: Added) -> Result<(), NoMemory>
+    fn add(&mut self, alloc: Global, added: Box<Added>) -> Result<(), NoMemory>
         ensures { OnOk result
-            (given_terms self.new ≡ with_added (added_terms added) (given_terms self.old)) }
+            (given_terms self.new ≡ with_added (added_terms added.value) (given_terms self.old)) }
     {
-        add(alloc, BinaryOp::And, &mut self.start, added.start)?;
-        add(alloc, BinaryOp::Or, &mut self.skip, added.skip)
+        let Added { start, skip } = Box::into_inner(added);
+        add(alloc, BinaryOp::And, &mut self.start, start)?;
+        add(alloc, BinaryOp::Or, &mut self.skip, skip)
     }
 
-    /// The conditions of a node of this kind at a path, with children at these.
+    /// The conditions of a node of this kind at a path, with children at these: what is given, with what the form round
+    /// the node adds.
     pub(crate) fn conditions(
-        self,
+        mut given: Box<Given>,
         alloc: Global,
-        kind: Kind,
-        path: &Path,
-        children: &[Path],
-    ) -> Result<Conditions, NoMemory>
-        ensures { IfOk result
-            (λ made. condition_terms made ≡ conditions kind path.now children.now (given_terms self)) }
-    {
-        let defaults = Conditions::defaults(alloc, kind, path, children)?;
-        Ok(self.filled(defaults))
-    }
-
-    /// The conditions of a node of this kind at a path, with children at these, and with what the form round it adds.
-    pub(crate) fn within(
-        mut self,
-        alloc: Global,
-        added: Added,
+        added: Box<Added>,
         kind: Kind,
         path: &Path,
         children: &[Path],
     ) -> Result<Conditions, NoMemory>
         ensures { IfOk result (λ made. condition_terms made
-            ≡ conditions kind path.now children.now (with_added (added_terms added) (given_terms self))) }
+            ≡ conditions kind path.now children.now (with_added (added_terms added.value) (given_terms given.value))) }
     {
-        self.add(alloc, added)?;
-        self.conditions(alloc, kind, path, children)
+        given.add(alloc, added)?;
+        let defaults = Conditions::defaults(alloc, kind, path, children)?;
+        Ok(Box::into_inner(given).filled(defaults))
     }
 
     /// A default where nothing is given.

@@ -1,13 +1,15 @@
 // The table of derived forms, a row each: UncheckedSequence, Sequence, Try, `if`, `while` and `for`.
-ghost use Rattle.std.specs.Prelude.{◌≡◌, ◌+◌, ◌<◌, ◌≤◌, ◌∷◌, [], length, map, IfOk, OnOk};
+ghost use Rattle.std.specs.Prelude.{◌≡◌, ◌+◌, ◌<◌, ◌≤◌, ◌∷◌, [], length, map, Some, IfOk, OnOk};
 ghost use Rattle.std.specs.Option.{option_copied};
-ghost use Rattle.px_core.specs.Expr.{term_of};
+ghost use Rattle.px_core.specs.Expr.{Binary as BinaryTerm, Unary as UnaryTerm, term_of};
 ghost use Rattle.px_value.specs.Path.{below};
 ghost use Rattle.px_core.specs.Plan.{Nothing, body_data, tree_of_node, variable_data};
 ghost use Rattle.px_expand.specs.Adding.{nothing};
+ghost use Rattle.px_expand.specs.Conditions.{none_given};
 ghost use Rattle.px_expand.specs.Core.{follows, formed};
 ghost use Rattle.px_expand.specs.Forms as rows;
 ghost use Rattle.px_expand.specs.Items.{default_priority};
+ghost use Rattle.px_expand.specs.Joining.{all, some};
 ghost use Rattle.px_expand.specs.Names.{generated, loop_name, step_name};
 ghost use Rattle.px_expand.specs.Nodes.{alone, child};
 ghost use Rattle.px_expand.specs.Placed.{node_of, place_terms, trees_of};
@@ -45,16 +47,24 @@ pub(crate) fn follows(
     alloc: Global,
     form: BlockForm,
     behind: Option<&Path>,
-) -> Result<Added, NoMemory>
-    ensures { IfOk result (λ made. added_terms made ≡ follows form (option_copied behind.entry)) }
+) -> Result<Box<Added>, NoMemory>
+    ensures { IfOk result (λ made. added_terms made.value ≡ follows form (option_copied behind.entry)) }
 {
     match (form, behind) {
-        (BlockForm::NodeList | BlockForm::Concurrence, _) | (_, None) => Ok(Added::nothing()),
-        (_, Some(path)) => Ok(Added {
-            start: Some(done(alloc, path)?),
-            skip: None,
-        }),
+        (BlockForm::NodeList | BlockForm::Concurrence, _) | (_, None) => Added::nothing(alloc),
+        (_, Some(path)) => after(alloc, path),
     }
+}
+
+/// UncheckedSequence: that the child before, at this path, is done adds to the Start.
+fn after(alloc: Global, path: &Path) -> Result<Box<Added>, NoMemory>
+    ensures { IfOk result (λ made. added_terms made.value ≡ rows.after (Some path.now)) }
+{
+    let added = Added {
+        start: Some(done(alloc, path)?),
+        skip: None,
+    };
+    Ok(Box::new(alloc, added)?)
 }
 
 /// Sequence: that no child has failed adds to the Invariant.
@@ -72,13 +82,21 @@ fn tries(alloc: Global, paths: &[Path], given: &mut Given) -> Result<(), NoMemor
     ensures { OnOk result (given_terms given.new ≡ rows.try paths.now (given_terms given.old)) }
 {
     if given.end.is_none() {
-        let won = some(alloc, Said::Ended(Outcome::Success), paths)?;
-        let done = all(alloc, Said::Done, paths)?;
-        given.end = Some(binary(alloc, BinaryOp::Or, won, done)?);
+        given.end = Some(won_or_done(alloc, paths)?);
     }
     let won = some(alloc, Said::Ended(Outcome::Success), paths)?;
     given.post = Some(adds(alloc, BinaryOp::And, given.post.take(), won)?);
     Ok(())
+}
+
+/// Some child has won, or all are done.
+fn won_or_done(alloc: Global, paths: &[Path]) -> Result<Expr, NoMemory>
+    ensures { IfOk result (λ made. term_of made
+        ≡ BinaryTerm BinaryOp.Or (some (map rows.won paths.now)) (all (map rows.done paths.now))) }
+{
+    let won = some(alloc, Said::Ended(Outcome::Success), paths)?;
+    let done = all(alloc, Said::Done, paths)?;
+    binary(alloc, BinaryOp::Or, won, done)
 }
 
 // What an `if`, a `while` and the loop of a `for` have in common; each path is that of their List.
@@ -130,25 +148,27 @@ fn not_found(alloc: Global, path: &Path) -> Result<Expr, NoMemory>
 }
 
 /// What is added to the branch of a test.
-pub(crate) fn where_found(alloc: Global, path: &Path) -> Result<Added, NoMemory>
+pub(crate) fn where_found(alloc: Global, path: &Path) -> Result<Box<Added>, NoMemory>
     requires { length path.now + 5 ≤ PATH_LIMIT }
-    ensures { IfOk result (λ made. added_terms made ≡ rows.where_found path.now) }
+    ensures { IfOk result (λ made. added_terms made.value ≡ rows.where_found path.now) }
 {
-    Ok(Added {
+    let added = Added {
         start: Some(found(alloc, path)?),
         skip: Some(not_found(alloc, path)?),
-    })
+    };
+    Ok(Box::new(alloc, added)?)
 }
 
 /// What is added to what stands after `else`.
-pub(crate) fn where_not_found(alloc: Global, path: &Path) -> Result<Added, NoMemory>
+pub(crate) fn where_not_found(alloc: Global, path: &Path) -> Result<Box<Added>, NoMemory>
     requires { length path.now + 5 ≤ PATH_LIMIT }
-    ensures { IfOk result (λ made. added_terms made ≡ rows.where_not_found path.now) }
+    ensures { IfOk result (λ made. added_terms made.value ≡ rows.where_not_found path.now) }
 {
-    Ok(Added {
+    let added = Added {
         start: Some(not_found(alloc, path)?),
         skip: Some(found(alloc, path)?),
-    })
+    };
+    Ok(Box::new(alloc, added)?)
 }
 
 /// An Assignment that the text doesn't have, of a scalar of the node `owner`.
@@ -156,26 +176,23 @@ fn assignment(
     alloc: Global,
     parent: &Path,
     name: Generated,
-    given: Given,
+    given: Box<Given>,
     owner: &Path,
     variable: Name,
     value: Expr,
 ) -> Result<CoreNode, NoMemory>
     requires { length parent.now + length (generated name) < PATH_LIMIT }
     ensures { IfOk result (λ node. tree_of_node node
-        ≡ alone (rows.assignment parent.now (generated name) (given_terms given) owner.now variable (term_of value))) }
+        ≡ alone (rows.assignment parent.now (generated name) (given_terms given.value) owner.now variable (term_of value))) }
 {
-    let place = Place::generated(alloc, parent, name, Added::nothing())?;
     let target = Target {
         owner: owner.copy(alloc)?,
         name: variable,
         index: None,
     };
-    let own = Own {
-        priority: DEFAULT_PRIORITY,
-        variables: Vec::new(alloc),
-        body: Body::Assign { target, value },
-    };
+    let body = Body::Assign { target, value };
+    let own = Own::new(alloc, DEFAULT_PRIORITY, Vec::new(alloc), body)?;
+    let place = Place::generated(alloc, parent, name, Added::nothing(alloc)?)?;
     place.node(alloc, Kind::Assignment, &[], given, own, Vec::new(alloc))
 }
 
@@ -184,32 +201,33 @@ fn set(alloc: Global, path: &Path, test: Expr) -> Result<CoreNode, NoMemory>
     requires { length path.now + 5 ≤ PATH_LIMIT }
     ensures { IfOk result (λ node. tree_of_node node ≡ alone (rows.set path.now (term_of test))) }
 {
-    let known = unary(alloc, UnaryOp::IsKnown, test.copy(alloc)?)?;
-    let value = binary(alloc, BinaryOp::And, known, test)?;
+    let given = Given::none(alloc)?;
     let variable = Generated::Test.name(alloc)?;
-    assignment(
-        alloc,
-        path,
-        Generated::Set,
-        Given::none(),
-        path,
-        variable,
-        value,
-    )
+    let value = is_true(alloc, test)?;
+    assignment(alloc, path, Generated::Set, given, path, variable, value)
+}
+
+/// `isKnown(t) && t`
+fn is_true(alloc: Global, test: Expr) -> Result<Expr, NoMemory>
+    ensures { IfOk result (λ made. term_of made
+        ≡ BinaryTerm BinaryOp.And (UnaryTerm UnaryOp.IsKnown (term_of test)) (term_of test)) }
+{
+    let known = unary(alloc, UnaryOp::IsKnown, test.copy(alloc)?)?;
+    binary(alloc, BinaryOp::And, known, test)
 }
 
 /// A List that keeps a test, with `#set` before the other children, which stand at these paths.
 fn tested(
     alloc: Global,
     place: Place,
-    given: Given,
+    given: Box<Given>,
     test: Expr,
     others: Vec<Path>,
     children: Vec<CoreNode>,
 ) -> Result<CoreNode, NoMemory>
     requires { length place.path + 5 ≤ PATH_LIMIT }
     ensures { IfOk result (λ node. tree_of_node node ≡ alone
-        (rows.tested (place_terms place) (given_terms given) (term_of test) others.items (trees_of children.items))) }
+        (rows.tested (place_terms place) (given_terms given.value) (term_of test) others.items (trees_of children.items))) }
 {
     let first = set(alloc, &place.path, test)?;
     let set = child_path(alloc, &place.path, Generated::Set)?;
@@ -222,10 +240,10 @@ fn tested(
 }
 
 /// What the List of a test has: the variable that keeps it.
-fn testing(alloc: Global) -> Result<Own, NoMemory>
-    ensures priority { IfOk result (λ own. own.priority ≡ default_priority) }
-    ensures variables { IfOk result (λ own. map variable_data own.variables.items ≡ rows.test_variable ∷ []) }
-    ensures body { IfOk result (λ own. body_data own.body ≡ Nothing) }
+fn testing(alloc: Global) -> Result<Box<Own>, NoMemory>
+    ensures priority { IfOk result (λ own. own.value.priority ≡ default_priority) }
+    ensures variables { IfOk result (λ own. map variable_data own.value.variables.items ≡ rows.test_variable ∷ []) }
+    ensures body { IfOk result (λ own. body_data own.value.body ≡ Nothing) }
 {
     let variable = Variable {
         name: Generated::Test.name(alloc)?,
@@ -233,11 +251,8 @@ fn testing(alloc: Global) -> Result<Own, NoMemory>
         size: None,
         init: Vec::new(alloc),
     };
-    Ok(Own {
-        priority: DEFAULT_PRIORITY,
-        variables: vec![in alloc; variable]?,
-        body: Body::Nothing,
-    })
+    let variables = vec![in alloc; variable]?;
+    Own::new(alloc, DEFAULT_PRIORITY, variables, Body::Nothing)
 }
 
 /// `if (t) A else B`: the children are A and, where there is an else, B.
@@ -252,7 +267,7 @@ pub(crate) fn conditional(
     ensures { IfOk result (λ node. tree_of_node node ≡ alone
         (rows.conditional (place_terms place) (term_of test) paths.items (trees_of children.items))) }
 {
-    tested(alloc, place, Given::none(), test, paths, children)
+    tested(alloc, place, Given::none(alloc)?, test, paths, children)
 }
 
 /// `while (t) A`: the child is A, with others behind it in a `for`.
@@ -267,21 +282,38 @@ pub(crate) fn repeated(
     ensures { IfOk result (λ node. tree_of_node node ≡ alone
         (rows.repeated (place_terms place) (term_of test) paths.items (trees_of children.items))) }
 {
-    let mut given = Given::none();
-    given.repeat = Some(test_of(alloc, &place.path)?);
+    let given = repeating(alloc, &place.path)?;
     tested(alloc, place, given, test, paths, children)
 }
 
-/// The conditions of `#step`: it starts once A is done, where the test was found true, and is skipped where it was not.
-fn step_given(alloc: Global, path: &Path, body: &Path) -> Result<Given, NoMemory>
-    requires { length path.now + 5 ≤ PATH_LIMIT }
-    ensures { IfOk result (λ made. given_terms made ≡ rows.step_given path.now body.now) }
+/// The conditions of the List at a path: it repeats where the test was found true.
+fn repeating(alloc: Global, path: &Path) -> Result<Box<Given>, NoMemory>
+    ensures { IfOk result (λ made. given_terms made.value
+        ≡ record none_given { repeat = Some (rows.test_of path.now) }) }
 {
-    let done = done(alloc, body)?;
-    let mut given = Given::none();
-    given.start = Some(binary(alloc, BinaryOp::And, done, test_of(alloc, path)?)?);
+    let mut given = Given::none(alloc)?;
+    given.repeat = Some(test_of(alloc, path)?);
+    Ok(given)
+}
+
+/// The conditions of `#step`: it starts once A is done, where the test was found true, and is skipped where it was not.
+fn step_given(alloc: Global, path: &Path, body: &Path) -> Result<Box<Given>, NoMemory>
+    requires { length path.now + 5 ≤ PATH_LIMIT }
+    ensures { IfOk result (λ made. given_terms made.value ≡ rows.step_given path.now body.now) }
+{
+    let mut given = Given::none(alloc)?;
+    given.start = Some(done_and_found(alloc, path, body)?);
     given.skip = Some(not_found(alloc, path)?);
     Ok(given)
+}
+
+/// A is done, and the test was found true.
+fn done_and_found(alloc: Global, path: &Path, body: &Path) -> Result<Expr, NoMemory>
+    ensures { IfOk result
+        (λ made. term_of made ≡ BinaryTerm BinaryOp.And (rows.done body.now) (rows.test_of path.now)) }
+{
+    let done = done(alloc, body)?;
+    binary(alloc, BinaryOp::And, done, test_of(alloc, path)?)
 }
 
 /// `#step` of the loop at a path, whose variable the node `owner` has.
@@ -316,23 +348,24 @@ pub(crate) fn counted(
     inner: Place,
     variable: &Name,
     first: i32,
-    turn: Turn,
+    turn: Box<Turn>,
     body: Path,
     branch: CoreNode,
 ) -> Result<CoreNode, NoMemory>
     requires room { length place.path + 12 ≤ PATH_LIMIT }
     requires inner { place_terms inner ≡ child place.path loop_name nothing }
     ensures { IfOk result (λ node. tree_of_node node ≡ alone (rows.counted (place_terms place) variable.now first
-        (term_of turn.test) (term_of turn.next) body (node_of branch))) }
+        (term_of turn.value.test) (term_of turn.value.next) body (node_of branch))) }
 {
-    let Turn { test, next } = turn;
-    let name = variable.copy(alloc)?;
-    let step = step(alloc, &inner.path, &body, &place.path, name, next)?;
     let paths = vec![in alloc; inner.path.copy(alloc)?]?;
+    let own = counting(alloc, variable, first)?;
+    let given = Given::none(alloc)?;
+    let name = variable.copy(alloc)?;
+    let Turn { test, next } = Box::into_inner(turn);
+    let step = step(alloc, &inner.path, &body, &place.path, name, next)?;
     let turns = turns(alloc, inner, test, body, branch, step)?;
     let children = vec![in alloc; turns]?;
-    let own = counting(alloc, variable, first)?;
-    place.node(alloc, Kind::List, &paths, Given::none(), own, children)
+    place.node(alloc, Kind::List, &paths, given, own, children)
 }
 
 /// `#loop` in its place, with A and `#step`.
@@ -355,11 +388,11 @@ fn turns(
 }
 
 /// What the List of a `for` has: its variable.
-fn counting(alloc: Global, variable: &Name, first: i32) -> Result<Own, NoMemory>
-    ensures priority { IfOk result (λ own. own.priority ≡ default_priority) }
+fn counting(alloc: Global, variable: &Name, first: i32) -> Result<Box<Own>, NoMemory>
+    ensures priority { IfOk result (λ own. own.value.priority ≡ default_priority) }
     ensures variables { IfOk result (λ own.
-        map variable_data own.variables.items ≡ rows.counter variable.now first ∷ []) }
-    ensures body { IfOk result (λ own. body_data own.body ≡ Nothing) }
+        map variable_data own.value.variables.items ≡ rows.counter variable.now first ∷ []) }
+    ensures body { IfOk result (λ own. body_data own.value.body ≡ Nothing) }
 {
     let counter = Variable {
         name: variable.copy(alloc)?,
@@ -367,9 +400,6 @@ fn counting(alloc: Global, variable: &Name, first: i32) -> Result<Own, NoMemory>
         size: None,
         init: vec![in alloc; Value::Integer(first)]?,
     };
-    Ok(Own {
-        priority: DEFAULT_PRIORITY,
-        variables: vec![in alloc; counter]?,
-        body: Body::Nothing,
-    })
+    let variables = vec![in alloc; counter]?;
+    Own::new(alloc, DEFAULT_PRIORITY, variables, Body::Nothing)
 }

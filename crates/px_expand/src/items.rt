@@ -19,11 +19,11 @@ use std::alloc::Global;
 pub(crate) const DEFAULT_PRIORITY: u32 = 100000;
 
 /// The conditions that the items give, in the scope inside their block.
-pub(crate) fn given_by(alloc: Global, scope: &Scope, items: &[Item]) -> Result<Given, NoMemory>
+pub(crate) fn given_by(alloc: Global, scope: &Scope, items: &[Item]) -> Result<Box<Given>, NoMemory>
     requires { 0 < length scope.now }
-    ensures { IfOk result (λ made. given_terms made ≡ given_by scope.now (map item_data items.now)) }
+    ensures { IfOk result (λ made. given_terms made.value ≡ given_by scope.now (map item_data items.now)) }
 {
-    Ok(Given {
+    let given = Given {
         start: given_for(alloc, scope, Condition::Start, items)?,
         end: given_for(alloc, scope, Condition::End, items)?,
         exit: given_for(alloc, scope, Condition::Exit, items)?,
@@ -32,7 +32,8 @@ pub(crate) fn given_by(alloc: Global, scope: &Scope, items: &[Item]) -> Result<G
         pre: given_for(alloc, scope, Condition::Pre, items)?,
         post: given_for(alloc, scope, Condition::Post, items)?,
         invariant: given_for(alloc, scope, Condition::Invariant, items)?,
-    })
+    };
+    Ok(Box::new(alloc, given)?)
 }
 
 /// What the items give for a condition.

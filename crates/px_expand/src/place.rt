@@ -17,7 +17,7 @@ use std::alloc::Global;
 pub(crate) struct Place {
     pub(crate) path: Path,
     pub(crate) name: Name,
-    pub(crate) added: Added,
+    pub(crate) added: Box<Added>,
 }
 
 impl Place {
@@ -26,10 +26,10 @@ impl Place {
         alloc: Global,
         parent: &Path,
         name: Name,
-        added: Added,
+        added: Box<Added>,
     ) -> Result<Place, NoMemory>
         requires { length parent.now + length name < PATH_LIMIT }
-        ensures { IfOk result (λ made. place_terms made ≡ child parent.now name (added_terms added)) }
+        ensures { IfOk result (λ made. place_terms made ≡ child parent.now name (added_terms added.value)) }
     {
         Ok(Place {
             path: parent.child(alloc, &name)?,
@@ -43,11 +43,11 @@ impl Place {
         alloc: Global,
         parent: &Path,
         name: Generated,
-        added: Added,
+        added: Box<Added>,
     ) -> Result<Place, NoMemory>
         requires { length parent.now + length (generated name) < PATH_LIMIT }
         ensures { IfOk result
-            (λ made. place_terms made ≡ child parent.now (generated name) (added_terms added)) }
+            (λ made. place_terms made ≡ child parent.now (generated name) (added_terms added.value)) }
     {
         Place::child(alloc, parent, name.name(alloc)?, added)
     }
@@ -58,21 +58,21 @@ impl Place {
         alloc: Global,
         kind: Kind,
         paths: &[Path],
-        given: Given,
-        own: Own,
+        given: Box<Given>,
+        own: Box<Own>,
         children: Vec<CoreNode>,
     ) -> Result<CoreNode, NoMemory>
         ensures { IfOk result (λ node. tree_of_node node
-            ≡ alone (node_at (place_terms self) kind paths.now (given_terms given) own.priority
-            (map variable_data own.variables.items) (body_data own.body) (trees_of children.items))) }
+            ≡ alone (node_at (place_terms self) kind paths.now (given_terms given.value) own.value.priority
+            (map variable_data own.value.variables.items) (body_data own.value.body) (trees_of children.items))) }
     {
         let Place { path, name, added } = self;
-        let conditions = given.within(alloc, added, kind, &path, paths)?;
-        Ok(own.node(name, kind, conditions, children))
+        let conditions = Given::conditions(given, alloc, added, kind, &path, paths)?;
+        Ok(Box::into_inner(own).node(name, kind, conditions, children))
     }
 }
 
-/// What a node has beside its conditions and its children.
+/// What a node has beside its conditions and its children. It is handed on in a box, as they are.
 #[derive(Drop)]
 pub(crate) struct Own {
     pub(crate) priority: u32,
@@ -81,6 +81,24 @@ pub(crate) struct Own {
 }
 
 impl Own {
+    pub(crate) fn new(
+        alloc: Global,
+        priority: u32,
+        variables: Vec<Variable>,
+        body: Body,
+    ) -> Result<Box<Own>, NoMemory>
+        ensures priority { IfOk result (λ own. own.value.priority ≡ priority) }
+        ensures variables { IfOk result (λ own. own.value.variables ≡ variables) }
+        ensures body { IfOk result (λ own. own.value.body ≡ body) }
+    {
+        let own = Own {
+            priority,
+            variables,
+            body,
+        };
+        Ok(Box::new(alloc, own)?)
+    }
+
     /// The node of these parts.
     #[tactic(none)]
     fn node(

@@ -68,6 +68,6 @@ fn root_place(alloc: Global, label: &Option<Identifier>) -> Result<Place, NoMemo
     Ok(Place {
         path: Path::root(alloc, &name)?,
         name,
-        added: Added::nothing(),
+        added: Added::nothing(alloc)?,
     })
 }

@@ -69,12 +69,8 @@ fn single(
         (given_by scope.now (items_of (block_of block.now))) (priority_of (items_of (block_of block.now)))
         (map variable_data variables.items) (body_data body))) }
 {
+    let own = Own::new(alloc, priority_of(&block.items), variables, body)?;
     let given = given_by(alloc, scope, &block.items)?;
-    let own = Own {
-        priority: priority_of(&block.items),
-        variables,
-        body,
-    };
     place.node(alloc, kind, &[], given, own, Vec::new(alloc))
 }
 
@@ -94,11 +90,7 @@ fn list(
         (priority_of (items_of (block_of block.now))) (map variable_data variables.items) (trees_of nodes.items))) }
 {
     let given = list_given(alloc, scope, block, paths)?;
-    let own = Own {
-        priority: priority_of(&block.items),
-        variables,
-        body: Body::Nothing,
-    };
+    let own = Own::new(alloc, priority_of(&block.items), variables, Body::Nothing)?;
     place.node(alloc, Kind::List, paths, given, own, nodes)
 }
 
@@ -108,9 +100,9 @@ fn list_given(
     scope: &Scope,
     block: &Block,
     paths: &[Path],
-) -> Result<Given, NoMemory>
+) -> Result<Box<Given>, NoMemory>
     requires { 0 < length scope.now }
-    ensures { IfOk result (λ made. given_terms made
+    ensures { IfOk result (λ made. given_terms made.value
         ≡ formed (form_of (block_of block.now)) paths.now (given_by scope.now (items_of (block_of block.now)))) }
 {
     let mut given = given_by(alloc, scope, &block.items)?;
@@ -132,17 +124,7 @@ pub(crate) fn simple(
     enter_simple(alloc, scope, &place)?;
     let made = body_of(alloc, scope, body)?;
     scope.leave();
-    let own = Own {
-        priority: DEFAULT_PRIORITY,
-        variables: Vec::new(alloc),
-        body: made,
-    };
-    place.node(
-        alloc,
-        kind_of(body),
-        &[],
-        Given::none(),
-        own,
-        Vec::new(alloc),
-    )
+    let own = Own::new(alloc, DEFAULT_PRIORITY, Vec::new(alloc), made)?;
+    let given = Given::none(alloc)?;
+    place.node(alloc, kind_of(body), &[], given, own, Vec::new(alloc))
 }

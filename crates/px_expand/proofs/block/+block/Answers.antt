@@ -228,36 +228,37 @@ for_loop-block-requires t c =
     let branch = c.args.branch.now in
     let far : length (loop_path path) ≡ length path + 6 = length-append path (46 ∷ loop_name) in (
       omega (arith, c.decreases, branch_count branch),
-      branch_room (place_terms c.in_ok-entered.own) (loop_path path) body_name (where_found (loop_path path)) branch
-          c.in_ok-entered.ensures.branch (omega (arith, c.requires, far)),
+      branch_room (place_terms c.in_ok-inner.field-0.branch) (loop_path path) body_name (where_found (loop_path path)) branch
+          c.in_ok-inner.ensures.branch (omega (arith, c.requires, far)),
     )
 
-pub for_loop-close-requires-clause-room : goal.for_loop-close-requires-clause-room
-for_loop-close-requires-clause-room t c = omega (arith, c.requires)
+pub for_loop-counted-requires-clause-room : goal.for_loop-counted-requires-clause-room
+for_loop-counted-requires-clause-room t c = omega (arith, c.requires)
 
 pub for_loop-returns-clause-scope : goal.for_loop-returns-clause-scope
 for_loop-returns-clause-scope t c =
-    holds c.close.result (c.leave.ensures ∙ ap (drop 1) (c.in_ok-node.ensures.scope ∙ c.in_ok-entered.ensures.scope))
+    holds c.counted.result (c.leave.ensures ∙ ap (drop 1) (c.in_ok-node.ensures.scope ∙ c.in_ok-inner.ensures.scope))
 
 pub for_loop-returns-clause-node : goal.for_loop-returns-clause-node
 for_loop-returns-clause-node t c =
     let place = place_terms c.args.place in
     let branch = c.args.branch.now in
-    let made = c.in_ok-entered.entered in
+    let made = c.in_ok-inner.field-0 in
     let inner = c.into_for.new.scope in
     let path = loop_path place.path in
     let own = child path (branch_name body_name (branch_of branch)) (where_found path) in
     let fits : SFits w32 c.args.first = c.ranges.first in
-    let same = ap (λ (first : ℤ). alone (counted place c.args.variable.now.name first (term_of made.turn.test) (term_of made.turn.next)
-    made.body (node_of c.in_ok-node.node))) (to_z-of_z w32 c.args.first fits) in
-    subst (λ tree. IfOk c.close.result (λ node. tree_of_node node ≡ tree))
+    let same = ap (λ (first : ℤ). alone (counted place c.args.variable.now.name first (term_of made.turn.value.test)
+    (term_of made.turn.value.next) c.in_ok-body.body (node_of c.in_ok-node.node))) (to_z-of_z w32 c.args.first fits) in
+    subst (λ tree. IfOk c.counted.result (λ node. tree_of_node node ≡ tree))
     (same
     ∙ for_made c.args.scope.now inner place c.args.variable.now c.args.first (text_of c.args.test.now) (text_of c.args.step.now)
-    (branch_of branch) (term_of made.turn.test) (term_of made.turn.next) made.body c.in_ok-node.node
-    c.in_ok-entered.ensures.scope c.in_ok-entered.ensures.test c.in_ok-entered.ensures.next c.in_ok-entered.ensures.body
-    (branch_made inner (place_terms c.in_ok-entered.own) own branch (tree_of_node c.in_ok-node.node) c.in_ok-node.ensures.node
-    c.in_ok-entered.ensures.branch))
-    c.close.ensures
+    (branch_of branch) (term_of made.turn.value.test) (term_of made.turn.value.next) c.in_ok-body.body c.in_ok-node.node
+    c.in_ok-inner.ensures.scope c.in_ok-inner.ensures.test c.in_ok-inner.ensures.next
+    (c.in_ok-body.ensures ∙ ap (λ (at : Place). at.path) c.in_ok-inner.ensures.branch)
+    (branch_made inner (place_terms made.branch) own branch (tree_of_node c.in_ok-node.node) c.in_ok-node.ensures.node
+    c.in_ok-inner.ensures.branch))
+    c.counted.ensures
 
 pub opened-block-requires : goal.opened-block-requires
 opened-block-requires t c = (
@@ -292,20 +293,15 @@ chain-opened-requires t c = (
 
 pub chain-else_place-requires : goal.chain-else_place-requires
 chain-else_place-requires t c =
-    omega (
-      arith,
-      ap (λ (at : Place). length at.path) c.in_ok-opened.ensures.place,
-      room_before _ c.args.others.now _ _ _
-          c.loop-other.other-index c.other-item.result c.loop-other-test.true c.other-item.is _ _ _ _ c.loop-other.invariant,
-    )
+    room_before _ c.args.others.now _ _ _
+    c.loop-other.other-index c.other-item.result c.loop-other-test.true c.other-item.is _ _ _ _ c.loop-other.invariant
 
 pub chain-loop-other-preserved : goal.chain-loop-other-preserved
 chain-loop-other-preserved t c =
     chain_more _ c.args.others.now _ _ _ c.loop-other.other-index c.other-item.result c.loop-other-test.true c.other-item.is
-    _ _ _ _ c.loop-other.invariant c.opened.new.scope c.in_ok-behind.behind c.in_ok-opened.opened (place_terms c.in_ok-place.place)
+    _ _ _ _ c.loop-other.invariant c.opened.new.scope c.in_ok-behind.behind c.in_ok-opened.field-0 (place_terms c.in_ok-next.next)
     c.push.new.self.items c.in_ok-behind.ensures c.in_ok-opened.ensures.scope c.in_ok-opened.ensures.closed
-    (c.in_ok-place.ensures ∙ ap (λ (at : Place). child at.path else_name (where_not_found at.path)) c.in_ok-opened.ensures.place)
-    c.in_ok-push.ensures.items
+    c.in_ok-next.ensures c.in_ok-push.ensures.items
 
 pub chain-last-requires : goal.chain-last-requires
 chain-last-requires t c = (
