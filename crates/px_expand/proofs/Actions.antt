@@ -1,13 +1,12 @@
 -- The actions of a block, one after another: how far their paths reach, what is seen of them, and their nodes.
 use Rattle.std.proofs.Common.{◌≡◌, ℕ, zero, suc, ◌+◌, ◌<◌, ◌≤◌, max, List, [], ◌∷◌, ◌++◌, length, map, drop, get_or, Option, Some, None, fold}
-use Rattle.std.proofs.Common.{refl, ap, sym, ◌∙◌, subst, arith, add-one, append_assoc}
+use Rattle.std.proofs.Common.{refl, ap, sym, ◌∙◌, arith, add-one, append_assoc}
 use Rattle.std.proofs.lemmas.List.{drop_more}
 use Rattle.std.proofs.Math.ListN.{drop_of_length-le}
 use Rattle.indexmap.specs.IndexMap.{insert_entry}
 use Rattle.px_value.specs.Path.{below}
 use Rattle.px_syntax.specs.declared.block.Action.{Action, out-Action, fold_out-Action}
 use Rattle.px_syntax.specs.declared.word.BlockForm.{BlockForm}
-use Rattle.px_syntax.specs.Block as text
 use Rattle.px_syntax.specs.Block.{Actions, More, Labelled, BlockTree, BodyTree, ActionTree, BranchTree, GuardedTree, body_step, action_step, block_step, branch_step, guarded_step, action_of, actions_in_turn, body_of}
 use Rattle.px_core.specs.declared.node.CoreNode.{CoreNode}
 use Rattle.px_core.specs.declared.node.CoreNode.TheFolds.{fold-CoreNode}

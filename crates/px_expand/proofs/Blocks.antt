@@ -1,14 +1,13 @@
 -- Blocks: how far the paths below them reach, and their nodes made of what is in them.
-use Rattle.std.proofs.Common.{◌≡◌, ℕ, ◌+◌, ◌<◌, ◌≤◌, List, [], ◌∷◌, ◌++◌, length, map, drop, Option, Some, None}
+use Rattle.std.proofs.Common.{◌≡◌, ℕ, ◌+◌, ◌<◌, ◌≤◌, List, ◌∷◌, length, drop, None}
 use Rattle.std.proofs.Common.{refl, ap, sym, ◌∙◌, arith, length-append}
-use Rattle.px_value.specs.Path.{below}
 use Rattle.px_syntax.specs.declared.word.BlockForm.{BlockForm}
-use Rattle.px_syntax.specs.Block.{ItemData, BlockTree, Braces, Actions}
+use Rattle.px_syntax.specs.Block.{ItemData, BlockTree, Braces}
 use Rattle.px_core.specs.Plan.{Tree}
 use Rattle.px_expand.specs.Adding.{Added}
 use Rattle.px_expand.specs.Core.{actions_core, actions_in, block_core, block_scope, block_seen, form_of, shaped, shaped_as}
 use Rattle.px_expand.specs.Kinds.{Shape, Rest, OneAction, Children, shape_of}
-use Rattle.px_expand.specs.Nodes.{Place, alone, child, paths_of}
+use Rattle.px_expand.specs.Nodes.{Place, child, paths_of}
 use Rattle.px_expand.specs.Scope.{Scope}
 use Rattle.px_expand.specs.Size.{actions_nodes, actions_reach, block_nodes, block_reach, shaped_nodes, shaped_reach, through}
 

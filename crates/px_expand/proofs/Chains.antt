@@ -1,9 +1,8 @@
 -- Chains of `if`s: what is left of one while it is opened, and what it is once it is closed.
-use Rattle.std.proofs.Common.{◌≡◌, ℕ, zero, suc, ◌+◌, ◌<◌, ◌≤◌, max, List, [], ◌∷◌, ◌++◌, length, map, drop, get_or, Option, Some, None, option_map}
+use Rattle.std.proofs.Common.{◌≡◌, ℕ, zero, suc, ◌+◌, ◌<◌, ◌≤◌, max, List, [], ◌∷◌, ◌++◌, length, map, drop, get_or, Option, Some, option_map}
 use Rattle.std.proofs.Common.{refl, ap, sym, ◌∙◌, arith, add-one, length-append}
 use Rattle.std.proofs.lemmas.List.{drop_more}
 use Rattle.std.proofs.Math.ListN.{drop_of_length-le}
-use Rattle.px_value.specs.Path.{below}
 use Rattle.px_syntax.specs.declared.block.Branch.{Branch, out-Branch}
 use Rattle.px_syntax.specs.declared.block.Guarded.{Guarded, out-Guarded}
 use Rattle.px_syntax.specs.Block.{GuardedTree, ElseIfs, ElseIf, ElseTree, block_of, branch_of, else_ifs_in_turn, else_of, guarded_of}

@@ -1,5 +1,5 @@
 -- Loops, made of what is in them.
-use Rattle.std.proofs.Common.{◌≡◌, ℕ, ℤ, ◌+◌, ◌≤◌, max, List, [], ◌∷◌, length, map, drop, refl, ap, sym, subst, ◌∙◌, arith}
+use Rattle.std.proofs.Common.{◌≡◌, ℕ, ℤ, ◌+◌, ◌≤◌, List, length, ap, sym, subst, ◌∙◌, arith}
 use Rattle.px_value.specs.Path.{below}
 use Rattle.px_syntax.specs.declared.block.Branch.{Branch, out-Branch}
 use Rattle.px_syntax.specs.declared.block.Guarded.{Guarded, out-Guarded}

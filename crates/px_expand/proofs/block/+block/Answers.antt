@@ -1,8 +1,8 @@
-use Rattle.std.proofs.Common.{◌≡◌, ◌+◌, ◌≤◌, ℕ, ℤ, List, ◌∷◌, length, map, drop, option_map, refl, ap, sym, ◌∙◌, arith, rules, None, Some, Result, Ok, Err, subst, true, length-append}
+use Rattle.std.proofs.Common.{◌≡◌, ◌+◌, ◌≤◌, ℤ, ◌∷◌, length, map, drop, option_map, refl, ap, sym, ◌∙◌, arith, rules, None, Some, Result, Ok, Err, subst, length-append}
 use Rattle.std.specs.Result.{IfOk, OnOk}
 use Rattle.std.proofs.lemmas.Int.{to_z-of_z}
 use mir.Syntax.{w32}
-use mir.Val.{SFits, of_z, to_z}
+use mir.Val.{SFits}
 use Rattle.std.proofs.lemmas.Result.{IfOk-weaker, on_ok_weaker}
 use Rattle.px_syntax.specs.declared.block.Action.{out-Action}
 use Rattle.px_syntax.specs.declared.block.Block.{out-Block}
