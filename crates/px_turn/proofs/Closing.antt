@@ -1,0 +1,117 @@
+-- The end.
+use Rattle.std.proofs.Common.{◌≡◌, ◌≢◌, ℕ, suc, ◌+◌, ◌<◌, Bool, true, false, List, [], ◌∷◌, ◌++◌, map, length, Option, Some, IfSome, IsSome, unwrap_or, refl, sym, ap, ◌∙◌, subst, arith, All}
+use mathlib.Core.Logic.{dite}
+use mathlib.Core.Option.{some, some-injective}
+use native.Mathlib.Decide.{ℕ_discrete}
+use lib.ListN.{get_elem?}
+use Rattle.atomic_table.specs.Table.{State, Final, Seen}
+use Rattle.px_turn.specs.declared.view.Record.{Record}
+use Rattle.px_turn.specs.declared.view.Stamped.{Stamped}
+use Rattle.px_turn.specs.declared.view.View.{View}
+use Rattle.px_turn.specs.Histories.{items, opened, positions, AreMade}
+use Rattle.px_turn.specs.Views.{records, numbers}
+use Rattle.px_turn.specs.Rule.{times, AreNumbered, HaveNoTurn, IsRuled}
+use Rattle.px_turn.proofs.Totals.{one_of, two_of, others_le, times-le-length}
+use Rattle.px_turn.proofs.Fronts.{front_whole}
+use Rattle.px_turn.proofs.Seating.{one_only, numbers_are}
+use Rattle.px_turn.specs.Seats.{IsWhole}
+use Rattle.px_turn.proofs.Splitting.{is_first}
+
+module _ {T I : Type 0} where
+  long_numbers : (v : View T I) → v.live ≡ true → length (numbers v) ≡ length v.joined + 1
+  long_numbers v live = ap (λ (l : List ℕ). length l) (numbers_are v live) ∙ long v.joined
+    where
+      long : (list : List Record) → suc (length (map (λ (r : Record). r.number) list)) ≡ length list + 1
+      long [] = refl
+      long (r ∷ list) = let rest = long list in omega arith
+
+  -- who has no record is live no more
+  not_live : (v : View T I) → length (numbers v) ≡ 0 → v.live ≡ false
+  not_live v none_left = dead v.live (λ live. let long = long_numbers v live in omega arith)
+    where
+      dead : (b : Bool) → (b ≡ true → ⊥) → b ≡ false
+      dead true not_so = absurd (not_so refl)
+      dead false not_so = refl
+
+  -- where a seat has as many records as there are seats, no other is live
+  others_spent : (views : List (View T I)) (id : ℕ) (v : View T I) → AreNumbered views → get_elem? views id ≡ some v
+      → length (numbers v) ≡ length views → (j : ℕ) (u : View T I) → j ≢ id → get_elem? views j ≡ some u → u.live ≡ false
+  others_spent views id v are at all j u apart there =
+      let both = two_of (λ (x : View T I). length (numbers x)) views j id u v there at apart in
+      let recorded = are.recorded in
+      not_live u (omega arith)
+
+  -- and it has each number
+  each_once : (views : List (View T I)) (id : ℕ) (v : View T I) → AreNumbered views → get_elem? views id ≡ some v
+      → length (numbers v) ≡ length views → (number : ℕ) → number < length views → times number (numbers v) ≡ 1
+  each_once views id v are at all number low =
+      let less = others_le (λ (x : View T I). times number (numbers x)) (λ x. length (numbers x))
+      (λ x. times-le-length number (numbers x)) views id v at in
+      let own = one_of (λ (x : View T I). times number (numbers x)) views id v at in
+      let recorded = are.recorded in
+      let once = are.once number low in
+      omega arith
+
+module _ {T I : Type 0} (list : T → List I) (goes_on : T → T → Type 0) (key : T) where
+  nobody_has : (s : State (Option T) (View T I)) (ruled : IsRuled list goes_on key s) (id : ℕ) (v : View T I)
+      → get_elem? s.views id ≡ some v → v.turn ≡ false → length (numbers v) ≡ length s.views → HaveNoTurn s.views
+  nobody_has s ruled id v at off all j u there = dite (ℕ_discrete j id)
+      (λ same. ap (λ (x : View T I). x.turn) (one_only s.views j id u v there at same) ∙ off)
+      (λ apart. ((ruled.each j u there).spent (others_spent s.views id v ruled.numbered at all j u apart there)).0)
+
+  seen_all : (s : State (Option T) (View T I)) (ruled : IsRuled list goes_on key s) (id : ℕ) (v : View T I)
+      → get_elem? s.views id ≡ some v → length (numbers v) ≡ length s.views → v.seen ≡ ruled.history
+  seen_all s ruled id v at all =
+      let longest = ruled.longest in
+      let fits = ruled.each id v at in
+      dite (ℕ_discrete longest.0 id)
+      (λ same. ap (λ (x : View T I). x.seen) (one_only s.views id longest.0 v longest.1.0 at longest.1.1 (sym same)) ∙ longest.1.2)
+      (λ apart.
+      let gone = (ruled.each longest.0 longest.1.0 longest.1.1).spent
+      (others_spent s.views id v ruled.numbered at all longest.0 longest.1.0 apart longest.1.1) in
+      let empty : length ruled.history ≡ 0 = ap (λ (l : List (Stamped I)). length l) (sym longest.1.2 ∙ gone.1) in
+      sym (front_whole v.seen ruled.history fits.seen (omega arith)))
+
+  pub closes : (id : ℕ) (v : View T I) (words : List ℕ) (slots : List (Option T)) → v.live ≡ true → v.number ≡ 0 → v.turn ≡ false
+      → length v.joined ≡ v.splits → Final (Seen (IsRuled list goes_on key) id v) words slots
+      → (value : T) × (get_elem? slots 0 ≡ some (Some value)) × IsWhole list goes_on v value
+  closes id v words slots live zero_is off all final =
+      let s = final.0 in
+      let ruled = final.1.0 in
+      let at = final.1.1 in
+      let first_is = is_first s.views id v ruled.numbered at live zero_is in
+      let was = ruled.numbered.first v (ap (λ k. get_elem? s.views k) first_is ∙ at) in
+      let splits = was.2 in
+      let own = long_numbers v live in
+      let whole : length (numbers v) ≡ length s.views = omega arith in
+      let home = ruled.at_home (nobody_has s ruled id v at off whole) in
+      let seen = seen_all s ruled id v at whole in
+      let fits = ruled.each id v at in (
+        home.value,
+        final.4 0 (Some home.value) home.home,
+        record {
+          later = ruled.later;
+          stands = home.stands ∙ ap items (sym seen);
+          goes_on_with = subst (λ o. IfSome o (λ opening. goes_on opening home.value)) (sym (fits.opening live)) home.goes_on_with;
+          begins = subst (λ o. IfSome o (λ opening. v.seen ≡ opened (list opening) ++ ruled.later)) (sym (fits.opening live)) (seen ∙ ruled.begins);
+          makers = subst (λ n. AreMade n ruled.later) (sym splits) ruled.makers;
+          made = subst (λ h. All (λ (r : Record). r.made ≡ positions r.number h) (records v)) (sym seen) fits.made;
+          once = λ number low. each_once s.views id v ruled.numbered at whole number (omega arith);
+        },
+      )
+
+  -- what is then found in the slot
+  pub finds : (id : ℕ) (v : View T I) (words : List ℕ) (slots : List (Option T)) (found : Option T) → v.live ≡ true → v.number ≡ 0
+      → v.turn ≡ false → length v.joined ≡ v.splits → Final (Seen (IsRuled list goes_on key) id v) words slots
+      → get_elem? slots 0 ≡ some found → IsSome found
+  finds id v words slots found live zero_is off all final at =
+      let end = closes id v words slots live zero_is off all final in
+      subst IsSome (some-injective (Some end.0) found (sym end.1 ∙ at)) refl
+
+  pub finds_whole : (id : ℕ) (v : View T I) (words : List ℕ) (slots : List (Option T)) (found : Option T) (value : T) → v.live ≡ true
+      → v.number ≡ 0 → v.turn ≡ false → length v.joined ≡ v.splits → Final (Seen (IsRuled list goes_on key) id v) words slots
+      → get_elem? slots 0 ≡ some found → found ≡ Some value → IsWhole list goes_on v value
+  finds_whole id v words slots found value live zero_is off all final at is =
+      let end = closes id v words slots live zero_is off all final in
+      let same : Some end.0 ≡ Some value = some-injective (Some end.0) found (sym end.1 ∙ at) ∙ is in
+      subst (IsWhole list goes_on v) (ap (λ o. unwrap_or o end.0) same) end.2

@@ -1,0 +1,234 @@
+-- A seat is joined into another.
+use Rattle.std.proofs.Common.{◌≡◌, ◌≢◌, ◌⊎◌, ℕ, ◌+◌, ◌%◌, ◌^◌, ◌<◌, ◌≤◌, Bool, true, false, is_some, ltb, lt-ltb, le-ltb, if◌then◌else◌, List, [], ◌∷◌, ◌++◌, length, set, None, refl, sym, ap, ◌∙◌, subst, ⊎_elim, inl, inr, arith, length-set, length-append, All}
+use mathlib.Core.Logic.{dite}
+use mathlib.Core.Option.{some}
+use native.Mathlib.Decide.{ℕ_discrete}
+use lib.ListN.{get_elem?}
+use Rattle.atomic_table.specs.Table.{Joins}
+use Rattle.atomic_table.proofs.Lists.{at_set, set_here, set_else}
+use Rattle.px_turn.specs.declared.view.Record.{Record}
+use Rattle.px_turn.specs.declared.view.Stamped.{Stamped}
+use Rattle.px_turn.specs.declared.view.View.{View}
+use Rattle.px_turn.specs.Histories.{IsFront, is_number, positions, AreMade, longer, shorter}
+use Rattle.px_turn.specs.Views.{records, numbers, record_of, spent, joined}
+use Rattle.px_turn.specs.Rule.{one_if, times, total, waiting, holders, bearers, AreTickets, AreNumbered, Fits, HaveNoTurn, IsRuled}
+use Rattle.px_turn.proofs.Totals.{total_set, times-append}
+use Rattle.px_turn.proofs.Fronts.{front_self, front_none, front_length, front_whole}
+use Rattle.px_turn.proofs.Seating.{at_within, one_only, each_set, own_first, joined_rest, numbers_are}
+use mathlib.Core.List.{map-append}
+use Rattle.std.proofs.lemmas.Bool.{cases_lt}
+use Rattle.std.proofs.lemmas.List.Elements.{All-nil, All-cons, All-append}
+
+-- either of two lists
+either_is : {A : Type 0} (P : A → Type 0) (b : Bool) (x y : A) → P x → P y → P (if b then x else y)
+either_is P true x y one other = one
+either_is P false x y one other = other
+
+-- where one of two fronts is the whole, the longer is
+longer_whole : {A : Type 0} (xs ys whole : List A) → IsFront xs whole → IsFront ys whole → (xs ≡ whole) ⊎ (ys ≡ whole)
+    → longer xs ys ≡ whole
+longer_whole {A = A} xs ys whole one other either =
+    let one_short = front_length xs whole one in
+    let other_short = front_length ys whole other in
+    ⊎_elim
+    (λ less. ap (λ b. if b then ys else xs) (lt-ltb (length xs) (length ys) less)
+    ∙ ⊎_elim (λ is. let long = ap (λ (l : List A). length l) is in absurd (omega arith)) (λ is. is) either)
+    (λ more. ap (λ b. if b then ys else xs) (le-ltb (length xs) (length ys) more)
+    ∙ ⊎_elim (λ is. is)
+    (λ is. let long = ap (λ (l : List A). length l) is in sym (front_whole xs whole one (omega arith)))
+    either)
+    (cases_lt (length xs) (length ys))
+
+-- where the shorter is a front of the longer, both are
+pub fronts_of : {A : Type 0} (xs ys : List A)
+    → (length (shorter xs ys) ≤ length (longer xs ys) → IsFront (shorter xs ys) (longer xs ys))
+    → IsFront xs (longer xs ys) × IsFront ys (longer xs ys)
+fronts_of xs ys told = both (ltb (length xs) (length ys)) (lt-ltb (length xs) (length ys)) (le-ltb (length xs) (length ys)) told
+  where
+    both : (b : Bool) → (length xs < length ys → b ≡ true) → (length ys ≤ length xs → b ≡ false)
+        → (length (if b then xs else ys) ≤ length (if b then ys else xs) → IsFront (if b then xs else ys) (if b then ys else xs))
+        → IsFront xs (if b then ys else xs) × IsFront ys (if b then ys else xs)
+    both true less more told = (
+      told (⊎_elim (λ low. omega arith) (λ high. let not_so = more high in absurd (cc)) (cases_lt (length xs) (length ys))),
+      front_self ys,
+    )
+    both false less more told = (
+      front_self xs,
+      told (⊎_elim (λ low. let not_so = less low in absurd (cc)) (λ high. high) (cases_lt (length xs) (length ys))),
+    )
+
+module _ {T I : Type 0} where
+  numbers_joined : (v w : View T I) → v.live ≡ true → w.live ≡ true → numbers (joined v w) ≡ numbers v ++ numbers w
+  numbers_joined v w live live_too =
+      numbers_are (joined v w) live
+      ∙ ap (λ (l : List ℕ). v.number ∷ l) (map-append (λ (r : Record). r.number) v.joined (record_of w ∷ w.joined))
+      ∙ sym (λ i. numbers_are v live i ++ numbers_are w live_too i)
+
+  records_joined : (P : Record → Type 0) (v w : View T I) → v.live ≡ true → w.live ≡ true → All P (records v) → All P (records w)
+      → All P (records (joined v w))
+  records_joined P v w live live_too all all_too = rw live (All-cons P (record_of v) (v.joined ++ record_of w ∷ w.joined)
+      (own_first P v live all)
+      (All-append P v.joined (record_of w ∷ w.joined) (joined_rest P v live all) (rw live_too at all_too)))
+
+  spent_fits : (key : T) (history : List (Stamped I)) (served : ℕ) → Fits key history served (spent {T = T} {I = I})
+  spent_fits key history served = record {
+    turn = λ has. absurd (cc);
+    spent = λ not_live. (refl, refl);
+    seen = front_none history;
+    told = front_none history;
+    known = omega arith;
+    made = All-nil (λ (r : Record). r.made ≡ positions r.number history);
+    opening = λ live. absurd (cc);
+  }
+
+  joined_fits : (key : T) (history : List (Stamped I)) (served : ℕ) (v w : View T I) → v.live ≡ true → w.live ≡ true → v.turn ≡ false
+      → Fits key history served v → Fits key history served w → Fits key history served (joined v w)
+  joined_fits key history served v w live live_too off fits other = let known = fits.known in let known_too = other.known in record {
+    turn = λ has. absurd (cc);
+    spent = λ not_live. absurd (cc);
+    seen = either_is (λ l. IsFront l history) (ltb (length v.seen) (length w.seen)) w.seen v.seen other.seen fits.seen;
+    told = either_is (λ l. IsFront l history) (ltb (length v.seen) (length w.seen)) v.seen w.seen fits.seen other.seen;
+    known = omega arith;
+    made = records_joined (λ (r : Record). r.made ≡ positions r.number history) v w live live_too fits.made other.made;
+    opening = fits.opening;
+  }
+
+-- a seat takes in another, of which nothing is left
+module _ {T I : Type 0} (views : List (View T I)) (id other : ℕ) (v w : View T I) (at : get_elem? views id ≡ some v)
+    (there : get_elem? (set views id (joined v w)) other ≡ some w) (apart : other ≢ id) where
+  total_joined : (f : View T I → ℕ) → f (joined v w) ≡ f v + f w → f spent ≡ 0
+      → total f (set (set views id (joined v w)) other spent) ≡ total f views
+  total_joined f sum none_left =
+      let one = total_set f views id v (joined v w) at in
+      let two = total_set f (set views id (joined v w)) other w spent there in
+      omega arith
+
+  pub long_joined : length (set (set views id (joined v w)) other spent) ≡ length views
+  long_joined = length-set (set views id (joined v w)) other spent ∙ length-set views id (joined v w)
+
+  pub other_at : get_elem? views other ≡ some w
+  other_at = sym (set_else views id other (joined v w) apart) ∙ there
+
+  pub waiting_joined : w.ticket ≡ None → waiting (set (set views id (joined v w)) other spent) ≡ waiting views
+  waiting_joined no_ticket =
+      let none_held : one_if (is_some w.ticket) ≡ 0 = ap (λ k. one_if (is_some k)) no_ticket in
+      total_joined (λ (u : View T I). one_if (is_some u.ticket)) (omega arith) refl
+
+  pub tickets_joined : (served : ℕ) → w.ticket ≡ None → AreTickets served views
+      → AreTickets served (set (set views id (joined v w)) other spent)
+  tickets_joined served no_ticket are =
+      let wait = waiting_joined no_ticket in
+      let hold : (ticket : ℕ) → holders ticket (set (set views id (joined v w)) other spent) ≡ holders ticket views =
+      λ ticket.
+      let none_held : one_if (is_number w.ticket ticket) ≡ 0 = ap (λ k. one_if (is_number k ticket)) no_ticket in
+      total_joined (λ (u : View T I). one_if (is_number u.ticket ticket)) (omega arith) refl in
+      record {
+        below = λ ticket low. hold ticket ∙ are.below ticket low;
+        between = λ ticket low high. hold ticket ∙ are.between ticket low (omega arith);
+        above = λ ticket high. hold ticket ∙ are.above ticket (omega arith);
+      }
+
+  pub numbered_joined : v.live ≡ true → w.live ≡ true → w.number ≢ 0 → AreNumbered views
+      → AreNumbered (set (set views id (joined v w)) other spent)
+  numbered_joined live live_too later are =
+      let long = long_joined in
+      let numbers_sum = numbers_joined v w live live_too in
+      let bear : (number : ℕ) → bearers number (set (set views id (joined v w)) other spent) ≡ bearers number views =
+      λ number. total_joined (λ (u : View T I). times number (numbers u))
+      (ap (times number) numbers_sum ∙ times-append number (numbers v) (numbers w)) refl in
+      let before = are.few in
+      record {
+        few = omega arith;
+        once = λ number low. bear number ∙ are.once number (omega arith);
+        no_other = λ number high. bear number ∙ are.no_other number (omega arith);
+        recorded = total_joined (λ (u : View T I). length (numbers u))
+            (ap (λ (l : List ℕ). length l) numbers_sum ∙ length-append (numbers v) (numbers w)) refl
+            ∙ are.recorded ∙ sym long;
+        first = λ u head. ⊎_elim
+            (λ (t : (0 ≡ other) × (spent ≡ u)). absurd (later (are.first w (ap (λ k. get_elem? views k) t.0 ∙ other_at)).1))
+            (λ (t : (0 ≢ other) × (get_elem? (set views id (joined v w)) 0 ≡ some u)). ⊎_elim
+            (λ (t : (0 ≡ id) × (joined v w ≡ u)).
+            let was = are.first v (ap (λ k. get_elem? views k) t.0 ∙ at) in (
+              ap (λ (x : View T I). x.live) (sym t.1) ∙ was.0,
+              ap (λ (x : View T I). x.number) (sym t.1) ∙ was.1,
+              ap (λ (x : View T I). x.splits + 1) (sym t.1) ∙ was.2 ∙ sym long,
+            ))
+            (λ (t : (0 ≢ id) × (get_elem? views 0 ≡ some u)).
+            let was = are.first u t.1 in (was.0, was.1, was.2 ∙ sym long))
+            (at_set views id 0 (joined v w) u t.1))
+            (at_set (set views id (joined v w)) other 0 spent u head);
+      }
+
+  pub longest_joined : (history : List (Stamped I)) → IsFront v.seen history → IsFront w.seen history
+      → (j : ℕ) × ((u : View T I) × (get_elem? views j ≡ some u) × (u.seen ≡ history))
+      → (j : ℕ) × ((u : View T I) × (get_elem? (set (set views id (joined v w)) other spent) j ≡ some u) × (u.seen ≡ history))
+  longest_joined history one two (j, seen) =
+      let here : get_elem? (set (set views id (joined v w)) other spent) id ≡ some (joined v w) =
+      set_else (set views id (joined v w)) other id spent (λ same. apart (sym same)) ∙ set_here views id (joined v w) (at_within views id v at) in
+      dite (ℕ_discrete j id)
+      (λ same. (
+        id,
+        (
+          joined v w,
+          here,
+          longer_whole v.seen w.seen history one two
+              (inl (ap (λ (x : View T I). x.seen) (one_only views id j v seen.0 at seen.1 (sym same)) ∙ seen.2)),
+        ),
+      ))
+      (λ not_here. dite (ℕ_discrete j other)
+      (λ same. (
+        id,
+        (
+          joined v w,
+          here,
+          longer_whole v.seen w.seen history one two
+              (inr (ap (λ (x : View T I). x.seen) (one_only views other j w seen.0 other_at seen.1 (sym same)) ∙ seen.2)),
+        ),
+      ))
+      (λ not_there. (
+        j,
+        (
+          seen.0,
+          set_else (set views id (joined v w)) other j spent not_there ∙ (set_else views id j (joined v w) not_here ∙ seen.1),
+          seen.2,
+        ),
+      )))
+
+  pub no_turn_joined : v.turn ≡ false → w.turn ≡ false → HaveNoTurn (set (set views id (joined v w)) other spent) → HaveNoTurn views
+  no_turn_joined off off_too none_has j u seen = dite (ℕ_discrete j id)
+      (λ same. ap (λ (x : View T I). x.turn) (one_only views j id u v seen at same) ∙ off)
+      (λ not_here. dite (ℕ_discrete j other)
+      (λ same. ap (λ (x : View T I). x.turn) (one_only views j other u w seen other_at same) ∙ off_too)
+      (λ not_there. none_has j u
+      (set_else (set views id (joined v w)) other j spent not_there ∙ (set_else views id j (joined v w) not_here ∙ seen))))
+
+module _ {T I : Type 0} (list : T → List I) (goes_on : T → T → Type 0) (key : T) where
+  pub joins : (id : ℕ) (v : View T I) (other : ℕ) (w : View T I) → v.live ≡ true → w.live ≡ true → w.ticket ≡ None
+      → v.turn ≡ false → w.turn ≡ false → w.number ≢ 0
+      → Joins (IsRuled list goes_on key) id v other w (joined v w) spent
+  joins id v other w live live_too no_ticket off off_too later s ruled at apart there =
+      let at_other : get_elem? s.views other ≡ some w = other_at s.views id other v w at there apart in
+      let fits = ruled.each id v at in
+      let fits_too = ruled.each other w at_other in
+      record {
+        history = ruled.history;
+        later = ruled.later;
+        served = ruled.served;
+        words = ruled.words
+            ∙ ap (λ n. ((ruled.served + n) % 2 ^ 64) ∷ (ruled.served % 2 ^ 64) ∷ length ruled.history ∷ [])
+            (sym (waiting_joined s.views id other v w at there apart no_ticket));
+        few = ruled.few;
+        tickets = tickets_joined s.views id other v w at there apart ruled.served no_ticket ruled.tickets;
+        numbered = numbered_joined s.views id other v w at there apart live live_too later ruled.numbered;
+        each = each_set (Fits key ruled.history ruled.served) (set s.views id (joined v w)) other spent
+            (spent_fits key ruled.history ruled.served)
+            (λ j u not_there seen. each_set (Fits key ruled.history ruled.served) s.views id (joined v w)
+            (joined_fits key ruled.history ruled.served v w live live_too off fits fits_too)
+            (λ i x not_here at_i. ruled.each i x at_i) j u seen);
+        longest = longest_joined s.views id other v w at there apart ruled.history fits.seen fits_too.seen ruled.longest;
+        at_home = λ none_has.
+            let home = ruled.at_home (no_turn_joined s.views id other v w at there apart off off_too none_has) in
+            record { value = home.value; home = home.home; stands = home.stands; goes_on_with = home.goes_on_with };
+        begins = ruled.begins;
+        makers = subst (λ n. AreMade n ruled.later) (sym (long_joined s.views id other v w at there apart)) ruled.makers;
+      }

@@ -1,0 +1,13 @@
+pub mod Calling
+pub mod Closing
+pub mod Counting
+pub mod Fronts
+pub mod Joining
+pub mod Looking
+pub mod Marking
+pub mod Opening
+pub mod Positions
+pub mod Seating
+pub mod Splitting
+pub mod Ticketing
+pub mod Totals

@@ -1,0 +1,143 @@
+-- What a step keeps that changes the view of one seat.
+use Rattle.std.proofs.Common.{unwrap_or, ◌≡◌, ◌≢◌, ℕ, zero, suc, ◌+◌, ◌<◌, true, false, is_some, nat_eq, List, [], ◌∷◌, map, length, set, get_or, Option, Some, None, IfSome, refl, sym, ap, ◌∙◌, subst, ⊎_elim, arith, length-set, eq-eqb, ne_eqb, All}
+use mathlib.Core.Logic.{dite}
+use mathlib.Core.Option.{some, some-injective, some-ne-none}
+use native.Mathlib.Decide.{ℕ_discrete}
+use lib.ListN.{get_elem?}
+use lib.Seq.{set-get_or}
+use Rattle.std.proofs.lemmas.List.Elements.{All-head, All-tail}
+use Rattle.atomic_table.specs.Table.{State, stepped, keeps}
+use Rattle.atomic_table.proofs.Lists.{at_set, set_here, set_else, set_again}
+use Rattle.px_turn.specs.declared.view.Record.{Record}
+use Rattle.px_turn.specs.declared.view.Stamped.{Stamped}
+use Rattle.px_turn.specs.declared.view.View.{View}
+use Rattle.px_turn.specs.Histories.{is_number}
+use Rattle.px_turn.specs.Views.{record_of, records, numbers}
+use Rattle.px_turn.specs.Rule.{one_if, times, waiting, holders, bearers, AreTickets, AreNumbered, HaveNoTurn, IsRuled}
+use Rattle.px_turn.proofs.Totals.{total_same}
+
+pub one_if_same : (a b : ℕ) → a ≡ b → one_if (nat_eq a b) ≡ 1
+one_if_same a b same = ap one_if (eq-eqb a b same)
+
+pub one_if_other : (a b : ℕ) → a ≢ b → one_if (nat_eq a b) ≡ 0
+one_if_other a b apart = ap one_if (ne_eqb a b apart)
+
+-- what is in a seat's hand
+abbrev held_or : {T : Type 0} → T → List (ℕ × Option T) → T
+held_or other [] = other
+held_or other (x ∷ slots) = unwrap_or x.1 other
+
+pub in_hand : {T : Type 0} (x y : T) (carried : List (ℕ × Option T)) → carried ≡ (0, Some x) ∷ [] → carried ≡ (0, Some y) ∷ [] → x ≡ y
+in_hand x y carried one other = ap (held_or x) (sym one ∙ other)
+
+pub if_some : {A : Type 0} {P Q : A → Type 0} (o : Option A) → ((x : A) → P x → Q x) → IfSome o P → IfSome o Q
+if_some None each is = tt
+if_some (Some x) each is = each x is
+
+module _ {A : Type 0} where
+  pub at_within : (xs : List A) (i : ℕ) (v : A) → get_elem? xs i ≡ some v → i < length xs
+  at_within [] i v at = absurd (some-ne-none v (sym at))
+  at_within (x ∷ xs) zero v at = omega arith
+  at_within (x ∷ xs) (suc i) v at = let rest = at_within xs i v at in omega arith
+
+  pub one_there : (xs : List A) (i : ℕ) → i < length xs → (v : A) × (get_elem? xs i ≡ some v)
+  one_there [] i short = absurd (omega arith)
+  one_there (x ∷ xs) zero short = (x, refl)
+  one_there (x ∷ xs) (suc i) short = one_there xs i (omega arith)
+
+  pub one_only : (xs : List A) (i j : ℕ) (v w : A) → get_elem? xs i ≡ some v → get_elem? xs j ≡ some w → i ≡ j → v ≡ w
+  one_only xs i j v w at there same = some-injective v w (sym at ∙ ap (λ k. get_elem? xs k) same ∙ there)
+
+  pub each_set : (Q : A → Type 0) (xs : List A) (i : ℕ) (w : A) → Q w
+      → ((j : ℕ) (u : A) → j ≢ i → get_elem? xs j ≡ some u → Q u)
+      → (j : ℕ) (u : A) → get_elem? (set xs i w) j ≡ some u → Q u
+  each_set Q xs i w mine others j u at = ⊎_elim (λ t. subst Q t.1 mine) (λ t. others j u t.0 t.1) (at_set xs i j w u at)
+
+module _ {T I : Type 0} where
+  -- of a seat that is live
+  pub own_first : (P : Record → Type 0) (v : View T I) → v.live ≡ true → All P (records v) → P (record_of v)
+  own_first P v live all = All-head P (record_of v) v.joined (rw live at all)
+
+  pub joined_rest : (P : Record → Type 0) (v : View T I) → v.live ≡ true → All P (records v) → All P v.joined
+  joined_rest P v live all = All-tail P (record_of v) v.joined (rw live at all)
+
+  pub numbers_are : (v : View T I) → v.live ≡ true → numbers v ≡ v.number ∷ map (λ r. r.number) v.joined
+  numbers_are v live = rw live refl
+
+  pub waiting_same : (views : List (View T I)) (id : ℕ) (v w : View T I) → get_elem? views id ≡ some v → w.ticket ≡ v.ticket
+      → waiting (set views id w) ≡ waiting views
+  waiting_same views id v w at same = total_same _ views id v w at (ap (λ k. one_if (is_some k)) same)
+
+  pub tickets_same : (served : ℕ) (views : List (View T I)) (id : ℕ) (v w : View T I) → get_elem? views id ≡ some v → w.ticket ≡ v.ticket
+      → AreTickets served views → AreTickets served (set views id w)
+  tickets_same served views id v w at same are =
+      let wait = waiting_same views id v w at same in
+      let hold : (ticket : ℕ) → holders ticket (set views id w) ≡ holders ticket views =
+      λ ticket. total_same _ views id v w at (ap (λ k. one_if (is_number k ticket)) same) in
+      record {
+        below = λ ticket low. hold ticket ∙ are.below ticket low;
+        between = λ ticket low high. hold ticket ∙ are.between ticket low (omega arith);
+        above = λ ticket high. hold ticket ∙ are.above ticket (omega arith);
+      }
+
+  pub numbered_same : (views : List (View T I)) (id : ℕ) (v w : View T I) → get_elem? views id ≡ some v → numbers w ≡ numbers v
+      → w.live ≡ v.live → w.number ≡ v.number → w.splits ≡ v.splits → AreNumbered views → AreNumbered (set views id w)
+  numbered_same views id v w at same live number splits are =
+      let long = length-set views id w in
+      let bear : (n : ℕ) → bearers n (set views id w) ≡ bearers n views =
+      λ n. total_same _ views id v w at (ap (times n) same) in
+      record {
+        few = omega (arith, are.few);
+        once = λ n low. bear n ∙ are.once n (omega arith);
+        no_other = λ n high. bear n ∙ are.no_other n (omega arith);
+        recorded = total_same _ views id v w at (ap (λ (l : List ℕ). length l) same) ∙ are.recorded ∙ sym long;
+        first = λ u there. ⊎_elim
+            (λ (t : (0 ≡ id) × (w ≡ u)).
+            let was = are.first v (ap (λ k. get_elem? views k) t.0 ∙ at) in (
+              ap (λ (x : View T I). x.live) (sym t.1) ∙ live ∙ was.0,
+              ap (λ (x : View T I). x.number) (sym t.1) ∙ number ∙ was.1,
+              ap (λ (x : View T I). x.splits + 1) (sym t.1) ∙ ap (λ n. n + 1) splits ∙ was.2 ∙ sym long,
+            ))
+            (λ (t : (0 ≢ id) × (get_elem? views 0 ≡ some u)).
+            let was = are.first u t.1 in (was.0, was.1, was.2 ∙ sym long))
+            (at_set views id 0 w u there);
+      }
+
+  -- the longest list stays with a seat that keeps it
+  pub longest_set : (history : List (Stamped I)) (views : List (View T I)) (id : ℕ) (v w : View T I) → get_elem? views id ≡ some v
+      → (v.seen ≡ history → w.seen ≡ history)
+      → (j : ℕ) × ((u : View T I) × (get_elem? views j ≡ some u) × (u.seen ≡ history))
+      → (j : ℕ) × ((u : View T I) × (get_elem? (set views id w) j ≡ some u) × (u.seen ≡ history))
+  longest_set history views id v w at stays (j, there) = dite (ℕ_discrete j id)
+      (λ same. (
+        id,
+        (
+          w,
+          set_here views id w (at_within views id v at),
+          stays (ap (λ (x : View T I). x.seen) (one_only views id j v there.0 at there.1 (sym same)) ∙ there.2),
+        ),
+      ))
+      (λ apart. (j, (there.0, set_else views id j w apart ∙ there.1, there.2)))
+
+  -- where nobody has the turn afterwards, nobody had it
+  pub no_turn_before : (views : List (View T I)) (id : ℕ) (v w : View T I) → get_elem? views id ≡ some v → (w.turn ≡ false → v.turn ≡ false)
+      → HaveNoTurn (set views id w) → HaveNoTurn views
+  no_turn_before views id v w at same none_has j u there = dite (ℕ_discrete j id)
+      (λ is. ap (λ (x : View T I). x.turn) (one_only views j id u v there at is)
+      ∙ same (none_has id w (set_here views id w (at_within views id v at))))
+      (λ apart. none_has j u (set_else views id j w apart ∙ there))
+
+  pub one_has_turn : (views : List (View T I)) (id : ℕ) (v w : View T I) → get_elem? views id ≡ some v → w.turn ≡ true
+      → HaveNoTurn (set views id w) → ⊥
+  one_has_turn views id v w at has none_has =
+      let hasnt = none_has id w (set_here views id w (at_within views id v at)) in cc
+
+  -- a step that changes nothing
+  pub unmoved : (list : T → List I) (goes_on : T → T → Type 0) (key : T) (s : State (Option T) (View T I)) (i id : ℕ) (cs : List (ℕ × Option T)) (v : View T I)
+      → get_elem? s.views id ≡ some v → IsRuled list goes_on key s → IsRuled list goes_on key (stepped s i (get_or s.words i 0) id cs v keeps)
+  unmoved list goes_on key s i id cs v at ruled = subst (λ (x : State (Option T) (View T I)). IsRuled list goes_on key x)
+      (λ k. record {
+        words = sym (set-get_or s.words i 0) k;
+        homes = s.homes;
+        views = sym (set_again s.views id v at) k;
+      }) ruled
