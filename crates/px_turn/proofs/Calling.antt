@@ -8,7 +8,7 @@ use Rattle.atomic_table.specs.Table.{State, step, stepped, gives, put_back, Allo
 use Rattle.atomic_table.proofs.Lists.{set_here}
 use Rattle.px_turn.specs.declared.view.View.{View}
 use Rattle.px_turn.specs.Histories.{is_number, items, AreMade}
-use Rattle.px_turn.specs.Views.{without_turn}
+use Rattle.px_turn.specs.Views.{without_turn, GoesOn}
 use Rattle.px_turn.specs.Rule.{one_if, waiting, holders, AreTickets, Fits, IsRuled}
 use Rattle.px_turn.specs.Steps.{Sat, called}
 use Rattle.px_turn.proofs.Totals.{total_set}
@@ -48,9 +48,11 @@ module _ {T I : Type 0} (served : ℕ) (views : List (View T I)) (id : ℕ) (v :
   }
 
 module _ {T I : Type 0} (list : T → List I) (goes_on : T → T → Type 0) (key : T) where
-  called_ruled : (s : State (Option T) (View T I)) (ruled : IsRuled list goes_on key s) (id : ℕ) (me : Sat T I) (value : T)
-      → get_elem? s.views id ≡ some me.0 → me.0.live ≡ true → me.0.turn ≡ true → me.1 ≡ (0, Some value) ∷ [] → 0 < length s.homes
-      → list value ≡ items me.0.seen → IfSome me.0.opening (λ opening. goes_on opening value)
+  called_ruled : (s : State (Option T) (View T I)) (ruled : IsRuled list goes_on key s) (id : ℕ) (me : Sat T I)
+      (value : T)
+      → get_elem? s.views id ≡ some me.0 → me.0.live ≡ true → me.0.turn ≡ true → me.1 ≡ (0, Some value) ∷ []
+      → 0 < length s.homes
+      → list value ≡ items me.0.seen → GoesOn goes_on me.0 value
       → IsRuled list goes_on key (stepped s 1 ((get_or s.words 1 0 + 1) % 2 ^ 64) id me.1 (without_turn me.0) gives)
   called_ruled s ruled id me value at live has hand slot stands goes =
       let v : View T I = me.0 in
@@ -98,14 +100,15 @@ module _ {T I : Type 0} (list : T → List I) (goes_on : T → T → Type 0) (ke
           value = value;
           home = ap (λ carried. get_elem? (put_back s.homes carried) 0) hand ∙ set_here s.homes 0 (some (Some value)) slot;
           stands = stands ∙ ap items seen;
-          goes_on_with = subst (λ o. IfSome o (λ opening. goes_on opening value)) (fits.opening live) goes;
+          goes_on_with = goes key (fits.opening live);
         };
         begins = ruled.begins;
         makers = subst (λ n. AreMade n ruled.later) (sym (length-set s.views id w)) ruled.makers;
       }
 
-  pub calls : (slots id : ℕ) (me : Sat T I) (value : T) → 0 < slots → me.0.live ≡ true → me.0.turn ≡ true → me.1 ≡ (0, Some value) ∷ []
-      → list value ≡ items me.0.seen → IfSome me.0.opening (λ opening. goes_on opening value)
+  pub calls : (slots id : ℕ) (me : Sat T I) (value : T) → 0 < slots → me.0.live ≡ true → me.0.turn ≡ true
+      → me.1 ≡ (0, Some value) ∷ []
+      → list value ≡ items me.0.seen → GoesOn goes_on me.0 value
       → Allows (IsRuled list goes_on key) slots id me 1 (λ n. (n + 1) % 2 ^ 64) (called (step slots 1 1 0 none) me)
   calls slots id me value some_slot live has hand stands goes s ruled long at small = (
     without_turn me.0,

@@ -1,5 +1,5 @@
 -- The end.
-use Rattle.std.proofs.Common.{◌≡◌, ◌≢◌, ℕ, suc, ◌+◌, ◌<◌, Bool, true, false, List, [], ◌∷◌, ◌++◌, map, length, Option, Some, IfSome, IsSome, unwrap_or, refl, sym, ap, ◌∙◌, subst, arith, All}
+use Rattle.std.proofs.Common.{◌≡◌, ◌≢◌, ℕ, suc, ◌+◌, ◌<◌, Bool, true, false, List, [], ◌∷◌, ◌++◌, map, length, Option, Some, IfSome, IsSome, unwrap_or, refl, sym, ap, ◌∙◌, subst, arith, All, ◌≤◌}
 use mathlib.Core.Logic.{dite}
 use mathlib.Core.Option.{some, some-injective}
 use native.Mathlib.Decide.{ℕ_discrete}
@@ -13,7 +13,7 @@ use Rattle.px_turn.specs.Views.{records, numbers}
 use Rattle.px_turn.specs.Rule.{times, AreNumbered, HaveNoTurn, IsRuled}
 use Rattle.px_turn.proofs.Totals.{one_of, two_of, others_le, times-le-length}
 use Rattle.px_turn.proofs.Fronts.{front_whole}
-use Rattle.px_turn.proofs.Seating.{one_only, numbers_are}
+use Rattle.px_turn.proofs.Seating.{one_only, numbers_are, same_opening}
 use Rattle.px_turn.specs.Seats.{IsWhole}
 use Rattle.px_turn.proofs.Splitting.{is_first}
 
@@ -35,7 +35,8 @@ module _ {T I : Type 0} where
 
   -- where a seat has as many records as there are seats, no other is live
   others_spent : (views : List (View T I)) (id : ℕ) (v : View T I) → AreNumbered views → get_elem? views id ≡ some v
-      → length (numbers v) ≡ length views → (j : ℕ) (u : View T I) → j ≢ id → get_elem? views j ≡ some u → u.live ≡ false
+      → length (numbers v) ≡ length views → (j : ℕ) (u : View T I) → j ≢ id → get_elem? views j ≡ some u
+      → u.live ≡ false
   others_spent views id v are at all j u apart there =
       let both = two_of (λ (x : View T I). length (numbers x)) views j id u v there at apart in
       let recorded = are.recorded in
@@ -72,7 +73,8 @@ module _ {T I : Type 0} (list : T → List I) (goes_on : T → T → Type 0) (ke
       let empty : length ruled.history ≡ 0 = ap (λ (l : List (Stamped I)). length l) (sym longest.1.2 ∙ gone.1) in
       sym (front_whole v.seen ruled.history fits.seen (omega arith)))
 
-  pub closes : (id : ℕ) (v : View T I) (words : List ℕ) (slots : List (Option T)) → v.live ≡ true → v.number ≡ 0 → v.turn ≡ false
+  pub closes : (id : ℕ) (v : View T I) (words : List ℕ) (slots : List (Option T)) → v.live ≡ true → v.number ≡ 0
+      → v.turn ≡ false
       → length v.joined ≡ v.splits → Final (Seen (IsRuled list goes_on key) id v) words slots
       → (value : T) × (get_elem? slots 0 ≡ some (Some value)) × IsWhole list goes_on v value
   closes id v words slots live zero_is off all final =
@@ -92,8 +94,9 @@ module _ {T I : Type 0} (list : T → List I) (goes_on : T → T → Type 0) (ke
         record {
           later = ruled.later;
           stands = home.stands ∙ ap items (sym seen);
-          goes_on_with = subst (λ o. IfSome o (λ opening. goes_on opening home.value)) (sym (fits.opening live)) home.goes_on_with;
-          begins = subst (λ o. IfSome o (λ opening. v.seen ≡ opened (list opening) ++ ruled.later)) (sym (fits.opening live)) (seen ∙ ruled.begins);
+          goes_on_with = λ opening at_opening. same_opening v key opening (λ o. goes_on o home.value) (fits.opening live) at_opening home.goes_on_with;
+          begins = λ opening at_opening. same_opening v key opening (λ o. v.seen ≡ opened (list o) ++ ruled.later) (fits.opening live) at_opening (seen ∙ ruled.begins);
+          known = subst (λ (h : List (Stamped I)). v.known ≤ length h) (sym seen) fits.known;
           makers = subst (λ n. AreMade n ruled.later) (sym splits) ruled.makers;
           made = subst (λ h. All (λ (r : Record). r.made ≡ positions r.number h) (records v)) (sym seen) fits.made;
           once = λ number low. each_once s.views id v ruled.numbered at whole number (omega arith);
@@ -101,15 +104,18 @@ module _ {T I : Type 0} (list : T → List I) (goes_on : T → T → Type 0) (ke
       )
 
   -- what is then found in the slot
-  pub finds : (id : ℕ) (v : View T I) (words : List ℕ) (slots : List (Option T)) (found : Option T) → v.live ≡ true → v.number ≡ 0
+  pub finds : (id : ℕ) (v : View T I) (words : List ℕ) (slots : List (Option T)) (found : Option T) → v.live ≡ true
+      → v.number ≡ 0
       → v.turn ≡ false → length v.joined ≡ v.splits → Final (Seen (IsRuled list goes_on key) id v) words slots
       → get_elem? slots 0 ≡ some found → IsSome found
   finds id v words slots found live zero_is off all final at =
       let end = closes id v words slots live zero_is off all final in
       subst IsSome (some-injective (Some end.0) found (sym end.1 ∙ at)) refl
 
-  pub finds_whole : (id : ℕ) (v : View T I) (words : List ℕ) (slots : List (Option T)) (found : Option T) (value : T) → v.live ≡ true
-      → v.number ≡ 0 → v.turn ≡ false → length v.joined ≡ v.splits → Final (Seen (IsRuled list goes_on key) id v) words slots
+  pub finds_whole : (id : ℕ) (v : View T I) (words : List ℕ) (slots : List (Option T)) (found : Option T) (value : T)
+      → v.live ≡ true
+      → v.number ≡ 0 → v.turn ≡ false → length v.joined ≡ v.splits
+      → Final (Seen (IsRuled list goes_on key) id v) words slots
       → get_elem? slots 0 ≡ some found → found ≡ Some value → IsWhole list goes_on v value
   finds_whole id v words slots found value live zero_is off all final at is =
       let end = closes id v words slots live zero_is off all final in

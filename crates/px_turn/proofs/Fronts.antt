@@ -34,5 +34,6 @@ module _ {A : Type 0} where
       let front = of_both xs ys rest more tails (omega arith) in
       (front.0, λ i. sym heads i ∷ front.1 i)
 
-  pub front_of_front : (xs ys whole : List A) → IsFront xs whole → IsFront ys whole → length xs ≤ length ys → IsFront xs ys
+  pub front_of_front : (xs ys whole : List A) → IsFront xs whole → IsFront ys whole → length xs ≤ length ys
+      → IsFront xs ys
   front_of_front xs ys whole one other short = of_both xs ys one.0 other.0 (sym one.1 ∙ other.1) short

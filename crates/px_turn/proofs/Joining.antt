@@ -64,7 +64,8 @@ module _ {T I : Type 0} where
       ∙ ap (λ (l : List ℕ). v.number ∷ l) (map-append (λ (r : Record). r.number) v.joined (record_of w ∷ w.joined))
       ∙ sym (λ i. numbers_are v live i ++ numbers_are w live_too i)
 
-  records_joined : (P : Record → Type 0) (v w : View T I) → v.live ≡ true → w.live ≡ true → All P (records v) → All P (records w)
+  records_joined : (P : Record → Type 0) (v w : View T I) → v.live ≡ true → w.live ≡ true → All P (records v)
+      → All P (records w)
       → All P (records (joined v w))
   records_joined P v w live live_too all all_too = rw live (All-cons P (record_of v) (v.joined ++ record_of w ∷ w.joined)
       (own_first P v live all)
@@ -81,7 +82,8 @@ module _ {T I : Type 0} where
     opening = λ live. absurd (cc);
   }
 
-  joined_fits : (key : T) (history : List (Stamped I)) (served : ℕ) (v w : View T I) → v.live ≡ true → w.live ≡ true → v.turn ≡ false
+  joined_fits : (key : T) (history : List (Stamped I)) (served : ℕ) (v w : View T I) → v.live ≡ true → w.live ≡ true
+      → v.turn ≡ false
       → Fits key history served v → Fits key history served w → Fits key history served (joined v w)
   joined_fits key history served v w live live_too off fits other = let known = fits.known in let known_too = other.known in record {
     turn = λ has. absurd (cc);
@@ -194,7 +196,8 @@ module _ {T I : Type 0} (views : List (View T I)) (id other : ℕ) (v w : View T
         ),
       )))
 
-  pub no_turn_joined : v.turn ≡ false → w.turn ≡ false → HaveNoTurn (set (set views id (joined v w)) other spent) → HaveNoTurn views
+  pub no_turn_joined : v.turn ≡ false → w.turn ≡ false → HaveNoTurn (set (set views id (joined v w)) other spent)
+      → HaveNoTurn views
   no_turn_joined off off_too none_has j u seen = dite (ℕ_discrete j id)
       (λ same. ap (λ (x : View T I). x.turn) (one_only views j id u v seen at same) ∙ off)
       (λ not_here. dite (ℕ_discrete j other)

@@ -14,7 +14,7 @@ use Rattle.px_turn.specs.Rule.{one_if, waiting, holders, Fits, HaveNoTurn, IsHom
 use Rattle.px_turn.specs.Steps.{Sat, IsShown, looked, compared}
 use Rattle.px_turn.proofs.Totals.{one_if-le, one_of, two_of, total-le-length}
 use Rattle.px_turn.proofs.Fronts.{front_self, front_of_front}
-use Rattle.px_turn.proofs.Seating.{one_if_same, one_only, each_set, own_first, waiting_same, tickets_same, numbered_same, longest_set, one_has_turn, unmoved}
+use Rattle.px_turn.proofs.Seating.{one_if_same, one_only, each_set, own_first, waiting_same, tickets_same, numbered_same, longest_set, one_has_turn, unmoved, same_opening}
 
 -- where a ticket is that somebody holds
 low_bound : (ticket served held : ℕ) → 1 ≤ held → (ticket < served → held ≡ 0) → served ≤ ticket
@@ -26,7 +26,8 @@ high_bound ticket next held some_held above =
     ⊎_elim (λ high. high) (λ is_above. let none_held = above is_above in absurd (omega arith)) (cases_lt ticket next)
 
 -- no two seats hold one ticket
-pub at_most_one : (ticket served next held : ℕ) → (ticket < served → held ≡ 0) → (served ≤ ticket → ticket < next → held ≡ 1)
+pub at_most_one : (ticket served next held : ℕ) → (ticket < served → held ≡ 0)
+    → (served ≤ ticket → ticket < next → held ≡ 1)
     → (next ≤ ticket → held ≡ 0) → held ≤ 1
 at_most_one ticket served next held below between above = ⊎_elim
     (λ low. let none_held = below low in omega arith)
@@ -38,8 +39,10 @@ at_most_one ticket served next held below between above = ⊎_elim
 
 module _ {T I : Type 0} (list : T → List I) (goes_on : T → T → Type 0) (key : T) where
   -- a ticket that is held is not far ahead, so its last 64 bits tell whether it is served
-  is_served : (s : State (Option T) (View T I)) (ruled : IsRuled list goes_on key s) (id : ℕ) (v : View T I) (ticket : ℕ)
-      → get_elem? s.views id ≡ some v → v.ticket ≡ Some ticket → ticket % 2 ^ 64 ≡ get_or s.words 1 0 → ticket ≡ ruled.served
+  is_served : (s : State (Option T) (View T I)) (ruled : IsRuled list goes_on key s) (id : ℕ) (v : View T I)
+      (ticket : ℕ)
+      → get_elem? s.views id ≡ some v → v.ticket ≡ Some ticket → ticket % 2 ^ 64 ≡ get_or s.words 1 0
+      → ticket ≡ ruled.served
   is_served s ruled id v ticket at holds same =
       let found : get_or s.words 1 0 ≡ ruled.served % 2 ^ 64 = ap (λ ws. get_or ws 1 0) ruled.words in
       let own : one_if (is_number v.ticket ticket) ≡ 1 =
@@ -55,8 +58,10 @@ module _ {T I : Type 0} (list : T → List I) (goes_on : T → T → Type 0) (ke
       omega arith
 
   -- no other seat has the turn
-  nobody_has : (s : State (Option T) (View T I)) (ruled : IsRuled list goes_on key s) (id : ℕ) (v : View T I) (ticket : ℕ)
-      → get_elem? s.views id ≡ some v → v.ticket ≡ Some ticket → v.turn ≡ false → ticket ≡ ruled.served → HaveNoTurn s.views
+  nobody_has : (s : State (Option T) (View T I)) (ruled : IsRuled list goes_on key s) (id : ℕ) (v : View T I)
+      (ticket : ℕ)
+      → get_elem? s.views id ≡ some v → v.ticket ≡ Some ticket → v.turn ≡ false → ticket ≡ ruled.served
+      → HaveNoTurn s.views
   nobody_has s ruled id v ticket at holds off is j u there = off_if u.turn (λ on. dite (ℕ_discrete id j)
       (λ same. let one = ap (λ (x : View T I). x.turn) (one_only s.views id j v u at there same) in cc)
       (λ apart.
@@ -75,7 +80,8 @@ module _ {T I : Type 0} (list : T → List I) (goes_on : T → T → Type 0) (ke
       off_if false not_on = refl
 
   -- the turn is had
-  turn_ruled : (s : State (Option T) (View T I)) (ruled : IsRuled list goes_on key s) (id : ℕ) (me : Sat T I) (ticket : ℕ)
+  turn_ruled : (s : State (Option T) (View T I)) (ruled : IsRuled list goes_on key s) (id : ℕ) (me : Sat T I)
+      (ticket : ℕ)
       → get_elem? s.views id ≡ some me.0 → me.0.live ≡ true → me.0.ticket ≡ Some ticket → ticket ≡ ruled.served
       → (home : IsHome list goes_on key ruled.history s)
       → IsRuled list goes_on key (stepped s 1 (get_or s.words 1 0) id me.1 (with_turn ruled.history me.0) (takes 0 (Some home.value)))
@@ -109,7 +115,8 @@ module _ {T I : Type 0} (list : T → List I) (goes_on : T → T → Type 0) (ke
         makers = subst (λ n. AreMade n ruled.later) (sym (length-set s.views id w)) ruled.makers;
       }
 
-  pub looks : (slots id : ℕ) (me : Sat T I) (ticket : ℕ) → me.0.live ≡ true → me.0.ticket ≡ Some ticket → me.0.turn ≡ false
+  pub looks : (slots id : ℕ) (me : Sat T I) (ticket : ℕ) → me.0.live ≡ true → me.0.ticket ≡ Some ticket
+      → me.0.turn ≡ false
       → Allows (IsRuled list goes_on key) slots id me 1 (λ n. n) (looked list goes_on (step slots 1 0 0 none) me)
   looks slots id me ticket live holds off s ruled long at small = dite (ℕ_discrete (ticket % 2 ^ 64) (get_or s.words 1 0))
       (λ same.
@@ -127,7 +134,7 @@ module _ {T I : Type 0} (list : T → List I) (goes_on : T → T → Type 0) (ke
             refl,
             record {
               stands = home.stands;
-              goes_on_with = subst (λ o. IfSome o (λ opening. goes_on opening home.value)) (sym (fits.opening live)) home.goes_on_with;
+              goes_on_with = λ opening at_opening. same_opening me.0 key opening (λ o. goes_on o home.value) (fits.opening live) at_opening home.goes_on_with;
               begins = fits.seen;
               known = fits.known;
               made = own_first (λ (r : Record). r.made ≡ positions r.number ruled.history) me.0 live fits.made;
@@ -158,7 +165,8 @@ module _ {T I : Type 0} (list : T → List I) (goes_on : T → T → Type 0) (ke
       )
 
   -- no two seats have the turn
-  pub not_both : (s : State (Option T) (View T I)) (ruled : IsRuled list goes_on key s) (id : ℕ) (v : View T I) (j : ℕ) (u : View T I)
+  pub not_both : (s : State (Option T) (View T I)) (ruled : IsRuled list goes_on key s) (id : ℕ) (v : View T I) (j : ℕ)
+      (u : View T I)
       → get_elem? s.views id ≡ some v → get_elem? s.views j ≡ some u → j ≢ id → v.turn ≡ true → u.turn ≡ true → ⊥
   not_both s ruled id v j u at there apart has other_has =
       let one_holds = (ruled.each id v at).turn has in
@@ -172,7 +180,8 @@ module _ {T I : Type 0} (list : T → List I) (goes_on : T → T → Type 0) (ke
       omega arith
 
   -- as long as the seat waits
-  pub looks_from : (slots id : ℕ) (me was : Sat T I) (ticket : ℕ) → me ≡ was → was.0.live ≡ true → was.0.ticket ≡ Some ticket
+  pub looks_from : (slots id : ℕ) (me was : Sat T I) (ticket : ℕ) → me ≡ was → was.0.live ≡ true
+      → was.0.ticket ≡ Some ticket
       → was.0.turn ≡ false
       → Allows (IsRuled list goes_on key) slots id me 1 (λ n. n) (looked list goes_on (step slots 1 0 0 none) me)
   looks_from slots id me was ticket is live holds off = subst
@@ -181,7 +190,8 @@ module _ {T I : Type 0} (list : T → List I) (goes_on : T → T → Type 0) (ke
 
 module _ {T I : Type 0} (list : T → List I) (goes_on : T → T → Type 0) where
   -- what was waited for
-  pub has_got : (slots : ℕ) (me was m' : Sat T I) (ticket found : ℕ) → looked list goes_on (step slots 1 0 0 none) me found m'
+  pub has_got : (slots : ℕ) (me was m' : Sat T I) (ticket found : ℕ)
+      → looked list goes_on (step slots 1 0 0 none) me found m'
       → me ≡ was → was.1 ≡ [] → was.0.ticket ≡ Some ticket → ticket % 2 ^ 64 ≡ found
       → (m'.0 ≡ with_turn m'.0.seen was.0) × ((value : T) × (m'.1 ≡ (0, Some value) ∷ []) × IsShown list goes_on was.0 m'.0.seen value)
   has_got slots me was m' ticket found told is empty holds same =
@@ -198,7 +208,8 @@ module _ {T I : Type 0} (list : T → List I) (goes_on : T → T → Type 0) whe
       )
 
   -- what wasn't served yet
-  pub still_waits : (slots : ℕ) (me was m' : Sat T I) (ticket found : ℕ) → looked list goes_on (step slots 1 0 0 none) me found m'
+  pub still_waits : (slots : ℕ) (me was m' : Sat T I) (ticket found : ℕ)
+      → looked list goes_on (step slots 1 0 0 none) me found m'
       → me ≡ was → was.0.ticket ≡ Some ticket → ticket % 2 ^ 64 ≢ found → m' ≡ was
   still_waits slots me was m' ticket found told is holds apart =
       let told_was : looked list goes_on (step slots 1 0 0 none) was found m' =

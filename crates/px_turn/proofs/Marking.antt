@@ -21,7 +21,8 @@ use Rattle.std.proofs.lemmas.List.Elements.{All-cons, All-nil, All-head, All-tai
 
 -- the records that don't have a number keep their positions as an entry with it is added
 records_kept : {I : Type 0} (number : ℕ) (history : List (Stamped I)) (item : I) (list : List Record)
-    → times number (map (λ (r : Record). r.number) list) ≡ 0 → All (λ (r : Record). r.made ≡ positions r.number history) list
+    → times number (map (λ (r : Record). r.number) list) ≡ 0
+    → All (λ (r : Record). r.made ≡ positions r.number history) list
     → All (λ (r : Record). r.made ≡ positions r.number (history ++ stamped (Some number) item ∷ [])) list
 records_kept number history item [] none_has all = All-nil _
 records_kept number history item (r ∷ list) none_has all =
@@ -38,7 +39,8 @@ at_most_once number below borne once no_other = ⊎_elim
 
 module _ {T I : Type 0} where
   -- a seat's number is one of those that the seats have, and no other record has it
-  number_below : (views : List (View T I)) (id : ℕ) (v : View T I) → AreNumbered views → get_elem? views id ≡ some v → v.live ≡ true
+  number_below : (views : List (View T I)) (id : ℕ) (v : View T I) → AreNumbered views → get_elem? views id ≡ some v
+      → v.live ≡ true
       → v.number < length views
   number_below views id v are at live =
       let own : times v.number (numbers v) ≡ 1 + times v.number (map (λ r. r.number) v.joined) =
@@ -47,7 +49,8 @@ module _ {T I : Type 0} where
       let borne = one_of (λ (u : View T I). times v.number (numbers u)) views id v at in
       ⊎_elim (λ low. low) (λ high. let none_has = are.no_other v.number high in absurd (omega arith)) (cases_lt v.number (length views))
 
-  none_joined : (views : List (View T I)) (id : ℕ) (v : View T I) → AreNumbered views → get_elem? views id ≡ some v → v.live ≡ true
+  none_joined : (views : List (View T I)) (id : ℕ) (v : View T I) → AreNumbered views → get_elem? views id ≡ some v
+      → v.live ≡ true
       → times v.number (map (λ r. r.number) v.joined) ≡ 0
   none_joined views id v are at live =
       let own : times v.number (numbers v) ≡ 1 + times v.number (map (λ r. r.number) v.joined) =
@@ -57,7 +60,8 @@ module _ {T I : Type 0} where
       let one = at_most_once v.number (length views) (bearers v.number views) (are.once v.number) (are.no_other v.number) in
       omega arith
 
-  none_elsewhere : (views : List (View T I)) (id : ℕ) (v : View T I) → AreNumbered views → get_elem? views id ≡ some v → v.live ≡ true
+  none_elsewhere : (views : List (View T I)) (id : ℕ) (v : View T I) → AreNumbered views → get_elem? views id ≡ some v
+      → v.live ≡ true
       → (j : ℕ) (u : View T I) → j ≢ id → get_elem? views j ≡ some u → times v.number (numbers u) ≡ 0
   none_elsewhere views id v are at live j u apart there =
       let own : times v.number (numbers v) ≡ 1 + times v.number (map (λ r. r.number) v.joined) =
@@ -84,7 +88,8 @@ module _ {T I : Type 0} where
   same_numbers item v live = rw live refl
 
 module _ {T I : Type 0} (list : T → List I) (goes_on : T → T → Type 0) (key : T) where
-  marked_ruled : (s : State (Option T) (View T I)) (ruled : IsRuled list goes_on key s) (id : ℕ) (me : Sat T I) (item : I)
+  marked_ruled : (s : State (Option T) (View T I)) (ruled : IsRuled list goes_on key s) (id : ℕ) (me : Sat T I)
+      (item : I)
       → get_elem? s.views id ≡ some me.0 → me.0.live ≡ true → me.0.turn ≡ true → length me.0.seen + 1 < 2 ^ 63
       → IsRuled list goes_on key (stepped s 2 ((get_or s.words 2 0 + 1) % 2 ^ 64) id me.1 (with_entry item me.0) keeps)
   marked_ruled s ruled id me item at live has few =
@@ -140,7 +145,8 @@ module _ {T I : Type 0} (list : T → List I) (goes_on : T → T → Type 0) (ke
             (v.number, refl, number_below s.views id v ruled.numbered at live));
       }
 
-  pub marks : (slots id : ℕ) (me : Sat T I) (value : T) (item : I) → me.0.live ≡ true → me.0.turn ≡ true → me.1 ≡ (0, Some value) ∷ []
+  pub marks : (slots id : ℕ) (me : Sat T I) (value : T) (item : I) → me.0.live ≡ true → me.0.turn ≡ true
+      → me.1 ≡ (0, Some value) ∷ []
       → list value ≡ items me.0.seen ++ item ∷ [] → length me.0.seen + 1 < 2 ^ 63
       → Allows (IsRuled list goes_on key) slots id me 2 (λ n. (n + 1) % 2 ^ 64) (marked list (step slots 2 1 0 none) me)
   marks slots id me value item live has hand stands few s ruled long at small = (

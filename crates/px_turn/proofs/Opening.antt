@@ -40,7 +40,8 @@ module _ {T I : Type 0} (list : T → List I) (goes_on : T → T → Type 0) whe
     first = λ v at. subst (λ (x : View T I). (x.live ≡ true) × (x.number ≡ 0) × (x.splits + 1 ≡ 1)) (one_seat key 0 v at) (refl, refl, refl);
   }
 
-  pub opens : (key value : T) (count : ℕ) (slots : List (Option T)) → key ≡ value → slots ≡ Some value ∷ [] → goes_on value value
+  pub opens : (key value : T) (count : ℕ) (slots : List (Option T)) → key ≡ value → slots ≡ Some value ∷ []
+      → goes_on value value
       → count ≡ length (list value) → count < 2 ^ 63
       → IsRuled list goes_on key (opening (0 ∷ 0 ∷ count ∷ []) slots (newcomer list key))
   opens key value count slots is slots_are stays count_is few =

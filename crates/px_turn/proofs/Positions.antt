@@ -69,7 +69,8 @@ module _ {I : Type 0} where
       ∙ positions_made number below (at + 1) later high (All-tail (made_below below) e later made)
 
   -- a number that no entry carries
-  pub positions_none : (number below : ℕ) (list : List I) (at : ℕ) (later : List (Stamped I)) → below ≤ number → AreMade below later
+  pub positions_none : (number below : ℕ) (list : List I) (at : ℕ) (later : List (Stamped I)) → below ≤ number
+      → AreMade below later
       → positions_from number at (opened list ++ later) ≡ []
   positions_none number below [] at later high made = positions_made number below at later high made
   positions_none number below (x ∷ list) at later high made = positions_none number below list (at + 1) later high made

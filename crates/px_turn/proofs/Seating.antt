@@ -27,12 +27,9 @@ abbrev held_or : {T : Type 0} → T → List (ℕ × Option T) → T
 held_or other [] = other
 held_or other (x ∷ slots) = unwrap_or x.1 other
 
-pub in_hand : {T : Type 0} (x y : T) (carried : List (ℕ × Option T)) → carried ≡ (0, Some x) ∷ [] → carried ≡ (0, Some y) ∷ [] → x ≡ y
+pub in_hand : {T : Type 0} (x y : T) (carried : List (ℕ × Option T)) → carried ≡ (0, Some x) ∷ []
+    → carried ≡ (0, Some y) ∷ [] → x ≡ y
 in_hand x y carried one other = ap (held_or x) (sym one ∙ other)
-
-pub if_some : {A : Type 0} {P Q : A → Type 0} (o : Option A) → ((x : A) → P x → Q x) → IfSome o P → IfSome o Q
-if_some None each is = tt
-if_some (Some x) each is = each x is
 
 module _ {A : Type 0} where
   pub at_within : (xs : List A) (i : ℕ) (v : A) → get_elem? xs i ≡ some v → i < length xs
@@ -61,14 +58,21 @@ module _ {T I : Type 0} where
   pub joined_rest : (P : Record → Type 0) (v : View T I) → v.live ≡ true → All P (records v) → All P v.joined
   joined_rest P v live all = All-tail P (record_of v) v.joined (rw live at all)
 
+  -- the value at the opening, as two have it
+  pub same_opening : (v : View T I) (key opening : T) (P : T → Type 0) → v.opening ≡ Some key
+      → v.opening ≡ Some opening → P key → P opening
+  same_opening v key opening P is is_too holds = subst P (ap (λ o. unwrap_or o key) (sym is ∙ is_too)) holds
+
   pub numbers_are : (v : View T I) → v.live ≡ true → numbers v ≡ v.number ∷ map (λ r. r.number) v.joined
   numbers_are v live = rw live refl
 
-  pub waiting_same : (views : List (View T I)) (id : ℕ) (v w : View T I) → get_elem? views id ≡ some v → w.ticket ≡ v.ticket
+  pub waiting_same : (views : List (View T I)) (id : ℕ) (v w : View T I) → get_elem? views id ≡ some v
+      → w.ticket ≡ v.ticket
       → waiting (set views id w) ≡ waiting views
   waiting_same views id v w at same = total_same _ views id v w at (ap (λ k. one_if (is_some k)) same)
 
-  pub tickets_same : (served : ℕ) (views : List (View T I)) (id : ℕ) (v w : View T I) → get_elem? views id ≡ some v → w.ticket ≡ v.ticket
+  pub tickets_same : (served : ℕ) (views : List (View T I)) (id : ℕ) (v w : View T I) → get_elem? views id ≡ some v
+      → w.ticket ≡ v.ticket
       → AreTickets served views → AreTickets served (set views id w)
   tickets_same served views id v w at same are =
       let wait = waiting_same views id v w at same in
@@ -80,7 +84,8 @@ module _ {T I : Type 0} where
         above = λ ticket high. hold ticket ∙ are.above ticket (omega arith);
       }
 
-  pub numbered_same : (views : List (View T I)) (id : ℕ) (v w : View T I) → get_elem? views id ≡ some v → numbers w ≡ numbers v
+  pub numbered_same : (views : List (View T I)) (id : ℕ) (v w : View T I) → get_elem? views id ≡ some v
+      → numbers w ≡ numbers v
       → w.live ≡ v.live → w.number ≡ v.number → w.splits ≡ v.splits → AreNumbered views → AreNumbered (set views id w)
   numbered_same views id v w at same live number splits are =
       let long = length-set views id w in
@@ -104,7 +109,8 @@ module _ {T I : Type 0} where
       }
 
   -- the longest list stays with a seat that keeps it
-  pub longest_set : (history : List (Stamped I)) (views : List (View T I)) (id : ℕ) (v w : View T I) → get_elem? views id ≡ some v
+  pub longest_set : (history : List (Stamped I)) (views : List (View T I)) (id : ℕ) (v w : View T I)
+      → get_elem? views id ≡ some v
       → (v.seen ≡ history → w.seen ≡ history)
       → (j : ℕ) × ((u : View T I) × (get_elem? views j ≡ some u) × (u.seen ≡ history))
       → (j : ℕ) × ((u : View T I) × (get_elem? (set views id w) j ≡ some u) × (u.seen ≡ history))
@@ -120,7 +126,8 @@ module _ {T I : Type 0} where
       (λ apart. (j, (there.0, set_else views id j w apart ∙ there.1, there.2)))
 
   -- where nobody has the turn afterwards, nobody had it
-  pub no_turn_before : (views : List (View T I)) (id : ℕ) (v w : View T I) → get_elem? views id ≡ some v → (w.turn ≡ false → v.turn ≡ false)
+  pub no_turn_before : (views : List (View T I)) (id : ℕ) (v w : View T I) → get_elem? views id ≡ some v
+      → (w.turn ≡ false → v.turn ≡ false)
       → HaveNoTurn (set views id w) → HaveNoTurn views
   no_turn_before views id v w at same none_has j u there = dite (ℕ_discrete j id)
       (λ is. ap (λ (x : View T I). x.turn) (one_only views j id u v there at is)
@@ -133,8 +140,10 @@ module _ {T I : Type 0} where
       let hasnt = none_has id w (set_here views id w (at_within views id v at)) in cc
 
   -- a step that changes nothing
-  pub unmoved : (list : T → List I) (goes_on : T → T → Type 0) (key : T) (s : State (Option T) (View T I)) (i id : ℕ) (cs : List (ℕ × Option T)) (v : View T I)
-      → get_elem? s.views id ≡ some v → IsRuled list goes_on key s → IsRuled list goes_on key (stepped s i (get_or s.words i 0) id cs v keeps)
+  pub unmoved : (list : T → List I) (goes_on : T → T → Type 0) (key : T) (s : State (Option T) (View T I)) (i id : ℕ)
+      (cs : List (ℕ × Option T)) (v : View T I)
+      → get_elem? s.views id ≡ some v → IsRuled list goes_on key s
+      → IsRuled list goes_on key (stepped s i (get_or s.words i 0) id cs v keeps)
   unmoved list goes_on key s i id cs v at ruled = subst (λ (x : State (Option T) (View T I)). IsRuled list goes_on key x)
       (λ k. record {
         words = sym (set-get_or s.words i 0) k;

@@ -20,7 +20,8 @@ use Rattle.std.proofs.lemmas.List.Elements.{All-nil, All-cons, All-weaker}
 
 module _ {T I : Type 0} where
   -- a live seat with number 0 is the first one
-  pub is_first : (views : List (View T I)) (id : ℕ) (v : View T I) → AreNumbered views → get_elem? views id ≡ some v → v.live ≡ true
+  pub is_first : (views : List (View T I)) (id : ℕ) (v : View T I) → AreNumbered views → get_elem? views id ≡ some v
+      → v.live ≡ true
       → v.number ≡ 0 → 0 ≡ id
   is_first views id v are at live zero_is = dite (ℕ_discrete 0 id) (λ same. same) (λ apart.
       let inside = at_within views id v at in
@@ -48,13 +49,15 @@ module _ {T I : Type 0} (views : List (View T I)) (id : ℕ) (v : View T I) (at 
       let same = waiting_same views id v (split_once_more v) at refl in
       omega arith
 
-  holders_after : (ticket : ℕ) → holders ticket (set views id (split_once_more v) ++ split_off v ∷ []) ≡ holders ticket views
+  holders_after : (ticket : ℕ)
+      → holders ticket (set views id (split_once_more v) ++ split_off v ∷ []) ≡ holders ticket views
   holders_after ticket =
       let more = total_more (λ (u : View T I). one_if (is_number u.ticket ticket)) (set views id (split_once_more v)) (split_off v) in
       let same = total_same (λ (u : View T I). one_if (is_number u.ticket ticket)) views id v (split_once_more v) at refl in
       omega arith
 
-  pub tickets_after : (served : ℕ) → AreTickets served views → AreTickets served (set views id (split_once_more v) ++ split_off v ∷ [])
+  pub tickets_after : (served : ℕ) → AreTickets served views
+      → AreTickets served (set views id (split_once_more v) ++ split_off v ∷ [])
   tickets_after served are = let wait = waiting_after in record {
     below = λ ticket low. holders_after ticket ∙ are.below ticket low;
     between = λ ticket low high. holders_after ticket ∙ are.between ticket low (omega arith);

@@ -32,7 +32,8 @@ module _ {T I : Type 0} (served : ℕ) (views : List (View T I)) (id : ℕ) (v :
       let none_held : one_if (is_number v.ticket other) ≡ 0 = ap (λ k. one_if (is_number k other)) no_ticket in
       omega arith
 
-  pub tickets_more : (ticket : ℕ) → ticket ≡ served + waiting views → AreTickets served (set views id (with_ticket ticket v))
+  pub tickets_more : (ticket : ℕ) → ticket ≡ served + waiting views
+      → AreTickets served (set views id (with_ticket ticket v))
   tickets_more ticket is = let more = waiting_more ticket in record {
     below = λ other low. let held = holders_more ticket other in
         let here = one_if_other ticket other (λ same. absurd (omega arith)) in

@@ -10,12 +10,14 @@ one_if-le false = omega arith
 
 module _ {A : Type 0} (f : A → ℕ) where
   -- one element gives way to another
-  pub total_set : (xs : List A) (i : ℕ) (v w : A) → get_elem? xs i ≡ some v → total f (set xs i w) + f v ≡ total f xs + f w
+  pub total_set : (xs : List A) (i : ℕ) (v w : A) → get_elem? xs i ≡ some v
+      → total f (set xs i w) + f v ≡ total f xs + f w
   total_set [] i v w at = absurd (some-ne-none v (sym at))
   total_set (x ∷ xs) zero v w at = let same : f x ≡ f v = ap f (some-injective x v at) in omega arith
   total_set (x ∷ xs) (suc i) v w at = let rest = total_set xs i v w at in omega arith
 
-  pub total_same : (xs : List A) (i : ℕ) (v w : A) → get_elem? xs i ≡ some v → f w ≡ f v → total f (set xs i w) ≡ total f xs
+  pub total_same : (xs : List A) (i : ℕ) (v w : A) → get_elem? xs i ≡ some v → f w ≡ f v
+      → total f (set xs i w) ≡ total f xs
   total_same xs i v w at same = let changed = total_set xs i v w at in omega arith
 
   pub total_more : (xs : List A) (x : A) → total f (xs ++ x ∷ []) ≡ total f xs + f x
@@ -28,7 +30,8 @@ module _ {A : Type 0} (f : A → ℕ) where
   one_of (x ∷ xs) (suc i) v at = let rest = one_of xs i v at in omega arith
 
   -- two elements at different places
-  pub two_of : (xs : List A) (i j : ℕ) (v w : A) → get_elem? xs i ≡ some v → get_elem? xs j ≡ some w → i ≢ j → f v + f w ≤ total f xs
+  pub two_of : (xs : List A) (i j : ℕ) (v w : A) → get_elem? xs i ≡ some v → get_elem? xs j ≡ some w → i ≢ j
+      → f v + f w ≤ total f xs
   two_of [] i j v w at there apart = absurd (some-ne-none v (sym at))
   two_of (x ∷ xs) zero zero v w at there apart = absurd (apart refl)
   two_of (x ∷ xs) zero (suc j) v w at there apart =
@@ -48,7 +51,8 @@ module _ {A : Type 0} (f : A → ℕ) where
   total-le-length small (x ∷ xs) = let rest = total-le-length small xs in let here = small x in omega arith
 
   -- the others' part of a smaller sum is no greater
-  pub others_le : (g : A → ℕ) → ((x : A) → f x ≤ g x) → (xs : List A) (i : ℕ) (v : A) → get_elem? xs i ≡ some v → total f xs + g v ≤ total g xs + f v
+  pub others_le : (g : A → ℕ) → ((x : A) → f x ≤ g x) → (xs : List A) (i : ℕ) (v : A) → get_elem? xs i ≡ some v
+      → total f xs + g v ≤ total g xs + f v
   others_le g less [] i v at = absurd (some-ne-none v (sym at))
   others_le g less (x ∷ xs) zero v at =
       let same : x ≡ v = some-injective x v at in

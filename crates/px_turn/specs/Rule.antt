@@ -45,8 +45,8 @@ module _ {T I : Type 0} where
     pub between : (ticket : ℕ) → served ≤ ticket → ticket < served + waiting views → holders ticket views ≡ 1
     pub above : (ticket : ℕ) → served + waiting views ≤ ticket → holders ticket views ≡ 0
 
-  -- There are at most eight seats. Each number below that of the seats stands in one record just, and no other number in
-  -- any. The first seat has number 0 and is never joined into another.
+  -- There are at most eight seats. Each number below that of the seats stands in one record just, and no other number
+  -- in any. The first seat has number 0 and is never joined into another.
   pub record AreNumbered (views : List (View T I)) : Type 0 where
     pub few : length views ≤ 8
     pub once : (number : ℕ) → number < length views → bearers number views ≡ 1
@@ -55,8 +55,8 @@ module _ {T I : Type 0} where
     pub first : (v : View T I) → get_elem? views 0 ≡ some v
         → (v.live ≡ true) × (v.number ≡ 0) × (v.splits + 1 ≡ length views)
 
-  -- What a seat knows is so of the history. Who has the turn has seen all of it; a seat that was joined into another has
-  -- seen nothing.
+  -- What a seat knows is so of the history. Who has the turn has seen all of it; a seat that was joined into another
+  -- has seen nothing.
   pub record Fits (key : T) (history : List (Stamped I)) (served : ℕ) (v : View T I) : Type 0 where
     pub turn : v.turn ≡ true → (v.ticket ≡ Some served) × (v.seen ≡ history)
     pub spent : v.live ≡ false → (v.turn ≡ false) × (v.seen ≡ [])

@@ -1,5 +1,5 @@
 -- Seats, as contracts speak of them.
-use Rattle.std.specs.Prelude.{◌≡◌, ℕ, ◌+◌, ◌≤◌, true, false, List, [], ◌∷◌, ◌++◌, Option, None, IfSome}
+use Rattle.std.specs.Prelude.{Some, ◌≡◌, ℕ, ◌+◌, ◌≤◌, true, false, List, [], ◌∷◌, ◌++◌, Option, None, IfSome, length}
 use Rattle.std.specs.List.{All}
 use Rattle.atomic_table.specs.Seated.{TableId}
 use Rattle.atomic_table.specs.declared.shared.Seat.{Seat}
@@ -7,7 +7,7 @@ use Rattle.px_turn.specs.declared.view.Record.{Record}
 use Rattle.px_turn.specs.declared.view.Stamped.{Stamped}
 use Rattle.px_turn.specs.declared.view.View.{View}
 use Rattle.px_turn.specs.Histories.{items, opened, positions, AreMade}
-use Rattle.px_turn.specs.Views.{records, numbers}
+use Rattle.px_turn.specs.Views.{records, numbers, GoesOn}
 use Rattle.px_turn.specs.Rule.{times}
 
 module _ {T I : Type 0} where
@@ -27,17 +27,14 @@ module _ {T I : Type 0} where
   abbrev pub HasTurn : Seat (Option T) (View T I) → Type 0
   HasTurn seat = (seat.me.1 ≡ (0, None) ∷ []) × ((view seat).turn ≡ true)
 
-  -- the value goes on with the one at the opening
-  abbrev pub GoesOn : (T → T → Type 0) → View T I → T → Type 0
-  GoesOn goes_on v value = IfSome v.opening (λ opening. goes_on opening value)
-
   -- The last value stands for the whole history, of which the first seat and those that were joined into it have all
   -- records: the history goes on from the opening, and each later entry was made by one of these seats.
   pub record IsWhole (list : T → List I) (goes_on : T → T → Type 0) (v : View T I) (value : T) : Type 0 where
     pub later : List (Stamped I)
     pub stands : list value ≡ items v.seen
     pub goes_on_with : GoesOn goes_on v value
-    pub begins : IfSome v.opening (λ opening. v.seen ≡ opened (list opening) ++ later)
+    pub known : v.known ≤ length v.seen
+    pub begins : (opening : T) → v.opening ≡ Some opening → v.seen ≡ opened (list opening) ++ later
     pub makers : AreMade (v.splits + 1) later
     pub made : All (λ (r : Record). r.made ≡ positions r.number v.seen) (records v)
     pub once : (number : ℕ) → number ≤ v.splits → times number (numbers v) ≡ 1

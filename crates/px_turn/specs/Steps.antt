@@ -4,7 +4,7 @@ use Rattle.atomic_table.specs.Table.{Me, Step, rest}
 use Rattle.px_turn.specs.declared.view.Stamped.{Stamped}
 use Rattle.px_turn.specs.declared.view.View.{View}
 use Rattle.px_turn.specs.Histories.{IsFront, items, positions}
-use Rattle.px_turn.specs.Views.{with_ticket, with_turn, without_turn, with_entry, with_known}
+use Rattle.px_turn.specs.Views.{with_ticket, with_turn, without_turn, with_entry, with_known, GoesOn}
 
 -- a seat's view, and the slots that it has taken
 abbrev pub Sat : Type 0 → Type 0 → Type 0
@@ -16,10 +16,10 @@ module _ {T I : Type 0} where
   queued st m found m' = (ticket : ℕ) × (ticket % 2 ^ 64 ≡ found) × (m' ≡ (with_ticket ticket m.0, m.1))
 
   -- what is shown to a seat that has got the turn
-  pub record IsShown (list : T → List I) (goes_on : T → T → Type 0) (v : View T I) (history : List (Stamped I)) (value : T)
-      : Type 0 where
+  pub record IsShown (list : T → List I) (goes_on : T → T → Type 0) (v : View T I) (history : List (Stamped I))
+      (value : T) : Type 0 where
     pub stands : list value ≡ items history
-    pub goes_on_with : IfSome v.opening (λ opening. goes_on opening value)
+    pub goes_on_with : GoesOn goes_on v value
     pub begins : IsFront v.seen history
     pub known : v.known ≤ length history
     pub made : v.made ≡ positions v.number history

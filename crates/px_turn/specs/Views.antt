@@ -1,5 +1,5 @@
 -- What a seat knows, and what becomes of it.
-use Rattle.std.specs.Prelude.{ℕ, ◌+◌, max, true, false, if◌then◌else◌, List, [], ◌∷◌, ◌++◌, map, length, Option, Some, None}
+use Rattle.std.specs.Prelude.{ℕ, ◌+◌, max, true, false, if◌then◌else◌, List, [], ◌∷◌, ◌++◌, map, length, Option, Some, None, ◌≡◌}
 use Rattle.px_turn.specs.declared.view.Record.{Record}
 use Rattle.px_turn.specs.declared.view.Stamped.{Stamped}
 use Rattle.px_turn.specs.declared.view.View.{View}
@@ -100,3 +100,7 @@ module _ {T I : Type 0} where
     known = max v.known w.known;
     joined = v.joined ++ record_of w ∷ w.joined;
   }
+
+  -- the value goes on with the one at the opening
+  abbrev pub GoesOn : (T → T → Type 0) → View T I → T → Type 0
+  GoesOn goes_on v value = (opening : T) → v.opening ≡ Some opening → goes_on opening value

@@ -4,6 +4,7 @@
 //! any two steps and what each step tells, and `turn` is the lock. `specs/Rule.antt` has the rule of seats.
 #![tactic(auto)]
 
+pub mod laws;
 mod listed;
 mod rule;
 mod steps;
