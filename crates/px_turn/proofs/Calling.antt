@@ -1,5 +1,5 @@
 -- A seat that has the turn calls the next one.
-use Rattle.std.proofs.Common.{◌≡◌, ℕ, ◌+◌, ◌%◌, ◌^◌, ◌<◌, true, is_some, nat_eq, List, [], ◌∷◌, length, set, get_or, Option, Some, IfSome, refl, sym, ap, ◌∙◌, subst, arith, length-set}
+use Rattle.std.proofs.Common.{◌≡◌, ℕ, ◌+◌, ◌%◌, ◌^◌, ◌<◌, true, is_some, nat_eq, List, [], ◌∷◌, length, set, get_or, Option, Some, refl, sym, ap, ◌∙◌, subst, arith, length-set}
 use mathlib.Core.Logic.{dite}
 use mathlib.Core.Option.{some, none}
 use native.Mathlib.Decide.{ℕ_discrete}
@@ -16,8 +16,8 @@ use Rattle.px_turn.proofs.Seating.{one_if_same, one_if_other, each_set, numbered
 use Rattle.px_turn.proofs.Looking.{not_both}
 
 -- the ticket that was served is held no more
-module _ {T I : Type 0} (served : ℕ) (views : List (View T I)) (id : ℕ) (v : View T I) (at : get_elem? views id ≡ some v)
-    (holds : v.ticket ≡ Some served) (are : AreTickets served views) where
+module _ {T I : Type 0} (served : ℕ) (views : List (View T I)) (id : ℕ) (v : View T I)
+    (at : get_elem? views id ≡ some v) (holds : v.ticket ≡ Some served) (are : AreTickets served views) where
   pub waiting_less : waiting (set views id (without_turn v)) + 1 ≡ waiting views
   waiting_less =
       let changed = total_set (λ (u : View T I). one_if (is_some u.ticket)) views id v (without_turn v) at in
@@ -28,15 +28,22 @@ module _ {T I : Type 0} (served : ℕ) (views : List (View T I)) (id : ℕ) (v :
       → holders ticket (set views id (without_turn v)) + one_if (nat_eq served ticket) ≡ holders ticket views
   holders_less ticket =
       let changed = total_set (λ (u : View T I). one_if (is_number u.ticket ticket)) views id v (without_turn v) at in
-      let held : one_if (is_number v.ticket ticket) ≡ one_if (nat_eq served ticket) = ap (λ k. one_if (is_number k ticket)) holds in
+      let held : one_if (is_number v.ticket ticket) ≡ one_if (nat_eq served ticket) =
+      ap (λ k. one_if (is_number k ticket)) holds in
       omega arith
 
   pub tickets_less : AreTickets (served + 1) (set views id (without_turn v))
   tickets_less = let less = waiting_less in record {
     below = λ ticket low. let held = holders_less ticket in
         dite (ℕ_discrete served ticket)
-        (λ same. let here = one_if_same served ticket same in let before = are.between ticket (omega arith) (omega arith) in omega arith)
-        (λ apart. let here = one_if_other served ticket apart in let before = are.below ticket (omega arith) in omega arith);
+        (λ same.
+        let here = one_if_same served ticket same in
+        let before = are.between ticket (omega arith) (omega arith) in
+        omega arith)
+        (λ apart.
+        let here = one_if_other served ticket apart in
+        let before = are.below ticket (omega arith) in
+        omega arith);
     between = λ ticket low high. let held = holders_less ticket in
         let here = one_if_other served ticket (λ same. absurd (omega arith)) in
         let before = are.between ticket (omega arith) (omega arith) in
@@ -60,7 +67,8 @@ module _ {T I : Type 0} (list : T → List I) (goes_on : T → T → Type 0) (ke
       let fits = ruled.each id v at in
       let holds : v.ticket ≡ Some ruled.served = (fits.turn has).0 in
       let seen : v.seen ≡ ruled.history = (fits.turn has).1 in
-      let less : waiting (set s.views id w) + 1 ≡ waiting s.views = waiting_less ruled.served s.views id v at holds ruled.tickets in
+      let less : waiting (set s.views id w) + 1 ≡ waiting s.views =
+      waiting_less ruled.served s.views id v at holds ruled.tickets in
       let same_next : ruled.served + waiting s.views ≡ (ruled.served + 1) + waiting (set s.views id w) = omega arith in
       let found : get_or s.words 1 0 ≡ ruled.served % 2 ^ 64 = ap (λ ws. get_or ws 1 0) ruled.words in
       let next : (get_or s.words 1 0 + 1) % 2 ^ 64 ≡ (ruled.served + 1) % 2 ^ 64 = omega arith in
@@ -98,7 +106,8 @@ module _ {T I : Type 0} (list : T → List I) (goes_on : T → T → Type 0) (ke
         longest = longest_set ruled.history s.views id v w at (λ is. is) ruled.longest;
         at_home = λ none_has. record {
           value = value;
-          home = ap (λ carried. get_elem? (put_back s.homes carried) 0) hand ∙ set_here s.homes 0 (some (Some value)) slot;
+          home = ap (λ carried. get_elem? (put_back s.homes carried) 0) hand
+              ∙ set_here s.homes 0 (some (Some value)) slot;
           stands = stands ∙ ap items seen;
           goes_on_with = goes key (fits.opening live);
         };

@@ -1,5 +1,5 @@
 -- The end.
-use Rattle.std.proofs.Common.{◌≡◌, ◌≢◌, ℕ, suc, ◌+◌, ◌<◌, Bool, true, false, List, [], ◌∷◌, ◌++◌, map, length, Option, Some, IfSome, IsSome, unwrap_or, refl, sym, ap, ◌∙◌, subst, arith, All, ◌≤◌}
+use Rattle.std.proofs.Common.{◌≡◌, ◌≢◌, ℕ, suc, ◌+◌, ◌<◌, Bool, true, false, List, [], ◌∷◌, ◌++◌, map, length, Option, Some, IsSome, unwrap_or, refl, sym, ap, ◌∙◌, subst, arith, All, ◌≤◌}
 use mathlib.Core.Logic.{dite}
 use mathlib.Core.Option.{some, some-injective}
 use native.Mathlib.Decide.{ℕ_discrete}
@@ -8,7 +8,7 @@ use Rattle.atomic_table.specs.Table.{State, Final, Seen}
 use Rattle.px_turn.specs.declared.view.Record.{Record}
 use Rattle.px_turn.specs.declared.view.Stamped.{Stamped}
 use Rattle.px_turn.specs.declared.view.View.{View}
-use Rattle.px_turn.specs.Histories.{items, opened, positions, AreMade}
+use Rattle.px_turn.specs.Histories.{items, opened, AreMade, HasPositions}
 use Rattle.px_turn.specs.Views.{records, numbers}
 use Rattle.px_turn.specs.Rule.{times, AreNumbered, HaveNoTurn, IsRuled}
 use Rattle.px_turn.proofs.Totals.{one_of, two_of, others_le, times-le-length}
@@ -66,7 +66,8 @@ module _ {T I : Type 0} (list : T → List I) (goes_on : T → T → Type 0) (ke
       let longest = ruled.longest in
       let fits = ruled.each id v at in
       dite (ℕ_discrete longest.0 id)
-      (λ same. ap (λ (x : View T I). x.seen) (one_only s.views id longest.0 v longest.1.0 at longest.1.1 (sym same)) ∙ longest.1.2)
+      (λ same. ap (λ (x : View T I). x.seen) (one_only s.views id longest.0 v longest.1.0 at longest.1.1 (sym same))
+      ∙ longest.1.2)
       (λ apart.
       let gone = (ruled.each longest.0 longest.1.0 longest.1.1).spent
       (others_spent s.views id v ruled.numbered at all longest.0 longest.1.0 apart longest.1.1) in
@@ -94,11 +95,13 @@ module _ {T I : Type 0} (list : T → List I) (goes_on : T → T → Type 0) (ke
         record {
           later = ruled.later;
           stands = home.stands ∙ ap items (sym seen);
-          goes_on_with = λ opening at_opening. same_opening v key opening (λ o. goes_on o home.value) (fits.opening live) at_opening home.goes_on_with;
-          begins = λ opening at_opening. same_opening v key opening (λ o. v.seen ≡ opened (list o) ++ ruled.later) (fits.opening live) at_opening (seen ∙ ruled.begins);
+          goes_on_with = λ opening is. same_opening v key opening (λ o. goes_on o home.value) (fits.opening live) is
+              home.goes_on_with;
+          begins = λ opening is. same_opening v key opening (λ o. v.seen ≡ opened (list o) ++ ruled.later)
+              (fits.opening live) is (seen ∙ ruled.begins);
           known = subst (λ (h : List (Stamped I)). v.known ≤ length h) (sym seen) fits.known;
           makers = subst (λ n. AreMade n ruled.later) (sym splits) ruled.makers;
-          made = subst (λ h. All (λ (r : Record). r.made ≡ positions r.number h) (records v)) (sym seen) fits.made;
+          made = subst (λ h. All (HasPositions h) (records v)) (sym seen) fits.made;
           once = λ number low. each_once s.views id v ruled.numbered at whole number (omega arith);
         },
       )

@@ -1,11 +1,11 @@
 -- A seat looks at the count.
-use Rattle.std.proofs.Common.{◌≡◌, ℕ, ◌+◌, ◌%◌, ◌^◌, List, [], ◌∷◌, length, set, get_or, refl, sym, ap, ◌∙◌, subst, arith, length-set}
+use Rattle.std.proofs.Common.{◌≡◌, ℕ, List, length, set, get_or, refl, sym, ap, ◌∙◌, subst, arith, length-set}
 use mathlib.Core.Option.{none}
 use Rattle.atomic_table.specs.Table.{step, keeps, Allows}
 use Rattle.px_turn.specs.declared.view.View.{View}
 use Rattle.px_turn.specs.Histories.{AreMade}
 use Rattle.px_turn.specs.Views.{with_known}
-use Rattle.px_turn.specs.Rule.{waiting, Fits, IsRuled}
+use Rattle.px_turn.specs.Rule.{waiting, Fits, IsRuled, words_of}
 use Rattle.px_turn.specs.Steps.{Sat, counted}
 use Rattle.px_turn.proofs.Fronts.{front_length}
 use Rattle.px_turn.proofs.Seating.{each_set, waiting_same, tickets_same, numbered_same, longest_set, no_turn_before}
@@ -28,7 +28,7 @@ module _ {T I : Type 0} (list : T → List I) (goes_on : T → T → Type 0) (ke
           later = ruled.later;
           served = ruled.served;
           words = ap (λ ws. set ws 2 (get_or ws 2 0)) ruled.words
-              ∙ ap (λ n. ((ruled.served + n) % 2 ^ 64) ∷ (ruled.served % 2 ^ 64) ∷ length ruled.history ∷ []) (sym wait);
+              ∙ ap (λ n. words_of ruled.served n (length ruled.history)) (sym wait);
           few = ruled.few;
           tickets = tickets_same ruled.served s.views id me.0 w at refl ruled.tickets;
           numbered = numbered_same s.views id me.0 w at refl refl refl refl ruled.numbered;

@@ -1,5 +1,5 @@
 -- A seat is joined into another.
-use Rattle.std.proofs.Common.{◌≡◌, ◌≢◌, ◌⊎◌, ℕ, ◌+◌, ◌%◌, ◌^◌, ◌<◌, ◌≤◌, Bool, true, false, is_some, ltb, lt-ltb, le-ltb, if◌then◌else◌, List, [], ◌∷◌, ◌++◌, length, set, None, refl, sym, ap, ◌∙◌, subst, ⊎_elim, inl, inr, arith, length-set, length-append, All}
+use Rattle.std.proofs.Common.{◌≡◌, ◌≢◌, ◌⊎◌, ℕ, ◌+◌, ◌<◌, ◌≤◌, Bool, true, false, is_some, ltb, lt-ltb, le-ltb, if◌then◌else◌, List, ◌∷◌, ◌++◌, length, set, None, refl, sym, ap, ◌∙◌, subst, ⊎_elim, inl, inr, arith, length-set, length-append, All}
 use mathlib.Core.Logic.{dite}
 use mathlib.Core.Option.{some}
 use native.Mathlib.Decide.{ℕ_discrete}
@@ -9,9 +9,9 @@ use Rattle.atomic_table.proofs.Lists.{at_set, set_here, set_else}
 use Rattle.px_turn.specs.declared.view.Record.{Record}
 use Rattle.px_turn.specs.declared.view.Stamped.{Stamped}
 use Rattle.px_turn.specs.declared.view.View.{View}
-use Rattle.px_turn.specs.Histories.{IsFront, is_number, positions, AreMade, longer, shorter}
+use Rattle.px_turn.specs.Histories.{IsFront, is_number, AreMade, longer, shorter, HasPositions}
 use Rattle.px_turn.specs.Views.{records, numbers, record_of, spent, joined}
-use Rattle.px_turn.specs.Rule.{one_if, times, total, waiting, holders, bearers, AreTickets, AreNumbered, Fits, HaveNoTurn, IsRuled}
+use Rattle.px_turn.specs.Rule.{one_if, times, total, waiting, holders, bearers, AreTickets, AreNumbered, Fits, HaveNoTurn, IsRuled, words_of}
 use Rattle.px_turn.proofs.Totals.{total_set, times-append}
 use Rattle.px_turn.proofs.Fronts.{front_self, front_none, front_length, front_whole}
 use Rattle.px_turn.proofs.Seating.{at_within, one_only, each_set, own_first, joined_rest, numbers_are}
@@ -43,13 +43,16 @@ longer_whole {A = A} xs ys whole one other either =
 pub fronts_of : {A : Type 0} (xs ys : List A)
     → (length (shorter xs ys) ≤ length (longer xs ys) → IsFront (shorter xs ys) (longer xs ys))
     → IsFront xs (longer xs ys) × IsFront ys (longer xs ys)
-fronts_of xs ys told = both (ltb (length xs) (length ys)) (lt-ltb (length xs) (length ys)) (le-ltb (length xs) (length ys)) told
+fronts_of xs ys told =
+    both (ltb (length xs) (length ys)) (lt-ltb (length xs) (length ys)) (le-ltb (length xs) (length ys)) told
   where
     both : (b : Bool) → (length xs < length ys → b ≡ true) → (length ys ≤ length xs → b ≡ false)
-        → (length (if b then xs else ys) ≤ length (if b then ys else xs) → IsFront (if b then xs else ys) (if b then ys else xs))
+        → (length (if b then xs else ys) ≤ length (if b then ys else xs)
+        → IsFront (if b then xs else ys) (if b then ys else xs))
         → IsFront xs (if b then ys else xs) × IsFront ys (if b then ys else xs)
     both true less more told = (
-      told (⊎_elim (λ low. omega arith) (λ high. let not_so = more high in absurd (cc)) (cases_lt (length xs) (length ys))),
+      told (⊎_elim (λ low. omega arith) (λ high. let not_so = more high in absurd (cc))
+          (cases_lt (length xs) (length ys))),
       front_self ys,
     )
     both false less more told = (
@@ -67,7 +70,8 @@ module _ {T I : Type 0} where
   records_joined : (P : Record → Type 0) (v w : View T I) → v.live ≡ true → w.live ≡ true → All P (records v)
       → All P (records w)
       → All P (records (joined v w))
-  records_joined P v w live live_too all all_too = rw live (All-cons P (record_of v) (v.joined ++ record_of w ∷ w.joined)
+  records_joined P v w live live_too all all_too = rw live
+      (All-cons P (record_of v) (v.joined ++ record_of w ∷ w.joined)
       (own_first P v live all)
       (All-append P v.joined (record_of w ∷ w.joined) (joined_rest P v live all) (rw live_too at all_too)))
 
@@ -78,49 +82,52 @@ module _ {T I : Type 0} where
     seen = front_none history;
     told = front_none history;
     known = omega arith;
-    made = All-nil (λ (r : Record). r.made ≡ positions r.number history);
+    made = All-nil (HasPositions history);
     opening = λ live. absurd (cc);
   }
 
   joined_fits : (key : T) (history : List (Stamped I)) (served : ℕ) (v w : View T I) → v.live ≡ true → w.live ≡ true
       → v.turn ≡ false
       → Fits key history served v → Fits key history served w → Fits key history served (joined v w)
-  joined_fits key history served v w live live_too off fits other = let known = fits.known in let known_too = other.known in record {
+  joined_fits key history served v w live live_too off fits other = record {
     turn = λ has. absurd (cc);
     spent = λ not_live. absurd (cc);
     seen = either_is (λ l. IsFront l history) (ltb (length v.seen) (length w.seen)) w.seen v.seen other.seen fits.seen;
     told = either_is (λ l. IsFront l history) (ltb (length v.seen) (length w.seen)) v.seen w.seen fits.seen other.seen;
-    known = omega arith;
-    made = records_joined (λ (r : Record). r.made ≡ positions r.number history) v w live live_too fits.made other.made;
+    known = let known = fits.known in let known_too = other.known in omega arith;
+    made = records_joined (HasPositions history) v w live live_too fits.made other.made;
     opening = fits.opening;
   }
 
--- a seat takes in another, of which nothing is left
+-- the seats after one took in another, of which nothing is left
+abbrev with_joined : {T I : Type 0} → List (View T I) → ℕ → ℕ → View T I → View T I → List (View T I)
+with_joined views id other v w = set (set views id (joined v w)) other spent
+
 module _ {T I : Type 0} (views : List (View T I)) (id other : ℕ) (v w : View T I) (at : get_elem? views id ≡ some v)
     (there : get_elem? (set views id (joined v w)) other ≡ some w) (apart : other ≢ id) where
   total_joined : (f : View T I → ℕ) → f (joined v w) ≡ f v + f w → f spent ≡ 0
-      → total f (set (set views id (joined v w)) other spent) ≡ total f views
+      → total f (with_joined views id other v w) ≡ total f views
   total_joined f sum none_left =
       let one = total_set f views id v (joined v w) at in
       let two = total_set f (set views id (joined v w)) other w spent there in
       omega arith
 
-  pub long_joined : length (set (set views id (joined v w)) other spent) ≡ length views
+  pub long_joined : length (with_joined views id other v w) ≡ length views
   long_joined = length-set (set views id (joined v w)) other spent ∙ length-set views id (joined v w)
 
   pub other_at : get_elem? views other ≡ some w
   other_at = sym (set_else views id other (joined v w) apart) ∙ there
 
-  pub waiting_joined : w.ticket ≡ None → waiting (set (set views id (joined v w)) other spent) ≡ waiting views
+  pub waiting_joined : w.ticket ≡ None → waiting (with_joined views id other v w) ≡ waiting views
   waiting_joined no_ticket =
       let none_held : one_if (is_some w.ticket) ≡ 0 = ap (λ k. one_if (is_some k)) no_ticket in
       total_joined (λ (u : View T I). one_if (is_some u.ticket)) (omega arith) refl
 
   pub tickets_joined : (served : ℕ) → w.ticket ≡ None → AreTickets served views
-      → AreTickets served (set (set views id (joined v w)) other spent)
+      → AreTickets served (with_joined views id other v w)
   tickets_joined served no_ticket are =
       let wait = waiting_joined no_ticket in
-      let hold : (ticket : ℕ) → holders ticket (set (set views id (joined v w)) other spent) ≡ holders ticket views =
+      let hold : (ticket : ℕ) → holders ticket (with_joined views id other v w) ≡ holders ticket views =
       λ ticket.
       let none_held : one_if (is_number w.ticket ticket) ≡ 0 = ap (λ k. one_if (is_number k ticket)) no_ticket in
       total_joined (λ (u : View T I). one_if (is_number u.ticket ticket)) (omega arith) refl in
@@ -131,11 +138,11 @@ module _ {T I : Type 0} (views : List (View T I)) (id other : ℕ) (v w : View T
       }
 
   pub numbered_joined : v.live ≡ true → w.live ≡ true → w.number ≢ 0 → AreNumbered views
-      → AreNumbered (set (set views id (joined v w)) other spent)
+      → AreNumbered (with_joined views id other v w)
   numbered_joined live live_too later are =
       let long = long_joined in
       let numbers_sum = numbers_joined v w live live_too in
-      let bear : (number : ℕ) → bearers number (set (set views id (joined v w)) other spent) ≡ bearers number views =
+      let bear : (number : ℕ) → bearers number (with_joined views id other v w) ≡ bearers number views =
       λ number. total_joined (λ (u : View T I). times number (numbers u))
       (ap (times number) numbers_sum ∙ times-append number (numbers v) (numbers w)) refl in
       let before = are.few in
@@ -147,7 +154,8 @@ module _ {T I : Type 0} (views : List (View T I)) (id other : ℕ) (v w : View T
             (ap (λ (l : List ℕ). length l) numbers_sum ∙ length-append (numbers v) (numbers w)) refl
             ∙ are.recorded ∙ sym long;
         first = λ u head. ⊎_elim
-            (λ (t : (0 ≡ other) × (spent ≡ u)). absurd (later (are.first w (ap (λ k. get_elem? views k) t.0 ∙ other_at)).1))
+            (λ (t : (0 ≡ other) × (spent ≡ u)).
+            absurd (later (are.first w (ap (λ k. get_elem? views k) t.0 ∙ other_at)).1))
             (λ (t : (0 ≢ other) × (get_elem? (set views id (joined v w)) 0 ≡ some u)). ⊎_elim
             (λ (t : (0 ≡ id) × (joined v w ≡ u)).
             let was = are.first v (ap (λ k. get_elem? views k) t.0 ∙ at) in (
@@ -163,10 +171,11 @@ module _ {T I : Type 0} (views : List (View T I)) (id other : ℕ) (v w : View T
 
   pub longest_joined : (history : List (Stamped I)) → IsFront v.seen history → IsFront w.seen history
       → (j : ℕ) × ((u : View T I) × (get_elem? views j ≡ some u) × (u.seen ≡ history))
-      → (j : ℕ) × ((u : View T I) × (get_elem? (set (set views id (joined v w)) other spent) j ≡ some u) × (u.seen ≡ history))
+      → (j : ℕ) × ((u : View T I) × (get_elem? (with_joined views id other v w) j ≡ some u) × (u.seen ≡ history))
   longest_joined history one two (j, seen) =
-      let here : get_elem? (set (set views id (joined v w)) other spent) id ≡ some (joined v w) =
-      set_else (set views id (joined v w)) other id spent (λ same. apart (sym same)) ∙ set_here views id (joined v w) (at_within views id v at) in
+      let here : get_elem? (with_joined views id other v w) id ≡ some (joined v w) =
+      set_else (set views id (joined v w)) other id spent (λ same. apart (sym same))
+      ∙ set_here views id (joined v w) (at_within views id v at) in
       dite (ℕ_discrete j id)
       (λ same. (
         id,
@@ -184,26 +193,29 @@ module _ {T I : Type 0} (views : List (View T I)) (id other : ℕ) (v w : View T
           joined v w,
           here,
           longer_whole v.seen w.seen history one two
-              (inr (ap (λ (x : View T I). x.seen) (one_only views other j w seen.0 other_at seen.1 (sym same)) ∙ seen.2)),
+              (inr (ap (λ (x : View T I). x.seen) (one_only views other j w seen.0 other_at seen.1 (sym same))
+              ∙ seen.2)),
         ),
       ))
       (λ not_there. (
         j,
         (
           seen.0,
-          set_else (set views id (joined v w)) other j spent not_there ∙ (set_else views id j (joined v w) not_here ∙ seen.1),
+          set_else (set views id (joined v w)) other j spent not_there
+              ∙ (set_else views id j (joined v w) not_here ∙ seen.1),
           seen.2,
         ),
       )))
 
-  pub no_turn_joined : v.turn ≡ false → w.turn ≡ false → HaveNoTurn (set (set views id (joined v w)) other spent)
+  pub no_turn_joined : v.turn ≡ false → w.turn ≡ false → HaveNoTurn (with_joined views id other v w)
       → HaveNoTurn views
   no_turn_joined off off_too none_has j u seen = dite (ℕ_discrete j id)
       (λ same. ap (λ (x : View T I). x.turn) (one_only views j id u v seen at same) ∙ off)
       (λ not_here. dite (ℕ_discrete j other)
       (λ same. ap (λ (x : View T I). x.turn) (one_only views j other u w seen other_at same) ∙ off_too)
       (λ not_there. none_has j u
-      (set_else (set views id (joined v w)) other j spent not_there ∙ (set_else views id j (joined v w) not_here ∙ seen))))
+      (set_else (set views id (joined v w)) other j spent not_there
+      ∙ (set_else views id j (joined v w) not_here ∙ seen))))
 
 module _ {T I : Type 0} (list : T → List I) (goes_on : T → T → Type 0) (key : T) where
   pub joins : (id : ℕ) (v : View T I) (other : ℕ) (w : View T I) → v.live ≡ true → w.live ≡ true → w.ticket ≡ None
@@ -218,7 +230,7 @@ module _ {T I : Type 0} (list : T → List I) (goes_on : T → T → Type 0) (ke
         later = ruled.later;
         served = ruled.served;
         words = ruled.words
-            ∙ ap (λ n. ((ruled.served + n) % 2 ^ 64) ∷ (ruled.served % 2 ^ 64) ∷ length ruled.history ∷ [])
+            ∙ ap (λ n. words_of ruled.served n (length ruled.history))
             (sym (waiting_joined s.views id other v w at there apart no_ticket));
         few = ruled.few;
         tickets = tickets_joined s.views id other v w at there apart ruled.served no_ticket ruled.tickets;
@@ -228,10 +240,12 @@ module _ {T I : Type 0} (list : T → List I) (goes_on : T → T → Type 0) (ke
             (λ j u not_there seen. each_set (Fits key ruled.history ruled.served) s.views id (joined v w)
             (joined_fits key ruled.history ruled.served v w live live_too off fits fits_too)
             (λ i x not_here at_i. ruled.each i x at_i) j u seen);
-        longest = longest_joined s.views id other v w at there apart ruled.history fits.seen fits_too.seen ruled.longest;
+        longest = longest_joined s.views id other v w at there apart ruled.history fits.seen fits_too.seen
+            ruled.longest;
         at_home = λ none_has.
             let home = ruled.at_home (no_turn_joined s.views id other v w at there apart off off_too none_has) in
             record { value = home.value; home = home.home; stands = home.stands; goes_on_with = home.goes_on_with };
         begins = ruled.begins;
-        makers = subst (λ n. AreMade n ruled.later) (sym (long_joined s.views id other v w at there apart)) ruled.makers;
+        makers = subst (λ n. AreMade n ruled.later) (sym (long_joined s.views id other v w at there apart))
+            ruled.makers;
       }

@@ -1,20 +1,19 @@
 -- A seat looks whether its ticket is served.
-use Rattle.std.proofs.Common.{◌≡◌, ◌≢◌, ℕ, ◌+◌, ◌%◌, ◌^◌, ◌<◌, ◌≤◌, Bool, true, false, is_some, List, [], ◌∷◌, length, set, get_or, Option, Some, IfSome, refl, sym, ap, ◌∙◌, subst, ⊎_elim, arith, length-set}
+use Rattle.std.proofs.Common.{◌≡◌, ◌≢◌, ℕ, ◌+◌, ◌%◌, ◌^◌, ◌<◌, ◌≤◌, Bool, true, false, is_some, List, [], ◌∷◌, length, set, get_or, Option, Some, refl, sym, ap, ◌∙◌, subst, ⊎_elim, arith, length-set}
 use mathlib.Core.Logic.{dite}
 use mathlib.Core.Option.{some, none}
 use native.Mathlib.Decide.{ℕ_discrete}
 use lib.ListN.{get_elem?}
 use Rattle.std.proofs.lemmas.Bool.{cases_lt}
 use Rattle.atomic_table.specs.Table.{State, step, stepped, keeps, takes, Allows}
-use Rattle.px_turn.specs.declared.view.Record.{Record}
 use Rattle.px_turn.specs.declared.view.View.{View}
-use Rattle.px_turn.specs.Histories.{is_number, positions, AreMade}
+use Rattle.px_turn.specs.Histories.{is_number, AreMade, HasPositions}
 use Rattle.px_turn.specs.Views.{with_turn}
-use Rattle.px_turn.specs.Rule.{one_if, waiting, holders, Fits, HaveNoTurn, IsHome, IsRuled}
+use Rattle.px_turn.specs.Rule.{one_if, waiting, holders, Fits, HaveNoTurn, IsHome, IsRuled, words_of}
 use Rattle.px_turn.specs.Steps.{Sat, IsShown, looked, compared}
 use Rattle.px_turn.proofs.Totals.{one_if-le, one_of, two_of, total-le-length}
 use Rattle.px_turn.proofs.Fronts.{front_self, front_of_front}
-use Rattle.px_turn.proofs.Seating.{one_if_same, one_only, each_set, own_first, waiting_same, tickets_same, numbered_same, longest_set, one_has_turn, unmoved, same_opening}
+use Rattle.px_turn.proofs.Seating.{one_if_same, one_only, each_set, own_first, waiting_same, tickets_same, numbered_same, longest_set, one_has_turn, unmoved, same_opening, holds_own}
 
 -- where a ticket is that somebody holds
 low_bound : (ticket served held : ℕ) → 1 ≤ held → (ticket < served → held ≡ 0) → served ≤ ticket
@@ -45,8 +44,7 @@ module _ {T I : Type 0} (list : T → List I) (goes_on : T → T → Type 0) (ke
       → ticket ≡ ruled.served
   is_served s ruled id v ticket at holds same =
       let found : get_or s.words 1 0 ≡ ruled.served % 2 ^ 64 = ap (λ ws. get_or ws 1 0) ruled.words in
-      let own : one_if (is_number v.ticket ticket) ≡ 1 =
-      ap (λ k. one_if (is_number k ticket)) holds ∙ one_if_same ticket ticket refl in
+      let own = holds_own v ticket holds in
       let held = one_of (λ (u : View T I). one_if (is_number u.ticket ticket)) s.views id v at in
       let few = ruled.numbered.few in
       let wait : waiting s.views ≤ length s.views =
@@ -54,7 +52,8 @@ module _ {T I : Type 0} (list : T → List I) (goes_on : T → T → Type 0) (ke
       let low : ruled.served ≤ ticket =
       low_bound ticket ruled.served (holders ticket s.views) (omega arith) (ruled.tickets.below ticket) in
       let high : ticket < ruled.served + waiting s.views =
-      high_bound ticket (ruled.served + waiting s.views) (holders ticket s.views) (omega arith) (ruled.tickets.above ticket) in
+      high_bound ticket (ruled.served + waiting s.views) (holders ticket s.views) (omega arith)
+      (ruled.tickets.above ticket) in
       omega arith
 
   -- no other seat has the turn
@@ -66,8 +65,7 @@ module _ {T I : Type 0} (list : T → List I) (goes_on : T → T → Type 0) (ke
       (λ same. let one = ap (λ (x : View T I). x.turn) (one_only s.views id j v u at there same) in cc)
       (λ apart.
       let fits = ruled.each j u there in
-      let own : one_if (is_number v.ticket ticket) ≡ 1 =
-      ap (λ k. one_if (is_number k ticket)) holds ∙ one_if_same ticket ticket refl in
+      let own = holds_own v ticket holds in
       let other : one_if (is_number u.ticket ticket) ≡ 1 =
       ap (λ k. one_if (is_number k ticket)) (fits.turn on).0 ∙ one_if_same ruled.served ticket (sym is) in
       let both = two_of (λ (x : View T I). one_if (is_number x.ticket ticket)) s.views id j v u at there apart in
@@ -84,7 +82,8 @@ module _ {T I : Type 0} (list : T → List I) (goes_on : T → T → Type 0) (ke
       (ticket : ℕ)
       → get_elem? s.views id ≡ some me.0 → me.0.live ≡ true → me.0.ticket ≡ Some ticket → ticket ≡ ruled.served
       → (home : IsHome list goes_on key ruled.history s)
-      → IsRuled list goes_on key (stepped s 1 (get_or s.words 1 0) id me.1 (with_turn ruled.history me.0) (takes 0 (Some home.value)))
+      → IsRuled list goes_on key
+      (stepped s 1 (get_or s.words 1 0) id me.1 (with_turn ruled.history me.0) (takes 0 (Some home.value)))
   turn_ruled s ruled id me ticket at live holds is home =
       let w : View T I = with_turn ruled.history me.0 in
       let fits = ruled.each id me.0 at in
@@ -94,7 +93,7 @@ module _ {T I : Type 0} (list : T → List I) (goes_on : T → T → Type 0) (ke
         later = ruled.later;
         served = ruled.served;
         words = ap (λ ws. set ws 1 (get_or ws 1 0)) ruled.words
-            ∙ ap (λ n. ((ruled.served + n) % 2 ^ 64) ∷ (ruled.served % 2 ^ 64) ∷ length ruled.history ∷ []) (sym wait);
+            ∙ ap (λ n. words_of ruled.served n (length ruled.history)) (sym wait);
         few = ruled.few;
         tickets = tickets_same ruled.served s.views id me.0 w at refl ruled.tickets;
         numbered = numbered_same s.views id me.0 w at refl refl refl refl ruled.numbered;
@@ -118,7 +117,8 @@ module _ {T I : Type 0} (list : T → List I) (goes_on : T → T → Type 0) (ke
   pub looks : (slots id : ℕ) (me : Sat T I) (ticket : ℕ) → me.0.live ≡ true → me.0.ticket ≡ Some ticket
       → me.0.turn ≡ false
       → Allows (IsRuled list goes_on key) slots id me 1 (λ n. n) (looked list goes_on (step slots 1 0 0 none) me)
-  looks slots id me ticket live holds off s ruled long at small = dite (ℕ_discrete (ticket % 2 ^ 64) (get_or s.words 1 0))
+  looks slots id me ticket live holds off s ruled long at small = dite
+      (ℕ_discrete (ticket % 2 ^ 64) (get_or s.words 1 0))
       (λ same.
       let is = is_served s ruled id me.0 ticket at holds same in
       let home = ruled.at_home (nobody_has s ruled id me.0 ticket at holds off is) in
@@ -134,10 +134,11 @@ module _ {T I : Type 0} (list : T → List I) (goes_on : T → T → Type 0) (ke
             refl,
             record {
               stands = home.stands;
-              goes_on_with = λ opening at_opening. same_opening me.0 key opening (λ o. goes_on o home.value) (fits.opening live) at_opening home.goes_on_with;
+              goes_on_with = λ opening is. same_opening me.0 key opening (λ o. goes_on o home.value)
+                  (fits.opening live) is home.goes_on_with;
               begins = fits.seen;
               known = fits.known;
-              made = own_first (λ (r : Record). r.made ≡ positions r.number ruled.history) me.0 live fits.made;
+              made = own_first (HasPositions ruled.history) me.0 live fits.made;
             },
           ),
           λ apart. let one : other ≡ ticket = cc in absurd (apart (ap (λ n. n % 2 ^ 64) one ∙ same)),
@@ -172,8 +173,8 @@ module _ {T I : Type 0} (list : T → List I) (goes_on : T → T → Type 0) (ke
       let one_holds = (ruled.each id v at).turn has in
       let other_holds = (ruled.each j u there).turn other_has in
       let t : ℕ = ruled.served in
-      let one : one_if (is_number v.ticket t) ≡ 1 = ap (λ k. one_if (is_number k t)) one_holds.0 ∙ one_if_same t t refl in
-      let other : one_if (is_number u.ticket t) ≡ 1 = ap (λ k. one_if (is_number k t)) other_holds.0 ∙ one_if_same t t refl in
+      let one = holds_own v t one_holds.0 in
+      let other = holds_own u t other_holds.0 in
       let both = two_of (λ (x : View T I). one_if (is_number x.ticket t)) s.views j id u v there at apart in
       let most = at_most_one t ruled.served (ruled.served + waiting s.views) (holders t s.views)
       (ruled.tickets.below t) (ruled.tickets.between t) (ruled.tickets.above t) in
@@ -185,7 +186,8 @@ module _ {T I : Type 0} (list : T → List I) (goes_on : T → T → Type 0) (ke
       → was.0.turn ≡ false
       → Allows (IsRuled list goes_on key) slots id me 1 (λ n. n) (looked list goes_on (step slots 1 0 0 none) me)
   looks_from slots id me was ticket is live holds off = subst
-      (λ (m : Sat T I). Allows (IsRuled list goes_on key) slots id m 1 (λ n. n) (looked list goes_on (step slots 1 0 0 none) m))
+      (λ (m : Sat T I). Allows (IsRuled list goes_on key) slots id m 1 (λ n. n)
+      (looked list goes_on (step slots 1 0 0 none) m))
       (sym is) (looks slots id was ticket live holds off)
 
 module _ {T I : Type 0} (list : T → List I) (goes_on : T → T → Type 0) where
@@ -193,7 +195,8 @@ module _ {T I : Type 0} (list : T → List I) (goes_on : T → T → Type 0) whe
   pub has_got : (slots : ℕ) (me was m' : Sat T I) (ticket found : ℕ)
       → looked list goes_on (step slots 1 0 0 none) me found m'
       → me ≡ was → was.1 ≡ [] → was.0.ticket ≡ Some ticket → ticket % 2 ^ 64 ≡ found
-      → (m'.0 ≡ with_turn m'.0.seen was.0) × ((value : T) × (m'.1 ≡ (0, Some value) ∷ []) × IsShown list goes_on was.0 m'.0.seen value)
+      → (m'.0 ≡ with_turn m'.0.seen was.0)
+      × ((value : T) × (m'.1 ≡ (0, Some value) ∷ []) × IsShown list goes_on was.0 m'.0.seen value)
   has_got slots me was m' ticket found told is empty holds same =
       let told_was : looked list goes_on (step slots 1 0 0 none) was found m' =
       subst (λ (m : Sat T I). looked list goes_on (step slots 1 0 0 none) m found m') is told in

@@ -9,33 +9,36 @@ use Rattle.atomic_table.proofs.Lists.{set_here}
 use Rattle.px_turn.specs.declared.view.Record.{Record}
 use Rattle.px_turn.specs.declared.view.Stamped.{Stamped}
 use Rattle.px_turn.specs.declared.view.View.{View}
-use Rattle.px_turn.specs.Histories.{IsFront, stamped, items, opened, positions, AreMade}
+use Rattle.px_turn.specs.Histories.{IsFront, stamped, items, opened, AreMade, HasPositions, IsMade}
 use Rattle.px_turn.specs.Views.{records, numbers, with_entry}
-use Rattle.px_turn.specs.Rule.{one_if, times, waiting, bearers, AreNumbered, Fits, IsRuled}
+use Rattle.px_turn.specs.Rule.{one_if, times, waiting, bearers, AreNumbered, Fits, IsRuled, words_of}
 use Rattle.px_turn.specs.Steps.{Sat, marked}
 use Rattle.px_turn.proofs.Totals.{one_of, two_of}
 use Rattle.px_turn.proofs.Fronts.{front_self, front_more}
 use Rattle.px_turn.proofs.Positions.{positions_own, positions_other, length_items}
-use Rattle.px_turn.proofs.Seating.{one_if_same, at_within, each_set, own_first, joined_rest, numbers_are, waiting_same, in_hand, tickets_same, numbered_same, one_has_turn}
+use Rattle.px_turn.proofs.Seating.{one_if_same, at_within, each_set, own_first, joined_rest, waiting_same, in_hand, tickets_same, numbered_same, one_has_turn, bears_own}
 use Rattle.std.proofs.lemmas.List.Elements.{All-cons, All-nil, All-head, All-tail, All-push}
 
 -- the records that don't have a number keep their positions as an entry with it is added
 records_kept : {I : Type 0} (number : ℕ) (history : List (Stamped I)) (item : I) (list : List Record)
     → times number (map (λ (r : Record). r.number) list) ≡ 0
-    → All (λ (r : Record). r.made ≡ positions r.number history) list
-    → All (λ (r : Record). r.made ≡ positions r.number (history ++ stamped (Some number) item ∷ [])) list
+    → All (HasPositions history) list
+    → All (HasPositions (history ++ stamped (Some number) item ∷ [])) list
 records_kept number history item [] none_has all = All-nil _
 records_kept number history item (r ∷ list) none_has all =
     let apart : one_if (nat_eq r.number number) ≡ 0 = omega arith in
     let rest : times number (map (λ (r : Record). r.number) list) ≡ 0 = omega arith in
-    All-cons (λ (r : Record). r.made ≡ positions r.number (history ++ stamped (Some number) item ∷ [])) r list
-    (All-head (λ (r : Record). r.made ≡ positions r.number history) r list all
-    ∙ sym (positions_other r.number number history item (λ same. let one = one_if_same r.number number (sym same) in absurd (omega arith))))
-    (records_kept number history item list rest (All-tail (λ (r : Record). r.made ≡ positions r.number history) r list all))
+    All-cons (HasPositions (history ++ stamped (Some number) item ∷ [])) r list
+    (All-head (HasPositions history) r list all
+    ∙ sym (positions_other r.number number history item
+    (λ same. let one = one_if_same r.number number (sym same) in absurd (omega arith))))
+    (records_kept number history item list rest (All-tail (HasPositions history) r list all))
 
 at_most_once : (number below borne : ℕ) → (number < below → borne ≡ 1) → (below ≤ number → borne ≡ 0) → borne ≤ 1
 at_most_once number below borne once no_other = ⊎_elim
-    (λ low. let one = once low in omega arith) (λ high. let none_has = no_other high in omega arith) (cases_lt number below)
+    (λ low. let one = once low in omega arith)
+    (λ high. let none_has = no_other high in omega arith)
+    (cases_lt number below)
 
 module _ {T I : Type 0} where
   -- a seat's number is one of those that the seats have, and no other record has it
@@ -43,46 +46,43 @@ module _ {T I : Type 0} where
       → v.live ≡ true
       → v.number < length views
   number_below views id v are at live =
-      let own : times v.number (numbers v) ≡ 1 + times v.number (map (λ r. r.number) v.joined) =
-      ap (times v.number) (numbers_are v live)
-      ∙ ap (λ n. n + times v.number (map (λ (r : Record). r.number) v.joined)) (one_if_same v.number v.number refl) in
+      let own = bears_own v v.number live refl in
       let borne = one_of (λ (u : View T I). times v.number (numbers u)) views id v at in
-      ⊎_elim (λ low. low) (λ high. let none_has = are.no_other v.number high in absurd (omega arith)) (cases_lt v.number (length views))
+      ⊎_elim (λ low. low) (λ high. let none_has = are.no_other v.number high in absurd (omega arith))
+      (cases_lt v.number (length views))
 
   none_joined : (views : List (View T I)) (id : ℕ) (v : View T I) → AreNumbered views → get_elem? views id ≡ some v
       → v.live ≡ true
       → times v.number (map (λ r. r.number) v.joined) ≡ 0
   none_joined views id v are at live =
-      let own : times v.number (numbers v) ≡ 1 + times v.number (map (λ r. r.number) v.joined) =
-      ap (times v.number) (numbers_are v live)
-      ∙ ap (λ n. n + times v.number (map (λ (r : Record). r.number) v.joined)) (one_if_same v.number v.number refl) in
+      let own = bears_own v v.number live refl in
       let borne = one_of (λ (u : View T I). times v.number (numbers u)) views id v at in
-      let one = at_most_once v.number (length views) (bearers v.number views) (are.once v.number) (are.no_other v.number) in
+      let one = at_most_once v.number (length views) (bearers v.number views) (are.once v.number)
+      (are.no_other v.number) in
       omega arith
 
   none_elsewhere : (views : List (View T I)) (id : ℕ) (v : View T I) → AreNumbered views → get_elem? views id ≡ some v
       → v.live ≡ true
       → (j : ℕ) (u : View T I) → j ≢ id → get_elem? views j ≡ some u → times v.number (numbers u) ≡ 0
   none_elsewhere views id v are at live j u apart there =
-      let own : times v.number (numbers v) ≡ 1 + times v.number (map (λ r. r.number) v.joined) =
-      ap (times v.number) (numbers_are v live)
-      ∙ ap (λ n. n + times v.number (map (λ (r : Record). r.number) v.joined)) (one_if_same v.number v.number refl) in
+      let own = bears_own v v.number live refl in
       let both = two_of (λ (x : View T I). times v.number (numbers x)) views j id u v there at apart in
-      let one = at_most_once v.number (length views) (bearers v.number views) (are.once v.number) (are.no_other v.number) in
+      let one = at_most_once v.number (length views) (bearers v.number views) (are.once v.number)
+      (are.no_other v.number) in
       omega arith
 
   -- the own records after the entry
   own_records : (history : List (Stamped I)) (item : I) (v : View T I) → v.live ≡ true → v.seen ≡ history
       → times v.number (map (λ r. r.number) v.joined) ≡ 0
-      → All (λ (r : Record). r.made ≡ positions r.number history) (records v)
-      → All (λ (r : Record). r.made ≡ positions r.number (history ++ stamped (Some v.number) item ∷ [])) (records (with_entry item v))
+      → All (HasPositions history) (records v)
+      → All (HasPositions (history ++ stamped (Some v.number) item ∷ [])) (records (with_entry item v))
   own_records history item v live seen none_has all = rw live (All-cons
-      (λ (r : Record). r.made ≡ positions r.number (history ++ stamped (Some v.number) item ∷ []))
+      (HasPositions (history ++ stamped (Some v.number) item ∷ []))
       (record { number = v.number; made = v.made ++ length v.seen ∷ [] }) v.joined
       (ap (λ (l : List (Stamped I)). v.made ++ length l ∷ []) seen
-      ∙ ap (λ places. places ++ length history ∷ []) (own_first (λ (r : Record). r.made ≡ positions r.number history) v live all)
+      ∙ ap (λ places. places ++ length history ∷ []) (own_first (HasPositions history) v live all)
       ∙ sym (positions_own v.number history item))
-      (records_kept v.number history item v.joined none_has (joined_rest (λ (r : Record). r.made ≡ positions r.number history) v live all)))
+      (records_kept v.number history item v.joined none_has (joined_rest (HasPositions history) v live all)))
 
   same_numbers : (item : I) (v : View T I) → v.live ≡ true → numbers (with_entry item v) ≡ numbers v
   same_numbers item v live = rw live refl
@@ -110,8 +110,8 @@ module _ {T I : Type 0} (list : T → List I) (goes_on : T → T → Type 0) (ke
         later = ruled.later ++ e ∷ [];
         served = ruled.served;
         words = ap (λ ws. set ws 2 ((get_or s.words 2 0 + 1) % 2 ^ 64)) ruled.words
-            ∙ ap (λ n. ((ruled.served + waiting s.views) % 2 ^ 64) ∷ (ruled.served % 2 ^ 64) ∷ n ∷ []) next
-            ∙ ap (λ n. ((ruled.served + n) % 2 ^ 64) ∷ (ruled.served % 2 ^ 64) ∷ length history ∷ []) (sym wait);
+            ∙ ap (words_of ruled.served (waiting s.views)) next
+            ∙ ap (λ n. words_of ruled.served n (length history)) (sym wait);
         few = omega arith;
         tickets = tickets_same ruled.served s.views id v w at refl ruled.tickets;
         numbered = numbered_same s.views id v w at (same_numbers item v live) refl refl refl ruled.numbered;
@@ -141,7 +141,7 @@ module _ {T I : Type 0} (list : T → List I) (goes_on : T → T → Type 0) (ke
         at_home = λ none_has. absurd (one_has_turn s.views id v w at has none_has);
         begins = ap (λ l. l ++ e ∷ []) ruled.begins ∙ append_assoc (opened (list key)) ruled.later (e ∷ []);
         makers = subst (λ n. AreMade n (ruled.later ++ e ∷ [])) (sym (length-set s.views id w))
-            (All-push (λ (x : Stamped I). (n : ℕ) × (x.maker ≡ Some n) × (n < length s.views)) ruled.later e ruled.makers
+            (All-push (IsMade (length s.views)) ruled.later e ruled.makers
             (v.number, refl, number_below s.views id v ruled.numbered at live));
       }
 
@@ -154,7 +154,9 @@ module _ {T I : Type 0} (list : T → List I) (goes_on : T → T → Type 0) (ke
     keeps,
     tt,
     marked_ruled s ruled id me item at live has few,
-    λ other is_other. let same : value ≡ other = in_hand value other me.1 hand is_other in (item, ap list (sym same) ∙ stands, refl),
+    λ other is_other.
+        let same : value ≡ other = in_hand value other me.1 hand is_other in
+        (item, ap list (sym same) ∙ stands, refl),
   )
 
   -- with the value back in the seat's hand
@@ -163,7 +165,13 @@ module _ {T I : Type 0} (list : T → List I) (goes_on : T → T → Type 0) (ke
       → Allows (IsRuled list goes_on key) slots id me 2 (λ n. (n + 1) % 2 ^ 64) (marked list (step slots 2 1 0 none) me)
   marks_from slots id me v value item is live has stands few =
       let one_more : length (list value) ≡ length v.seen + 1 =
-      omega (arith, ap (λ (l : List I). length l) stands, length-append (items v.seen) (item ∷ []), length_items v.seen) in
+      omega (
+        arith,
+        ap (λ (l : List I). length l) stands,
+        length-append (items v.seen) (item ∷ []),
+        length_items v.seen,
+      ) in
       subst
-      (λ (m : Sat T I). Allows (IsRuled list goes_on key) slots id m 2 (λ n. (n + 1) % 2 ^ 64) (marked list (step slots 2 1 0 none) m))
+      (λ (m : Sat T I). Allows (IsRuled list goes_on key) slots id m 2 (λ n. (n + 1) % 2 ^ 64)
+      (marked list (step slots 2 1 0 none) m))
       (sym is) (marks slots id (v, (0, Some value) ∷ []) value item live has refl stands (omega arith))

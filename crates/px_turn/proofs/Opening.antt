@@ -3,10 +3,8 @@ use Rattle.std.proofs.Common.{◌≡◌, ℕ, zero, suc, ◌+◌, ◌^◌, ◌<�
 use mathlib.Core.Option.{some, some-injective, some-ne-none}
 use lib.ListN.{get_elem?}
 use Rattle.atomic_table.specs.Table.{opening}
-use Rattle.px_turn.specs.declared.view.Record.{Record}
-use Rattle.px_turn.specs.declared.view.Stamped.{Stamped}
 use Rattle.px_turn.specs.declared.view.View.{View}
-use Rattle.px_turn.specs.Histories.{opened, positions}
+use Rattle.px_turn.specs.Histories.{opened, HasPositions, IsMade}
 use Rattle.px_turn.specs.Views.{newcomer}
 use Rattle.px_turn.specs.Rule.{AreNumbered, Fits, IsRuled}
 use Rattle.px_turn.proofs.Fronts.{front_self, front_none}
@@ -22,8 +20,8 @@ module _ {T I : Type 0} (list : T → List I) (goes_on : T → T → Type 0) whe
     seen = front_self (opened (list key));
     told = front_none (opened (list key));
     known = omega arith;
-    made = All-cons (λ (r : Record). r.made ≡ positions r.number (opened (list key))) (record { number = 0; made = [] }) []
-        (sym (positions_opened 0 0 (list key))) (All-nil (λ (r : Record). r.made ≡ positions r.number (opened (list key))));
+    made = All-cons (HasPositions (opened (list key))) (record { number = 0; made = [] }) []
+        (sym (positions_opened 0 0 (list key))) (All-nil (HasPositions (opened (list key))));
     opening = λ live. refl;
   }
 
@@ -37,7 +35,8 @@ module _ {T I : Type 0} (list : T → List I) (goes_on : T → T → Type 0) whe
     once = λ number low. let here = one_if_same 0 number (omega arith) in omega arith;
     no_other = λ number high. let here = one_if_other 0 number (λ same. absurd (omega arith)) in omega arith;
     recorded = refl;
-    first = λ v at. subst (λ (x : View T I). (x.live ≡ true) × (x.number ≡ 0) × (x.splits + 1 ≡ 1)) (one_seat key 0 v at) (refl, refl, refl);
+    first = λ v at. subst (λ (x : View T I). (x.live ≡ true) × (x.number ≡ 0) × (x.splits + 1 ≡ 1))
+        (one_seat key 0 v at) (refl, refl, refl);
   }
 
   pub opens : (key value : T) (count : ℕ) (slots : List (Option T)) → key ≡ value → slots ≡ Some value ∷ []
@@ -53,9 +52,14 @@ module _ {T I : Type 0} (list : T → List I) (goes_on : T → T → Type 0) whe
         served = 0;
         words = ap (λ n. 0 ∷ 0 ∷ n ∷ []) same_count;
         few = omega arith;
-        tickets = record { below = λ ticket low. refl; between = λ ticket low high. absurd (omega arith); above = λ ticket high. refl };
+        tickets = record {
+          below = λ ticket low. refl;
+          between = λ ticket low high. absurd (omega arith);
+          above = λ ticket high. refl;
+        };
         numbered = numbered_first key;
-        each = λ j v at. subst (λ (x : View T I). Fits key (opened (list key)) 0 x) (one_seat key j v at) (first_fits key);
+        each = λ j v at. subst (λ (x : View T I). Fits key (opened (list key)) 0 x) (one_seat key j v at)
+            (first_fits key);
         longest = (0, (newcomer list key, refl, refl));
         at_home = λ none_has. record {
           value = value;
@@ -64,5 +68,5 @@ module _ {T I : Type 0} (list : T → List I) (goes_on : T → T → Type 0) whe
           goes_on_with = subst (λ x. goes_on x value) (sym is) stays;
         };
         begins = sym (append-nil (opened (list key)));
-        makers = All-nil (λ (e : Stamped I). (n : ℕ) × (e.maker ≡ Some n) × (n < 1));
+        makers = All-nil (IsMade 1);
       }

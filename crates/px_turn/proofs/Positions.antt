@@ -1,9 +1,9 @@
 -- Where a number stands in a history.
-use Rattle.std.proofs.Common.{◌≡◌, ◌≢◌, ℕ, suc, ◌+◌, ◌<◌, ◌≤◌, Bool, true, false, if◌then◌else◌, List, [], ◌∷◌, ◌++◌, length, Some, refl, sym, ap, ◌∙◌, arith, add-zero, append-nil, eq-eqb, ne_eqb}
+use Rattle.std.proofs.Common.{◌≡◌, ◌≢◌, ℕ, suc, ◌+◌, ◌≤◌, Bool, true, false, if◌then◌else◌, List, [], ◌∷◌, ◌++◌, length, Some, refl, sym, ap, ◌∙◌, arith, add-zero, append-nil, eq-eqb, ne_eqb}
 use mathlib.Core.List.{map-append}
 use Rattle.std.proofs.lemmas.List.Elements.{All-head, All-tail}
 use Rattle.px_turn.specs.declared.view.Stamped.{Stamped}
-use Rattle.px_turn.specs.Histories.{stamped, items, opened, is_number, positions_from, positions, AreMade}
+use Rattle.px_turn.specs.Histories.{stamped, items, opened, is_number, positions_from, positions, IsMade, AreMade}
 
 -- the place of an entry, where it carries a number
 abbrev place_if : Bool → ℕ → List ℕ
@@ -54,19 +54,16 @@ module _ {I : Type 0} where
   positions_opened number at [] = refl
   positions_opened number at (x ∷ list) = positions_opened number (at + 1) list
 
-  abbrev made_below : ℕ → Stamped I → Type 0
-  made_below below e = (n : ℕ) × (e.maker ≡ Some n) × (n < below)
-
   -- nor does an entry of which all carry smaller ones
   positions_made : (number below at : ℕ) (later : List (Stamped I)) → below ≤ number → AreMade below later
       → positions_from number at later ≡ []
   positions_made number below at [] high made = refl
   positions_made number below at (e ∷ later) high made =
-      let here : (n : ℕ) × (e.maker ≡ Some n) × (n < below) = All-head (made_below below) e later made in
+      let here : IsMade below e = All-head (IsMade below) e later made in
       let other : is_number e.maker number ≡ false =
       ap (λ maker. is_number maker number) here.1 ∙ ne_eqb here.0 number (λ same. absurd (omega (arith, here.2))) in
       ap (λ b. if b then at ∷ positions_from number (at + 1) later else positions_from number (at + 1) later) other
-      ∙ positions_made number below (at + 1) later high (All-tail (made_below below) e later made)
+      ∙ positions_made number below (at + 1) later high (All-tail (IsMade below) e later made)
 
   -- a number that no entry carries
   pub positions_none : (number below : ℕ) (list : List I) (at : ℕ) (later : List (Stamped I)) → below ≤ number

@@ -1,5 +1,5 @@
 -- What a step keeps that changes the view of one seat.
-use Rattle.std.proofs.Common.{unwrap_or, ◌≡◌, ◌≢◌, ℕ, zero, suc, ◌+◌, ◌<◌, true, false, is_some, nat_eq, List, [], ◌∷◌, map, length, set, get_or, Option, Some, None, IfSome, refl, sym, ap, ◌∙◌, subst, ⊎_elim, arith, length-set, eq-eqb, ne_eqb, All}
+use Rattle.std.proofs.Common.{unwrap_or, ◌≡◌, ◌≢◌, ℕ, zero, suc, ◌+◌, ◌<◌, true, false, is_some, nat_eq, List, [], ◌∷◌, map, length, set, get_or, Option, Some, refl, sym, ap, ◌∙◌, subst, ⊎_elim, arith, length-set, eq-eqb, ne_eqb, All}
 use mathlib.Core.Logic.{dite}
 use mathlib.Core.Option.{some, some-injective, some-ne-none}
 use native.Mathlib.Decide.{ℕ_discrete}
@@ -58,13 +58,23 @@ module _ {T I : Type 0} where
   pub joined_rest : (P : Record → Type 0) (v : View T I) → v.live ≡ true → All P (records v) → All P v.joined
   joined_rest P v live all = All-tail P (record_of v) v.joined (rw live at all)
 
+  pub numbers_are : (v : View T I) → v.live ≡ true → numbers v ≡ v.number ∷ map (λ r. r.number) v.joined
+  numbers_are v live = rw live refl
+
+  -- a live seat has its number, and who holds a ticket holds it
+  pub bears_own : (v : View T I) (number : ℕ) → v.live ≡ true → v.number ≡ number
+      → times number (numbers v) ≡ 1 + times number (map (λ r. r.number) v.joined)
+  bears_own v number live is =
+      ap (times number) (numbers_are v live)
+      ∙ ap (λ n. n + times number (map (λ (r : Record). r.number) v.joined)) (one_if_same v.number number is)
+
+  pub holds_own : (v : View T I) (ticket : ℕ) → v.ticket ≡ Some ticket → one_if (is_number v.ticket ticket) ≡ 1
+  holds_own v ticket holds = ap (λ k. one_if (is_number k ticket)) holds ∙ one_if_same ticket ticket refl
+
   -- the value at the opening, as two have it
   pub same_opening : (v : View T I) (key opening : T) (P : T → Type 0) → v.opening ≡ Some key
       → v.opening ≡ Some opening → P key → P opening
   same_opening v key opening P is is_too holds = subst P (ap (λ o. unwrap_or o key) (sym is ∙ is_too)) holds
-
-  pub numbers_are : (v : View T I) → v.live ≡ true → numbers v ≡ v.number ∷ map (λ r. r.number) v.joined
-  numbers_are v live = rw live refl
 
   pub waiting_same : (views : List (View T I)) (id : ℕ) (v w : View T I) → get_elem? views id ≡ some v
       → w.ticket ≡ v.ticket
@@ -144,7 +154,8 @@ module _ {T I : Type 0} where
       (cs : List (ℕ × Option T)) (v : View T I)
       → get_elem? s.views id ≡ some v → IsRuled list goes_on key s
       → IsRuled list goes_on key (stepped s i (get_or s.words i 0) id cs v keeps)
-  unmoved list goes_on key s i id cs v at ruled = subst (λ (x : State (Option T) (View T I)). IsRuled list goes_on key x)
+  unmoved list goes_on key s i id cs v at ruled = subst
+      (λ (x : State (Option T) (View T I)). IsRuled list goes_on key x)
       (λ k. record {
         words = sym (set-get_or s.words i 0) k;
         homes = s.homes;

@@ -1,21 +1,19 @@
 -- A seat is split from the first one.
-use Rattle.std.proofs.Common.{◌≡◌, ℕ, ◌+◌, ◌%◌, ◌^◌, ◌<◌, true, is_some, nat_eq, List, [], ◌∷◌, ◌++◌, map, length, set, Some, refl, sym, ap, ◌∙◌, subst, ⊎_elim, arith, length-set, length-append}
+use Rattle.std.proofs.Common.{◌≡◌, ℕ, ◌+◌, ◌<◌, true, is_some, nat_eq, List, [], ◌∷◌, ◌++◌, length, set, refl, sym, ap, ◌∙◌, subst, ⊎_elim, arith, length-set, length-append}
 use mathlib.Core.Logic.{dite}
 use mathlib.Core.Option.{some}
 use native.Mathlib.Decide.{ℕ_discrete}
 use lib.ListN.{get_elem?}
 use Rattle.atomic_table.specs.Table.{Splits}
 use Rattle.atomic_table.proofs.Lists.{set_here, at_snoc, at_longer}
-use Rattle.px_turn.specs.declared.view.Record.{Record}
-use Rattle.px_turn.specs.declared.view.Stamped.{Stamped}
 use Rattle.px_turn.specs.declared.view.View.{View}
-use Rattle.px_turn.specs.Histories.{is_number, positions, AreMade}
+use Rattle.px_turn.specs.Histories.{is_number, positions, AreMade, HasPositions, IsMade}
 use Rattle.px_turn.specs.Views.{numbers, split_once_more, split_off}
-use Rattle.px_turn.specs.Rule.{one_if, times, waiting, holders, bearers, AreTickets, AreNumbered, Fits, IsRuled}
+use Rattle.px_turn.specs.Rule.{one_if, times, waiting, holders, bearers, AreTickets, AreNumbered, Fits, IsRuled, words_of}
 use Rattle.px_turn.proofs.Totals.{total_same, total_more, two_of}
 use Rattle.px_turn.proofs.Fronts.{front_none}
 use Rattle.px_turn.proofs.Positions.{positions_none}
-use Rattle.px_turn.proofs.Seating.{one_if_same, one_if_other, at_within, one_there, one_only, each_set, numbers_are, waiting_same, longest_set, no_turn_before}
+use Rattle.px_turn.proofs.Seating.{one_if_same, one_if_other, at_within, one_there, one_only, each_set, waiting_same, longest_set, no_turn_before, bears_own}
 use Rattle.std.proofs.lemmas.List.Elements.{All-nil, All-cons, All-weaker}
 
 module _ {T I : Type 0} where
@@ -27,37 +25,42 @@ module _ {T I : Type 0} where
       let inside = at_within views id v at in
       let head = one_there views 0 (omega arith) in
       let first = are.first head.0 head.1 in
-      let own : times 0 (numbers v) ≡ 1 + times 0 (map (λ r. r.number) v.joined) =
-      ap (times 0) (numbers_are v live) ∙ ap (λ n. n + times 0 (map (λ (r : Record). r.number) v.joined)) (one_if_same v.number 0 zero_is) in
-      let other : times 0 (numbers head.0) ≡ 1 + times 0 (map (λ r. r.number) head.0.joined) =
-      ap (times 0) (numbers_are head.0 first.0)
-      ∙ ap (λ n. n + times 0 (map (λ (r : Record). r.number) head.0.joined)) (one_if_same head.0.number 0 first.1) in
+      let own = bears_own v 0 live zero_is in
+      let other = bears_own head.0 0 first.0 first.1 in
       let both = two_of (λ (x : View T I). times 0 (numbers x)) views 0 id head.0 v head.1 at apart in
       let one = are.once 0 (omega arith) in
       absurd (omega arith))
 
+-- the seats after a split
+abbrev with_split : {T I : Type 0} → List (View T I) → ℕ → View T I → List (View T I)
+with_split views id v = set views id (split_once_more v) ++ split_off v ∷ []
+
 module _ {T I : Type 0} (views : List (View T I)) (id : ℕ) (v : View T I) (at : get_elem? views id ≡ some v) where
-  abbrev after : List (View T I)
-  after = set views id (split_once_more v) ++ split_off v ∷ []
+  pub long_after : length (with_split views id v) ≡ length views + 1
+  long_after = omega (
+    arith,
+    length-append (set views id (split_once_more v)) (split_off v ∷ []),
+    length-set views id (split_once_more v),
+  )
 
-  pub long_after : length (set views id (split_once_more v) ++ split_off v ∷ []) ≡ length views + 1
-  long_after = omega (arith, length-append (set views id (split_once_more v)) (split_off v ∷ []), length-set views id (split_once_more v))
-
-  pub waiting_after : waiting (set views id (split_once_more v) ++ split_off v ∷ []) ≡ waiting views
+  pub waiting_after : waiting (with_split views id v) ≡ waiting views
   waiting_after =
-      let more = total_more (λ (u : View T I). one_if (is_some u.ticket)) (set views id (split_once_more v)) (split_off v) in
+      let more = total_more (λ (u : View T I). one_if (is_some u.ticket)) (set views id (split_once_more v))
+      (split_off v) in
       let same = waiting_same views id v (split_once_more v) at refl in
       omega arith
 
   holders_after : (ticket : ℕ)
-      → holders ticket (set views id (split_once_more v) ++ split_off v ∷ []) ≡ holders ticket views
+      → holders ticket (with_split views id v) ≡ holders ticket views
   holders_after ticket =
-      let more = total_more (λ (u : View T I). one_if (is_number u.ticket ticket)) (set views id (split_once_more v)) (split_off v) in
-      let same = total_same (λ (u : View T I). one_if (is_number u.ticket ticket)) views id v (split_once_more v) at refl in
+      let more = total_more (λ (u : View T I). one_if (is_number u.ticket ticket))
+      (set views id (split_once_more v)) (split_off v) in
+      let same = total_same (λ (u : View T I). one_if (is_number u.ticket ticket)) views id v (split_once_more v) at
+      refl in
       omega arith
 
   pub tickets_after : (served : ℕ) → AreTickets served views
-      → AreTickets served (set views id (split_once_more v) ++ split_off v ∷ [])
+      → AreTickets served (with_split views id v)
   tickets_after served are = let wait = waiting_after in record {
     below = λ ticket low. holders_after ticket ∙ are.below ticket low;
     between = λ ticket low high. holders_after ticket ∙ are.between ticket low (omega arith);
@@ -65,14 +68,15 @@ module _ {T I : Type 0} (views : List (View T I)) (id : ℕ) (v : View T I) (at 
   }
 
   bearers_after : (number : ℕ)
-      → bearers number (set views id (split_once_more v) ++ split_off v ∷ []) ≡ bearers number views + one_if (nat_eq (v.splits + 1) number)
+      → bearers number (with_split views id v) ≡ bearers number views + one_if (nat_eq (v.splits + 1) number)
   bearers_after number =
-      let more = total_more (λ (u : View T I). times number (numbers u)) (set views id (split_once_more v)) (split_off v) in
+      let more = total_more (λ (u : View T I). times number (numbers u)) (set views id (split_once_more v))
+      (split_off v) in
       let same = total_same (λ (u : View T I). times number (numbers u)) views id v (split_once_more v) at refl in
       omega arith
 
   pub numbered_after : AreNumbered views → 0 ≡ id → v.splits < 7
-      → AreNumbered (set views id (split_once_more v) ++ split_off v ∷ [])
+      → AreNumbered (with_split views id v)
   numbered_after are first_is room =
       let was = are.first v (ap (λ k. get_elem? views k) first_is ∙ at) in
       let splits = was.2 in
@@ -81,22 +85,30 @@ module _ {T I : Type 0} (views : List (View T I)) (id : ℕ) (v : View T I) (at 
         few = omega arith;
         once = λ number low. let borne = bearers_after number in
             dite (ℕ_discrete (v.splits + 1) number)
-            (λ same. let here = one_if_same (v.splits + 1) number same in let before = are.no_other number (omega arith) in omega arith)
-            (λ apart. let here = one_if_other (v.splits + 1) number apart in let before = are.once number (omega arith) in omega arith);
+            (λ same.
+            let here = one_if_same (v.splits + 1) number same in
+            let before = are.no_other number (omega arith) in
+            omega arith)
+            (λ apart.
+            let here = one_if_other (v.splits + 1) number apart in
+            let before = are.once number (omega arith) in
+            omega arith);
         no_other = λ number high. let borne = bearers_after number in
             let here = one_if_other (v.splits + 1) number (λ same. absurd (omega arith)) in
             let before = are.no_other number (omega arith) in
             omega arith;
         recorded =
-            let more = total_more (λ (u : View T I). length (numbers u)) (set views id (split_once_more v)) (split_off v) in
+            let more = total_more (λ (u : View T I). length (numbers u)) (set views id (split_once_more v))
+            (split_off v) in
             let same = total_same (λ (u : View T I). length (numbers u)) views id v (split_once_more v) at refl in
             let before = are.recorded in
             omega arith;
         first = λ u there.
             let here : get_elem? (set views id (split_once_more v)) 0 ≡ some (split_once_more v) =
-            ap (λ k. get_elem? (set views id (split_once_more v)) k) first_is ∙ set_here views id (split_once_more v) (at_within views id v at) in
+            ap (λ k. get_elem? (set views id (split_once_more v)) k) first_is
+            ∙ set_here views id (split_once_more v) (at_within views id v at) in
             let is : split_once_more v ≡ u =
-            one_only (set views id (split_once_more v) ++ split_off v ∷ []) 0 0 (split_once_more v) u
+            one_only (with_split views id v) 0 0 (split_once_more v) u
             (at_longer (set views id (split_once_more v)) (split_off v ∷ []) 0 (split_once_more v) here) there refl in (
               ap (λ (x : View T I). x.live) (sym is) ∙ was.0,
               ap (λ (x : View T I). x.number) (sym is) ∙ was.1,
@@ -124,7 +136,7 @@ module _ {T I : Type 0} (list : T → List I) (goes_on : T → T → Type 0) (ke
         later = ruled.later;
         served = ruled.served;
         words = ruled.words
-            ∙ ap (λ n. ((ruled.served + n) % 2 ^ 64) ∷ (ruled.served % 2 ^ 64) ∷ length ruled.history ∷ []) (sym (waiting_after s.views id v at));
+            ∙ ap (λ n. words_of ruled.served n (length ruled.history)) (sym (waiting_after s.views id v at));
         few = ruled.few;
         tickets = tickets_after s.views id v at ruled.served ruled.tickets;
         numbered = numbered_after s.views id v at ruled.numbered first_is room;
@@ -146,8 +158,8 @@ module _ {T I : Type 0} (list : T → List I) (goes_on : T → T → Type 0) (ke
               seen = fits.seen;
               told = front_none ruled.history;
               known = fits.known;
-              made = All-cons (λ (r : Record). r.made ≡ positions r.number ruled.history) (record { number = v.splits + 1; made = [] }) []
-                  (sym none_made) (All-nil (λ (r : Record). r.made ≡ positions r.number ruled.history));
+              made = All-cons (HasPositions ruled.history) (record { number = v.splits + 1; made = [] }) []
+                  (sym none_made) (All-nil (HasPositions ruled.history));
               opening = λ _. fits.opening live;
             })
             (at_snoc changed u x j there);
@@ -158,7 +170,7 @@ module _ {T I : Type 0} (list : T → List I) (goes_on : T → T → Type 0) (ke
             record { value = home.value; home = home.home; stands = home.stands; goes_on_with = home.goes_on_with };
         begins = ruled.begins;
         makers = subst (λ n. AreMade n ruled.later) (sym long)
-            (All-weaker (λ (e : Stamped I). (n : ℕ) × (e.maker ≡ Some n) × (n < length s.views))
-            (λ (e : Stamped I). (n : ℕ) × (e.maker ≡ Some n) × (n < length s.views + 1))
+            (All-weaker (IsMade (length s.views))
+            (IsMade (length s.views + 1))
             (λ e made. let low = made.2 in (made.0, made.1, omega arith)) ruled.later ruled.makers);
       }

@@ -14,8 +14,8 @@ use Rattle.px_turn.proofs.Totals.{total_set}
 use Rattle.px_turn.proofs.Seating.{one_if_same, one_if_other, each_set, numbered_same, longest_set, no_turn_before}
 
 -- the next ticket is held by whoever takes it, and by nobody else
-module _ {T I : Type 0} (served : ℕ) (views : List (View T I)) (id : ℕ) (v : View T I) (at : get_elem? views id ≡ some v)
-    (no_ticket : v.ticket ≡ None) (are : AreTickets served views) where
+module _ {T I : Type 0} (served : ℕ) (views : List (View T I)) (id : ℕ) (v : View T I)
+    (at : get_elem? views id ≡ some v) (no_ticket : v.ticket ≡ None) (are : AreTickets served views) where
   next : ℕ
   next = served + waiting views
 
@@ -28,7 +28,8 @@ module _ {T I : Type 0} (served : ℕ) (views : List (View T I)) (id : ℕ) (v :
   holders_more : (ticket other : ℕ)
       → holders other (set views id (with_ticket ticket v)) ≡ holders other views + one_if (nat_eq ticket other)
   holders_more ticket other =
-      let changed = total_set (λ (u : View T I). one_if (is_number u.ticket other)) views id v (with_ticket ticket v) at in
+      let changed = total_set (λ (u : View T I). one_if (is_number u.ticket other)) views id v (with_ticket ticket v)
+      at in
       let none_held : one_if (is_number v.ticket other) ≡ 0 = ap (λ k. one_if (is_number k other)) no_ticket in
       omega arith
 
@@ -42,7 +43,10 @@ module _ {T I : Type 0} (served : ℕ) (views : List (View T I)) (id : ℕ) (v :
     between = λ other low high. let held = holders_more ticket other in
         dite (ℕ_discrete ticket other)
         (λ same. let here = one_if_same ticket other same in let before = are.above other (omega arith) in omega arith)
-        (λ apart. let here = one_if_other ticket other apart in let before = are.between other low (omega arith) in omega arith);
+        (λ apart.
+        let here = one_if_other ticket other apart in
+        let before = are.between other low (omega arith) in
+        omega arith);
     above = λ other high. let held = holders_more ticket other in
         let here = one_if_other ticket other (λ same. absurd (omega arith)) in
         let before = are.above other (omega arith) in
@@ -56,9 +60,11 @@ module _ {T I : Type 0} (list : T → List I) (goes_on : T → T → Type 0) (ke
       let ticket : ℕ = ruled.served + waiting s.views in
       let w : View T I = with_ticket ticket me.0 in
       let fits = ruled.each id me.0 at in
-      let more : waiting (set s.views id w) ≡ waiting s.views + 1 = waiting_more ruled.served s.views id me.0 at no_ticket ruled.tickets ticket in
+      let more : waiting (set s.views id w) ≡ waiting s.views + 1 =
+      waiting_more ruled.served s.views id me.0 at no_ticket ruled.tickets ticket in
       let found : get_or s.words 0 0 ≡ ticket % 2 ^ 64 = ap (λ ws. get_or ws 0 0) ruled.words in
-      let next : (get_or s.words 0 0 + 1) % 2 ^ 64 ≡ (ruled.served + waiting (set s.views id w)) % 2 ^ 64 = omega arith in (
+      let next : (get_or s.words 0 0 + 1) % 2 ^ 64 ≡ (ruled.served + waiting (set s.views id w)) % 2 ^ 64 =
+      omega arith in (
         w,
         keeps,
         tt,

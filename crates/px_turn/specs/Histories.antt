@@ -2,6 +2,7 @@
 -- opening.
 use Rattle.std.specs.Prelude.{◌≡◌, ℕ, ◌+◌, ◌<◌, Bool, false, nat_eq, ltb, if◌then◌else◌, List, [], ◌∷◌, ◌++◌, map, length, Option, Some, None}
 use Rattle.std.specs.List.{All}
+use Rattle.px_turn.specs.declared.view.Record.{Record}
 use Rattle.px_turn.specs.declared.view.Stamped.{Stamped}
 
 module _ {A : Type 0} where
@@ -44,6 +45,14 @@ module _ {I : Type 0} where
   abbrev pub positions : ℕ → List (Stamped I) → List ℕ
   positions number history = positions_from number 0 history
 
-  -- each entry carries a number, and one below this
+  -- the record has the positions of the entries that carry its number
+  abbrev pub HasPositions : List (Stamped I) → Record → Type 0
+  HasPositions history r = r.made ≡ positions r.number history
+
+  -- an entry carries a number, and one below this
+  abbrev pub IsMade : ℕ → Stamped I → Type 0
+  IsMade below e = (number : ℕ) × (e.maker ≡ Some number) × (number < below)
+
+  -- each entry does
   abbrev pub AreMade : ℕ → List (Stamped I) → Type 0
-  AreMade below history = All (λ e. (number : ℕ) × (e.maker ≡ Some number) × (number < below)) history
+  AreMade below history = All (IsMade below) history

@@ -4,10 +4,9 @@ use Rattle.std.specs.List.{All}
 use mathlib.Core.Option.{some}
 use lib.ListN.{get_elem?}
 use Rattle.atomic_table.specs.Table.{State}
-use Rattle.px_turn.specs.declared.view.Record.{Record}
 use Rattle.px_turn.specs.declared.view.Stamped.{Stamped}
 use Rattle.px_turn.specs.declared.view.View.{View}
-use Rattle.px_turn.specs.Histories.{IsFront, is_number, items, opened, positions, AreMade}
+use Rattle.px_turn.specs.Histories.{IsFront, is_number, items, opened, AreMade, HasPositions}
 use Rattle.px_turn.specs.Views.{records, numbers}
 
 -- 1 where it is so
@@ -18,6 +17,10 @@ one_if b = if b then 1 else 0
 abbrev pub times : ℕ → List ℕ → ℕ
 times number [] = 0
 times number (other ∷ list) = one_if (nat_eq other number) + times number list
+
+-- TICKET, SERVING and COUNT, while so many tickets are held from the one that is served on
+abbrev pub words_of : ℕ → ℕ → ℕ → List ℕ
+words_of served held count = ((served + held) % 2 ^ 64) ∷ (served % 2 ^ 64) ∷ count ∷ []
 
 module _ {A : Type 0} where
   -- f of each, added up
@@ -63,7 +66,7 @@ module _ {T I : Type 0} where
     pub seen : IsFront v.seen history
     pub told : IsFront v.told history
     pub known : v.known ≤ length history
-    pub made : All (λ (r : Record). r.made ≡ positions r.number history) (records v)
+    pub made : All (HasPositions history) (records v)
     pub opening : v.live ≡ true → v.opening ≡ Some key
 
   abbrev pub HaveNoTurn : List (View T I) → Type 0
@@ -77,12 +80,13 @@ module _ {T I : Type 0} where
       pub stands : list value ≡ items history
       pub goes_on_with : goes_on key value
 
+    -- The history is that of the opening and what seats have made since. COUNT is its length, the tickets are served in
+    -- order, and where nobody has the turn the value in the slot stands for it.
     pub record IsRuled (s : State (Option T) (View T I)) : Type 0 where
       pub history : List (Stamped I)
       pub later : List (Stamped I)
       pub served : ℕ
-      pub words : s.words
-          ≡ ((served + waiting s.views) % 2 ^ 64) ∷ (served % 2 ^ 64) ∷ length history ∷ []
+      pub words : s.words ≡ words_of served (waiting s.views) (length history)
       pub few : length history < 2 ^ 63
       pub tickets : AreTickets served s.views
       pub numbered : AreNumbered s.views

@@ -1,12 +1,11 @@
 -- Seats, as contracts speak of them.
-use Rattle.std.specs.Prelude.{Some, ◌≡◌, ℕ, ◌+◌, ◌≤◌, true, false, List, [], ◌∷◌, ◌++◌, Option, None, IfSome, length}
+use Rattle.std.specs.Prelude.{Some, ◌≡◌, ℕ, ◌+◌, ◌≤◌, true, false, List, [], ◌∷◌, ◌++◌, Option, None, length}
 use Rattle.std.specs.List.{All}
 use Rattle.atomic_table.specs.Seated.{TableId}
 use Rattle.atomic_table.specs.declared.shared.Seat.{Seat}
-use Rattle.px_turn.specs.declared.view.Record.{Record}
 use Rattle.px_turn.specs.declared.view.Stamped.{Stamped}
 use Rattle.px_turn.specs.declared.view.View.{View}
-use Rattle.px_turn.specs.Histories.{items, opened, positions, AreMade}
+use Rattle.px_turn.specs.Histories.{items, opened, AreMade, HasPositions}
 use Rattle.px_turn.specs.Views.{records, numbers, GoesOn}
 use Rattle.px_turn.specs.Rule.{times}
 
@@ -36,5 +35,5 @@ module _ {T I : Type 0} where
     pub known : v.known ≤ length v.seen
     pub begins : (opening : T) → v.opening ≡ Some opening → v.seen ≡ opened (list opening) ++ later
     pub makers : AreMade (v.splits + 1) later
-    pub made : All (λ (r : Record). r.made ≡ positions r.number v.seen) (records v)
+    pub made : All (HasPositions v.seen) (records v)
     pub once : (number : ℕ) → number ≤ v.splits → times number (numbers v) ≡ 1

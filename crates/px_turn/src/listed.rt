@@ -1,8 +1,8 @@
 // Values that stand for lists.
 ghost use Rattle.std.specs.Prelude.{◌≡◌, ◌<◌, ◌^◌, List, length};
 
-/// A value that stands for a list of entries, of which there are fewer than 2^63. The list only grows as a value is
-/// gone on with: `goes_on` says of which value another is a continuation.
+/// A value that stands for a list of entries, of which there are fewer than 2^63. `goes_on` says of which value another
+/// is a continuation, and so what is kept of the opening.
 pub trait Listed {
     /// An entry of the list.
     type Item;

@@ -1,5 +1,6 @@
 // Threads that really take turns.
-ghost use Rattle.std.specs.Prelude.{◌≡◌, ◌≢◌, ◌+◌, ◌<◌, ◌≤◌, [], length, vec_len, All, IfOk};
+ghost use Rattle.std.specs.Prelude.{◌≡◌, ◌+◌, ◌-◌, ◌<◌, ◌≤◌, [], length, IfOk};
+ghost use Rattle.std.specs.Thread.{IsSync};
 ghost use Rattle.px_turn.specs.Seats.{view, IsSeatOf, IsOut};
 
 use crate::listed::Listed;
@@ -31,16 +32,6 @@ impl Listed for Book {
     }
 
     ghost stays = { λ book. tt };
-}
-
-// Who makes entries with a seat that was split off.
-#[derive(Drop)]
-struct Caller {
-    seat: Seat<Book>,
-    number: u64,
-    ghost out: { IsOut seat },
-    ghost later: { (view seat).number ≢ 0 },
-    ghost alone: { (view seat).joined ≡ [] },
 }
 
 fn open(alloc: Global) -> Result<(Turn<Book>, Seat<Book>), AllocError>
@@ -90,66 +81,36 @@ fn work<R: Wait>(rt: &R, turn: &Turn<Book>, mut seat: Seat<Book>, caller: u64) -
     seat
 }
 
-fn work_as<R: Wait>(rt: &R, turn: &Turn<Book>, caller: Caller) -> Caller
-    requires { IsSeatOf turn.now caller.seat }
-    ensures { IsSeatOf turn.now result.seat }
-{
-    let Caller { seat, number } = caller;
-    let seat = work(rt, turn, seat, number);
-    Caller { seat, number }
-}
-
-// Each caller in a thread of its own.
-fn work_all<R: Threads + Wait + Sync>(
+// The first seat works as caller 0, and a seat for each other caller that is split from it in a thread of its own.
+fn work_in_threads<R: Threads + Wait + Sync>(
     rt: &R,
     turn: &Turn<Book>,
-    callers: Vec<Caller>,
-) -> Result<Vec<Caller>, AllocError>
-    requires { All (λ caller. IsSeatOf turn.now caller.seat) callers.items }
-    ensures { IfOk result (λ left. All (λ caller. IsSeatOf turn.now caller.seat) left.items
-        × (vec_len left ≡ vec_len callers)) }
+    mut first: Seat<Book>,
+    others: u64,
+) -> Seat<Book>
+    requires own { IsSeatOf turn.now first × IsOut first × ((view first).number ≡ 0) }
+    requires room { (view first).splits + others ≤ 7 }
+    ensures own { IsSeatOf turn.now result × IsOut result × ((view result).number ≡ 0) }
+    ensures each { length (view result).joined + (view first).splits
+        ≡ (view result).splits + length (view first).joined }
 {
-    thread::map_vec(
+    if others == 0 {
+        return work(rt, turn, first, 0);
+    }
+    let other = turn.split(&mut first);
+    let (mut first, other) = thread::join(
         rt,
-        callers,
-        &|caller: Caller| -> Caller
-            requires { IsSeatOf turn.now caller.seat }
-            ensures { IsSeatOf turn.entry.now result.seat }
-        { work_as(rt, turn, caller) },
-    )
-}
-
-// Seven callers, each with a seat that is split from the first one.
-fn split_all(
-    alloc: Global,
-    turn: &Turn<Book>,
-    first: &mut Seat<Book>,
-) -> Result<Vec<Caller>, AllocError>
-    requires own { IsSeatOf turn.now first.old × IsOut first.old }
-    requires fresh { ((view first.old).number ≡ 0) × ((view first.old).splits ≡ 0) × ((view first.old).joined ≡ []) }
-    ensures own { IsSeatOf turn.now first.new × IsOut first.new }
-    ensures split { ((view first.new).number ≡ 0) × ((view first.new).joined ≡ []) }
-    ensures callers { IfOk result (λ callers. All (λ caller. IsSeatOf turn.now caller.seat) callers.items
-        × (vec_len callers ≡ (view first.new).splits)) }
-{
-    let mut callers = Vec::with_capacity(alloc, 7)?;
-    for number in 1..8 {
-        let seat = turn.split(first);
-        callers.push_reserved(Caller { seat, number });
-    }
-    Ok(callers)
-}
-
-// Takes all seats in and hands the book out.
-fn close_all(turn: Turn<Book>, mut first: Seat<Book>, mut callers: Vec<Caller>) -> Book
-    requires own { IsSeatOf turn first × IsOut first × ((view first).number ≡ 0) }
-    requires callers { All (λ caller. IsSeatOf turn caller.seat) callers.items }
-    requires each { length (view first).joined + vec_len callers ≡ (view first).splits }
-{
-    while let Some(caller) = callers.pop() {
-        turn.join(&mut first, caller.seat);
-    }
-    turn.close(first)
+        || -> Seat<Book>
+            requires { IsSync R.row × IsSeatOf turn.now first × IsOut first × ((view first).number ≡ 0)
+                × ((view first).splits + (others - 1) ≤ 7) × (0 < others) }
+            ensures { IsSeatOf turn.entry.now result × IsOut result × ((view result).number ≡ 0)
+                × (length (view result).joined + (view first).splits
+                ≡ (view result).splits + length (view first).joined) }
+        { work_in_threads(rt, turn, first, others - 1) },
+        || work(rt, turn, other, others),
+    );
+    turn.join(&mut first, other);
+    first
 }
 
 // Whether each caller's numbers stand in the list in their order, each once, and nothing else does.
@@ -167,15 +128,9 @@ fn has_each_once(numbers: &[u64]) -> bool {
 
 #[test]
 fn eight_seats_make_each_entry_once(rt: HostRuntime) -> Result<(), Fail> {
-    let (turn, mut first) = open(rt.alloc())?;
-    let callers = split_all(rt.alloc(), &turn, &mut first)?;
-    let shared = &turn;
-    let (first, callers) = thread::join(
-        &rt,
-        || work(&rt, shared, first, 0),
-        || work_all(&rt, shared, callers),
-    );
-    let book = close_all(turn, first, callers?);
+    let (turn, first) = open(rt.alloc())?;
+    let first = work_in_threads(&rt, &turn, first, 7);
+    let book = turn.close(first);
     assert!(rt; has_each_once(book.numbers.as_slice()));
     Ok(())
 }

@@ -13,4 +13,5 @@ join_seat-requires g c = let own = c.requires.own in let other = c.requires.othe
 )
 
 pub load-requires : goal.load-requires
-load-requires g c = (c.join_seat.ensures.0 ∙ (c.requires.own.0.0 ∙ sym c.self.view_is), omega arith, compares _ _ _ _ _ _)
+load-requires g c =
+    (c.join_seat.ensures.0 ∙ (c.requires.own.0.0 ∙ sym c.self.view_is), omega arith, compares _ _ _ _ _ _)
