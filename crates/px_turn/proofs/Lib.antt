@@ -4,6 +4,7 @@ pub mod Counting
 pub mod Fronts
 pub mod Joining
 pub mod Looking
+pub mod Makers
 pub mod Marking
 pub mod Opening
 pub mod Positions

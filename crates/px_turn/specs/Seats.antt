@@ -1,5 +1,5 @@
 -- Seats, as contracts speak of them.
-use Rattle.std.specs.Prelude.{Some, ◌≡◌, ℕ, ◌+◌, ◌≤◌, true, false, List, [], ◌∷◌, ◌++◌, Option, None, length}
+use Rattle.std.specs.Prelude.{Some, ◌≡◌, ℕ, ◌+◌, ◌<◌, ◌≤◌, true, false, List, [], ◌∷◌, ◌++◌, Option, None, length}
 use Rattle.std.specs.List.{All}
 use Rattle.atomic_table.specs.Seated.{TableId}
 use Rattle.atomic_table.specs.declared.shared.Seat.{Seat}
@@ -7,7 +7,7 @@ use Rattle.px_turn.specs.declared.view.Stamped.{Stamped}
 use Rattle.px_turn.specs.declared.view.View.{View}
 use Rattle.px_turn.specs.Histories.{items, opened, AreMade, HasPositions}
 use Rattle.px_turn.specs.Views.{records, numbers, GoesOn}
-use Rattle.px_turn.specs.Rule.{times}
+use Rattle.px_turn.specs.Rule.{times, total}
 
 module _ {T I : Type 0} where
   -- what the seat knows
@@ -37,3 +37,13 @@ module _ {T I : Type 0} where
     pub makers : AreMade (v.splits + 1) later
     pub made : All (HasPositions v.seen) (records v)
     pub once : (number : ℕ) → number ≤ v.splits → times number (numbers v) ≡ 1
+
+  -- how many of its records a seat has with this position
+  abbrev pub makers_at : ℕ → View T I → ℕ
+  makers_at position v = total (λ r. times position r.made) (records v)
+
+  -- Each position behind the opening stands in just one of the records, and no other does in any.
+  pub record AreMadeOnce (list : T → List I) (v : View T I) (opening : T) : Type 0 where
+    pub before : (position : ℕ) → position < length (list opening) → makers_at position v ≡ 0
+    pub since : (position : ℕ) → length (list opening) ≤ position → position < length v.seen → makers_at position v ≡ 1
+    pub behind : (position : ℕ) → length v.seen ≤ position → makers_at position v ≡ 0

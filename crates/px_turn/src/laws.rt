@@ -1,4 +1,8 @@
 //! Laws that no other call states.
+ghost use Rattle.std.specs.Prelude.{◌≡◌, Some};
+ghost use Rattle.px_turn.specs.declared.view.View.{View};
+ghost use Rattle.px_turn.specs.Seats.{IsWhole, AreMadeOnce};
+
 use crate::listed::Listed;
 use crate::turn::{Seat, Turn};
 
@@ -11,3 +15,10 @@ pub fn across_threads<T: Listed + Send>(turn: &Turn<T>, seat: &Seat<T>) {
     asks_sync(turn);
     asks_send(seat);
 }
+
+/// What `close` tells says who made each entry: each position behind the opening is one that just one of the seats has
+/// made, and no other is one of any.
+pub fn each_made_once<T: Listed>()
+    ensures { (v : View T T.Item) (value opening : T) → IsWhole T.list T.goes_on v value → v.opening ≡ Some opening
+        → AreMadeOnce T.list v opening }
+{}

@@ -1,0 +1,135 @@
+-- Who made which position.
+use Rattle.std.proofs.Common.{◌≡◌, ℕ, zero, suc, ◌+◌, ◌<◌, ◌≤◌, Bool, true, false, nat_eq, if◌then◌else◌, List, [], ◌∷◌, ◌++◌, map, length, Option, Some, None, refl, sym, ap, ◌∙◌, arith, length-append, eq-eqb, ne_eqb, All}
+use mathlib.Core.Logic.{dite}
+use native.Mathlib.Decide.{ℕ_discrete}
+use Rattle.std.proofs.lemmas.List.Elements.{All-head, All-tail}
+use Rattle.px_turn.specs.declared.view.Record.{Record}
+use Rattle.px_turn.specs.declared.view.Stamped.{Stamped}
+use Rattle.px_turn.specs.declared.view.View.{View}
+use Rattle.px_turn.specs.Histories.{is_number, opened, positions, positions_from, HasPositions, IsMade, AreMade}
+use Rattle.px_turn.specs.Views.{records}
+use Rattle.px_turn.specs.Rule.{one_if, times, total}
+use Rattle.px_turn.specs.Seats.{IsWhole, makers_at, AreMadeOnce}
+use Rattle.px_turn.proofs.Positions.{length_opened}
+use Rattle.px_turn.proofs.Seating.{one_if_same, one_if_other}
+
+turned : (a b : ℕ) → nat_eq a b ≡ nat_eq b a
+turned a b = dite (ℕ_discrete a b) (λ same. eq-eqb a b same ∙ sym (eq-eqb b a (sym same)))
+    (λ apart. ne_eqb a b apart ∙ sym (ne_eqb b a (λ same. apart (sym same))))
+
+-- of an entry that carries no number, and of one that carries this
+none_makes : (list : List Record) → total (λ (r : Record). one_if (is_number None r.number)) list ≡ 0
+none_makes [] = refl
+none_makes (r ∷ list) = let rest = none_makes list in omega arith
+
+one_makes : (number : ℕ) (list : List Record)
+    → total (λ (r : Record). one_if (is_number (Some number) r.number)) list
+    ≡ times number (map (λ (r : Record). r.number) list)
+one_makes number [] = refl
+one_makes number (r ∷ list) =
+    let here = ap one_if (turned number r.number) in
+    let rest = one_makes number list in
+    omega arith
+
+module _ {I : Type 0} where
+  -- who made the entry at a position
+  abbrev maker_at : List (Stamped I) → ℕ → Option ℕ
+  maker_at [] position = None
+  maker_at (e ∷ history) zero = e.maker
+  maker_at (e ∷ history) (suc position) = maker_at history position
+
+  none_before : (number at position : ℕ) (history : List (Stamped I)) → position < at
+      → times position (positions_from number at history) ≡ 0
+  none_before number at position [] low = refl
+  none_before number at position (e ∷ history) low =
+      let rest = none_before number (at + 1) position history (omega arith) in
+      here (is_number e.maker number) (positions_from number (at + 1) history) rest
+    where
+      here : (b : Bool) (places : List ℕ) → times position places ≡ 0
+          → times position (if b then at ∷ places else places) ≡ 0
+      here true places none_there = let apart = one_if_other at position (λ same. absurd (omega arith)) in omega arith
+      here false places none_there = none_there
+
+  -- a position is one of a number's where the entry there carries it
+  times-positions : (number at k : ℕ) (history : List (Stamped I))
+      → times (at + k) (positions_from number at history) ≡ one_if (is_number (maker_at history k) number)
+  times-positions number at k [] = refl
+  times-positions number at zero (e ∷ history) =
+      here (is_number e.maker number) (positions_from number (at + 1) history)
+      (none_before number (at + 1) (at + 0) history (omega arith))
+    where
+      here : (b : Bool) (places : List ℕ) → times (at + 0) places ≡ 0
+          → times (at + 0) (if b then at ∷ places else places) ≡ one_if b
+      here true places none_there = let same = one_if_same at (at + 0) (omega arith) in omega arith
+      here false places none_there = none_there
+  times-positions number at (suc k) (e ∷ history) =
+      here (is_number e.maker number) (positions_from number (at + 1) history)
+      ∙ (ap (λ n. times n (positions_from number (at + 1) history)) (omega arith)
+      ∙ times-positions number (at + 1) k history)
+    where
+      here : (b : Bool) (places : List ℕ)
+          → times (at + suc k) (if b then at ∷ places else places) ≡ times (at + suc k) places
+      here true places = let apart = one_if_other at (at + suc k) (λ same. absurd (omega arith)) in omega arith
+      here false places = refl
+
+  -- so many records have a position: as many as have its maker's number
+  makers_are : (history : List (Stamped I)) (list : List Record) (k : ℕ) → All (HasPositions history) list
+      → total (λ (r : Record). times k r.made) list
+      ≡ total (λ (r : Record). one_if (is_number (maker_at history k) r.number)) list
+  makers_are history [] k all = refl
+  makers_are history (r ∷ list) k all =
+      let here : times k r.made ≡ one_if (is_number (maker_at history k) r.number) =
+      ap (times k) (All-head (HasPositions history) r list all)
+      ∙ (ap (λ n. times n (positions r.number history)) (omega arith) ∙ times-positions r.number 0 k history) in
+      let rest = makers_are history list k (All-tail (HasPositions history) r list all) in
+      omega arith
+
+  -- the makers of the opening and of what came later
+  maker_opened : (list : List I) (later : List (Stamped I)) (k : ℕ) → k < length list
+      → maker_at (opened list ++ later) k ≡ None
+  maker_opened [] later k low = absurd (omega arith)
+  maker_opened (x ∷ list) later zero low = refl
+  maker_opened (x ∷ list) later (suc k) low = maker_opened list later k (omega arith)
+
+  maker_later : (list : List I) (later : List (Stamped I)) (below k : ℕ) → AreMade below later → length list ≤ k
+      → k < length list + length later
+      → (number : ℕ) × (maker_at (opened list ++ later) k ≡ Some number) × (number < below)
+  maker_later [] [] below k made low high = absurd (omega arith)
+  maker_later [] (e ∷ later) below zero made low high = All-head (IsMade below) e later made
+  maker_later [] (e ∷ later) below (suc k) made low high =
+      maker_later [] later below k (All-tail (IsMade below) e later made) (omega arith) (omega arith)
+  maker_later (x ∷ list) later below zero made low high = absurd (omega arith)
+  maker_later (x ∷ list) later below (suc k) made low high =
+      maker_later list later below k made (omega arith) (omega arith)
+
+  maker_behind : (history : List (Stamped I)) (k : ℕ) → length history ≤ k → maker_at history k ≡ None
+  maker_behind [] k high = refl
+  maker_behind (e ∷ history) zero high = absurd (omega arith)
+  maker_behind (e ∷ history) (suc k) high = maker_behind history k (omega arith)
+
+module _ {T I : Type 0} (list : T → List I) (goes_on : T → T → Type 0) where
+  pub made_once : (v : View T I) (value opening : T) → IsWhole list goes_on v value → v.opening ≡ Some opening
+      → AreMadeOnce list v opening
+  made_once v value opening whole is =
+      let begins = whole.begins opening is in
+      let long : length v.seen ≡ length (list opening) + length whole.later = omega (
+        arith,
+        ap (λ (l : List (Stamped I)). length l) begins,
+        length-append (opened (list opening)) whole.later,
+        length_opened (list opening),
+      ) in
+      let unmade : (position : ℕ) → maker_at v.seen position ≡ None → makers_at position v ≡ 0 =
+      λ position none_made. makers_are v.seen (records v) position whole.made
+      ∙ (ap (λ m. total (λ (r : Record). one_if (is_number m r.number)) (records v)) none_made
+      ∙ none_makes (records v)) in
+      record {
+        before = λ position low. unmade position
+            (ap (λ h. maker_at h position) begins ∙ maker_opened (list opening) whole.later position low);
+        since = λ position low high.
+            let maker = maker_later (list opening) whole.later (v.splits + 1) position whole.makers low (omega arith) in
+            makers_are v.seen (records v) position whole.made
+            ∙ (ap (λ m. total (λ (r : Record). one_if (is_number m r.number)) (records v))
+            (ap (λ h. maker_at h position) begins ∙ maker.1)
+            ∙ (one_makes maker.0 (records v) ∙ whole.once maker.0 (let low_number = maker.2 in omega arith)));
+        behind = λ position high. unmade position (maker_behind v.seen position high);
+      }
