@@ -125,7 +125,7 @@ impl<T: Listed> Turn<T> {
         self.table.shared.exchange(seat, SLOT, None).unwrap()
     }
 
-    // Waits until the seat's ticket is served.
+    // Waits until the seat's ticket is served: lets other threads go on for a while, and then sleeps.
     fn wait<R: Wait>(&self, rt: &R, seat: &mut Seat<T>, ticket: u64)
         requires own { IsSeatOf self.now seat.old }
         requires out { (seat.old.me.1 ≡ []) × ((view seat.old).turn ≡ false) }
@@ -136,27 +136,23 @@ impl<T: Listed> Turn<T> {
         ensures value { (value : T) × (seat.new.me.1 ≡ (0, Some value) ∷ [])
             × IsShown T.list T.goes_on (view seat.old) (view seat.new).seen value }
     {
+        let mut yields = 0;
         for _ in rt.forever() {
-            self.yield_to_others(ticket);
             let serving = self.table.shared.load::<Look>(seat, SERVING);
             if serving == ticket {
                 return;
             }
-            self.table
-                .shared
-                .park(rt, SERVING, (serving % (1 << 32)) as u32);
+            if yields < YIELDS {
+                yields += 1;
+                yield_now();
+            } else {
+                yields = 0;
+                self.table
+                    .shared
+                    .park(rt, SERVING, (serving % (1 << 32)) as u32);
+            }
         }
         unreachable!()
-    }
-
-    // Lets other threads go on for a while, or until the ticket is served.
-    fn yield_to_others(&self, ticket: u64) {
-        for _ in 0..YIELDS {
-            if self.table.shared.peek(SERVING) == ticket {
-                return;
-            }
-            yield_now();
-        }
     }
 
     /// Leaves the turn, with a value that stands for just the entries that the seat has seen.
