@@ -1,13 +1,14 @@
 -- The actions of a block, one after another: how far their paths reach, what is seen of them, and their nodes.
 use Rattle.std.proofs.Common.{◌≡◌, ℕ, zero, suc, ◌+◌, ◌<◌, ◌≤◌, max, List, [], ◌∷◌, ◌++◌, length, map, drop, get_or, Option, Some, None, fold}
 use Rattle.std.proofs.Common.{refl, ap, sym, ◌∙◌, arith, add-one, append_assoc}
-use Rattle.std.proofs.lemmas.List.{drop_more}
 use Rattle.std.proofs.Math.ListN.{drop_of_length-le}
 use Rattle.indexmap.specs.IndexMap.{insert_entry}
 use Rattle.px_value.specs.Path.{below}
-use Rattle.px_syntax.specs.declared.block.Action.{Action, out-Action, fold_out-Action}
+use Rattle.px_value.proofs.General.{cut_at}
+use Rattle.px_syntax.specs.declared.block.Action.{Action, out-Action}
 use Rattle.px_syntax.specs.declared.word.BlockForm.{BlockForm}
-use Rattle.px_syntax.specs.Block.{Actions, More, Labelled, BlockTree, BodyTree, ActionTree, BranchTree, GuardedTree, body_step, action_step, block_step, branch_step, guarded_step, action_of, actions_in_turn, body_of}
+use Rattle.px_syntax.specs.Block.{Actions, More, action_of, actions_in_turn, body_of}
+use Rattle.px_syntax.proofs.Trees.{action_is}
 use Rattle.px_core.specs.declared.node.CoreNode.{CoreNode}
 use Rattle.px_core.specs.declared.node.CoreNode.TheFolds.{fold-CoreNode}
 use Rattle.px_core.specs.Plan.{Tree, NoNode, branch, is_same, tree_of_node}
@@ -21,18 +22,12 @@ use Rattle.px_expand.proofs.Trees.{known_before}
 abbrev pub in_turn : List Action → Actions
 in_turn actions = actions_in_turn (map action_of actions)
 
-pub action_is : (action : Action) → action_of action ≡ Labelled (out-Action action).label (body_of (out-Action action).body)
-action_is =
-    fold_out-Action
-    BodyTree ActionTree BlockTree BranchTree GuardedTree
-    body_step action_step block_step branch_step guarded_step
-
 -- the actions that are left at a place that one stands at
 pub left_at : (actions : List Action) (place : ℕ) (action : Action)
     → place < length actions → action ≡ get_or actions place action
     → in_turn (drop place actions) ≡ More (action_of action) (in_turn (drop (place + 1) actions))
 left_at actions place action within is =
-    ap in_turn (drop_more actions place action within ∙ ap (λ first. first ∷ drop (place + 1) actions) (sym is))
+    ap in_turn (cut_at actions place action within is)
 
 -- a function of a place and of what is left there
 at_next : {Y : Type 0} (F : ℕ → Actions → Y) (actions : List Action) (place : ℕ) (action : Action)

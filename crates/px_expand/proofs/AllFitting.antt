@@ -20,6 +20,7 @@ use Rattle.px_core.specs.declared.node.Kind.TheVariants as kinds
 use Rattle.px_core.specs.Expr.{Binary}
 use Rattle.px_core.specs.Fit.{has_site, is_command}
 use Rattle.px_core.specs.Plan.{Site, Tree, NoNode, Nothing, path_under, sites_under, sites, is_same}
+use Rattle.px_core.proofs.Paths.{same-self}
 use Rattle.px_expand.specs.Adding.{Added, nothing}
 use Rattle.px_expand.specs.Conditions.{Given, none_given}
 use Rattle.px_expand.specs.Core.{Otherwise, branch_name, follows, children_seen, block_scope, if_seen, loop_seen, if_scope, while_scope, for_scope, block_core, actions_core, body_core, if_core, chain_core, else_core, branch_core, core}
@@ -31,7 +32,6 @@ use Rattle.px_expand.specs.Names.{named, root_name, action_name, test_name, then
 use Rattle.px_expand.specs.Nodes.{Place, child, alone, before, inside, paths_of, seen as seen_at}
 use Rattle.px_expand.specs.Resolving.{resolved}
 use Rattle.px_expand.specs.Scope.{Scope}
-use Rattle.px_expand.proofs.Apart.{same_as_itself}
 use Rattle.px_expand.proofs.Inside.{leaf_fits, shaped_fits, block_seen, actions_there, children_there}
 use Rattle.px_expand.proofs.Declaring.{each_item_none}
 use Rattle.px_expand.proofs.Faultless.{neither}
@@ -331,7 +331,7 @@ module _ (whole : List Site) where
         let body_is = branch_there loop body_name below_it inner (where_found loop) branch (alone last) in_it in
         let counts : HasVariable whole path variable.name false =
         own (λ site. declares_in false variable.name site.head.variables)
-        (or_left _ _ (and_from _ _ (same_as_itself variable.name) refl)) in
+        (or_left _ _ (and_from _ _ (same-self variable.name) refl)) in
         node_fits whole above name added kinds.List (loop ∷ []) none_given default_priority (counter variable.name first ∷ [])
         Nothing (alone loop_node) place.more (none_speaks (is_there whole))
         (finished_speaks (is_there whole) (loop ∷ [])
@@ -368,7 +368,7 @@ module _ (whole : List Site) where
           invariant = tt;
         })
         counts (judged_there whole below_it entered inner all (Integer ∷ []) step tests.1)
-        (or_right (is_same path (below loop step_name)) _ (or_right (is_same path loop) _ (or_left _ _ (same_as_itself path)))))))
+        (or_right (is_same path (below loop step_name)) _ (or_right (is_same path loop) _ (or_left _ _ (same-self path)))))))
 
     chain_fits : (entered : seen.Scope) (others : ElseIfs) (otherwise : ElseTree)
         → else_if_faults entered others (else_child otherwise) ≡ [] → are_identifiers (else_if_labels others) ≡ true

@@ -10,10 +10,8 @@ use Rattle.px_syntax.specs.BlockFaults.{repeated, redeclared}
 use Rattle.px_syntax.specs.Fault.{fault_where}
 use Rattle.px_core.specs.Fit.{all_differ}
 use Rattle.px_core.specs.Plan.{is_same}
+use Rattle.px_core.proofs.Paths.{same-self}
 use Rattle.px_expand.proofs.Faultless.{neither, where_none}
-
-pub same_as_itself : (name : List ℕ) → is_same name name ≡ true
-same_as_itself name = (bytes_eq-Decides name name).1 refl
 
 pub same_is_equal : (name other : List ℕ) → is_same name other ≡ true → name ≡ other
 same_is_equal name other = (bytes_eq-Decides name other).0
@@ -37,7 +35,7 @@ apart before (first ∷ rest) none =
     record {
       differ =
           and_from (not (list_any (is_same first.name) (names rest))) (all_differ (names rest))
-          (not_from_false _ (behind.other first.name (or_left _ _ (same_as_itself first.name)))) behind.differ;
+          (not_from_false _ (behind.other first.name (or_left _ _ (same-self first.name)))) behind.differ;
       other =
           λ name is.
           or_from (is_same name first.name) (list_any (is_same name) (names rest))

@@ -1,12 +1,13 @@
 -- Chains of `if`s: what is left of one while it is opened, and what it is once it is closed.
 use Rattle.std.proofs.Common.{◌≡◌, ℕ, zero, suc, ◌+◌, ◌<◌, ◌≤◌, max, List, [], ◌∷◌, ◌++◌, length, map, drop, get_or, Option, Some, option_map}
 use Rattle.std.proofs.Common.{refl, ap, sym, ◌∙◌, arith, add-one, length-append}
-use Rattle.std.proofs.lemmas.List.{drop_more}
 use Rattle.std.proofs.Math.ListN.{drop_of_length-le}
+use Rattle.px_value.proofs.General.{cut_at}
 use Rattle.px_syntax.specs.declared.block.Branch.{Branch, out-Branch}
 use Rattle.px_syntax.specs.declared.block.Guarded.{Guarded, out-Guarded}
 use Rattle.px_syntax.specs.Block.{GuardedTree, ElseIfs, ElseIf, ElseTree, block_of, branch_of, else_ifs_in_turn, else_of, guarded_of}
 use Rattle.px_syntax.specs.Block as text
+use Rattle.px_syntax.proofs.Trees.{branch_is}
 use Rattle.px_core.specs.declared.node.CoreNode.{CoreNode}
 use Rattle.px_core.specs.declared.node.CoreNode.TheFolds.{fold-CoreNode}
 use Rattle.px_core.specs.Expr.{Term}
@@ -20,7 +21,6 @@ use Rattle.px_expand.specs.Nodes.{Place, alone, before, child, paths_of}
 use Rattle.px_expand.specs.Resolving.{resolved}
 use Rattle.px_expand.specs.Scope.{Scope}
 use Rattle.px_expand.specs.Size.{block_reach, branch_reach, else_if_nodes, else_if_reach, else_nodes, else_reach, guarded_nodes, guarded_reach}
-use Rattle.px_expand.proofs.Bodies.{branch_is}
 use Rattle.px_expand.proofs.Loops.{branch_made, guarded_branch}
 use Rattle.px_expand.proofs.Trees.{known_before}
 
@@ -60,7 +60,7 @@ module _ (last : ElseTree) (others : List Guarded) (whole : Tree) (round : Scope
     (scope : Scope) (place : Place) (guarded : Guarded) (outer : List OpenIf)
     (left : ChainLeft last others whole round nodes number scope place guarded outer) where
   cut : ifs (drop number others) ≡ ElseIf (guarded_of other) (ifs (drop (number + 1) others))
-  cut = ap ifs (drop_more others number other within ∙ ap (λ first. first ∷ drop (number + 1) others) (sym is))
+  cut = ap ifs (cut_at others number other within is)
 
   -- the `if` and the next one have room
   pub room_before : length place.path + 6 ≤ 5000

@@ -23,6 +23,7 @@ use Rattle.px_core.specs.Fit.{has_site, references_of_site, owns_its_targets, ta
 use Rattle.px_core.specs.Fit as ref
 use Rattle.px_core.specs.Plan as plan
 use Rattle.px_core.specs.Plan.{BodyData, VariableData, Site, Tree, NoNode, is_same, path_under, sites_under}
+use Rattle.px_core.proofs.Paths.{same-self}
 use Rattle.px_expand.specs.Adding.{Added, nothing}
 use Rattle.px_expand.specs.Conditions.{Given, none_given}
 use Rattle.px_expand.specs.Core.{follows}
@@ -31,7 +32,6 @@ use Rattle.px_expand.specs.Items.{default_priority}
 use Rattle.px_expand.specs.Names.{named, test_name, set_name}
 use Rattle.px_expand.specs.Nodes.{Place, Node, before, alone, node_at, seen as seen_at}
 use Rattle.px_expand.specs.Scope.{Scope, table, each_once}
-use Rattle.px_expand.proofs.Apart.{same_as_itself}
 use Rattle.px_expand.proofs.Declaring.{names_of_variables}
 use Rattle.px_expand.proofs.Frames.{LabelNamed, NamedHeads, heads_agree}
 use Rattle.px_expand.proofs.Mentions.{is_there, scalar_is}
@@ -163,7 +163,7 @@ module _ (whole : List Site) where
       (before_fits (path ∷ above) (set path test) children
       (assignment_fits above path set_name none_given path test_name (Binary And (Unary IsKnown test) test)
       (none_speaks (is_there whole)) keeps.test (both_speak (is_there whole) And (Unary IsKnown test) test said said)
-      (or_right (is_same path (below path set_name)) _ (or_left _ _ (same_as_itself path))))
+      (or_right (is_same path (below path set_name)) _ (or_left _ _ (same-self path))))
       inside)
 
   -- ---- scopes

@@ -3,7 +3,6 @@ pub mod Actions
 pub mod AllFitting
 pub mod Apart
 pub mod Blocks
-pub mod Bodies
 pub mod CellSums
 pub mod Chains
 pub mod Counts

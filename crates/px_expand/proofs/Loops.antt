@@ -7,6 +7,7 @@ use Rattle.px_syntax.specs.declared.expr.Identifier.{Identifier}
 use Rattle.px_syntax.specs.Block as text
 use Rattle.px_syntax.specs.Block.{BranchTree, GuardedTree, block_of, branch_of, guarded_of}
 use Rattle.px_syntax.specs.Expr as surface
+use Rattle.px_syntax.proofs.Trees.{branch_is, guarded_is}
 use Rattle.px_core.specs.declared.node.CoreNode.{CoreNode}
 use Rattle.px_core.specs.Expr.{Term}
 use Rattle.px_core.specs.Plan.{Tree, tree_of_node}
@@ -21,7 +22,6 @@ use Rattle.px_expand.specs.Resolving.{resolved}
 use Rattle.px_expand.specs.Scope.{Scope}
 use Rattle.px_expand.specs.Size.{block_nodes, block_reach, branch_nodes, branch_reach, guarded_nodes, guarded_reach, through}
 use Rattle.px_expand.proofs.Blocks.{child_room}
-use Rattle.px_expand.proofs.Bodies.{branch_is, guarded_is}
 use Rattle.px_expand.proofs.Trees.{known_node}
 
 pub while_made : (scope inner : Scope) (place : Place) (guarded : GuardedTree) (test : Term) (paths : List (List ℕ)) (nodes : Tree)

@@ -1,41 +1,22 @@
 -- How far the paths of actions and of `else if`s reach, one after another.
 use Rattle.std.proofs.Common.{◌≡◌, ℕ, zero, suc, ◌+◌, ◌<◌, ◌≤◌, max, min, List, [], ◌∷◌, map, drop, length, get_or, Option, Some, None, Global, option_map, sym, ap, ◌∙◌, add-one, arith}
-use Rattle.std.proofs.lemmas.List.{drop_more}
 use Rattle.std.specs.declared.vec.Vec.{Vec}
 use Rattle.px_value.specs.Name.{generated_name}
-use Rattle.px_syntax.specs.declared.block.Action.{Action, out-Action, fold_out-Action}
-use Rattle.px_syntax.specs.declared.block.Body.TheFolds.{fold-roll-Body}
-use Rattle.px_syntax.specs.declared.block.Body.TheOpen.{Body-F}
-use Rattle.px_syntax.specs.declared.block.Body.TheVariants as bodies
-use Rattle.px_syntax.specs.declared.block.Branch.{Branch}
+use Rattle.px_value.proofs.General.{cut_at}
+use Rattle.px_syntax.specs.declared.block.Action.{Action, out-Action}
 use Rattle.px_syntax.specs.declared.block.Guarded.{Guarded}
-use Rattle.px_syntax.specs.Block as trees
-use Rattle.px_syntax.specs.Block.{BlockTree, ActionTree, BranchTree, GuardedTree, BodyTree, ElseIfs, NoElseIfs, ElseIf, actions_in_turn, else_ifs_in_turn, else_of, body_of, action_of, branch_of, guarded_of, body_step, action_step, block_step, branch_step, guarded_step}
+use Rattle.px_syntax.specs.Block.{ElseIfs, NoElseIfs, ElseIf, actions_in_turn, else_ifs_in_turn, body_of, action_of, guarded_of}
+use Rattle.px_syntax.proofs.Trees.{action_is}
 use Rattle.px_expand.specs.Core.{name_of}
 use Rattle.px_expand.specs.Names.{named}
 use Rattle.px_expand.specs.Size.{actions_nodes, action_nodes, body_nodes, guarded_nodes, else_if_nodes, through, actions_reach, action_reach, body_reach, else_if_reach}
-
-action_is : (action : Action) → action_of action ≡ trees.Labelled (out-Action action).label (body_of (out-Action action).body)
-action_is = fold_out-Action BodyTree ActionTree BlockTree BranchTree GuardedTree body_step action_step block_step branch_step guarded_step
-
-pub if_is : (first : Guarded) (others : Vec Guarded Global) (otherwise : Option Branch)
-    → body_of (bodies.If first others otherwise)
-    ≡ trees.If (guarded_of first) (else_ifs_in_turn (map guarded_of others.items)) (else_of (option_map branch_of otherwise))
-if_is first others None =
-    ap body_of (sym (bodies.rolls-If first others None))
-    ∙ fold-roll-Body BodyTree ActionTree BlockTree BranchTree GuardedTree body_step action_step block_step branch_step guarded_step
-    (Body-F.If first others None)
-if_is first others (Some branch) =
-    ap body_of (sym (bodies.rolls-If first others (Some branch)))
-    ∙ fold-roll-Body BodyTree ActionTree BlockTree BranchTree GuardedTree body_step action_step block_step branch_step guarded_step
-    (Body-F.If first others (Some branch))
 
 -- ---- one action more
 
 module _ (actions : List Action) (index : ℕ) (action : Action) (within : index < length actions)
     (is : action ≡ get_or actions index action) where
   cut : drop index actions ≡ action ∷ drop (index + 1) actions
-  cut = drop_more actions index action within ∙ ap (λ first. first ∷ drop (index + 1) actions) (sym is)
+  cut = cut_at actions index action within is
 
   pub action_counted :
       actions_nodes (actions_in_turn (map action_of (drop index actions)))

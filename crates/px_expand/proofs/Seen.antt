@@ -12,8 +12,9 @@ use Rattle.px_syntax.specs.Scope as seen
 use Rattle.px_syntax.specs.Scope.{Visible, Head, is_named, searched, variable_named}
 use Rattle.px_core.specs.Fit.{has_site, is_command, is_array}
 use Rattle.px_core.specs.Plan.{VariableData, Site, is_same}
+use Rattle.px_core.proofs.Paths.{same-self}
 use Rattle.px_expand.specs.Scope.{Scope, Frame, here, or_else, declared_in, declared_from, owner_of, child_named, itself_named, named_in, named_from, path_meant}
-use Rattle.px_expand.proofs.Apart.{same_as_itself, same_is_equal}
+use Rattle.px_expand.proofs.Apart.{same_is_equal}
 use Rattle.px_expand.proofs.Declaring.{names_of_variables}
 
 -- ---- the first of several lists
@@ -91,8 +92,8 @@ front_found name (visible ∷ visibles) (variable ∷ variables) shown =
         → FrontFound name (variable ∷ variables) (cond test (Some visible) (find (λ visible. bytes_eq name visible.name) visibles))
     of_test true same more =
         let equal = same_is_equal name visible.name same ∙ shown.0 in (
-          or_left _ _ (ap (is_same name) (sym equal) ∙ same_as_itself name),
-          declares_first visible.is_array name variable variables (ap (λ text. is_same text name) (sym equal) ∙ same_as_itself name)
+          or_left _ _ (ap (is_same name) (sym equal) ∙ same-self name),
+          declares_first visible.is_array name variable variables (ap (λ text. is_same text name) (sym equal) ∙ same-self name)
               shown.1,
         )
     of_test false other more =
@@ -300,7 +301,7 @@ module _ (whole : List Site) where
     path = frame.path;
     is = ap (λ test. cond test (Some frame.path) None) (names ∙ front.0);
     has = has variable.is_array front.1;
-    owns = or_left _ _ (same_as_itself frame.path);
+    owns = or_left _ _ (same-self frame.path);
   }
 
   -- inside a further node of the text

@@ -7,7 +7,7 @@ use Rattle.std.proofs.lemmas.List.{append-nil}
 use Rattle.std.proofs.lemmas.List.Folds.{list_any-append}
 use Rattle.px_core.specs.Fit.{has_site}
 use Rattle.px_core.specs.Plan.{Head, Site, Tree, NoNode, Branch, is_same, path_under, site_under, sites_under}
-use Rattle.px_expand.proofs.Apart.{same_as_itself}
+use Rattle.px_core.proofs.Paths.{same-self}
 
 -- what one of some nodes passes, one of the whole plan passes
 pub record IsWithin (part whole : List Site) : Type 0 where
@@ -37,7 +37,7 @@ module _ (above : List (List ℕ)) (head : Head) (children rest : Tree) (whole :
       → has_site holds (path_under above head.name) whole ≡ true
   own_within holds passes =
       within.any (λ site. is_same site.path (path_under above head.name) && holds site)
-      (or_left _ _ (and_from _ _ (same_as_itself (path_under above head.name)) passes))
+      (or_left _ _ (and_from _ _ (same-self (path_under above head.name)) passes))
 
   pub children_within : IsWithin (sites_under (path_under above head.name ∷ above) children) whole
   children_within =

@@ -4,7 +4,6 @@ use Rattle.std.specs.Prelude.{ℕ, List, [], ◌∷◌, Option}
 use Rattle.px_syntax.specs.Block.{BranchTree, GuardedTree, Guarded}
 use Rattle.px_syntax.specs.Expr.{Term}
 use Rattle.px_core.specs.declared.node.CoreNode.TheFolds.{fold-CoreNode}
-use Rattle.px_core.specs.Expr.{term_of}
 use Rattle.px_core.specs.Plan.{Tree, NoNode, branch}
 use Rattle.px_expand.specs.declared.opened.OpenIf.{OpenIf}
 use Rattle.px_expand.specs.Core.{Otherwise, if_scope}
@@ -12,6 +11,7 @@ use Rattle.px_expand.specs.Forms.{conditional}
 use Rattle.px_expand.specs.Nodes.{Place, alone}
 use Rattle.px_expand.specs.Placed.{place_terms}
 use Rattle.px_expand.specs.Scope.{Scope}
+use Rattle.px_expand.specs.Shown.{term_in}
 
 -- a test, and the branch that it guards
 abbrev pub test_in : GuardedTree → Term
@@ -32,8 +32,8 @@ open_scope scope place (Guarded test branch) behind = if_scope scope place branc
 abbrev pub closed : OpenIf → Tree → Tree
 closed opened behind =
     alone
-    (conditional (place_terms opened.place) (term_of opened.test) opened.paths.items
-    (fold-CoreNode (Tree → Tree) branch opened.branch behind))
+    (conditional (place_terms opened.place) (term_in opened.test) opened.paths.items
+    (fold-CoreNode (Tree → Tree) branch opened.branch.value behind))
 
 -- each inside the one before, and these nodes in the last
 abbrev pub all_closed : List OpenIf → Tree → Tree

@@ -1,17 +1,16 @@
 // The nodes that blocks and actions are.
 ghost use Rattle.std.specs.Prelude.{◌≡◌, ◌+◌, ◌<◌, ◌≤◌, max, length, map, drop, None, IfOk, IfSome, OnOk};
 ghost use Rattle.std.specs.Option.{option_copied, option_map};
-ghost use Rattle.px_core.specs.Expr.{term_of};
-ghost use Rattle.px_core.specs.Plan.{Tree, tree_of_node};
+ghost use Rattle.px_core.specs.Plan.{Tree};
 ghost use Rattle.px_syntax.specs.Block.{action_of, actions_in_turn, For, While, block_of, body_of, branch_of, else_ifs_in_turn, else_of, guarded_of};
 ghost use Rattle.px_syntax.specs.Expr.{term_of as text_of};
 ghost use Rattle.px_expand.specs.Chain.{all_closed, closed, open_scope, stands};
 ghost use Rattle.px_expand.specs.Core.{actions_core, actions_in, block_core, body_core, branch_name, chain_core, else_core, follows, form_of, if_core, name_of};
-ghost use Rattle.px_expand.specs.Forms.{repeated, where_not_found};
+ghost use Rattle.px_expand.specs.Forms.{where_not_found};
 ghost use Rattle.px_expand.specs.Kinds.{Children, shape_of};
 ghost use Rattle.px_expand.specs.Names.{body_name, else_name, then_name};
 ghost use Rattle.px_expand.specs.Nodes.{alone, child};
-ghost use Rattle.px_expand.specs.Placed.{place_terms, trees_of};
+ghost use Rattle.px_expand.specs.Placed.{place_terms, tree_in, trees_of};
 ghost use Rattle.px_expand.specs.Size.{actions_reach, block_reach, body_reach, branch_reach, else_if_reach, else_reach, guarded_reach};
 
 use crate::branches::{Entered, EnteredFor, into_for, into_if, into_while};
@@ -21,11 +20,11 @@ use crate::entering::enter_block;
 use crate::forms::{counted, follows, repeated, where_not_found};
 use crate::names::{Generated, named};
 use crate::opened::OpenIf;
-use crate::place::Place;
+use crate::place::{Place, only, push};
 use crate::scope::Scope;
 use crate::shape::{Shape, shape_of};
 use crate::shaped::{shaped, simple};
-use px_core::{CoreNode, Expr};
+use px_core::CoreNode;
 use px_syntax::{Action, Block, BlockForm, Body, Branch, Guarded, Identifier, SurfaceExpr};
 use px_value::{Name, NoMemory, PATH_LIMIT, Path};
 use std::alloc::Global;
@@ -37,10 +36,10 @@ pub(crate) fn block(
     scope: &mut Scope,
     place: Place,
     block: &Block,
-) -> Result<CoreNode, NoMemory>
+) -> Result<Box<CoreNode>, NoMemory>
     requires { length place.path + block_reach (block_of block.now) ≤ PATH_LIMIT }
     ensures scope { OnOk result (scope.new ≡ scope.old) }
-    ensures node { IfOk result (λ node. tree_of_node node
+    ensures node { IfOk result (λ node. tree_in node
         ≡ alone (block_core scope.old (place_terms place) (block_of block.now))) }
 {
     let inside = enter_block(alloc, scope, &place, block)?;
@@ -88,7 +87,8 @@ fn actions(
     for (number, action) in actions.iter().enumerate() {
         let place = action_place(alloc, path, form, behind.as_ref(), number + 1, action)?;
         behind = Some(place.path.copy(alloc)?);
-        nodes.push(body(alloc, scope, place, &action.body)?)?;
+        let node = body(alloc, scope, place, &action.body)?;
+        push(&mut nodes, node)?;
     }
     Ok(nodes)
 }
@@ -113,10 +113,15 @@ fn action_place(
 
 /// What an action does, in its place.
 #[cycle(block)]
-fn body(alloc: Global, scope: &mut Scope, place: Place, body: &Body) -> Result<CoreNode, NoMemory>
+fn body(
+    alloc: Global,
+    scope: &mut Scope,
+    place: Place,
+    body: &Body,
+) -> Result<Box<CoreNode>, NoMemory>
     requires { length place.path + body_reach (body_of body.now) ≤ PATH_LIMIT }
     ensures scope { OnOk result (scope.new ≡ scope.old) }
-    ensures node { IfOk result (λ node. tree_of_node node
+    ensures node { IfOk result (λ node. tree_in node
         ≡ alone (body_core scope.old (place_terms place) (body_of body.now))) }
 {
     match body {
@@ -150,11 +155,11 @@ fn for_loop(
     test: &SurfaceExpr,
     step: &SurfaceExpr,
     branch: &Branch,
-) -> Result<CoreNode, NoMemory>
+) -> Result<Box<CoreNode>, NoMemory>
     requires { length place.path + body_reach (For variable.now first (text_of test.now) (text_of step.now)
         (branch_of branch.now)) ≤ PATH_LIMIT }
     ensures scope { OnOk result (scope.new ≡ scope.old) }
-    ensures node { IfOk result (λ node. tree_of_node node ≡ alone (body_core scope.old (place_terms place)
+    ensures node { IfOk result (λ node. tree_in node ≡ alone (body_core scope.old (place_terms place)
         (For variable.now first (text_of test.now) (text_of step.now) (branch_of branch.now)))) }
 {
     let EnteredFor {
@@ -174,10 +179,10 @@ fn while_loop(
     scope: &mut Scope,
     place: Place,
     guarded: &Guarded,
-) -> Result<CoreNode, NoMemory>
+) -> Result<Box<CoreNode>, NoMemory>
     requires { length place.path + guarded_reach body_name (guarded_of guarded.now) ≤ PATH_LIMIT }
     ensures scope { OnOk result (scope.new ≡ scope.old) }
-    ensures node { IfOk result (λ node. tree_of_node node
+    ensures node { IfOk result (λ node. tree_in node
         ≡ alone (body_core scope.old (place_terms place) (While (guarded_of guarded.now)))) }
 {
     let Entered {
@@ -187,22 +192,7 @@ fn while_loop(
     } = into_while(alloc, scope, &place, guarded)?;
     let node = block(alloc, scope, branch, &guarded.branch.block)?;
     scope.leave();
-    repeated_alone(alloc, place, test, paths, node)
-}
-
-/// A `while` with its branch.
-fn repeated_alone(
-    alloc: Global,
-    place: Place,
-    test: Expr,
-    paths: Vec<Path>,
-    branch: CoreNode,
-) -> Result<CoreNode, NoMemory>
-    requires { length place.path + 5 ≤ PATH_LIMIT }
-    ensures { IfOk result (λ node. tree_of_node node ≡ alone (repeated (place_terms place) (term_of test) paths.items
-        (tree_of_node branch))) }
-{
-    let nodes = vec![in alloc; branch]?;
+    let nodes = only(alloc, node)?;
     repeated(alloc, place, test, paths, nodes)
 }
 
@@ -247,12 +237,12 @@ fn chain(
     first: &Guarded,
     others: &[Guarded],
     otherwise: &Option<Branch>,
-) -> Result<CoreNode, NoMemory>
+) -> Result<Box<CoreNode>, NoMemory>
     requires { length place.path + max (guarded_reach then_name (guarded_of first.now))
         (else_if_reach (else_reach (else_of (option_map branch_of otherwise.now)))
         (else_ifs_in_turn (map guarded_of others.now))) ≤ PATH_LIMIT }
     ensures scope { OnOk result (scope.new ≡ scope.old) }
-    ensures node { IfOk result (λ node. tree_of_node node
+    ensures node { IfOk result (λ node. tree_in node
         ≡ alone (if_core scope.old (place_terms place)
         (chain_core (else_core (else_of (option_map branch_of otherwise.now)))
         (else_ifs_in_turn (map guarded_of others.now))) (guarded_of first.now))) }
@@ -288,25 +278,25 @@ fn last(
     place: Place,
     guarded: &Guarded,
     otherwise: &Option<Branch>,
-) -> Result<CoreNode, NoMemory>
+) -> Result<Box<CoreNode>, NoMemory>
     requires { length place.path + max (guarded_reach then_name (guarded_of guarded.now))
         (else_reach (else_of (option_map branch_of otherwise.now))) ≤ PATH_LIMIT }
     ensures scope { OnOk result (scope.new ≡ scope.old) }
-    ensures node { IfOk result (λ node. tree_of_node node
+    ensures node { IfOk result (λ node. tree_in node
         ≡ alone (if_core scope.old (place_terms place) (else_core (else_of (option_map branch_of otherwise.now)))
         (guarded_of guarded.now))) }
 {
     let Some(branch) = otherwise else {
         let opened = opened(alloc, scope, place, guarded, None)?;
         scope.leave();
-        return opened.close(alloc, None);
+        return opened.close(alloc);
     };
     let name = named(alloc, &branch.label, Generated::Else)?;
     let opened = opened(alloc, scope, place, guarded, Some(name))?;
     let own = last_place(alloc, &opened.place.path, branch)?;
     let node = block(alloc, scope, own, &branch.block)?;
     scope.leave();
-    opened.close(alloc, Some(node))
+    opened.close_before(alloc, node)
 }
 
 /// Where what stands after `else` stands in the last `if` of a chain, at a path.

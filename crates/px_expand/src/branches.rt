@@ -1,6 +1,5 @@
 // Going into nodes that have branches: what is made on the way to a branch.
 ghost use Rattle.std.specs.Prelude.{◌≡◌, ◌+◌, ◌<◌, ◌≤◌, max, length, IfOk, IfSome, OnOk};
-ghost use Rattle.px_core.specs.Expr.{term_of};
 ghost use Rattle.px_core.specs.Plan.{NoNode};
 ghost use Rattle.px_syntax.specs.Block.{branch_of, guarded_of};
 ghost use Rattle.px_syntax.specs.Expr.{term_of as text_of};
@@ -12,6 +11,7 @@ ghost use Rattle.px_expand.specs.Names.{body_name, generated, loop_name, then_na
 ghost use Rattle.px_expand.specs.Nodes.{child, paths_of};
 ghost use Rattle.px_expand.specs.Placed.{place_terms};
 ghost use Rattle.px_expand.specs.Resolving.{resolved};
+ghost use Rattle.px_expand.specs.Shown.{term_in};
 ghost use Rattle.px_expand.specs.Size.{branch_reach, guarded_reach, through};
 
 use crate::conditions::Added;
@@ -29,7 +29,7 @@ use std::alloc::Global;
 /// What is made on the way to a guarded branch: the test, the paths of the children, and where the branch stands.
 #[derive(Drop)]
 pub(crate) struct Entered {
-    pub(crate) test: Expr,
+    pub(crate) test: Box<Expr>,
     pub(crate) paths: Vec<Path>,
     pub(crate) branch: Place,
 }
@@ -46,7 +46,7 @@ pub(crate) fn into_if(
     requires behind { IfSome behind (λ name. length place.now.path + length name < PATH_LIMIT) }
     ensures scope { OnOk result (scope.new
         ≡ open_scope scope.old (place_terms place.now) (guarded_of guarded.now) behind) }
-    ensures test { IfOk result (λ made. term_of made.test ≡ resolved
+    ensures test { IfOk result (λ made. term_in made.test ≡ resolved
         (open_scope scope.old (place_terms place.now) (guarded_of guarded.now) behind) (test_in (guarded_of guarded.now))) }
     ensures paths { IfOk result (λ made. made.paths.items
         ≡ paths_of (if_seen place.now.path (branch_in (guarded_of guarded.now)) (stands behind NoNode))) }
@@ -73,7 +73,7 @@ pub(crate) fn into_while(
     requires { length place.now.path + guarded_reach body_name (guarded_of guarded.now) ≤ PATH_LIMIT }
     ensures scope { OnOk result (scope.new
         ≡ while_scope scope.old (place_terms place.now) (branch_in (guarded_of guarded.now))) }
-    ensures test { IfOk result (λ made. term_of made.test ≡ resolved
+    ensures test { IfOk result (λ made. term_in made.test ≡ resolved
         (while_scope scope.old (place_terms place.now) (branch_in (guarded_of guarded.now)))
         (test_in (guarded_of guarded.now))) }
     ensures paths { IfOk result (λ made. made.paths.items
@@ -95,7 +95,7 @@ pub(crate) fn into_while(
 #[derive(Drop)]
 pub(crate) struct EnteredFor {
     pub(crate) inner: Place,
-    pub(crate) turn: Box<Turn>,
+    pub(crate) turn: Turn,
     pub(crate) branch: Place,
 }
 
@@ -113,9 +113,9 @@ pub(crate) fn into_for(
     ensures scope { OnOk result (scope.new
         ≡ for_scope scope.old (place_terms place.now) variable.now.name (branch_of branch.now)) }
     ensures inner { IfOk result (λ made. place_terms made.inner ≡ child place.now.path loop_name nothing) }
-    ensures test { IfOk result (λ made. term_of made.turn.value.test ≡ resolved
+    ensures test { IfOk result (λ made. term_in made.turn.test ≡ resolved
         (for_scope scope.old (place_terms place.now) variable.now.name (branch_of branch.now)) (text_of test.now)) }
-    ensures next { IfOk result (λ made. term_of made.turn.value.next ≡ resolved
+    ensures next { IfOk result (λ made. term_in made.turn.next ≡ resolved
         (for_scope scope.old (place_terms place.now) variable.now.name (branch_of branch.now)) (text_of step.now)) }
     ensures branch { IfOk result (λ made. place_terms made.branch ≡ child (loop_path place.now.path)
         (branch_name body_name (branch_of branch.now)) (where_found (loop_path place.now.path))) }
@@ -149,14 +149,14 @@ fn enter_turn(
     test: &SurfaceExpr,
     step: &SurfaceExpr,
     branch: &Branch,
-) -> Result<Box<Turn>, NoMemory>
+) -> Result<Turn, NoMemory>
     requires path { path.now ≡ loop_path place.now.path }
     requires room { length path.now + length (branch_name body_name (branch_of branch.now)) < PATH_LIMIT }
     ensures scope { OnOk result (scope.new
         ≡ for_scope scope.old (place_terms place.now) variable.now.name (branch_of branch.now)) }
-    ensures test { IfOk result (λ turn. term_of turn.value.test ≡ resolved
+    ensures test { IfOk result (λ turn. term_in turn.test ≡ resolved
         (for_scope scope.old (place_terms place.now) variable.now.name (branch_of branch.now)) (text_of test.now)) }
-    ensures next { IfOk result (λ turn. term_of turn.value.next ≡ resolved
+    ensures next { IfOk result (λ turn. term_in turn.next ≡ resolved
         (for_scope scope.old (place_terms place.now) variable.now.name (branch_of branch.now)) (text_of step.now)) }
 {
     enter_loop(alloc, scope, place, path, branch, Some(&variable.name))?;
@@ -169,16 +169,15 @@ fn turn_of(
     scope: &Scope,
     test: &SurfaceExpr,
     step: &SurfaceExpr,
-) -> Result<Box<Turn>, NoMemory>
+) -> Result<Turn, NoMemory>
     requires { 0 < length scope.now }
-    ensures test { IfOk result (λ turn. term_of turn.value.test ≡ resolved scope.now (text_of test.now)) }
-    ensures next { IfOk result (λ turn. term_of turn.value.next ≡ resolved scope.now (text_of step.now)) }
+    ensures test { IfOk result (λ turn. term_in turn.test ≡ resolved scope.now (text_of test.now)) }
+    ensures next { IfOk result (λ turn. term_in turn.next ≡ resolved scope.now (text_of step.now)) }
 {
-    let turn = Turn {
+    Ok(Turn {
         test: resolved(alloc, scope, test)?,
         next: resolved(alloc, scope, step)?,
-    };
-    Ok(Box::new(alloc, turn)?)
+    })
 }
 
 /// Where the branch of a test stands in the node at a path.

@@ -1,10 +1,10 @@
 // The conditions of a node: what is given, what is added, and the defaults.
-ghost use Rattle.std.specs.Prelude.{◌≡◌, IfOk, OnOk, option_map, unwrap_or};
+ghost use Rattle.std.specs.Prelude.{◌≡◌, IfOk, OnOk, Some, option_map, unwrap_or};
 ghost use Rattle.px_core.specs.Expr.{term_of};
 ghost use Rattle.px_core.specs.Plan.{condition_terms};
 ghost use Rattle.px_expand.specs.Adding.{adds, may_add, nothing, with_added};
 ghost use Rattle.px_expand.specs.Conditions.{conditions, filled, none_given};
-ghost use Rattle.px_expand.specs.Shown.{added_terms, given_terms};
+ghost use Rattle.px_expand.specs.Shown.{added_terms, given_terms, term_in};
 
 use crate::resolve::binary;
 use px_core::{BinaryOp, Conditions, Expr, Kind};
@@ -14,21 +14,21 @@ use std::alloc::Global;
 /// Of each condition what is given, if anything is. It is large, and is handed on in a box.
 #[derive(Drop)]
 pub(crate) struct Given {
-    pub(crate) start: Option<Expr>,
-    pub(crate) end: Option<Expr>,
-    pub(crate) exit: Option<Expr>,
-    pub(crate) skip: Option<Expr>,
-    pub(crate) repeat: Option<Expr>,
-    pub(crate) pre: Option<Expr>,
-    pub(crate) post: Option<Expr>,
-    pub(crate) invariant: Option<Expr>,
+    pub(crate) start: Option<Box<Expr>>,
+    pub(crate) end: Option<Box<Expr>>,
+    pub(crate) exit: Option<Box<Expr>>,
+    pub(crate) skip: Option<Box<Expr>>,
+    pub(crate) repeat: Option<Box<Expr>>,
+    pub(crate) pre: Option<Box<Expr>>,
+    pub(crate) post: Option<Box<Expr>>,
+    pub(crate) invariant: Option<Box<Expr>>,
 }
 
 /// What the form round a node adds to its Start and its Skip. It is handed on in a box, too.
 #[derive(Drop)]
 pub(crate) struct Added {
-    pub(crate) start: Option<Expr>,
-    pub(crate) skip: Option<Expr>,
+    pub(crate) start: Option<Box<Expr>>,
+    pub(crate) skip: Option<Box<Expr>>,
 }
 
 impl Added {
@@ -66,8 +66,8 @@ impl Given {
             (given_terms self.new ≡ with_added (added_terms added.value) (given_terms self.old)) }
     {
         let Added { start, skip } = Box::into_inner(added);
-        add(alloc, BinaryOp::And, &mut self.start, start)?;
-        add(alloc, BinaryOp::Or, &mut self.skip, skip)
+        may_add(alloc, BinaryOp::And, &mut self.start, start)?;
+        may_add(alloc, BinaryOp::Or, &mut self.skip, skip)
     }
 
     /// The conditions of a node of this kind at a path, with children at these: what is given, with what the form round
@@ -105,23 +105,38 @@ impl Given {
     }
 }
 
-fn or_default(given: Option<Expr>, default: Expr) -> Expr
-    ensures { term_of result ≡ unwrap_or (option_map term_of given) (term_of default) }
+fn or_default(given: Option<Box<Expr>>, default: Expr) -> Expr
+    ensures { term_of result ≡ unwrap_or (option_map term_in given) (term_of default) }
 {
     match given {
-        Some(given) => given,
+        Some(given) => Box::into_inner(given),
         None => default,
     }
 }
 
-/// The given condition, the operator and what is added, or what is added alone where none is given.
-pub(crate) fn adds(
+/// To a condition, which may be given, the operator and what is added.
+pub(crate) fn add(
     alloc: Global,
     op: BinaryOp,
-    given: Option<Expr>,
-    added: Expr,
-) -> Result<Expr, NoMemory>
-    ensures { IfOk result (λ made. term_of made ≡ adds op (option_map term_of given) (term_of added)) }
+    condition: &mut Option<Box<Expr>>,
+    added: Box<Expr>,
+) -> Result<(), NoMemory>
+    ensures { OnOk result (option_map term_in condition.new
+        ≡ Some (adds op (option_map term_in condition.old) (term_in added))) }
+{
+    let whole = adds(alloc, op, condition.take(), added)?;
+    *condition = Some(whole);
+    Ok(())
+}
+
+/// The given condition, the operator and what is added, or what is added alone where none is given.
+fn adds(
+    alloc: Global,
+    op: BinaryOp,
+    given: Option<Box<Expr>>,
+    added: Box<Expr>,
+) -> Result<Box<Expr>, NoMemory>
+    ensures { IfOk result (λ made. term_in made ≡ adds op (option_map term_in given) (term_in added)) }
 {
     match given {
         Some(given) => binary(alloc, op, given, added),
@@ -129,17 +144,18 @@ pub(crate) fn adds(
     }
 }
 
-fn add(
+/// The same where something is added.
+fn may_add(
     alloc: Global,
     op: BinaryOp,
-    given: &mut Option<Expr>,
-    added: Option<Expr>,
+    condition: &mut Option<Box<Expr>>,
+    added: Option<Box<Expr>>,
 ) -> Result<(), NoMemory>
-    ensures { OnOk result (option_map term_of given.new
-        ≡ may_add op (option_map term_of given.old) (option_map term_of added)) }
+    ensures { OnOk result (option_map term_in condition.new
+        ≡ may_add op (option_map term_in condition.old) (option_map term_in added)) }
 {
-    if let Some(added) = added {
-        *given = Some(adds(alloc, op, given.take(), added)?);
+    match added {
+        Some(added) => add(alloc, op, condition, added),
+        None => Ok(()),
     }
-    Ok(())
 }

@@ -18,29 +18,35 @@ use crate::names::Generated;
 use crate::place::Place;
 use crate::scope::{Frame, Scope};
 use crate::shape::{Shape, shape_of};
-use indexmap::{IndexMap, IndexSet};
+use indexmap::IndexSet;
 use px_core::Variable;
 use px_syntax::{Block, Branch};
 use px_value::{Name, NoMemory, PATH_LIMIT, Path};
 use std::alloc::Global;
 
-/// Goes into the node of a place. After an error the scope is of no use.
+/// Goes into the node of a place, and gives the paths of its children. After an error the scope is of no use.
 fn enter(
     alloc: Global,
     scope: &mut Scope,
     place: &Place,
-    children: IndexMap<Name, Path>,
+    children: Children,
     variables: IndexSet<Name>,
-) -> Result<(), NoMemory>
-    ensures { OnOk result (scope.new ≡ entered scope.old (place_terms place.now) children.entries variables.keys) }
+) -> Result<Vec<Path>, NoMemory>
+    ensures scope { OnOk result
+        (scope.new ≡ entered scope.old (place_terms place.now) children.by_name.entries variables.keys) }
+    ensures paths { IfOk result (λ paths. paths ≡ children.paths) }
 {
+    let name = place.name.copy(alloc)?;
+    let path = place.path.copy(alloc)?;
+    let Children { by_name, paths } = children;
     let frame = Frame {
-        name: place.name.copy(alloc)?,
-        path: place.path.copy(alloc)?,
-        children,
+        name,
+        path,
+        children: by_name,
         variables,
     };
-    scope.enter(frame)
+    scope.enter(frame)?;
+    Ok(paths)
 }
 
 /// What is found on the way into a block: the paths of its children, and its variables.
@@ -66,8 +72,8 @@ pub(crate) fn enter_block(
 {
     let variables = variables_of(alloc, &block.items)?;
     let names = names_of(alloc, &variables)?;
-    let Children { by_name, paths } = block_children(alloc, &place.path, block)?;
-    enter(alloc, scope, place, by_name, names)?;
+    let children = block_children(alloc, &place.path, block)?;
+    let paths = enter(alloc, scope, place, children, names)?;
     Ok(Inside { paths, variables })
 }
 
@@ -99,8 +105,14 @@ fn names_of(alloc: Global, variables: &[Variable]) -> Result<IndexSet<Name>, NoM
 pub(crate) fn enter_simple(alloc: Global, scope: &mut Scope, place: &Place) -> Result<(), NoMemory>
     ensures { OnOk result (scope.new ≡ entered scope.old (place_terms place.now) [] []) }
 {
-    let Children { by_name, .. } = Children::none(alloc);
-    enter(alloc, scope, place, by_name, IndexSet::new(alloc))
+    enter(
+        alloc,
+        scope,
+        place,
+        Children::none(alloc),
+        IndexSet::new(alloc),
+    )?;
+    Ok(())
 }
 
 /// Goes into an `if` with this branch; `behind` is the name of what stands behind it. Gives their paths.
@@ -122,9 +134,7 @@ pub(crate) fn enter_if(
     if let Some(name) = behind {
         children.push(alloc, &place.path, name)?;
     }
-    let Children { by_name, paths } = children;
-    enter(alloc, scope, place, by_name, IndexSet::new(alloc))?;
-    Ok(paths)
+    enter(alloc, scope, place, children, IndexSet::new(alloc))
 }
 
 /// Goes into a `while` or a `for` with this variable, whose branch stands below a path. Gives the branch's path.
@@ -145,7 +155,6 @@ pub(crate) fn enter_loop(
     if let Some(name) = variable {
         variables.insert(name.copy(alloc)?)?;
     }
-    let Children { by_name, paths } = Children::of_branch(alloc, path, Generated::Body, branch)?;
-    enter(alloc, scope, place, by_name, variables)?;
-    Ok(paths)
+    let children = Children::of_branch(alloc, path, Generated::Body, branch)?;
+    enter(alloc, scope, place, children, variables)
 }

@@ -1,9 +1,9 @@
 // The table of derived forms, a row each: UncheckedSequence, Sequence, Try, `if`, `while` and `for`.
 ghost use Rattle.std.specs.Prelude.{◌≡◌, ◌+◌, ◌<◌, ◌≤◌, ◌∷◌, [], length, map, Some, IfOk, OnOk};
 ghost use Rattle.std.specs.Option.{option_copied};
-ghost use Rattle.px_core.specs.Expr.{Binary as BinaryTerm, Unary as UnaryTerm, term_of};
+ghost use Rattle.px_core.specs.Expr.{Binary as BinaryTerm, Unary as UnaryTerm};
 ghost use Rattle.px_value.specs.Path.{below};
-ghost use Rattle.px_core.specs.Plan.{Nothing, body_data, tree_of_node, variable_data};
+ghost use Rattle.px_core.specs.Plan.{Nothing, body_data, variable_data};
 ghost use Rattle.px_expand.specs.Adding.{nothing};
 ghost use Rattle.px_expand.specs.Conditions.{none_given};
 ghost use Rattle.px_expand.specs.Core.{follows, formed};
@@ -11,16 +11,16 @@ ghost use Rattle.px_expand.specs.Forms as rows;
 ghost use Rattle.px_expand.specs.Items.{default_priority};
 ghost use Rattle.px_expand.specs.Joining.{all, some};
 ghost use Rattle.px_expand.specs.Names.{generated, loop_name, step_name};
-ghost use Rattle.px_expand.specs.Nodes.{alone, child};
-ghost use Rattle.px_expand.specs.Placed.{node_of, place_terms, trees_of};
-ghost use Rattle.px_expand.specs.Shown.{added_terms, given_terms};
+ghost use Rattle.px_expand.specs.Nodes.{alone, before, child};
+ghost use Rattle.px_expand.specs.Placed.{node_of, place_terms, tree_in, trees_of};
+ghost use Rattle.px_expand.specs.Shown.{added_terms, given_terms, term_in};
 
-use crate::conditions::{Added, Given, adds};
+use crate::conditions::{Added, Given, add};
 use crate::items::DEFAULT_PRIORITY;
 use crate::join::{Said, all, done, some};
 use crate::names::Generated;
-use crate::place::{Own, Place};
-use crate::resolve::{binary, unary};
+use crate::place::{Own, Place, both, only};
+use crate::resolve::{binary, unary, variable};
 use px_core::{BinaryOp, Body, CoreNode, Expr, Kind, Target, UnaryOp, VarKind, Variable};
 use px_syntax::BlockForm;
 use px_value::{Name, NoMemory, Outcome, PATH_LIMIT, Path, Value};
@@ -73,8 +73,7 @@ fn sequence(alloc: Global, paths: &[Path], given: &mut Given) -> Result<(), NoMe
 {
     let failed = some(alloc, Said::Ended(Outcome::Failure), paths)?;
     let none = unary(alloc, UnaryOp::Not, failed)?;
-    given.invariant = Some(adds(alloc, BinaryOp::And, given.invariant.take(), none)?);
-    Ok(())
+    add(alloc, BinaryOp::And, &mut given.invariant, none)
 }
 
 /// Try: the End, where none is given, is that some child has won or all are done; that some child has won adds to Post.
@@ -85,13 +84,12 @@ fn tries(alloc: Global, paths: &[Path], given: &mut Given) -> Result<(), NoMemor
         given.end = Some(won_or_done(alloc, paths)?);
     }
     let won = some(alloc, Said::Ended(Outcome::Success), paths)?;
-    given.post = Some(adds(alloc, BinaryOp::And, given.post.take(), won)?);
-    Ok(())
+    add(alloc, BinaryOp::And, &mut given.post, won)
 }
 
 /// Some child has won, or all are done.
-fn won_or_done(alloc: Global, paths: &[Path]) -> Result<Expr, NoMemory>
-    ensures { IfOk result (λ made. term_of made
+fn won_or_done(alloc: Global, paths: &[Path]) -> Result<Box<Expr>, NoMemory>
+    ensures { IfOk result (λ made. term_in made
         ≡ BinaryTerm BinaryOp.Or (some (map rows.won paths.now)) (all (map rows.done paths.now))) }
 {
     let won = some(alloc, Said::Ended(Outcome::Success), paths)?;
@@ -102,18 +100,16 @@ fn won_or_done(alloc: Global, paths: &[Path]) -> Result<Expr, NoMemory>
 // What an `if`, a `while` and the loop of a `for` have in common; each path is that of their List.
 
 /// What the test was found to be.
-fn test_of(alloc: Global, path: &Path) -> Result<Expr, NoMemory>
-    ensures { IfOk result (λ made. term_of made ≡ rows.test_of path.now) }
+fn test_of(alloc: Global, path: &Path) -> Result<Box<Expr>, NoMemory>
+    ensures { IfOk result (λ made. term_in made ≡ rows.test_of path.now) }
 {
-    Ok(Expr::Var {
-        owner: path.copy(alloc)?,
-        name: Generated::Test.name(alloc)?,
-    })
+    let name = Generated::Test.name(alloc)?;
+    variable(alloc, path, &name)
 }
 
-fn set_is_done(alloc: Global, path: &Path) -> Result<Expr, NoMemory>
+fn set_is_done(alloc: Global, path: &Path) -> Result<Box<Expr>, NoMemory>
     requires { length path.now + 5 ≤ PATH_LIMIT }
-    ensures { IfOk result (λ made. term_of made ≡ rows.set_is_done path.now) }
+    ensures { IfOk result (λ made. term_in made ≡ rows.set_is_done path.now) }
 {
     let set = child_path(alloc, path, Generated::Set)?;
     done(alloc, &set)
@@ -129,18 +125,18 @@ fn child_path(alloc: Global, parent: &Path, name: Generated) -> Result<Path, NoM
 }
 
 /// The test was found true.
-fn found(alloc: Global, path: &Path) -> Result<Expr, NoMemory>
+fn found(alloc: Global, path: &Path) -> Result<Box<Expr>, NoMemory>
     requires { length path.now + 5 ≤ PATH_LIMIT }
-    ensures { IfOk result (λ made. term_of made ≡ rows.found path.now) }
+    ensures { IfOk result (λ made. term_in made ≡ rows.found path.now) }
 {
     let set = set_is_done(alloc, path)?;
     binary(alloc, BinaryOp::And, set, test_of(alloc, path)?)
 }
 
 /// The test was not found true.
-fn not_found(alloc: Global, path: &Path) -> Result<Expr, NoMemory>
+fn not_found(alloc: Global, path: &Path) -> Result<Box<Expr>, NoMemory>
     requires { length path.now + 5 ≤ PATH_LIMIT }
-    ensures { IfOk result (λ made. term_of made ≡ rows.not_found path.now) }
+    ensures { IfOk result (λ made. term_in made ≡ rows.not_found path.now) }
 {
     let set = set_is_done(alloc, path)?;
     let not = unary(alloc, UnaryOp::Not, test_of(alloc, path)?)?;
@@ -179,17 +175,18 @@ fn assignment(
     given: Box<Given>,
     owner: &Path,
     variable: Name,
-    value: Expr,
-) -> Result<CoreNode, NoMemory>
+    value: Box<Expr>,
+) -> Result<Box<CoreNode>, NoMemory>
     requires { length parent.now + length (generated name) < PATH_LIMIT }
-    ensures { IfOk result (λ node. tree_of_node node
-        ≡ alone (rows.assignment parent.now (generated name) (given_terms given.value) owner.now variable (term_of value))) }
+    ensures { IfOk result (λ node. tree_in node
+        ≡ alone (rows.assignment parent.now (generated name) (given_terms given.value) owner.now variable (term_in value))) }
 {
     let target = Target {
         owner: owner.copy(alloc)?,
         name: variable,
         index: None,
     };
+    let value = Box::into_inner(value);
     let body = Body::Assign { target, value };
     let own = Own::new(alloc, DEFAULT_PRIORITY, Vec::new(alloc), body)?;
     let place = Place::generated(alloc, parent, name, Added::nothing(alloc)?)?;
@@ -197,9 +194,9 @@ fn assignment(
 }
 
 /// `#set`: the Assignment `#test = isKnown(t) && t`.
-fn set(alloc: Global, path: &Path, test: Expr) -> Result<CoreNode, NoMemory>
+fn set(alloc: Global, path: &Path, test: Box<Expr>) -> Result<Box<CoreNode>, NoMemory>
     requires { length path.now + 5 ≤ PATH_LIMIT }
-    ensures { IfOk result (λ node. tree_of_node node ≡ alone (rows.set path.now (term_of test))) }
+    ensures { IfOk result (λ node. tree_in node ≡ alone (rows.set path.now (term_in test))) }
 {
     let given = Given::none(alloc)?;
     let variable = Generated::Test.name(alloc)?;
@@ -208,11 +205,12 @@ fn set(alloc: Global, path: &Path, test: Expr) -> Result<CoreNode, NoMemory>
 }
 
 /// `isKnown(t) && t`
-fn is_true(alloc: Global, test: Expr) -> Result<Expr, NoMemory>
-    ensures { IfOk result (λ made. term_of made
-        ≡ BinaryTerm BinaryOp.And (UnaryTerm UnaryOp.IsKnown (term_of test)) (term_of test)) }
+fn is_true(alloc: Global, test: Box<Expr>) -> Result<Box<Expr>, NoMemory>
+    ensures { IfOk result (λ made. term_in made
+        ≡ BinaryTerm BinaryOp.And (UnaryTerm UnaryOp.IsKnown (term_in test)) (term_in test)) }
 {
-    let known = unary(alloc, UnaryOp::IsKnown, test.copy(alloc)?)?;
+    let copy = Box::new(alloc, test.copy(alloc)?)?;
+    let known = unary(alloc, UnaryOp::IsKnown, copy)?;
     binary(alloc, BinaryOp::And, known, test)
 }
 
@@ -221,22 +219,34 @@ fn tested(
     alloc: Global,
     place: Place,
     given: Box<Given>,
-    test: Expr,
-    others: Vec<Path>,
+    test: Box<Expr>,
+    mut paths: Vec<Path>,
     children: Vec<CoreNode>,
-) -> Result<CoreNode, NoMemory>
+) -> Result<Box<CoreNode>, NoMemory>
     requires { length place.path + 5 ≤ PATH_LIMIT }
-    ensures { IfOk result (λ node. tree_of_node node ≡ alone
-        (rows.tested (place_terms place) (given_terms given.value) (term_of test) others.items (trees_of children.items))) }
+    ensures { IfOk result (λ node. tree_in node ≡ alone
+        (rows.tested (place_terms place) (given_terms given.value) (term_in test) paths.items (trees_of children.items))) }
 {
-    let first = set(alloc, &place.path, test)?;
-    let set = child_path(alloc, &place.path, Generated::Set)?;
-    let mut paths = others;
-    paths.insert(0, set)?;
-    let mut children = children;
-    children.insert(0, first)?;
+    let children = with_set(alloc, &place.path, test, children)?;
+    paths.insert(0, child_path(alloc, &place.path, Generated::Set)?)?;
     let own = testing(alloc)?;
     place.node(alloc, Kind::List, &paths, given, own, children)
+}
+
+/// `#set`, and the other children behind it.
+fn with_set(
+    alloc: Global,
+    path: &Path,
+    test: Box<Expr>,
+    mut others: Vec<CoreNode>,
+) -> Result<Vec<CoreNode>, NoMemory>
+    requires { length path.now + 5 ≤ PATH_LIMIT }
+    ensures { IfOk result (λ children. trees_of children.items
+        ≡ before (rows.set path.now (term_in test)) (trees_of others.items)) }
+{
+    let set = set(alloc, path, test)?;
+    others.insert(0, Box::into_inner(set))?;
+    Ok(others)
 }
 
 /// What the List of a test has: the variable that keeps it.
@@ -259,13 +269,13 @@ fn testing(alloc: Global) -> Result<Box<Own>, NoMemory>
 pub(crate) fn conditional(
     alloc: Global,
     place: Place,
-    test: Expr,
+    test: Box<Expr>,
     paths: Vec<Path>,
     children: Vec<CoreNode>,
-) -> Result<CoreNode, NoMemory>
+) -> Result<Box<CoreNode>, NoMemory>
     requires { length place.path + 5 ≤ PATH_LIMIT }
-    ensures { IfOk result (λ node. tree_of_node node ≡ alone
-        (rows.conditional (place_terms place) (term_of test) paths.items (trees_of children.items))) }
+    ensures { IfOk result (λ node. tree_in node ≡ alone
+        (rows.conditional (place_terms place) (term_in test) paths.items (trees_of children.items))) }
 {
     tested(alloc, place, Given::none(alloc)?, test, paths, children)
 }
@@ -274,13 +284,13 @@ pub(crate) fn conditional(
 pub(crate) fn repeated(
     alloc: Global,
     place: Place,
-    test: Expr,
+    test: Box<Expr>,
     paths: Vec<Path>,
     children: Vec<CoreNode>,
-) -> Result<CoreNode, NoMemory>
+) -> Result<Box<CoreNode>, NoMemory>
     requires { length place.path + 5 ≤ PATH_LIMIT }
-    ensures { IfOk result (λ node. tree_of_node node ≡ alone
-        (rows.repeated (place_terms place) (term_of test) paths.items (trees_of children.items))) }
+    ensures { IfOk result (λ node. tree_in node ≡ alone
+        (rows.repeated (place_terms place) (term_in test) paths.items (trees_of children.items))) }
 {
     let given = repeating(alloc, &place.path)?;
     tested(alloc, place, given, test, paths, children)
@@ -308,9 +318,9 @@ fn step_given(alloc: Global, path: &Path, body: &Path) -> Result<Box<Given>, NoM
 }
 
 /// A is done, and the test was found true.
-fn done_and_found(alloc: Global, path: &Path, body: &Path) -> Result<Expr, NoMemory>
+fn done_and_found(alloc: Global, path: &Path, body: &Path) -> Result<Box<Expr>, NoMemory>
     ensures { IfOk result
-        (λ made. term_of made ≡ BinaryTerm BinaryOp.And (rows.done body.now) (rows.test_of path.now)) }
+        (λ made. term_in made ≡ BinaryTerm BinaryOp.And (rows.done body.now) (rows.test_of path.now)) }
 {
     let done = done(alloc, body)?;
     binary(alloc, BinaryOp::And, done, test_of(alloc, path)?)
@@ -323,12 +333,12 @@ fn step(
     body: &Path,
     owner: &Path,
     variable: Name,
-    next: Expr,
-) -> Result<CoreNode, NoMemory>
+    next: Box<Expr>,
+) -> Result<Box<CoreNode>, NoMemory>
     requires room { length path.now + 6 ≤ PATH_LIMIT }
     requires path { path.now ≡ rows.loop_path owner.now }
     ensures { IfOk result
-        (λ node. tree_of_node node ≡ alone (rows.step owner.now body.now variable (term_of next))) }
+        (λ node. tree_in node ≡ alone (rows.step owner.now body.now variable (term_in next))) }
 {
     let given = step_given(alloc, path, body)?;
     assignment(alloc, path, Generated::Step, given, owner, variable, next)
@@ -337,8 +347,8 @@ fn step(
 /// The test and the step of a `for`, resolved.
 #[derive(Drop)]
 pub(crate) struct Turn {
-    pub(crate) test: Expr,
-    pub(crate) next: Expr,
+    pub(crate) test: Box<Expr>,
+    pub(crate) next: Box<Expr>,
 }
 
 /// `for (Integer i = c; t; u) A`: `inner` is where `#loop` stands, and A stands in it at the path `body`.
@@ -348,42 +358,45 @@ pub(crate) fn counted(
     inner: Place,
     variable: &Name,
     first: i32,
-    turn: Box<Turn>,
+    turn: Turn,
     body: Path,
-    branch: CoreNode,
-) -> Result<CoreNode, NoMemory>
+    branch: Box<CoreNode>,
+) -> Result<Box<CoreNode>, NoMemory>
     requires room { length place.path + 12 ≤ PATH_LIMIT }
     requires inner { place_terms inner ≡ child place.path loop_name nothing }
-    ensures { IfOk result (λ node. tree_of_node node ≡ alone (rows.counted (place_terms place) variable.now first
-        (term_of turn.value.test) (term_of turn.value.next) body (node_of branch))) }
+    ensures { IfOk result (λ node. tree_in node ≡ alone (rows.counted (place_terms place) variable.now first
+        (term_in turn.test) (term_in turn.next) body (node_of branch.value))) }
 {
-    let paths = vec![in alloc; inner.path.copy(alloc)?]?;
+    let turns = turned(alloc, &place.path, inner, variable, turn, body, branch)?;
+    let children = only(alloc, turns)?;
+    let paths = vec![in alloc; child_path(alloc, &place.path, Generated::Loop)?]?;
     let own = counting(alloc, variable, first)?;
     let given = Given::none(alloc)?;
-    let name = variable.copy(alloc)?;
-    let Turn { test, next } = Box::into_inner(turn);
-    let step = step(alloc, &inner.path, &body, &place.path, name, next)?;
-    let turns = turns(alloc, inner, test, body, branch, step)?;
-    let children = vec![in alloc; turns]?;
     place.node(alloc, Kind::List, &paths, given, own, children)
 }
 
-/// `#loop` in its place, with A and `#step`.
-fn turns(
+/// `#loop` in its place, with A and `#step`; the node `owner` has the variable.
+fn turned(
     alloc: Global,
+    owner: &Path,
     inner: Place,
-    test: Expr,
+    variable: &Name,
+    turn: Turn,
     body: Path,
-    branch: CoreNode,
-    step: CoreNode,
-) -> Result<CoreNode, NoMemory>
-    requires { length inner.path + 6 ≤ PATH_LIMIT }
-    ensures { IfOk result (λ node. tree_of_node node ≡ alone (rows.repeated (place_terms inner) (term_of test)
-        (body ∷ below inner.path step_name ∷ []) (trees_of (branch ∷ step ∷ [])))) }
+    branch: Box<CoreNode>,
+) -> Result<Box<CoreNode>, NoMemory>
+    requires room { length inner.path + 6 ≤ PATH_LIMIT }
+    requires path { inner.path ≡ rows.loop_path owner.now }
+    ensures { IfOk result (λ node. tree_in node ≡ alone (rows.repeated (place_terms inner) (term_in turn.test)
+        (body ∷ below inner.path step_name ∷ [])
+        (before (node_of branch.value) (alone (rows.step owner.now body variable.now (term_in turn.next)))))) }
 {
+    let Turn { test, next } = turn;
+    let name = variable.copy(alloc)?;
+    let step = step(alloc, &inner.path, &body, owner, name, next)?;
+    let children = both(alloc, branch, step)?;
     let behind = child_path(alloc, &inner.path, Generated::Step)?;
     let paths = vec![in alloc; body, behind]?;
-    let children = vec![in alloc; branch, step]?;
     repeated(alloc, inner, test, paths, children)
 }
 

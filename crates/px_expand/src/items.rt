@@ -1,10 +1,9 @@
 // What the items of a block give: conditions, the priority and each variable.
 ghost use Rattle.std.specs.Prelude.{◌≡◌, ◌<◌, length, map, option_map, IfOk, OnOk, ◌++◌};
 ghost use Rattle.px_syntax.specs.Block.{initial_data, item_data, variable_data as text_variable};
-ghost use Rattle.px_core.specs.Expr.{term_of};
 ghost use Rattle.px_core.specs.Plan.{variable_data};
 ghost use Rattle.px_expand.specs.Items.{first_values, given_by, given_for, priority_of, var_kind, variable_of, variables_in, variables_of};
-ghost use Rattle.px_expand.specs.Shown.{given_terms};
+ghost use Rattle.px_expand.specs.Shown.{given_terms, term_in};
 
 use crate::conditions::Given;
 use crate::resolve::resolved;
@@ -42,10 +41,10 @@ fn given_for(
     scope: &Scope,
     condition: Condition,
     mut items: &[Item],
-) -> Result<Option<Expr>, NoMemory>
+) -> Result<Option<Box<Expr>>, NoMemory>
     requires { 0 < length scope.now }
     ensures { IfOk result
-        (λ made. option_map term_of made ≡ given_for scope.now condition (map item_data items.entry.now)) }
+        (λ made. option_map term_in made ≡ given_for scope.now condition (map item_data items.entry.now)) }
 {
     while let Some((item, others)) = items.split_first() {
         if let Item::Condition {

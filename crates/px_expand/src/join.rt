@@ -1,18 +1,19 @@
 // What is said of all children of a List, and of some, joined in halves so that no expression is deep.
 ghost use Rattle.std.specs.Prelude.{◌≡◌, IfOk, map};
-ghost use Rattle.px_core.specs.Expr.{term_of};
-ghost use Rattle.px_core.specs.Joined.{joined, truth};
+ghost use Rattle.px_core.specs.Expr.{Binary as BinaryTerm, Literal as LiteralTerm};
+ghost use Rattle.px_core.specs.Joined.{joined};
 ghost use Rattle.px_expand.specs.Forms.{done, ended};
 ghost use Rattle.px_expand.specs.Joining.{all, some};
 ghost use Rattle.px_expand.specs.Said.{said};
+ghost use Rattle.px_expand.specs.Shown.{term_in};
 
-use crate::resolve::binary;
+use crate::resolve::{binary, literal};
 use px_core::{BinaryOp, Expr};
 use px_value::{CompareOp, NoMemory, NodeState, Outcome, Path, Value};
 use std::alloc::Global;
 
 /// What is said of a child.
-#[derive(Clone, Copy, Debug, PartialEq, Eq)]
+#[derive(Clone, Copy)]
 pub(crate) enum Said {
     Done,
     /// Done, with this outcome.
@@ -20,28 +21,35 @@ pub(crate) enum Said {
 }
 
 /// The node at a path is FINISHED.
-pub(crate) fn done(alloc: Global, path: &Path) -> Result<Expr, NoMemory>
-    ensures { IfOk result (λ made. term_of made ≡ done path.now) }
+pub(crate) fn done(alloc: Global, path: &Path) -> Result<Box<Expr>, NoMemory>
+    ensures { IfOk result (λ made. term_in made ≡ done path.now) }
 {
-    let state = Expr::StateOf(path.copy(alloc)?);
-    let finished = Expr::Literal(Value::State(NodeState::Finished));
-    binary(alloc, BinaryOp::Compare(CompareOp::Equal), state, finished)
+    let state = Box::new(alloc, Expr::StateOf(path.copy(alloc)?))?;
+    equals(alloc, state, Value::State(NodeState::Finished))
 }
 
 /// The node at a path is FINISHED with an outcome.
-fn ended(alloc: Global, outcome: Outcome, path: &Path) -> Result<Expr, NoMemory>
-    ensures { IfOk result (λ made. term_of made ≡ ended outcome path.now) }
+fn ended(alloc: Global, outcome: Outcome, path: &Path) -> Result<Box<Expr>, NoMemory>
+    ensures { IfOk result (λ made. term_in made ≡ ended outcome path.now) }
 {
     let finished = done(alloc, path)?;
-    let has = Expr::OutcomeOf(path.copy(alloc)?);
-    let wanted = Expr::Literal(Value::Outcome(outcome));
-    let so = binary(alloc, BinaryOp::Compare(CompareOp::Equal), has, wanted)?;
+    let has = Box::new(alloc, Expr::OutcomeOf(path.copy(alloc)?))?;
+    let so = equals(alloc, has, Value::Outcome(outcome))?;
     binary(alloc, BinaryOp::And, finished, so)
 }
 
+/// An expression is a value.
+fn equals(alloc: Global, expr: Box<Expr>, value: Value) -> Result<Box<Expr>, NoMemory>
+    ensures { IfOk result (λ made. term_in made
+        ≡ BinaryTerm (BinaryOp.Compare CompareOp.Equal) (term_in expr) (LiteralTerm value)) }
+{
+    let value = literal(alloc, value)?;
+    binary(alloc, BinaryOp::Compare(CompareOp::Equal), expr, value)
+}
+
 impl Said {
-    fn of(self, alloc: Global, path: &Path) -> Result<Expr, NoMemory>
-        ensures { IfOk result (λ made. term_of made ≡ said self path.now) }
+    fn of(self, alloc: Global, path: &Path) -> Result<Box<Expr>, NoMemory>
+        ensures { IfOk result (λ made. term_in made ≡ said self path.now) }
     {
         match self {
             Said::Done => done(alloc, path),
@@ -50,22 +58,16 @@ impl Said {
     }
 }
 
-fn truth(holds: bool) -> Expr
-    ensures { term_of result ≡ truth holds }
-{
-    Expr::Literal(Value::Boolean(holds))
-}
-
 /// This is said of all children, by `&&`.
-pub(crate) fn all(alloc: Global, what: Said, paths: &[Path]) -> Result<Expr, NoMemory>
-    ensures { IfOk result (λ made. term_of made ≡ all (map (said what) paths.now)) }
+pub(crate) fn all(alloc: Global, what: Said, paths: &[Path]) -> Result<Box<Expr>, NoMemory>
+    ensures { IfOk result (λ made. term_in made ≡ all (map (said what) paths.now)) }
 {
     joined(alloc, BinaryOp::And, true, what, paths)
 }
 
 /// This is said of some child, by `||`.
-pub(crate) fn some(alloc: Global, what: Said, paths: &[Path]) -> Result<Expr, NoMemory>
-    ensures { IfOk result (λ made. term_of made ≡ some (map (said what) paths.now)) }
+pub(crate) fn some(alloc: Global, what: Said, paths: &[Path]) -> Result<Box<Expr>, NoMemory>
+    ensures { IfOk result (λ made. term_in made ≡ some (map (said what) paths.now)) }
 {
     joined(alloc, BinaryOp::Or, false, what, paths)
 }
@@ -76,11 +78,11 @@ fn joined(
     none: bool,
     what: Said,
     paths: &[Path],
-) -> Result<Expr, NoMemory>
-    ensures { IfOk result (λ made. term_of made ≡ joined op none (map (said what) paths.now)) }
+) -> Result<Box<Expr>, NoMemory>
+    ensures { IfOk result (λ made. term_in made ≡ joined op none (map (said what) paths.now)) }
 {
     match paths {
-        [] => Ok(truth(none)),
+        [] => literal(alloc, Value::Boolean(none)),
         [path] => what.of(alloc, path),
         _ => {
             let (front, back) = paths.split_at(paths.len() / 2);

@@ -8,7 +8,7 @@ use px_value::{Name, NameFault, NoMemory};
 use std::alloc::{AllocError, Global};
 
 /// A name that the text doesn't have.
-#[derive(Clone, Copy, Debug, PartialEq, Eq)]
+#[derive(Clone, Copy)]
 pub(crate) enum Generated {
     /// Of the action with this place in its block, counted from 1; a root is the first.
     Action(u32),

@@ -9,9 +9,9 @@ use px_value::Path;
 #[derive(Drop)]
 pub(crate) struct OpenIf {
     pub(crate) place: Place,
-    pub(crate) test: Expr,
+    pub(crate) test: Box<Expr>,
     /// Of the branch, and of what stands behind it.
     pub(crate) paths: Vec<Path>,
-    pub(crate) branch: CoreNode,
+    pub(crate) branch: Box<CoreNode>,
     ghost short: { length place.path + 5 ≤ 5000 },
 }

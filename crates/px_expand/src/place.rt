@@ -1,9 +1,9 @@
 // Where nodes of the core plan stand.
-ghost use Rattle.std.specs.Prelude.{◌≡◌, ◌+◌, ◌<◌, length, map, IfOk};
+ghost use Rattle.std.specs.Prelude.{◌≡◌, ◌+◌, ◌<◌, ◌∷◌, ◌++◌, [], length, map, IfOk, OnOk};
 ghost use Rattle.px_core.specs.Plan.{Branch, NoNode, body_data, condition_terms, tree_of_node, variable_data};
 ghost use Rattle.px_expand.specs.Names.{generated};
 ghost use Rattle.px_expand.specs.Nodes.{alone, child, node_at};
-ghost use Rattle.px_expand.specs.Placed.{place_terms, trees_of};
+ghost use Rattle.px_expand.specs.Placed.{place_terms, tree_in, trees_of};
 ghost use Rattle.px_expand.specs.Shown.{added_terms, given_terms};
 
 use crate::conditions::{Added, Given};
@@ -61,14 +61,15 @@ impl Place {
         given: Box<Given>,
         own: Box<Own>,
         children: Vec<CoreNode>,
-    ) -> Result<CoreNode, NoMemory>
-        ensures { IfOk result (λ node. tree_of_node node
+    ) -> Result<Box<CoreNode>, NoMemory>
+        ensures { IfOk result (λ node. tree_in node
             ≡ alone (node_at (place_terms self) kind paths.now (given_terms given.value) own.value.priority
             (map variable_data own.value.variables.items) (body_data own.value.body) (trees_of children.items))) }
     {
         let Place { path, name, added } = self;
         let conditions = Given::conditions(given, alloc, added, kind, &path, paths)?;
-        Ok(Box::into_inner(own).node(name, kind, conditions, children))
+        let node = Box::into_inner(own).node(name, kind, conditions, children);
+        Ok(Box::new(alloc, node)?)
     }
 }
 
@@ -127,4 +128,34 @@ impl Own {
             children,
         }
     }
+}
+
+/// A node with none beside it.
+pub(crate) fn only(alloc: Global, node: Box<CoreNode>) -> Result<Vec<CoreNode>, NoMemory>
+    ensures { IfOk result (λ nodes. nodes.items ≡ node.value ∷ []) }
+{
+    let mut nodes = Vec::new(alloc);
+    push(&mut nodes, node)?;
+    Ok(nodes)
+}
+
+/// A node with another behind it.
+pub(crate) fn both(
+    alloc: Global,
+    first: Box<CoreNode>,
+    behind: Box<CoreNode>,
+) -> Result<Vec<CoreNode>, NoMemory>
+    ensures { IfOk result (λ nodes. nodes.items ≡ first.value ∷ behind.value ∷ []) }
+{
+    let mut nodes = only(alloc, first)?;
+    push(&mut nodes, behind)?;
+    Ok(nodes)
+}
+
+/// Nodes and one more behind them.
+pub(crate) fn push(nodes: &mut Vec<CoreNode>, node: Box<CoreNode>) -> Result<(), NoMemory>
+    ensures { OnOk result (nodes.new.items ≡ nodes.old.items ++ (node.value ∷ [])) }
+{
+    nodes.push(Box::into_inner(node))?;
+    Ok(())
 }

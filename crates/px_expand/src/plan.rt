@@ -57,7 +57,9 @@ fn core(alloc: Global, tree: &Surface) -> Result<Plan, NoMemory>
     let place = root_place(alloc, &tree.label)?;
     let mut scope = Scope::new(alloc);
     let root = block(alloc, &mut scope, place, &tree.root)?;
-    Ok(Plan { root })
+    Ok(Plan {
+        root: Box::into_inner(root),
+    })
 }
 
 /// Where the root with this label stands.

@@ -1,8 +1,9 @@
-// Expressions with paths in place of names.
+// Expressions with paths in place of names. Each is made in the box that the expression round it holds.
 ghost use Rattle.std.specs.Prelude.{◌≡◌, ◌<◌, length, map, IfOk};
 ghost use Rattle.px_syntax.specs.Expr.{in_turn, term_of as text_of};
-ghost use Rattle.px_core.specs.Expr.{Unary as UnaryTerm, Binary as BinaryTerm, term_of};
+ghost use Rattle.px_core.specs.Expr.{Binary as BinaryTerm, Cell as CellTerm, Literal as LiteralTerm, Unary as UnaryTerm, Var as VarTerm, term_of};
 ghost use Rattle.px_expand.specs.Resolving.{attribute_term, resolved, resolved_each};
+ghost use Rattle.px_expand.specs.Shown.{term_in};
 
 use crate::scope::Scope;
 use crate::words::{
@@ -11,30 +12,29 @@ use crate::words::{
 };
 use px_core::{BinaryOp, Expr, UnaryOp};
 use px_syntax::{Attribute, SurfaceExpr};
-use px_value::{NoMemory, Path};
+use px_value::{Name, NoMemory, Path, Value};
 use std::alloc::Global;
 
 /// An expression of the text in its scope.
 #[cycle(resolved)]
-pub(crate) fn resolved(alloc: Global, scope: &Scope, expr: &SurfaceExpr) -> Result<Expr, NoMemory>
+pub(crate) fn resolved(
+    alloc: Global,
+    scope: &Scope,
+    expr: &SurfaceExpr,
+) -> Result<Box<Expr>, NoMemory>
     requires { 0 < length scope.now }
-    ensures { IfOk result (λ made. term_of made ≡ resolved scope.now (text_of expr.now)) }
+    ensures { IfOk result (λ made. term_in made ≡ resolved scope.now (text_of expr.now)) }
 {
     match expr {
-        SurfaceExpr::Literal { value, .. } => Ok(Expr::Literal(literal_value(alloc, value)?)),
-        SurfaceExpr::Enumerated { value, .. } => Ok(Expr::Literal(enumerated_value(*value))),
-        SurfaceExpr::Variable(name) => Ok(Expr::Var {
-            owner: scope.owner(&name.name).copy(alloc)?,
-            name: name.name.copy(alloc)?,
-        }),
-        SurfaceExpr::Element { array, index } => Ok(Expr::Cell {
-            owner: scope.owner(&array.name).copy(alloc)?,
-            name: array.name.copy(alloc)?,
-            index: Box::new(alloc, resolved(alloc, scope, index)?)?,
-        }),
+        SurfaceExpr::Literal { value, .. } => literal(alloc, literal_value(alloc, value)?),
+        SurfaceExpr::Enumerated { value, .. } => literal(alloc, enumerated_value(*value)),
+        SurfaceExpr::Variable(name) => variable(alloc, scope.owner(&name.name), &name.name),
+        SurfaceExpr::Element { array, index } => {
+            let index = resolved(alloc, scope, index)?;
+            element(alloc, scope.owner(&array.name), &array.name, index)
+        }
         SurfaceExpr::Attribute { node, attribute } => {
-            let path = scope.node(node).copy(alloc)?;
-            Ok(attribute_of(*attribute, path))
+            attribute_of(alloc, *attribute, scope.node(node).copy(alloc)?)
         }
         SurfaceExpr::Look {
             word,
@@ -42,12 +42,15 @@ pub(crate) fn resolved(alloc: Global, scope: &Scope, expr: &SurfaceExpr) -> Resu
             args,
             tolerance,
             ..
-        } => Ok(Expr::Look {
-            word: look_word(*word),
-            name: name.name.copy(alloc)?,
-            args: resolved_each(alloc, scope, args)?,
-            tolerance: tolerance.map(|allowed| allowed.distance),
-        }),
+        } => {
+            let look = Expr::Look {
+                word: look_word(*word),
+                name: name.name.copy(alloc)?,
+                args: resolved_each(alloc, scope, args)?,
+                tolerance: tolerance.map(|allowed| allowed.distance),
+            };
+            Ok(Box::new(alloc, look)?)
+        }
         SurfaceExpr::UnaryCall {
             function,
             argument,
@@ -99,40 +102,74 @@ pub(crate) fn resolved_each(
 {
     let mut made = Vec::with_capacity(alloc, exprs.len())?;
     for expr in exprs {
-        made.push(resolved(alloc, scope, expr)?)?;
+        made.push(Box::into_inner(resolved(alloc, scope, expr)?))?;
     }
     Ok(made)
 }
 
-/// An attribute of the node at a path.
-fn attribute_of(attribute: Attribute, path: Path) -> Expr
-    ensures { term_of result ≡ attribute_term attribute path }
+/// A value that the text has.
+pub(crate) fn literal(alloc: Global, value: Value) -> Result<Box<Expr>, NoMemory>
+    ensures { IfOk result (λ made. term_in made ≡ LiteralTerm value) }
 {
-    match attribute {
+    Ok(Box::new(alloc, Expr::Literal(value))?)
+}
+
+/// The variable that the node at a path declares.
+pub(crate) fn variable(alloc: Global, owner: &Path, name: &Name) -> Result<Box<Expr>, NoMemory>
+    ensures { IfOk result (λ made. term_in made ≡ VarTerm owner.now name.now) }
+{
+    let variable = Expr::Var {
+        owner: owner.copy(alloc)?,
+        name: name.copy(alloc)?,
+    };
+    Ok(Box::new(alloc, variable)?)
+}
+
+/// An element of the array that the node at a path declares.
+fn element(
+    alloc: Global,
+    owner: &Path,
+    name: &Name,
+    index: Box<Expr>,
+) -> Result<Box<Expr>, NoMemory>
+    ensures { IfOk result (λ made. term_in made ≡ CellTerm owner.now name.now (term_in index)) }
+{
+    let element = Expr::Cell {
+        owner: owner.copy(alloc)?,
+        name: name.copy(alloc)?,
+        index,
+    };
+    Ok(Box::new(alloc, element)?)
+}
+
+/// An attribute of the node at a path.
+fn attribute_of(alloc: Global, attribute: Attribute, path: Path) -> Result<Box<Expr>, NoMemory>
+    ensures { IfOk result (λ made. term_in made ≡ attribute_term attribute path) }
+{
+    let attribute = match attribute {
         Attribute::State => Expr::StateOf(path),
         Attribute::Outcome => Expr::OutcomeOf(path),
         Attribute::Failure => Expr::FailureOf(path),
         Attribute::CommandHandle => Expr::HandleOf(path),
-    }
+    };
+    Ok(Box::new(alloc, attribute)?)
 }
 
 /// An operation with one operand.
-pub(crate) fn unary(alloc: Global, op: UnaryOp, arg: Expr) -> Result<Expr, NoMemory>
-    ensures { IfOk result (λ made. term_of made ≡ UnaryTerm op (term_of arg)) }
+pub(crate) fn unary(alloc: Global, op: UnaryOp, arg: Box<Expr>) -> Result<Box<Expr>, NoMemory>
+    ensures { IfOk result (λ made. term_in made ≡ UnaryTerm op (term_in arg)) }
 {
-    Ok(Expr::Unary {
-        op,
-        arg: Box::new(alloc, arg)?,
-    })
+    Ok(Box::new(alloc, Expr::Unary { op, arg })?)
 }
 
 /// An operation with two operands.
-pub(crate) fn binary(alloc: Global, op: BinaryOp, left: Expr, right: Expr) -> Result<Expr, NoMemory>
-    ensures { IfOk result (λ made. term_of made ≡ BinaryTerm op (term_of left) (term_of right)) }
+pub(crate) fn binary(
+    alloc: Global,
+    op: BinaryOp,
+    left: Box<Expr>,
+    right: Box<Expr>,
+) -> Result<Box<Expr>, NoMemory>
+    ensures { IfOk result (λ made. term_in made ≡ BinaryTerm op (term_in left) (term_in right)) }
 {
-    Ok(Expr::Binary {
-        op,
-        left: Box::new(alloc, left)?,
-        right: Box::new(alloc, right)?,
-    })
+    Ok(Box::new(alloc, Expr::Binary { op, left, right })?)
 }

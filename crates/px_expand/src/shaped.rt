@@ -1,11 +1,11 @@
 // The nodes that blocks and simple actions are, of what is in them.
 ghost use Rattle.std.specs.Prelude.{◌≡◌, ◌<◌, length, map, IfOk, OnOk};
 ghost use Rattle.px_syntax.specs.Block.{block_of, body_of as text_of};
-ghost use Rattle.px_core.specs.Plan.{body_data, tree_of_node, variable_data};
+ghost use Rattle.px_core.specs.Plan.{body_data, variable_data};
 ghost use Rattle.px_expand.specs.Core.{form_of, formed, items_of, shaped_as, simple};
 ghost use Rattle.px_expand.specs.Items.{given_by, priority_of, variables_of};
 ghost use Rattle.px_expand.specs.Nodes.{alone, leaf, list};
-ghost use Rattle.px_expand.specs.Placed.{place_terms, trees_of};
+ghost use Rattle.px_expand.specs.Placed.{place_terms, tree_in, trees_of};
 ghost use Rattle.px_expand.specs.Shown.{given_terms};
 
 use crate::conditions::Given;
@@ -29,10 +29,10 @@ pub(crate) fn shaped(
     block: &Block,
     inside: Inside,
     nodes: Vec<CoreNode>,
-) -> Result<CoreNode, NoMemory>
+) -> Result<Box<CoreNode>, NoMemory>
     requires scope { 0 < length scope.now }
     requires variables { map variable_data inside.variables.items ≡ variables_of (items_of (block_of block.now)) }
-    ensures { IfOk result (λ node. tree_of_node node ≡ alone (shaped_as (place_terms place) scope.now
+    ensures { IfOk result (λ node. tree_in node ≡ alone (shaped_as (place_terms place) scope.now
         (block_of block.now) inside.paths.items (trees_of nodes.items))) }
 {
     let Inside { paths, variables } = inside;
@@ -63,9 +63,9 @@ fn single(
     variables: Vec<Variable>,
     kind: Kind,
     body: Body,
-) -> Result<CoreNode, NoMemory>
+) -> Result<Box<CoreNode>, NoMemory>
     requires { 0 < length scope.now }
-    ensures { IfOk result (λ node. tree_of_node node ≡ alone (leaf (place_terms place) kind
+    ensures { IfOk result (λ node. tree_in node ≡ alone (leaf (place_terms place) kind
         (given_by scope.now (items_of (block_of block.now))) (priority_of (items_of (block_of block.now)))
         (map variable_data variables.items) (body_data body))) }
 {
@@ -83,9 +83,9 @@ fn list(
     paths: &[Path],
     variables: Vec<Variable>,
     nodes: Vec<CoreNode>,
-) -> Result<CoreNode, NoMemory>
+) -> Result<Box<CoreNode>, NoMemory>
     requires { 0 < length scope.now }
-    ensures { IfOk result (λ node. tree_of_node node ≡ alone (list (place_terms place) paths.now
+    ensures { IfOk result (λ node. tree_in node ≡ alone (list (place_terms place) paths.now
         (formed (form_of (block_of block.now)) paths.now (given_by scope.now (items_of (block_of block.now))))
         (priority_of (items_of (block_of block.now))) (map variable_data variables.items) (trees_of nodes.items))) }
 {
@@ -116,10 +116,10 @@ pub(crate) fn simple(
     scope: &mut Scope,
     place: Place,
     body: &px_syntax::Body,
-) -> Result<CoreNode, NoMemory>
+) -> Result<Box<CoreNode>, NoMemory>
     ensures scope { OnOk result (scope.new ≡ scope.old) }
     ensures node { IfOk result
-        (λ node. tree_of_node node ≡ alone (simple scope.old (place_terms place) (text_of body.now))) }
+        (λ node. tree_in node ≡ alone (simple scope.old (place_terms place) (text_of body.now))) }
 {
     enter_simple(alloc, scope, &place)?;
     let made = body_of(alloc, scope, body)?;

@@ -1,13 +1,17 @@
 // Assignments, commands and updates.
 ghost use Rattle.std.specs.Prelude.{◌≡◌, ◌<◌, length, option_map, map, IfOk};
+ghost use Rattle.std.specs.Option.{option_copied};
 ghost use Rattle.px_syntax.specs.Block.{body_of as text_of, target_data as text_target, call_data, pair_data as text_pair};
+ghost use Rattle.px_syntax.specs.Expr.{term_of as expr_of};
+ghost use Rattle.px_core.specs.Expr.{term_of};
 ghost use Rattle.px_core.specs.Plan.{body_data, pair_data, target_data};
 ghost use Rattle.px_expand.specs.Kinds.{body_of, command_of, kind_of, pair_of, target_of};
+ghost use Rattle.px_expand.specs.Resolving.{resolved};
 
 use crate::resolve::{resolved, resolved_each};
 use crate::scope::Scope;
-use px_core::{Body, Kind, Pair, Target};
-use px_syntax::Call;
+use px_core::{Body, Expr, Kind, Pair, Target};
+use px_syntax::{Call, SurfaceExpr};
 use px_value::NoMemory;
 use std::alloc::Global;
 
@@ -36,14 +40,15 @@ pub(crate) fn body_of(
     ensures { IfOk result (λ made. body_data made ≡ body_of scope.now (text_of body.now)) }
 {
     match body {
-        px_syntax::Body::Assign { target, value } => Ok(Body::Assign {
-            target: target_of(alloc, scope, target)?,
-            value: resolved(alloc, scope, value)?,
-        }),
-        px_syntax::Body::CallInto { target, call } => {
+        px_syntax::Body::Assign { target, value } => {
+            let value = resolved(alloc, scope, value)?;
             let target = target_of(alloc, scope, target)?;
-            command(alloc, scope, call, Some(target))
+            Ok(Body::Assign {
+                target,
+                value: Box::into_inner(value),
+            })
         }
+        px_syntax::Body::CallInto { target, call } => command(alloc, scope, call, Some(target)),
         px_syntax::Body::Call(call) => command(alloc, scope, call, None),
         px_syntax::Body::Update { pairs, .. } => Ok(Body::Update {
             pairs: pairs_of(alloc, scope, pairs)?,
@@ -59,14 +64,24 @@ fn target_of(alloc: Global, scope: &Scope, target: &px_syntax::Target) -> Result
     requires { 0 < length scope.now }
     ensures { IfOk result (λ made. target_data made ≡ target_of scope.now (text_target target.now)) }
 {
-    let index = match &target.index {
-        Some(index) => Some(resolved(alloc, scope, index)?),
-        None => None,
-    };
     Ok(Target {
         owner: scope.owner(&target.name.name).copy(alloc)?,
         name: target.name.name.copy(alloc)?,
-        index,
+        index: index_of(alloc, scope, &target.index)?,
+    })
+}
+
+fn index_of(
+    alloc: Global,
+    scope: &Scope,
+    index: &Option<SurfaceExpr>,
+) -> Result<Option<Expr>, NoMemory>
+    requires { 0 < length scope.now }
+    ensures { IfOk result (λ made. option_map term_of made ≡ option_map (resolved scope.now) (option_map expr_of index.now)) }
+{
+    Ok(match index {
+        Some(index) => Some(Box::into_inner(resolved(alloc, scope, index)?)),
+        None => None,
     })
 }
 
@@ -74,16 +89,20 @@ fn command(
     alloc: Global,
     scope: &Scope,
     call: &Call,
-    written: Option<Target>,
+    written: Option<&px_syntax::Target>,
 ) -> Result<Body, NoMemory>
     requires { 0 < length scope.now }
     ensures { IfOk result (λ made. body_data made
-        ≡ command_of scope.now (call_data call.now) (option_map target_data written)) }
+        ≡ command_of scope.now (call_data call.now)
+        (option_map (target_of scope.now) (option_map text_target (option_copied written.entry)))) }
 {
     Ok(Body::Command {
         name: call.name.name.copy(alloc)?,
         args: resolved_each(alloc, scope, &call.args)?,
-        result: written,
+        result: match written {
+            Some(target) => Some(target_of(alloc, scope, target)?),
+            None => None,
+        },
     })
 }
 
@@ -96,7 +115,7 @@ fn pairs_of(alloc: Global, scope: &Scope, pairs: &[px_syntax::Pair]) -> Result<V
     for pair in pairs {
         made.push(Pair {
             name: pair.name.name.copy(alloc)?,
-            value: resolved(alloc, scope, &pair.value)?,
+            value: Box::into_inner(resolved(alloc, scope, &pair.value)?),
         })?;
     }
     Ok(made)

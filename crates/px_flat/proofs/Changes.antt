@@ -6,17 +6,17 @@ use Rattle.std.proofs.lemmas.List.Sums.{sum_by-cons}
 use Rattle.px_value.specs.declared.value.Value.{Value}
 use Rattle.px_core.specs.Fit.{cells_of, AreDistinct}
 use Rattle.px_core.specs.Plan.{Site, VariableData, is_same}
+use Rattle.px_core.proofs.Paths.{same-self, same-other}
 use Rattle.px_sem.specs.Events.{with_record}
 use Rattle.px_sem.specs.World.{World, NodeRecord, LookState}
 use Rattle.px_flat.specs.declared.act.Act.{Act}
 use Rattle.px_flat.specs.Parts.{values_in, record_in, world_of}
 use Rattle.px_flat.specs.Row.{site_in}
-use Rattle.px_flat.proofs.Paths.{same-self, same-other}
 
 -- ---- the records of all nodes but one stay
 
 -- the entries of nodes from a number on, with this record of each
-abbrev entries : (ℕ → NodeRecord) → ℕ → List Site → List (List ℕ × NodeRecord)
+abbrev pub entries : (ℕ → NodeRecord) → ℕ → List Site → List (List ℕ × NodeRecord)
 entries f first plan = map (λ entry. (entry.1.path, f entry.0)) (enumerate_from first plan)
 
 -- with another record of the node at a path

@@ -5,9 +5,9 @@ use Rattle.std.proofs.lemmas.Bool.{cases_lt, and_parts}
 use Rattle.std.proofs.lemmas.List.{get_or_append_left, get_or-append-add, drop-drop, drop_at}
 use Rattle.std.proofs.lemmas.List.Folds.{length-prefix_len, list_all-append}
 use Rattle.px_core.specs.Plan.{Tree, NoNode, Branch, Site, no_site, is_same, count_of, path_under, site_under, sites_under, sites}
+use Rattle.px_core.proofs.Paths.{same-self, same-other}
 use Rattle.px_flat.specs.Laying.{ends_from}
 use Rattle.px_flat.specs.Row.{site_in, is_below, after_last}
-use Rattle.px_flat.proofs.Paths.{same-self, same-other}
 use Rattle.px_flat.proofs.Trees.{length-sites_under, length-ends_from}
 
 -- ---- those that stand below a node

@@ -9,6 +9,7 @@ use Rattle.std.proofs.lemmas.List.Sums.{AllPass-from_list_all}
 use Rattle.px_core.specs.Expr.{Term}
 use Rattle.px_core.specs.Fit.{Reference, references, references_of_site, references_of_target, terms_of, terms_of_conditions, targets_of, path_is_there, variable_is_there, paths_are_there, variables_are_there, has_right_variables, has_one_root, AreDistinct}
 use Rattle.px_core.specs.Plan.{Site, Head, Tree, NoNode, Branch, no_site, is_same, count_of}
+use Rattle.px_core.proofs.Paths.{same-self}
 use Rattle.px_flat.specs.declared.names.Names.{Names}
 use Rattle.px_flat.specs.Extents.{AreBelow}
 use Rattle.px_flat.specs.FitPlan.{IsFitPlan}
@@ -17,7 +18,6 @@ use Rattle.px_flat.specs.Lookups.{lookups_in, lookups_in_head, lookups_of, with_
 use Rattle.px_flat.specs.Names.{plan_in}
 use Rattle.px_flat.specs.Row.{site_in, after_last}
 use Rattle.px_flat.proofs.Numbers.{distinct_sites}
-use Rattle.px_flat.proofs.Paths.{same-self}
 use Rattle.px_flat.proofs.Subtrees.{are_below}
 use Rattle.px_flat.proofs.Trees.{length-sites_under}
 

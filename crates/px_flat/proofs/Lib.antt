@@ -11,14 +11,15 @@ pub mod NumberedCodes
 pub mod NumberedTerms
 pub mod NumberedValues
 pub mod Numbers
-pub mod Paths
 pub mod Sites
 pub mod Slotted
 pub mod Subtrees
 pub mod Sums
 pub mod Tables
+pub mod Targets
 pub mod Terms
 pub mod Trees
 pub mod VariableValues
+pub mod Variables
 pub mod Withins
 pub mod Worlds

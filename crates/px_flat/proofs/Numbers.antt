@@ -7,10 +7,10 @@ use Rattle.std.proofs.lemmas.List.Folds.{list_any_none}
 use Rattle.indexmap.specs.IndexSet.{insert_key}
 use Rattle.px_core.specs.Fit.{AreDistinct}
 use Rattle.px_core.specs.Plan.{Site, no_site, is_same}
+use Rattle.px_core.proofs.Paths.{same-self, same-other, distinct_behind}
 use Rattle.px_flat.specs.declared.row.Row.{Row}
 use Rattle.px_flat.specs.Row.{IsRowOf, site_in, paths_of, number_at, parent_number}
 use Rattle.px_flat.specs.Rows.{IsLaid, sites_of, site_of}
-use Rattle.px_flat.proofs.Paths.{same-self, same-other}
 use Rattle.px_flat.proofs.Sites.{length-sites_of, site_at_number}
 
 pub distinct_sites : (rows : List Row) → IsLaid rows → AreDistinct (sites_of rows)
@@ -50,10 +50,6 @@ paths_more plan i path distinct within is =
     ∙ sym (take_more (paths_of plan) i [] (omega (arith, length-map plan (λ site. site.path))))
 
 -- ---- the number of a path
-
-distinct_behind : (site : Site) (plan : List Site) → AreDistinct (site ∷ plan) → AreDistinct plan
-distinct_behind site plan distinct i j hi hj same =
-    let e : suc i ≡ suc j = distinct (suc i) (suc j) (omega arith) (omega arith) same in omega arith
 
 first_place : (plan : List Site) (i : ℕ) → AreDistinct plan → i < length plan
     → position_or_len (is_same (site_in plan i).path) (paths_of plan) ≡ i

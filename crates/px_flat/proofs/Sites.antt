@@ -9,9 +9,9 @@ use Rattle.std.proofs.lemmas.List.{get_or_append_left}
 use Rattle.std.proofs.Math.Seq.{get_or-append_seam}
 use Rattle.px_core.specs.Fit.{AreDistinct}
 use Rattle.px_core.specs.Plan.{Site, is_same, no_site, site_at}
+use Rattle.px_core.proofs.Paths.{same-self, same-other, distinct_behind}
 use Rattle.px_sem.specs.World as world
 use Rattle.px_flat.specs.declared.row.Row.{Row}
-use Rattle.px_flat.proofs.Paths.{same-self, same-other}
 use Rattle.px_flat.specs.Row.{head_data}
 use Rattle.px_flat.specs.Rows.{above_in, site_of, grown, sites_of, IsBefore, IsLaid}
 
@@ -91,10 +91,6 @@ grown-push sites (first ∷ rows) row = grown-push (sites ++ site_of sites first
 
 -- ---- look-ups by path
 
-distinct_tail : (site : Site) (sites : List Site) → AreDistinct (site ∷ sites) → AreDistinct sites
-distinct_tail site sites distinct i j hi hj same =
-    let e : suc i ≡ suc j = distinct (suc i) (suc j) (omega arith) (omega arith) same in omega arith
-
 head_differs : (site : Site) (sites : List Site) (i : ℕ) → AreDistinct (site ∷ sites) → i < length sites
     → is_same site.path (get_or sites i no_site).path ≡ false
 head_differs site sites i distinct h = same-other _ _ (λ same.
@@ -111,7 +107,7 @@ found_record (site ∷ sites) (r ∷ records) zero e distinct h long = rw (same-
 found_record (site ∷ sites) (r ∷ records) (suc i) e distinct h long =
     let within : i < length sites = omega arith in
     rw (head_differs site sites i distinct within)
-    (found_record sites records i e (distinct_tail site sites distinct) within (omega arith))
+    (found_record sites records i e (distinct_behind site sites distinct) within (omega arith))
 
 pub found_site : (sites : List Site) (i : ℕ) → AreDistinct sites → i < length sites
     → site_at sites (get_or sites i no_site).path ≡ get_or sites i no_site
@@ -119,4 +115,4 @@ found_site [] i distinct h = absurd (omega arith)
 found_site (site ∷ sites) zero distinct h = rw (same-self site.path) refl
 found_site (site ∷ sites) (suc i) distinct h =
     let within : i < length sites = omega arith in
-    rw (head_differs site sites i distinct within) (found_site sites i (distinct_tail site sites distinct) within)
+    rw (head_differs site sites i distinct within) (found_site sites i (distinct_behind site sites distinct) within)

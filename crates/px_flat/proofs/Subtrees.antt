@@ -7,11 +7,12 @@ use Rattle.std.proofs.lemmas.List.Folds.{length-prefix_len, list_any-append, lis
 use Rattle.std.proofs.Math.Seq.{get_or-append_seam}
 use Rattle.px_core.specs.Fit.{AreDistinct}
 use Rattle.px_core.specs.Plan.{Tree, NoNode, Branch, Site, no_site, is_same, count_of, path_under, site_under, sites_under, sites}
+use Rattle.px_core.proofs.Each.{Each, Differ, each-append, each_front, each_back, each_map, each_from}
+use Rattle.px_core.proofs.Paths.{same-other}
 use Rattle.px_flat.specs.Extents.{AreBelow}
 use Rattle.px_flat.specs.FitPlan.{IsFitPlan}
 use Rattle.px_flat.specs.Row.{site_in, is_below, after_last}
 use Rattle.px_flat.proofs.Descendants.{Shorter, shorter_more, depth, own_long, not_among, all_below, self_among, FirstFails, run_all}
-use Rattle.px_flat.proofs.Paths.{Each, Differ, same-other, each-append, each_front, each_back, each_map, each_from}
 use Rattle.px_flat.proofs.Trees.{length-sites_under}
 
 -- ---- nodes of different paths

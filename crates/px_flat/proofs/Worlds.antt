@@ -10,6 +10,7 @@ use Rattle.px_value.specs.declared.value.Value.{Value}
 use Rattle.px_value.specs.declared.value.Value.TheVariants as values
 use Rattle.px_core.specs.Fit.{cells_of, has_site, AreDistinct}
 use Rattle.px_core.specs.Plan.{Site, VariableData, is_same}
+use Rattle.px_core.proofs.Paths.{same-self, same-other}
 use Rattle.px_sem.specs.Expressions.{outcome_value, failure_value, handle_value, handle_of, is_acknowledged}
 use Rattle.px_sem.specs.World.{NodeRecord, LookState, no_record, record_at, of_variable}
 use Rattle.px_flat.specs.declared.act.Act.{Act}
@@ -19,7 +20,6 @@ use Rattle.px_flat.specs.Parts.{state_in, outcome_in, failure_in, action_in, val
 use Rattle.px_flat.specs.Row.{site_in}
 use Rattle.px_flat.specs.Numbered.{node_of}
 use Rattle.px_flat.proofs.Numbers.{number_is}
-use Rattle.px_flat.proofs.Paths.{same-self, same-other}
 
 -- ---- the record of a node
 

@@ -29,12 +29,12 @@ fn head_at(alloc: Global, node: &CoreNode) -> Result<Head, NoMemory>
     ensures named { IfOk result (λ head. IsTrue (is_name head.name)) }
 {
     Ok(Head {
+        conditions: node.conditions.copy(alloc)?,
+        body: node.body.copy(alloc)?,
+        variables: copy_each(alloc, &node.variables)?,
         name: node.name.copy(alloc)?,
         kind: node.kind,
         priority: node.priority,
-        variables: copy_each(alloc, &node.variables)?,
-        body: node.body.copy(alloc)?,
-        conditions: node.conditions.copy(alloc)?,
     })
 }
 

@@ -1,6 +1,5 @@
 -- The cells of a plan that has not begun stand for its initial world.
 use Rattle.std.proofs.Common.{◌≡◌, ℕ, zero, suc, ◌+◌, ◌-◌, false, ◌*◌, ◌<◌, ◌≤◌, List, [], ◌∷◌, ◌++◌, length, map, sum, take, drop, get_or, replicate, refl, ap, ◌∙◌, arith, length-append}
-use Rattle.std.specs.List.{enumerate_from}
 use Rattle.std.proofs.lemmas.List.{get_or-append-add, get_or_append_left, get_or-replicate, length-replicate, take-append-le, take-replicate}
 use Rattle.std.proofs.lemmas.List.Sums.{sum_by-cons}
 use Rattle.px_value.specs.declared.enums.NodeState.TheVariants.{Inactive}
@@ -15,6 +14,7 @@ use Rattle.px_flat.specs.Layout.{variable_cells, first_cell, node_cell, state_ce
 use Rattle.px_flat.specs.Numbered.{held}
 use Rattle.px_flat.specs.Parts.{IsNode, IsParts, act_of, action_in, state_in, outcome_in, failure_in, record_in, values_in, world_of, is_state, is_outcome, is_failure, is_handle_of, is_acknowledgement_of, fits}
 use Rattle.px_flat.specs.Row.{site_in}
+use Rattle.px_flat.proofs.Changes.{entries}
 use Rattle.px_command.proofs.Writes.{cells_within}
 use Rattle.px_parts.specs.Fresh.{at_rest, all_at_rest, first_cells}
 
@@ -136,10 +136,6 @@ record_at_rest plan node within = λ i. record {
     action = rw idle refl
 
 -- ---- the world
-
--- the entries of nodes from a number on, with this record of each
-abbrev pub entries : (ℕ → NodeRecord) → ℕ → List Site → List (List ℕ × NodeRecord)
-entries f first plan = map (λ entry. (entry.1.path, f entry.0)) (enumerate_from first plan)
 
 each_at_rest : (plan : List Site) (f : ℕ → NodeRecord) (first : ℕ)
     → ((k : ℕ) → k < length plan → f (first + k) ≡ initial_record (site_in plan k).head)

@@ -13,9 +13,9 @@ use Rattle.px_sem.specs.World.{World, NodeRecord, record_at, known_state, standi
 use Rattle.px_flat.specs.Row.{site_in, paths_of, number_at}
 use Rattle.px_flat.proofs.Tables.{flat_sound}
 use Rattle.px_flat.proofs.Worlds.{record_at-world_of}
+use Rattle.px_flat.proofs.Changes.{entries}
 use Rattle.px_parts.specs.declared.parts.Parts.{Parts}
 use Rattle.px_parts.specs.Parts.{plan_in, world_in, record_of}
-use Rattle.px_parts.proofs.Beginning.{entries}
 
 -- ---- by a path
 

@@ -64,9 +64,9 @@ impl Parts {
         let flat = flatten(alloc, plan)?;
         let values = first_cells(alloc, &flat)?;
         Ok(Parts {
+            actions: Actions::new(alloc, &flat)?,
             cells: Cells::new(alloc, values)?,
             reports: Reports::new(alloc, Vec::new(alloc)),
-            actions: Actions::new(alloc, &flat)?,
             moves: Vec::new(alloc),
             flat,
         })

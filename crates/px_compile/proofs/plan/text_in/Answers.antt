@@ -1,4 +1,4 @@
-use Rattle.px_compile.proofs.Texts.{not_utf8}
+use Rattle.px_value.proofs.General.{not_utf8}
 use Rattle.px_compile.proofs.plan.text_in.Goals as goal
 
 pub returns-in-Err-clause-fault : goal.returns-in-Err-clause-fault

@@ -10,19 +10,18 @@ use Rattle.px_syntax.specs.declared.block.Guarded.{out-Guarded}
 use Rattle.px_syntax.specs.Block as text
 use Rattle.px_syntax.specs.Block.{action_of, block_of, body_of, branch_of, else_ifs_in_turn, else_of, guarded_of, item_data}
 use Rattle.px_syntax.specs.Expr.{term_of as text_of}
-use Rattle.px_core.specs.Expr.{term_of}
-use Rattle.px_core.specs.Plan.{tree_of_node}
+use Rattle.px_syntax.proofs.Trees as trees
 use Rattle.px_expand.specs.Chain.{all_closed, branch_in}
 use Rattle.px_expand.specs.Core.{actions_core, actions_in, body_core, branch_core, branch_name, follows, form_of, name_of}
-use Rattle.px_expand.specs.Forms.{counted, loop_path, where_found, where_not_found}
+use Rattle.px_expand.specs.Forms.{counted, loop_path, repeated, where_found, where_not_found}
 use Rattle.px_expand.specs.Kinds.{Children, shape_of}
 use Rattle.px_expand.specs.Names.{body_name, else_name, loop_name, then_name}
 use Rattle.px_expand.specs.Nodes.{Place, alone, child}
-use Rattle.px_expand.specs.Placed.{node_of, place_terms, trees_of}
+use Rattle.px_expand.specs.Placed.{node_of, place_terms, tree_in, trees_of}
+use Rattle.px_expand.specs.Shown.{term_in}
 use Rattle.px_expand.specs.Size.{actions_nodes, actions_reach, block_nodes, block_reach, body_nodes, body_reach}
 use Rattle.px_expand.proofs.Actions.{fewer_left, in_turn, nodes_done, nodes_more, nodes_none, room}
 use Rattle.px_expand.proofs.Blocks.{block_inside, block_made, child_room, list_count, list_reach}
-use Rattle.px_expand.proofs.Bodies as trees
 use Rattle.px_expand.proofs.Chains.{chain_more, chain_opened, count_else, else_room, guarded_made, is_opened, room_before, room_for_set}
 use Rattle.px_expand.proofs.Loops.{branch_count, branch_made, branch_room, for_made, guarded_branch, guarded_count, guarded_room, while_made}
 use Rattle.px_expand.proofs.block.+block.Goals as goal
@@ -44,14 +43,14 @@ actions-loop-number-preserved t c =
     let action = c.index-actions-number.result in
     let place = c.in_ok-place.place in
     record {
-      scope = c.in_ok-body.ensures.scope ∙ c.loop-number.invariant.scope;
+      scope = c.in_ok-node.ensures.scope ∙ c.loop-number.invariant.scope;
       left =
           nodes_more c.args.scope.now path form c.args.actions.now n action c.loop-number.behind _ c.loop-number.nodes.items _
-          c.in_ok-body.field-0 (place_terms place) c.loop-number-test.true c.index-actions-number.is
+          c.in_ok-node.node.value (place_terms place) c.loop-number-test.true c.index-actions-number.is
           (c.in_ok-place.ensures ∙ ap (λ behind. child path (name_of (n + 1) (action_of action)) (follows form behind)) c.as_ref.ensures.value)
-          (c.in_ok-body.ensures.node
+          (c.in_ok-node.ensures.node
           ∙ ap (λ scope. alone (body_core scope (place_terms place) (body_of (out-Action action).body))) c.loop-number.invariant.scope)
-          (ap Some c.in_ok-copy.ensures) c.in_ok-push.ensures.items c.loop-number.invariant.left;
+          (ap Some c.in_ok-copy.ensures) c.in_ok-push.ensures c.loop-number.invariant.left;
     }
 
 pub actions-returns-clause-nodes : goal.actions-returns-clause-nodes
@@ -135,7 +134,7 @@ body-block-requires t c =
 pub body-returns-in-Block-clause-node : goal.body-returns-in-Block-clause-node
 body-returns-in-Block-clause-node t c =
     let tree : body_of c.args.body.now ≡ text.Inner (block_of c.in-Block.inner) = ap body_of c.in-Block.is ∙ trees.inner c.in-Block.inner in
-    subst (λ tree. IfOk c.block.result (λ node. tree_of_node node ≡ alone (body_core c.args.scope.now (place_terms c.args.place) tree)))
+    subst (λ tree. IfOk c.block.result (λ node. tree_in node ≡ alone (body_core c.args.scope.now (place_terms c.args.place) tree)))
     (sym tree) c.block.ensures.node
 
 pub body-while_loop-requires : goal.body-while_loop-requires
@@ -148,7 +147,7 @@ pub body-returns-in-While-clause-node : goal.body-returns-in-While-clause-node
 body-returns-in-While-clause-node t c =
     let tree : body_of c.args.body.now ≡ text.While (guarded_of c.in-While.guarded) =
     ap body_of c.in-While.is ∙ trees.while_loop c.in-While.guarded in
-    subst (λ tree. IfOk c.while_loop.result (λ node. tree_of_node node ≡ alone (body_core c.args.scope.now (place_terms c.args.place) tree)))
+    subst (λ tree. IfOk c.while_loop.result (λ node. tree_in node ≡ alone (body_core c.args.scope.now (place_terms c.args.place) tree)))
     (sym tree) c.while_loop.ensures.node
 
 pub body-for_loop-requires : goal.body-for_loop-requires
@@ -164,7 +163,7 @@ body-returns-in-For-clause-node t c =
     let tree = ap body_of own.is ∙ trees.for_loop own.variable own.first own.test own.step own.branch in
     let same = ap (λ (first : ℤ). text.For own.variable first (text_of own.test) (text_of own.step) (branch_of own.branch))
     (to_z-of_z w32 own.first fits) in
-    subst (λ tree. IfOk c.for_loop.result (λ node. tree_of_node node ≡ alone (body_core c.args.scope.now (place_terms c.args.place) tree)))
+    subst (λ tree. IfOk c.for_loop.result (λ node. tree_in node ≡ alone (body_core c.args.scope.now (place_terms c.args.place) tree)))
     (same ∙ sym tree) c.for_loop.ensures.node
 
 pub body-chain-requires : goal.body-chain-requires
@@ -185,7 +184,7 @@ body-returns-in-If-clause-node t c =
     ap body_of own.is ∙ trees.if_chain own.first own.others own.otherwise
     ∙ ap (λ others. text.If (guarded_of own.first) (else_ifs_in_turn (map guarded_of others)) (else_of (option_map branch_of own.otherwise)))
     (sym c.deref.ensures.value) in
-    subst (λ tree. IfOk c.chain.result (λ node. tree_of_node node ≡ alone (body_core c.args.scope.now (place_terms c.args.place) tree)))
+    subst (λ tree. IfOk c.chain.result (λ node. tree_in node ≡ alone (body_core c.args.scope.now (place_terms c.args.place) tree)))
     (sym tree) c.chain.ensures.node
 
 pub while_loop-block-requires : goal.while_loop-block-requires
@@ -195,13 +194,13 @@ while_loop-block-requires t c = (
       c.in_ok-test.ensures.branch c.requires,
 )
 
-pub while_loop-repeated_alone-requires : goal.while_loop-repeated_alone-requires
-while_loop-repeated_alone-requires t c =
+pub while_loop-repeated-requires : goal.while_loop-repeated-requires
+while_loop-repeated-requires t c =
     omega (arith, c.requires, room_for_set body_name (guarded_of c.args.guarded.now))
 
 pub while_loop-returns-clause-scope : goal.while_loop-returns-clause-scope
 while_loop-returns-clause-scope t c =
-    holds c.repeated_alone.result (c.leave.ensures ∙ ap (drop 1) (c.in_ok-node.ensures.scope ∙ c.in_ok-test.ensures.scope))
+    holds c.repeated.result (c.leave.ensures ∙ ap (drop 1) (c.in_ok-node.ensures.scope ∙ c.in_ok-test.ensures.scope))
 
 pub while_loop-returns-clause-node : goal.while_loop-returns-clause-node
 while_loop-returns-clause-node t c =
@@ -210,14 +209,15 @@ while_loop-returns-clause-node t c =
     let made = c.in_ok-test.field-0 in
     let inner = c.into_while.new.scope in
     let own = child place.path (branch_name body_name (branch_in (guarded_of guarded))) (where_found place.path) in
-    let branch : tree_of_node c.in_ok-node.node ≡ alone (branch_core inner own (branch_in (guarded_of guarded))) =
-    branch_made inner (place_terms made.branch) own (out-Guarded guarded).branch (tree_of_node c.in_ok-node.node)
+    let branch : tree_in c.in_ok-node.node ≡ alone (branch_core inner own (branch_in (guarded_of guarded))) =
+    branch_made inner (place_terms made.branch) own (out-Guarded guarded).branch (tree_in c.in_ok-node.node)
     c.in_ok-node.ensures.node c.in_ok-test.ensures.branch
     ∙ ap (λ branch. alone (branch_core inner own branch)) (guarded_branch guarded) in
-    subst (λ tree. IfOk c.repeated_alone.result (λ node. tree_of_node node ≡ tree))
-    (while_made c.args.scope.now inner place (guarded_of guarded) (term_of made.test) made.paths.items (tree_of_node c.in_ok-node.node)
+    subst (λ tree. IfOk c.repeated.result (λ node. tree_in node ≡ tree))
+    (ap (λ nodes. alone (repeated place (term_in made.test) made.paths.items (trees_of nodes))) c.in_ok-nodes.ensures
+    ∙ while_made c.args.scope.now inner place (guarded_of guarded) (term_in made.test) made.paths.items (tree_in c.in_ok-node.node)
     c.in_ok-test.ensures.scope c.in_ok-test.ensures.test c.in_ok-test.ensures.paths branch)
-    c.repeated_alone.ensures
+    c.repeated.ensures
 
 pub for_loop-into_for-requires : goal.for_loop-into_for-requires
 for_loop-into_for-requires t c = omega (arith, c.requires)
@@ -248,15 +248,15 @@ for_loop-returns-clause-node t c =
     let path = loop_path place.path in
     let own = child path (branch_name body_name (branch_of branch)) (where_found path) in
     let fits : SFits w32 c.args.first = c.ranges.first in
-    let same = ap (λ (first : ℤ). alone (counted place c.args.variable.now.name first (term_of made.turn.value.test)
-    (term_of made.turn.value.next) c.in_ok-body.body (node_of c.in_ok-node.node))) (to_z-of_z w32 c.args.first fits) in
-    subst (λ tree. IfOk c.counted.result (λ node. tree_of_node node ≡ tree))
+    let same = ap (λ (first : ℤ). alone (counted place c.args.variable.now.name first (term_in made.turn.test)
+    (term_in made.turn.next) c.in_ok-body.body (node_of c.in_ok-node.node.value))) (to_z-of_z w32 c.args.first fits) in
+    subst (λ tree. IfOk c.counted.result (λ node. tree_in node ≡ tree))
     (same
     ∙ for_made c.args.scope.now inner place c.args.variable.now c.args.first (text_of c.args.test.now) (text_of c.args.step.now)
-    (branch_of branch) (term_of made.turn.value.test) (term_of made.turn.value.next) c.in_ok-body.body c.in_ok-node.node
+    (branch_of branch) (term_in made.turn.test) (term_in made.turn.next) c.in_ok-body.body c.in_ok-node.node.value
     c.in_ok-inner.ensures.scope c.in_ok-inner.ensures.test c.in_ok-inner.ensures.next
     (c.in_ok-body.ensures ∙ ap (λ (at : Place). at.path) c.in_ok-inner.ensures.branch)
-    (branch_made inner (place_terms made.branch) own branch (tree_of_node c.in_ok-node.node) c.in_ok-node.ensures.node
+    (branch_made inner (place_terms made.branch) own branch (tree_in c.in_ok-node.node) c.in_ok-node.ensures.node
     c.in_ok-inner.ensures.branch))
     c.counted.ensures
 

@@ -1,5 +1,5 @@
 use Rattle.std.proofs.Common.{ap, ◌∙◌, drop, length}
-use Rattle.px_core.specs.Plan.{tree_of_node}
+use Rattle.px_expand.specs.Placed.{tree_in}
 use Rattle.px_expand.proofs.Chains.{left_again, closed_again}
 use Rattle.px_expand.proofs.closing.close_all.Goals as goal
 
@@ -14,7 +14,7 @@ loop-opened-preserved c =
           ∙ left_again outer rest opened c.loop-opened.scope c.in-Some.ensures.items
           ∙ c.loop-opened.invariant.scope;
       node =
-          closed_again outer rest opened (tree_of_node c.loop-opened.node) (tree_of_node c.in_ok-node.node)
+          closed_again outer rest opened (tree_in c.loop-opened.node) (tree_in c.in_ok-node.node)
           c.in-Some.ensures.items c.in_ok-node.ensures
           ∙ c.loop-opened.invariant.node;
     }

@@ -1,12 +1,12 @@
 use Rattle.std.proofs.Common.{◌≡◌, drop, length, vec_len}
-use Rattle.px_core.specs.Plan.{tree_of_node}
+use Rattle.px_expand.specs.Placed.{tree_in}
 use Rattle.px_expand.specs.Chain.{all_closed}
 use Rattle.px_expand.proofs.closing.close_all.Given as goal
 
 abbrev pub invariant-loop-opened : goal.invariant-loop-opened
 invariant-loop-opened l = record {
   scope : drop (length l.outer.items) l.scope ≡ drop (length l.fn.outer.items) l.fn.scope;
-  node : all_closed l.outer.items (tree_of_node l.node) ≡ all_closed l.fn.outer.items (tree_of_node l.fn.node);
+  node : all_closed l.outer.items (tree_in l.node) ≡ all_closed l.fn.outer.items (tree_in l.fn.node);
 }
 
 abbrev pub decreases-loop-opened : goal.decreases-loop-opened

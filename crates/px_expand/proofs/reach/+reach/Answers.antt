@@ -4,8 +4,9 @@ use Rattle.std.proofs.lemmas.List.{at_drop_all}
 use Rattle.px_syntax.specs.declared.block.Action.{out-Action}
 use Rattle.px_syntax.proofs.block.Guarded.TheLaws.{the_size}
 use Rattle.px_syntax.specs.Block.{action_of, actions_in_turn, body_of, branch_of, else_ifs_in_turn, else_of, guarded_of}
+use Rattle.px_syntax.proofs.Trees.{if_chain}
 use Rattle.px_expand.specs.Size.{actions_reach, body_reach, else_if_reach, else_reach}
-use Rattle.px_expand.proofs.Reaching.{if_is, action_counted, action_reached, one_of_else_ifs, far_is_far}
+use Rattle.px_expand.proofs.Reaching.{action_counted, action_reached, one_of_else_ifs, far_is_far}
 use Rattle.px_expand.proofs.Sizes.{body_some}
 use Rattle.px_expand.proofs.reach.+reach.Goals as goal
 
@@ -32,7 +33,7 @@ pub body_reach-returns-in_ok-else_if_reach-in-If : goal.body_reach-returns-in_ok
 body_reach-returns-in_ok-else_if_reach-in-If t c =
     let last = else_reach (else_of (option_map branch_of c.in-If.otherwise)) in
     let others = else_ifs_in_turn (map guarded_of c.in-If.others.items) in
-    let tree = ap body_reach (ap body_of c.in-If.is ∙ if_is c.in-If.first c.in-If.others c.in-If.otherwise) in
+    let tree = ap body_reach (ap body_of c.in-If.is ∙ if_chain c.in-If.first c.in-If.others c.in-If.otherwise) in
     let chain = ap (λ list. else_if_reach c.in_ok-last-in-If.last (else_ifs_in_turn (map guarded_of list))) c.deref.ensures.value
     ∙ ap (λ far. else_if_reach far others) c.in_ok-last-in-If.ensures in
     let capped = far_is_far last others in

@@ -7,9 +7,9 @@ pub returns-clause-head : goal.returns-clause-head
 returns-clause-head c = λ i.
     let node = out-CoreNode c.args.node.now in
     let head : Head = record {
-      name = c.in_ok-copy.ensures.copy i;
+      name = c.in_ok-copy-3.ensures.copy i;
       kind = node.kind;
-      conditions = c.in_ok-copy-3.ensures i;
+      conditions = c.in_ok-copy.ensures i;
       priority = node.priority;
       variables = (c.in_ok-copy_each.ensures ∙ ap (map variable_data) c.deref.ensures.value) i;
       body = c.in_ok-copy-2.ensures i;
