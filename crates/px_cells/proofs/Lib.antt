@@ -1,3 +1,4 @@
 pub mod Marking
+pub mod Flagging
 pub mod Noting
 pub mod Writing

@@ -3,7 +3,7 @@ use Rattle.std.specs.Prelude.{◌≡◌, ◌≢◌, ◌-◌, ◌<◌, ◌^◌, f
 use Rattle.std.specs.Vec.{vec_capacity}
 use Rattle.px_cells.specs.declared.marked.Marked.TheInside.{Inside}
 use Rattle.px_cells.specs.Marked.{MarkedData}
-use Rattle.px_cells.specs.Marks.{at_mark, AreNoted}
+use Rattle.px_cells.specs.Marks.{at_mark, AreNoted, IsAsSeen}
 
 module _ {T : Type 0} where
   abbrev pub marked_data : Inside T → MarkedData T
@@ -14,6 +14,8 @@ module _ {T : Type 0} where
       changed = m.changed.items;
     };
     room = vec_capacity m.changed - vec_len m.changed;
+    seen = m.seen.value.items;
+    news = m.news.numbers;
   }
 
   pub record IsKept (m : Inside T) : Type 0 where
@@ -22,3 +24,5 @@ module _ {T : Type 0} where
     pub noted : AreNoted m.olds.items m.changed.items
     pub once : AllPairs (λ a b. a ≢ b) m.changed.items
     pub unmarked : m.is_marked ≡ false → m.changed.items ≡ []
+    pub counted : m.news.count ≡ length m.values.items
+    pub as_seen : IsAsSeen m.values.items m.seen.value.items m.news.numbers

@@ -1,8 +1,10 @@
 pub mod Empty
 pub mod Handing
+pub mod Holding
 pub mod Linking
 pub mod Once
 pub mod Pushing
 pub mod Reading
 pub mod Tables
 pub mod Unlinking
+pub mod Walking

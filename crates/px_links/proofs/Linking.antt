@@ -1,5 +1,5 @@
 -- What linked cells are, and how the links of one list change.
-use Rattle.std.proofs.Common.{◌≡◌, ◌≢◌, ℕ, zero, suc, ◌≤◌, Bool, true, false, ◌||◌, nat_eq, List, [], ◌∷◌, ◌++◌, length, slice_get, Option, Some, None, IfSome, refl, ap, sym, ◌∙◌, arith, inl, inr, ◌⊎◌}
+use Rattle.std.proofs.Common.{◌≡◌, ◌≢◌, ℕ, zero, suc, ◌-◌, ◌≤◌, Bool, true, false, ◌||◌, nat_eq, List, [], ◌∷◌, ◌++◌, length, slice_get, Option, Some, None, IfSome, refl, ap, sym, ◌∙◌, arith, inl, inr, ◌⊎◌}
 use Rattle.std.specs.Option.{option_or}
 use Rattle.std.proofs.lemmas.Bool.{eqb-true, eq-eqb}
 use Rattle.std.proofs.lemmas.Bool.Decides.{eqb_tells}
@@ -34,6 +34,19 @@ module _ (next before : ℕ → Option ℕ) where
       → AreLinked next before ahead first list last → first ≡ slice_get list 0
   linked_first ahead first [] last linked = linked.0
   linked_first ahead first (cell ∷ list) last linked = linked.0
+
+  -- the last link is to the last cell
+  last_behind : (ahead first : Option ℕ) (cell : ℕ) (list : List ℕ) (last : Option ℕ)
+      → AreLinked next before ahead first (cell ∷ list) last → last ≡ slice_get (cell ∷ list) (length list)
+  last_behind ahead first cell [] last linked = linked.2.1
+  last_behind ahead first cell (other ∷ list) last linked = last_behind (Some cell) (next cell) other list last linked.2
+
+  pub linked_last : (first : Option ℕ) (list : List ℕ) (last : Option ℕ)
+      → AreLinked next before None first list last → last ≡ slice_get list (length list - 1)
+  linked_last first [] last linked = linked.1
+  linked_last first (cell ∷ list) last linked =
+      let before_end : length (cell ∷ list) - 1 ≡ length list = omega arith in
+      rw before_end (last_behind None first cell list last linked)
 
   -- the link of a cell is to the one behind it
   pub linked_behind : (ahead first : Option ℕ) (list : List ℕ) (last : Option ℕ) (cell : ℕ)

@@ -1,6 +1,7 @@
 -- A cell is linked in behind the others of a list.
 use Rattle.std.proofs.Common.{◌≡◌, ◌≢◌, ℕ, ◌<◌, Bool, true, false, ◌||◌, nat_eq, List, [], ◌∷◌, ◌++◌, length, set, Option, Some, None, IfSome, AllPairs, refl, ap, sym, ◌∙◌, arith, inl, inr, subst}
 use Rattle.std.specs.Prelude.{if◌then◌else◌}
+use Rattle.std.specs.List.{position}
 use Rattle.std.specs.Option.{option_or}
 use Rattle.std.proofs.lemmas.Bool.{eq-eqb, cases_Bool}
 use Rattle.std.proofs.lemmas.Bool.Decides.{eqb_tells}
@@ -13,6 +14,7 @@ use Rattle.px_links.specs.Lists.{has, nth, with_last}
 use Rattle.px_links.specs.Keeping.{cell_at, ends_at, AreLinked, is_number, IsTable}
 use Rattle.px_links.specs.Relinking.{with_next}
 use Rattle.px_links.proofs.Linking.{linked_same, linked_push, number_here, here_number, if_some, or_true}
+use Rattle.px_links.proofs.Reading.{holder-read}
 use Rattle.px_links.proofs.Tables.{next_in, before_in, no_ends, leads_on_in, last_in, within, one_holder, next-set, length-next}
 
 -- a list with one cell more has that one and the others
@@ -192,3 +194,12 @@ module _ (cells : List Cell) (ends : List Ends) (lists : List (List ℕ)) (table
     absent = absent_then;
     once = once_then;
   }
+
+  -- the list has the cell then, and each other one is held as before
+  pub holders-pushed : (other : ℕ) → position (λ list. has list other) lists_then
+      ≡ (if nat_eq new other then Some list else position (λ list. has list other) lists)
+  holders-pushed other = holder-read cells_then ends_then lists_then table_with other ∙ elim (eqb_tells new other) [
+    | inl same ↦ rw (same.0, sym same.1) (ap (λ (at : Cell). at.holder) at_new)
+    | inr apart ↦ rw (apart.0) (ap (λ (at : Cell). at.holder) (at_old other (λ same. apart.1 (sym same)))
+        ∙ sym (holder-read cells ends lists table other))
+  ]

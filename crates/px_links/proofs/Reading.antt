@@ -1,5 +1,5 @@
 -- What a cell and an end of a table tell of its lists.
-use Rattle.std.proofs.Common.{◌≡◌, ℕ, ◌<◌, true, false, ◌||◌, nat_eq, List, [], ◌∷◌, length, drop, set, get_or, slice_get, Option, Some, None, IfSome, refl, ap, sym, ◌∙◌, subst, arith, inl, inr}
+use Rattle.std.proofs.Common.{◌≡◌, ℕ, ◌<◌, ◌-◌, true, false, ◌||◌, nat_eq, List, [], ◌∷◌, length, drop, set, get_or, slice_get, Option, Some, None, IfSome, refl, ap, sym, ◌∙◌, subst, arith, inl, inr}
 use Rattle.std.specs.List.{position, position_or_len}
 use Rattle.std.specs.Option.{option_and_then}
 use Rattle.std.proofs.lemmas.Bool.{eq-eqb, lt-ltb, le-ltb, cases_Bool, cases_lt}
@@ -10,11 +10,11 @@ use Rattle.std.proofs.lemmas.List.Sums.{position_or_len_is}
 use Rattle.px_links.specs.declared.cell.Cell.{Cell}
 use Rattle.px_links.specs.declared.cell.Ends.{Ends}
 use Rattle.px_links.specs.declared.links.Links.TheInside.{Inside}
-use Rattle.px_links.specs.Links.{LinksData, first_of, holder_of, next_of}
+use Rattle.px_links.specs.Links.{LinksData, first_of, last_of, holder_of, next_of}
 use Rattle.px_links.specs.Lists.{has, without, behind, nth, without_cell}
 use Rattle.px_links.specs.Keeping.{cell_at, ends_at, AreLinked, is_number, IsTable, IsKept, links_data, lists_in}
-use Rattle.px_links.proofs.Linking.{leads_back, linked_first, linked_behind, number_here, here_number}
-use Rattle.px_links.proofs.Tables.{next_in, before_in, first_in, list_within, first_within, holder_within, next_within, one_holder}
+use Rattle.px_links.proofs.Linking.{leads_back, linked_first, linked_last, linked_behind, number_here, here_number}
+use Rattle.px_links.proofs.Tables.{next_in, before_in, first_in, list_within, first_within, last_within, holder_within, next_within, one_holder}
 
 -- the list that is a cell's holder is the only one that has it
 holder_position : (lists : List (List ℕ)) (cell : ℕ) (holder : Option ℕ)
@@ -45,6 +45,10 @@ module _ (cells : List Cell) (ends : List Ends) (lists : List (List ℕ)) (table
 
   pub first-read : (list : ℕ) → (ends_at ends list).first ≡ slice_get (nth lists list) 0
   first-read list = linked_first (next_in cells) (before_in cells) None (ends_at ends list).first (nth lists list)
+      (ends_at ends list).last (table.linked list)
+
+  pub last-read : (list : ℕ) → (ends_at ends list).last ≡ slice_get (nth lists list) (length (nth lists list) - 1)
+  last-read list = linked_last (next_in cells) (before_in cells) (ends_at ends list).first (nth lists list)
       (ends_at ends list).last (table.linked list)
 
   pub next-read : (cell : ℕ)
@@ -156,13 +160,30 @@ module _ (links : Inside) (now : LinksData) (view : links_data links ≡ now) (k
             (rw here (next_within cells ends lists kept cell)),
       )
 
-  pub first_is_within : (list : ℕ) (read : Ends) → list < length now.lists → read ≡ get_or ends list read
-      → IfSome read.first (λ cell. cell < now.cells)
-  first_is_within list read below is =
+  -- the ends of a list, as the code reads them
+  ends_read : (list : ℕ) (read : Ends) → list < length now.lists → read ≡ get_or ends list read → read ≡ ends_at ends list
+  ends_read list read below is =
       let within : list < length lists = subst (λ (links : LinksData). list < length links.lists) (sym view) below in
-      let here : read ≡ ends_at ends list = is ∙ get_or_default ends list read _ (omega (arith, within, kept.sized)) in
-      subst (λ (links : LinksData). IfSome read.first (λ cell. cell < links.cells)) view
-      (rw here (first_within cells ends lists kept list))
+      is ∙ get_or_default ends list read _ (omega (arith, within, kept.sized))
+
+  pub first_is : (list : ℕ) (read : Ends) → list < length now.lists → read ≡ get_or ends list read
+      → (read.first ≡ first_of now list) × IfSome read.first (λ cell. cell < now.cells)
+  first_is list read below is =
+      let here = ends_read list read below is in (
+        ap (λ (at : Ends). at.first) here ∙ first_now list,
+        subst (λ (links : LinksData). IfSome read.first (λ cell. cell < links.cells)) view
+            (rw here (first_within cells ends lists kept list)),
+      )
+
+  pub last_is : (list : ℕ) (read : Ends) → list < length now.lists → read ≡ get_or ends list read
+      → (read.last ≡ last_of now list) × IfSome read.last (λ cell. cell < now.cells)
+  last_is list read below is =
+      let here = ends_read list read below is in (
+        ap (λ (at : Ends). at.last) here ∙ last-read cells ends lists kept list
+            ∙ ap (λ (links : LinksData). last_of links list) view,
+        subst (λ (links : LinksData). IfSome read.last (λ cell. cell < links.cells)) view
+            (rw here (last_within cells ends lists kept list)),
+      )
 
   -- the first cell of a list has it as its holder, and is taken out of that one alone
   pub first_held : (list first : ℕ) → first_of now list ≡ Some first → ((cell_at cells first).holder ≡ Some list)

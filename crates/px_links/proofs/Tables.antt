@@ -67,6 +67,9 @@ module _ (cells : List Cell) (ends : List Ends) (lists : List (List ℕ)) (table
   pub first_within : (list : ℕ) → IfSome (ends_at ends list).first (λ cell. cell < length cells)
   first_within list = if_some (ends_at ends list).first (λ cell is. within list cell (first_in list cell is))
 
+  pub last_within : (list : ℕ) → IfSome (ends_at ends list).last (λ cell. cell < length cells)
+  last_within list = if_some (ends_at ends list).last (λ cell is. within list cell (last_in list cell is).0)
+
   pub holder_within : (cell : ℕ) → IfSome (cell_at cells cell).holder (λ list. list < length lists)
   holder_within cell = if_some (cell_at cells cell).holder (λ list is.
       let there = list_within list cell (sym (table.held cell list) ∙ here_number (cell_at cells cell).holder list is) in

@@ -1,6 +1,7 @@
 -- A cell is taken out of its list.
 use Rattle.std.proofs.Common.{◌≡◌, ◌≢◌, ℕ, ◌<◌, Bool, true, false, not, nat_eq, List, [], length, set, Option, Some, None, IfSome, refl, ap, sym, ◌∙◌, arith, inl, inr, subst}
 use Rattle.std.specs.Prelude.{if◌then◌else◌}
+use Rattle.std.specs.List.{position}
 use Rattle.std.proofs.lemmas.Bool.{eqb-true, cases_Bool}
 use Rattle.std.proofs.lemmas.Bool.Decides.{eqb_tells}
 use Rattle.std.proofs.lemmas.List.{get_or-set_same, get_or-set_other, length-set, length-map}
@@ -13,6 +14,7 @@ use Rattle.px_links.specs.Lists.{has, without, nth, without_cell}
 use Rattle.px_links.specs.Keeping.{cell_at, ends_at, AreLinked, is_number, IsTable}
 use Rattle.px_links.specs.Relinking.{past, with_next, with_before}
 use Rattle.px_links.proofs.Linking.{leads_apart, linked_without, number_here, here_number, if_some}
+use Rattle.px_links.proofs.Reading.{holder-read}
 use Rattle.px_links.proofs.Tables.{next_in, before_in, leads_on_in, leads_back_in, first_in, last_in, within, list_within, next-set, before-set, length-next, length-before}
 
 -- a list without a cell has the others
@@ -210,3 +212,12 @@ module _ (cells : List Cell) (ends : List Ends) (lists : List (List ℕ)) (table
     once = λ other. rw (nth-without other) (AllPairs-filter (λ cell other. cell ≢ other)
         (λ other. not (nat_eq gone other)) (nth lists other) (table.once other));
   }
+
+  -- no list has the cell then, and each other one is held as before
+  pub holders-unlinked : (other : ℕ) → position (λ list. has list other) (without_cell lists gone)
+      ≡ (if nat_eq gone other then None else position (λ list. has list other) lists)
+  holders-unlinked other = holder-read cells_then ends_then (without_cell lists gone) table_without other ∙ elim (eqb_tells gone other) [
+    | inl same ↦ rw (same.0, sym same.1) (ap (λ (at : Cell). at.holder) at_gone)
+    | inr apart ↦ rw (apart.0) (ap (λ (at : Cell). at.holder) (at_other other (λ same. apart.1 (sym same)))
+        ∙ sym (holder-read cells ends lists table other))
+  ]

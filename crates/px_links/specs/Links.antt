@@ -1,8 +1,8 @@
 -- What linked lists are to contracts: for each list the numbers of its cells, in their order.
-use Rattle.std.specs.Prelude.{ℕ, ◌≡◌, ◌≢◌, ◌<◌, Bool, List, [], length, replicate, set, drop, slice_get, Option, is_none, All, AllPairs}
+use Rattle.std.specs.Prelude.{ℕ, ◌≡◌, ◌≢◌, ◌<◌, ◌-◌, Bool, nat_eq, List, [], length, replicate, set, drop, slice_get, Option, Some, None, is_none, All, AllPairs, if◌then◌else◌}
 use Rattle.std.specs.List.{concat, position}
-use Rattle.std.specs.Option.{option_and_then}
-use Rattle.px_links.specs.Lists.{has, behind, nth, with_last, without_cell}
+use Rattle.std.specs.Option.{option_and_then, unwrap_or}
+use Rattle.px_links.specs.Lists.{has, behind, from_cell, nth, with_last, without_cell}
 
 -- how many cells there are, and the lists by their numbers
 pub record LinksData : Type 0 where
@@ -46,6 +46,20 @@ holder_of links cell = position (λ list. has list cell) links.lists
 abbrev pub is_absent : LinksData → ℕ → Bool
 is_absent links cell = is_none (holder_of links cell)
 
+-- the last cell of the list
+abbrev pub last_of : LinksData → ℕ → Option ℕ
+last_of links list = slice_get (nth links.lists list) (length (nth links.lists list) - 1)
+
+-- this list has the cell, or none has it; each other cell is held as before
+abbrev pub HoldsOthersAsBefore : LinksData → LinksData → ℕ → Option ℕ → Type 0
+HoldsOthersAsBefore old new cell holder =
+    (other : ℕ) → holder_of new other ≡ (if nat_eq cell other then holder else holder_of old other)
+
 -- the cell behind this one in the list that has it
 abbrev pub next_of : LinksData → ℕ → Option ℕ
 next_of links cell = option_and_then (λ list. behind (nth links.lists list) cell) (holder_of links cell)
+
+-- the cells from this one on in the list that has it
+abbrev pub rest_of : LinksData → Option ℕ → List ℕ
+rest_of links None = []
+rest_of links (Some cell) = from_cell (nth links.lists (unwrap_or (holder_of links cell) 0)) cell

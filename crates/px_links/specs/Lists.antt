@@ -15,6 +15,11 @@ abbrev pub behind : List ℕ → ℕ → Option ℕ
 behind [] cell = None
 behind (first ∷ list) cell = if nat_eq cell first then slice_get list 0 else behind list cell
 
+-- the cells of a list from this one on
+abbrev pub from_cell : List ℕ → ℕ → List ℕ
+from_cell [] cell = []
+from_cell (first ∷ list) cell = if nat_eq cell first then first ∷ list else from_cell list cell
+
 -- the list of a number
 abbrev pub nth : List (List ℕ) → ℕ → List ℕ
 nth lists list = slice_index_or lists list []

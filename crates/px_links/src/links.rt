@@ -1,6 +1,8 @@
 // Lists of cells by index.
-ghost use Rattle.std.specs.Prelude.{◌≡◌, ◌<◌, length, not, Some, None, IfOk, IfSome, IsFalse, IsNone, if◌then◌else◌};
-ghost use Rattle.px_links.specs.Links.{empty, pushed, popped, unlinked, first_of, next_of, holder_of, is_absent, IsOnce, SameCounts};
+ghost use Rattle.std.specs.Prelude.{◌≡◌, ◌<◌, ℕ, ◌∷◌, length, not, Some, None, IfOk, IfSome, IsSome, IsFalse, IsNone, if◌then◌else◌};
+ghost use Rattle.px_links.specs.Links.{empty, pushed, popped, unlinked, first_of, last_of, next_of, rest_of, holder_of, is_absent};
+ghost use Rattle.px_links.specs.Links.{HoldsOthersAsBefore, IsOnce, SameCounts};
+ghost use Rattle.px_links.specs.Lists.{nth};
 
 use crate::cell::{Cell, Ends, link_last, take_out};
 use px_value::NoMemory;
@@ -30,7 +32,8 @@ impl Model for Links {
 impl Links {
     /// So many cells, and so many lists, all of them empty. An error is want of memory.
     pub fn new(alloc: Global, cells: u32, lists: u32) -> Result<Links, NoMemory>
-        ensures { IfOk result (λ made. made ≡ empty cells lists) }
+        ensures made { IfOk result (λ made. made ≡ empty cells lists) }
+        ensures holders { IfOk result (λ made. (cell : ℕ) → holder_of made cell ≡ None) }
     {
         Ok(Links {
             cells: vec![in alloc; Cell::ABSENT; cells as usize]?,
@@ -45,6 +48,8 @@ impl Links {
         ensures answer { result ≡ is_absent self.old cell }
         ensures links { self.new
             ≡ (if is_absent self.old cell then pushed self.old list cell else self.old) }
+        ensures holders { HoldsOthersAsBefore self.old self.new cell
+            (if is_absent self.old cell then Some list else holder_of self.old cell) }
         ensures counts { SameCounts self.old self.new }
     {
         if self.holds(cell).is_some() {
@@ -60,6 +65,7 @@ impl Links {
         ensures answer { result ≡ first_of self.old list }
         ensures within { IfSome result (λ cell. cell < self.old.cells) }
         ensures links { self.new ≡ popped self.old list }
+        ensures holders { IfSome result (λ cell. HoldsOthersAsBefore self.old self.new cell None) }
         ensures same { IsNone result → self.new ≡ self.old }
         ensures counts { SameCounts self.old self.new }
     {
@@ -73,6 +79,7 @@ impl Links {
         requires { cell < self.old.cells }
         ensures answer { result ≡ not (is_absent self.old cell) }
         ensures links { self.new ≡ unlinked self.old cell }
+        ensures holders { HoldsOthersAsBefore self.old self.new cell None }
         ensures same { IsFalse result → self.new ≡ self.old }
         ensures counts { SameCounts self.old self.new }
     {
@@ -90,8 +97,20 @@ impl Links {
         requires { list < length self.now.lists }
         ensures answer { result ≡ first_of self.now list }
         ensures within { IfSome result (λ cell. cell < self.now.cells) }
+        ensures holder { IfSome result (λ cell. holder_of self.now cell ≡ Some list) }
+        ensures walk { rest_of self.now result ≡ nth self.now.lists list }
     {
         self.ends[list as usize].first
+    }
+
+    /// The last cell of a list; None exactly where the list is empty.
+    pub fn last(&self, list: u32) -> Option<u32>
+        requires { list < length self.now.lists }
+        ensures answer { result ≡ last_of self.now list }
+        ensures within { IfSome result (λ cell. cell < self.now.cells) }
+        ensures holder { IfSome result (λ cell. holder_of self.now cell ≡ Some list) }
+    {
+        self.ends[list as usize].last
     }
 
     /// The cell behind this one in its list; None exactly where it is the last, or in no list.
@@ -99,6 +118,9 @@ impl Links {
         requires { cell < self.now.cells }
         ensures answer { result ≡ next_of self.now cell }
         ensures within { IfSome result (λ other. other < self.now.cells) }
+        ensures holder { IfSome result (λ other. holder_of self.now other ≡ holder_of self.now cell) }
+        ensures walk { IsSome (holder_of self.now cell)
+            → rest_of self.now (Some cell) ≡ cell ∷ rest_of self.now result }
     {
         self.cells[cell as usize].next
     }

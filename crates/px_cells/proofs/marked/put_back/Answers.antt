@@ -1,13 +1,10 @@
-use Rattle.std.proofs.Common.{◌≡◌, ◌<◌, length, get_or, Option, Some, None, arith, rules, refl, sym, ◌∙◌}
+use Rattle.std.proofs.Common.{◌≡◌, ◌<◌, length, get_or, Some, None, arith, rules, refl, sym, ◌∙◌}
 use Rattle.std.proofs.lemmas.List.{get_or_read}
+use Rattle.px_value.proofs.General.{none_from}
 use Rattle.px_cells.proofs.Noting.{changed_within, offset_fits, back_to_old, back_to_none, left_none}
 use Rattle.px_cells.proofs.Marking.{at_mark-none}
 use Rattle.px_cells.proofs.marked.put_back.Goals as goal
 use Rattle.px_cells.proofs.marked.put_back.Goals.{in-Some, in_default}
-
-none_from : {T : Type 0} (o : Option T) → ((x : T) → o ≡ Some x → ⊥) → o ≡ None
-none_from None other = refl
-none_from (Some x) other = absurd (other x refl)
 
 pub bounds-olds-at : goal.bounds-olds-at
 bounds-olds-at g c =

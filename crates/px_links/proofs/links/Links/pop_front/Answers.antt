@@ -1,8 +1,9 @@
 use Rattle.std.proofs.Common.{length, ap, sym, ◌∙◌}
-use Rattle.px_links.specs.Links.{LinksData, popped}
+use Rattle.px_links.specs.Links.{LinksData, popped, holder_of}
 use Rattle.px_links.specs.Lists.{without_cell}
 use Rattle.px_links.specs.Keeping.{lists_in}
 use Rattle.px_links.proofs.Handing.{kept, data_is}
+use Rattle.px_links.proofs.Holding.{held-popped}
 use Rattle.px_links.proofs.Reading.{first_held}
 use Rattle.px_links.proofs.links.Links.pop_front.Goals as goal
 
@@ -28,3 +29,9 @@ returns-clause-links c =
           (sym c.first.ensures.answer ∙ c.in_ok-first.was)).1 i;
     })
     ∙ ap (λ (links : LinksData). popped links c.args.list) c.self.view_is
+
+pub returns-clause-holders : goal.returns-clause-holders
+returns-clause-holders c = λ other.
+    ap (λ (links : LinksData). holder_of links other) (returns-clause-links c)
+    ∙ held-popped c.self.inside c.args.self.now c.self.view_is c.self.invariant c.args.list c.in_ok-first.first
+    (sym c.first.ensures.answer ∙ c.in_ok-first.was) other

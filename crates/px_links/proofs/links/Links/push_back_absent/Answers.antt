@@ -1,8 +1,9 @@
-use Rattle.std.proofs.Common.{◌≡◌, length, not, Option, Some, None, is_some, false, ap, sym, ◌∙◌, if◌then◌else◌, refl}
-use Rattle.px_links.specs.Links.{LinksData, pushed}
+use Rattle.std.proofs.Common.{◌≡◌, length, not, Option, Some, None, is_none, is_some, false, nat_eq, subst, ap, sym, ◌∙◌, if◌then◌else◌, refl}
+use Rattle.px_links.specs.Links.{LinksData, pushed, holder_of}
 use Rattle.px_links.specs.Lists.{with_last}
 use Rattle.px_links.specs.Keeping.{lists_in}
 use Rattle.px_links.proofs.Handing.{kept, data_is}
+use Rattle.px_links.proofs.Holding.{held-pushed}
 use Rattle.px_links.proofs.Reading.{holder_now}
 use Rattle.px_links.proofs.links.Links.push_back_absent.Goals as goal
 
@@ -30,3 +31,15 @@ returns-clause-links c =
     ∙ ap (λ (links : LinksData). pushed links c.args.list c.args.cell) c.self.view_is
     ∙ ap (λ found. if not (is_some found) then pushed c.args.self.now c.args.list c.args.cell else c.args.self.now)
     (sym (none_of c.holds.result (sym c.is_some.ensures ∙ c.if-is_some.false)) ∙ c.holds.ensures.answer)
+
+pub returns-clause-holders : goal.returns-clause-holders
+returns-clause-holders c = λ other.
+    let now = c.args.self.now in
+    let absent : holder_of now c.args.cell ≡ None =
+    sym c.holds.ensures.answer ∙ none_of c.holds.result (sym c.is_some.ensures ∙ c.if-is_some.false) in
+    ap (λ (links : LinksData). holder_of links other) (returns-clause-links c)
+    ∙ subst (λ found. holder_of (if is_none found then pushed now c.args.list c.args.cell else now) other
+    ≡ (if nat_eq c.args.cell other then (if is_none found then Some c.args.list else found) else holder_of now other))
+    (sym absent)
+    (held-pushed c.self.inside now c.self.view_is c.self.invariant c.args.list c.args.cell c.requires.list c.requires.cell
+    absent other)

@@ -1,8 +1,9 @@
 use Rattle.std.proofs.Common.{◌≡◌, length, None, ap, sym, ◌∙◌}
-use Rattle.px_links.specs.Links.{LinksData, unlinked}
+use Rattle.px_links.specs.Links.{LinksData, unlinked, holder_of}
 use Rattle.px_links.specs.Lists.{without_cell}
 use Rattle.px_links.specs.Keeping.{lists_in, cell_at}
 use Rattle.px_links.proofs.Handing.{kept, data_is}
+use Rattle.px_links.proofs.Holding.{held-unlinked}
 use Rattle.px_links.proofs.Reading.{holder_now, absent-unlinked}
 use Rattle.px_links.proofs.links.Links.unlink.Goals as goal
 
@@ -38,3 +39,9 @@ returns-in-None-clause-links c =
       lists = sym (absent-unlinked cells ends (lists_in cells ends) c.self.invariant c.args.cell absent) i;
     })
     ∙ ap (λ (links : LinksData). unlinked links c.args.cell) c.self.view_is
+
+pub returns-in-Some-clause-holders : goal.returns-in-Some-clause-holders
+returns-in-Some-clause-holders c = λ other.
+    ap (λ (links : LinksData). holder_of links other) (returns-in-Some-clause-links c)
+    ∙ held-unlinked c.self.inside c.args.self.now c.self.view_is c.self.invariant c.in-Some.list c.args.cell
+    (sym c.holds.ensures.answer ∙ c.in-Some.is) other

@@ -1,0 +1,161 @@
+-- Which numbers are noted, by a flag beside each.
+use Rattle.std.proofs.Common.{◌≡◌, ◌≢◌, ℕ, zero, suc, ◌+◌, ◌<◌, ◌≤◌, Bool, true, false, ◌||◌, nat_eq, List, [], ◌∷◌, ◌++◌, length, set, get_or, slice_get, drop, refl, ap, sym, ◌∙◌, arith, inl, inr, length-append, Option, Contains, All, AllPairs, if◌then◌else◌}
+use Rattle.std.specs.List.{list_any}
+use Rattle.std.proofs.lemmas.Bool.{eqb-true, eq-eqb, cases_lt, cases_Bool}
+use Rattle.std.proofs.lemmas.Bool.Decides.{Decides-eqb, eqb_tells}
+use Rattle.std.proofs.lemmas.List.{get_or-set_same, get_or-set_other, get_or_past, length-set, drop_more, drop_all}
+use Rattle.std.proofs.lemmas.List.Folds.{list_any-append, list_any_at}
+use Rattle.std.proofs.lemmas.List.Quantifiers.{all_pairs_push}
+use Rattle.std.proofs.lemmas.Map.Made.{IsDistinct-from_AllPairs}
+use Rattle.std.proofs.lemmas.Map.Steps.{length-le_from_distinct_below}
+use Rattle.std.proofs.lemmas.Map.Views.{Contains-from_any}
+use Rattle.px_cells.specs.Marks.{at_mark, AreFlagged, AreNoted, IsAsSeen}
+use Rattle.px_cells.specs.News.{with_number, with_numbers}
+use Rattle.px_cells.proofs.Marking.{at_mark-slice}
+
+or_last : (a b : Bool) → (a || (b || false)) ≡ (if b then true else a)
+or_last true true = refl
+or_last true false = refl
+or_last false true = refl
+or_last false false = refl
+
+-- whether a number is noted with one more
+pub has-push : (numbers : List ℕ) (at other : ℕ)
+    → list_any (nat_eq other) (numbers ++ at ∷ []) ≡ (if nat_eq other at then true else list_any (nat_eq other) numbers)
+has-push numbers at other =
+    list_any-append (nat_eq other) numbers (at ∷ []) ∙ or_last (list_any (nat_eq other) numbers) (nat_eq other at)
+
+module _ (flags : List Bool) (numbers : List ℕ) (flagged : AreFlagged flags numbers) where
+  -- a noted number is below the count
+  pub flagged_below : (at : ℕ) → list_any (nat_eq at) numbers ≡ true → at < length flags
+  flagged_below at noted = elim (cases_lt at (length flags)) [
+    | inl below ↦ below
+    | inr past ↦ absurd (cc (sym noted ∙ sym (flagged at) ∙ get_or_past flags at false past))
+  ]
+
+  pub all_below : All (λ at. at < length flags) numbers
+  all_below k d within = flagged_below (get_or numbers k d)
+      (list_any_at (nat_eq (get_or numbers k d)) numbers k d within (eq-eqb (get_or numbers k d) _ refl))
+
+  -- one more is noted
+  pub flagged-push : (at : ℕ) → at < length flags → AreFlagged (set flags at true) (numbers ++ at ∷ [])
+  flagged-push at below other = elim (eqb_tells other at) [
+    | inl same ↦ ap (λ other. get_or (set flags at true) other false) same.1 ∙ get_or-set_same flags at true false below
+        ∙ sym (has-push numbers at other ∙ ap (λ b. if b then true else list_any (nat_eq other) numbers) same.0)
+    | inr apart ↦ get_or-set_other flags at other true false apart.1 ∙ flagged other
+        ∙ sym (has-push numbers at other ∙ ap (λ b. if b then true else list_any (nat_eq other) numbers) apart.0)
+  ]
+
+  pub once-push : (at : ℕ) → list_any (nat_eq at) numbers ≡ false → AllPairs (λ a b. a ≢ b) numbers
+      → AllPairs (λ a b. a ≢ b) (numbers ++ at ∷ [])
+  once-push at new once = all_pairs_push (λ a b. a ≢ b) numbers at once (λ k d within same.
+      absurd (cc (sym new ∙ list_any_at (nat_eq at) numbers k d within (eq-eqb at _ (sym same)))))
+
+-- numbers that are noted once are no more than there are flags
+pub few_flagged : (flags : List Bool) (numbers : List ℕ) → AreFlagged flags numbers → AllPairs (λ a b. a ≢ b) numbers
+    → length numbers ≤ length flags
+few_flagged flags numbers flagged once = length-le_from_distinct_below numbers (length flags)
+    (IsDistinct-from_AllPairs Decides-eqb numbers once) (flagged_below flags numbers flagged)
+
+-- so there is room for one that isn't yet
+pub room-push : (flags : List Bool) (numbers : List ℕ) → AreFlagged flags numbers → AllPairs (λ a b. a ≢ b) numbers
+    → (at : ℕ) → at < length flags → list_any (nat_eq at) numbers ≡ false → length numbers < length flags
+room-push flags numbers flagged once at below new =
+    let more = few_flagged (set flags at true) (numbers ++ at ∷ []) (flagged-push flags numbers flagged at below)
+    (once-push flags numbers flagged at new once) in
+    omega (arith, more, length-set flags at true, length-append numbers (at ∷ []))
+
+-- ---- flags that are taken back, one after another
+
+-- the flags that still stand are those of what is left
+abbrev pub AreLeftFlagged : List Bool → List ℕ → ℕ → Type 0
+AreLeftFlagged flags numbers i = (at : ℕ) → get_or flags at false ≡ true → list_any (nat_eq at) (drop i numbers) ≡ true
+
+pub flags-first : (flags : List Bool) (numbers : List ℕ) → AreFlagged flags numbers → AreLeftFlagged flags numbers 0
+flags-first flags numbers flagged at stands = sym (flagged at) ∙ stands
+
+pub flags-next : (flags : List Bool) (numbers : List ℕ) (i d : ℕ) → i < length numbers
+    → get_or numbers i d < length flags → AreLeftFlagged flags numbers i
+    → AreLeftFlagged (set flags (get_or numbers i d) false) numbers (i + 1)
+flags-next flags numbers i d within below left at stands = elim (eqb_tells at (get_or numbers i d)) [
+  | inl same ↦ absurd (cc (sym stands ∙ ap (λ at. get_or (set flags (get_or numbers i d) false) at false) same.1
+      ∙ get_or-set_same flags (get_or numbers i d) false false below))
+  | inr other ↦
+      let before : list_any (nat_eq at) (drop i numbers) ≡ true =
+      left at (sym (get_or-set_other flags (get_or numbers i d) at false false other.1) ∙ stands) in
+      sym (ap (λ b. b || list_any (nat_eq at) (drop (i + 1) numbers)) other.0)
+      ∙ sym (ap (list_any (nat_eq at)) (drop_more numbers i d within)) ∙ before
+]
+
+pub flags-none : (flags : List Bool) (numbers : List ℕ) (i : ℕ) → length numbers ≤ i → AreLeftFlagged flags numbers i
+    → (at : ℕ) → get_or flags at false ≡ false
+flags-none flags numbers i past left at = elim (cases_Bool (get_or flags at false)) [
+  | inl is ↦ absurd (cc (sym (left at is) ∙ ap (list_any (nat_eq at)) (drop_all i numbers past)))
+  | inr is ↦ is
+]
+
+-- ---- what isn't news
+
+-- whether a number is among those with one more, or with more
+pub has-with : (numbers : List ℕ) (at other : ℕ)
+    → list_any (nat_eq other) (with_number numbers at) ≡ false
+    → (list_any (nat_eq other) numbers ≡ false) × (other ≢ at)
+has-with numbers at other = by (list_any (nat_eq at) numbers) refl
+  where
+    by : (there : Bool) → list_any (nat_eq at) numbers ≡ there
+        → list_any (nat_eq other) (if there then numbers else numbers ++ at ∷ []) ≡ false
+        → (list_any (nat_eq other) numbers ≡ false) × (other ≢ at)
+    by true there none = (none, λ same. absurd (cc (sym none ∙ ap (λ n. list_any (nat_eq n) numbers) same ∙ there)))
+    by false there none = elim (eqb_tells other at) [
+      | inl same ↦ absurd (cc (sym none ∙ has-push numbers at other
+          ∙ ap (λ b. if b then true else list_any (nat_eq other) numbers) same.0))
+      | inr apart ↦ (
+        sym (has-push numbers at other
+            ∙ ap (λ b. if b then true else list_any (nat_eq other) numbers) apart.0) ∙ none,
+        apart.1,
+      )
+    ]
+
+pub has-all : (numbers more : List ℕ) (other : ℕ) → list_any (nat_eq other) (with_numbers numbers more) ≡ false
+    → (list_any (nat_eq other) numbers ≡ false) × (list_any (nat_eq other) more ≡ false)
+has-all numbers [] other none = (none, refl)
+has-all numbers (at ∷ more) other none =
+    let rest = has-all (with_number numbers at) more other none in
+    let first = has-with numbers at other rest.0 in (
+      first.0,
+      elim (eqb_tells other at) [
+        | inl same ↦ absurd (first.1 same.1)
+        | inr apart ↦ ap (λ b. b || list_any (nat_eq other) more) apart.0 ∙ rest.1
+      ],
+    )
+
+-- what isn't among the numbers isn't noted
+pub not_noted : (numbers : List ℕ) (at : ℕ) → (Contains numbers at → ⊥) → list_any (nat_eq at) numbers ≡ false
+not_noted numbers at other = elim (cases_Bool (list_any (nat_eq at) numbers)) [
+  | inl is ↦ absurd (other (Contains-from_any eqb-true at numbers is))
+  | inr is ↦ is
+]
+
+module _ {T : Type 0} where
+  slice_get-set_other : (values : List T) (at other : ℕ) (value : T) → other ≢ at
+      → slice_get (set values at value) other ≡ slice_get values other
+  slice_get-set_other [] at other value apart = refl
+  slice_get-set_other (first ∷ values) zero zero value apart = absurd (apart refl)
+  slice_get-set_other (first ∷ values) zero (suc other) value apart = refl
+  slice_get-set_other (first ∷ values) (suc at) zero value apart = refl
+  slice_get-set_other (first ∷ values) (suc at) (suc other) value apart =
+      slice_get-set_other values at other value (λ same. apart (ap suc same))
+
+  -- a value that is written is news
+  pub seen-write : (values seen : List T) (news : List ℕ) (at : ℕ) (value : T) → IsAsSeen values seen news
+      → IsAsSeen (set values at value) seen (with_number news at)
+  seen-write values seen news at value same other none =
+      let apart = has-with news at other none in
+      slice_get-set_other values at other value apart.1 ∙ same other apart.0
+
+  -- and so is each that goes back
+  pub seen-back : (olds : List (Option T)) (values seen : List T) (changed news : List ℕ) → length olds ≡ length values
+      → AreNoted olds changed → IsAsSeen values seen news → IsAsSeen (at_mark olds values) seen (with_numbers news changed)
+  seen-back olds values seen changed news sized noted same other none =
+      let apart = has-all news changed other none in
+      sym (at_mark-slice olds values other sized (noted other ∙ apart.1)) ∙ same other apart.0
