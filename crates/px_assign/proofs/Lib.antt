@@ -1,3 +1,2 @@
 pub mod Firsts
 pub mod Ties
-pub mod Variables

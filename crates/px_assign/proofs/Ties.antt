@@ -6,10 +6,12 @@ use Rattle.std.specs.Option.{option_map}
 use Rattle.std.specs.Cmp.Lexicographic.{same_text}
 use Rattle.std.proofs.lemmas.Bool.{and_parts, and_from, or_cases, or_left, or_right, eqb-true, eq-eqb, false≢true}
 use Rattle.std.proofs.lemmas.List.Folds.{list_any_at}
+use Rattle.px_value.proofs.General.{same_bool}
 use Rattle.px_value.specs.declared.enums.NodeState.{NodeState}
 use Rattle.px_value.specs.declared.enums.NodeState.TheVariants as states
 use Rattle.px_core.specs.Fit.{AreDistinct}
 use Rattle.px_core.specs.Plan.{Site, BodyData, Nothing, Assign, Command, Update, TargetData, no_site, is_same}
+use Rattle.px_core.proofs.Paths.{same-self, same-other}
 use Rattle.px_sem.specs.Conflicts.{target_of, is_same_variable, would_start, holds_variable, count_before, keeps_back}
 use Rattle.px_sem.specs.Conflicts as semantics
 use Rattle.px_sem.specs.Guards.{is_active, is_waiting}
@@ -17,18 +19,11 @@ use Rattle.px_sem.specs.World.{World, state_at}
 use Rattle.px_flat.specs.Numbered.{numbered_body, place_of}
 use Rattle.px_flat.specs.Row.{site_in}
 use Rattle.px_flat.proofs.Known.{IsSound}
-use Rattle.px_flat.proofs.Paths.{same-self, same-other}
+use Rattle.px_flat.proofs.Variables.{IsDeclared, target_declared, one_variable}
 use Rattle.px_assign.specs.Conflicts.{written, variable_of, of_variable, writes, goes_before, is_kept_from, is_loser, is_writer, AreWriters}
 use Rattle.px_assign.proofs.Firsts.{same_itself, not_itself, found_among}
-use Rattle.px_assign.proofs.Variables.{IsDeclared, target_declared, one_variable}
 
 -- ---- tests
-
-equal_from : (a b : Bool) → (a ≡ true → b ≡ true) → (b ≡ true → a ≡ true) → a ≡ b
-equal_from true true there back = refl
-equal_from true false there back = absurd (false≢true (there refl))
-equal_from false true there back = absurd (false≢true (back refl))
-equal_from false false there back = refl
 
 -- what each that passes shows is so where one does
 any_shows : {X : Type 0} (p : X → Bool) (xs : List X) (d : X) (b : Bool)
@@ -86,7 +81,7 @@ same_variable : (plan : List Site) (target other : TargetData) → IsSound plan
     → IsDeclared plan target.owner target.name → IsDeclared plan other.owner other.name
     → nat_eq (first_of plan target) (first_of plan other) ≡ is_same_variable other target
 same_variable plan target other sound here there =
-    equal_from (nat_eq (first_of plan target) (first_of plan other)) (is_same_variable other target)
+    same_bool (nat_eq (first_of plan target) (first_of plan other)) (is_same_variable other target)
     (λ first.
     let both = one_variable plan target.owner target.name other.owner other.name sound here there
     (eqb-true (first_of plan target) (first_of plan other) first) in
@@ -235,7 +230,7 @@ kept_alike : (plan : List Site) (world : World) (wanting holding : List ℕ) (no
 kept_alike plan world wanting holding node target kept =
     let variable : ℕ = first_of plan target in
     let other_keeps : Bool = list_any (keeps_back plan world target (site_in plan node)) plan in
-    equal_from (is_kept_from plan wanting holding node variable) other_keeps
+    same_bool (is_kept_from plan wanting holding node variable) other_keeps
     (λ is. elim (or_cases (list_any (writes plan variable) holding) _ is) [
       | inl held ↦
           any_shows (writes plan variable) holding 0 other_keeps

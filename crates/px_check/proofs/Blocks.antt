@@ -1,6 +1,7 @@
 -- What blocks and their actions are at fault for, noted part by part; and coming back from inside them.
 use Rattle.std.proofs.Common.{◌≡◌, ℕ, ℤ, ◌+◌, ◌<◌, Bool, false, List, [], ◌∷◌, ◌++◌, map, drop, length, get_or}
 use Rattle.std.proofs.Common.{Option, Some, None, is_some, option_map, refl, sym, ap, ◌∙◌}
+use Rattle.px_value.proofs.General.{cut_at}
 use Rattle.px_syntax.specs.declared.block.Action.{Action, out-Action}
 use Rattle.px_syntax.specs.declared.block.Block.{Block, out-Block}
 use Rattle.px_syntax.specs.declared.block.Branch.{Branch, out-Branch}
@@ -13,13 +14,13 @@ use Rattle.px_syntax.specs.Expr.{Term, term_of}
 use Rattle.px_syntax.specs.ExprFaults.{faults_as}
 use Rattle.px_syntax.specs.Fault.{Fault}
 use Rattle.px_syntax.specs.Scope.{Scope, Head, Node, own_action, head_of}
+use Rattle.px_syntax.proofs.Trees.{block_is, action_is, branch_is, guarded_is}
 use Rattle.px_check.specs.Found.{noted}
 use Rattle.px_check.specs.Scope.{outside}
 use Rattle.px_check.proofs.Naming.{dropped_over}
 use Rattle.px_check.proofs.Noting.{noted_append, noted_then}
 use Rattle.px_check.proofs.Seeing.{in_turn}
-use Rattle.px_check.proofs.Trees.{block_is, action_is, branch_is, guarded_is}
-use Rattle.px_check.proofs.Walking.{part_walked, cut_at}
+use Rattle.px_check.proofs.Walking.{part_walked}
 
 -- ---- a block
 

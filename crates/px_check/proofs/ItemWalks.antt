@@ -5,6 +5,7 @@ use Rattle.std.specs.Option.{option_to_list}
 use Rattle.std.specs.List.{list_any}
 use denote.Enum.Bare.{same_true}
 use Rattle.std.proofs.lemmas.List.Folds.{list_any-append}
+use Rattle.px_value.proofs.General.{cut_at}
 use Rattle.px_syntax.specs.contracts.word.Condition.{the_type as condition_type}
 use Rattle.px_syntax.specs.Block.{item_data}
 use Rattle.px_syntax.specs.BlockFaults.{Once, TheCondition, ThePriority, is_same_once, once_in, repeated}
@@ -19,7 +20,6 @@ use Rattle.px_check.specs.Found.{noted}
 use Rattle.px_check.specs.Once.{once_data, once_pair}
 use Rattle.px_check.specs.declared.once.Once as seen
 use Rattle.px_check.proofs.Noting.{noted_append}
-use Rattle.px_check.proofs.Walking.{cut_at}
 
 -- a declared type allows itself alone
 pub allowed_alone : (of_type : TypeName) → allowed_as (named_type of_type) ≡ named_type of_type ∷ []
@@ -65,10 +65,6 @@ pub put_last : (part : Once) (before : List Once) (one : Once)
 put_last part before one =
     list_any-append (is_same_once one) before (part ∷ [])
     ∙ or_turned (list_any (is_same_once one) before) (is_same_once one part)
-
-pub none_left : {X : Type 0} (o : Option X) → ((x : X) → o ≡ Some x → ⊥) → o ≡ None
-none_left None none = refl
-none_left (Some x) none = absurd (none x refl)
 
 -- ---- the walk over items
 

@@ -1,8 +1,9 @@
 -- What expressions are at fault for, noted part by part.
 use Rattle.std.proofs.Common.{◌≡◌, ℕ, suc, ◌+◌, ◌<◌, ◌≤◌, Bool, not, ◌&&◌, List, [], ◌∷◌, ◌++◌, map, drop, length, get_or}
 use Rattle.std.proofs.Common.{Option, refl, sym, ap, ◌∙◌, if◌then◌else◌}
-use Rattle.std.proofs.lemmas.List.{drop-drop, drop_more, length-map}
+use Rattle.std.proofs.lemmas.List.{drop-drop, length-map}
 use Rattle.std.proofs.Math.ListN.{drop_of_length-le}
+use Rattle.px_value.proofs.General.{cut_at}
 use Rattle.px_syntax.specs.Expr.{Term, Terms, term_of, in_turn, More}
 use Rattle.px_syntax.specs.ExprFaults.{first_token, count_terms, count_faults, any_where_faulty, any_unless_allowed, answer_type, type_of, expr_faults, type_fault, alike_fault, argument_faults, parameters_of}
 use Rattle.px_syntax.specs.Fault.{Fault, fault_where}
@@ -80,7 +81,7 @@ argument_noted scope args parameters place arg allowed given found between new w
     let next = drop place parameters in
     let rest = drop (place + 1) args in
     let cut : drop place args ≡ arg ∷ rest =
-    drop_more args place arg within ∙ ap (λ first. first ∷ rest) (sym arg_is) in
+    cut_at args place arg within arg_is in
     let further : drop (place + 1) parameters ≡ drop 1 next = sym (drop-drop 1 place parameters) in
     let typed = noted_then found between new (expr_faults scope (term_of arg)) (type_fault (allowed_next next) scope (term_of arg))
     parts (type_noted (allowed_next next) allowed scope arg arg arg given between new refl refl allowed_is given_is own) in

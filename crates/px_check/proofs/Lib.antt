@@ -9,7 +9,6 @@ pub mod Walking
 pub mod ItemWalks
 pub mod Acting
 pub mod Repeating
-pub mod Trees
 pub mod Seeing
 pub mod Blocks
 pub mod Declaring

@@ -3,6 +3,7 @@ use Rattle.std.proofs.Common.{◌≡◌, ℕ, ◌+◌, ◌<◌, Bool, true, fals
 use Rattle.std.proofs.Common.{Option, Some, is_some, option_map, bytes_eq, refl, sym, ap, ◌∙◌}
 use Rattle.std.specs.Borrow.{Bor}
 use Rattle.std.specs.List.{list_any}
+use Rattle.px_value.proofs.General.{cut_at}
 use Rattle.px_syntax.specs.BlockFaults.{repeated}
 use Rattle.px_syntax.specs.Fault.{Fault, fault_where}
 use Rattle.px_syntax.specs.declared.expr.Identifier.{Identifier}
@@ -11,7 +12,6 @@ use Rattle.px_check.specs.Found.{noted}
 use Rattle.px_check.specs.Repeats.{spots}
 use Rattle.px_check.specs.Scoped.{meaning_of}
 use Rattle.px_check.proofs.Noting.{noted_append}
-use Rattle.px_check.proofs.Walking.{cut_at}
 
 -- a name is there where it is one of the names
 pub name_again : (name : List ℕ) (before : List (List ℕ × Unit {0}))

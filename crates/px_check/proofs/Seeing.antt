@@ -3,6 +3,7 @@ use Rattle.std.proofs.Common.{◌≡◌, ℕ, ◌+◌, ◌<◌, ◌≤◌, Bool,
 use Rattle.std.proofs.Common.{Option, Some, None, is_some, if◌then◌else◌, arith, refl, sym, ap, ◌∙◌, append_assoc}
 use Rattle.std.specs.Option.{option_to_list}
 use Rattle.std.proofs.lemmas.List.{map-append}
+use Rattle.px_value.proofs.General.{cut_at}
 use Rattle.px_syntax.specs.declared.block.Action.{Action, out-Action}
 use Rattle.px_syntax.specs.declared.expr.Identifier.{Identifier}
 use Rattle.px_syntax.specs.declared.block.Block.{Block, out-Block}
@@ -12,11 +13,10 @@ use Rattle.px_syntax.specs.declared.word.BlockForm.TheVariants as forms
 use Rattle.px_syntax.specs.Block.{ItemData, item_data, block_of, BodyTree, ActionTree, Labelled, Braces, action_of, body_of, branch_of, guarded_of, actions_in_turn, else_ifs_in_turn, Actions, NoActions, More}
 use Rattle.px_syntax.specs.BlockFaults.{action_labels, guarded_child, if_children}
 use Rattle.px_syntax.specs.Scope.{Scope, Visible, Head, head_of, is_simple, own_action, is_command_body, children_of, branch_child}
+use Rattle.px_syntax.proofs.Trees.{action_is, block_is, guarded_is}
 use Rattle.px_check.specs.Nodes.{head_data}
 use Rattle.px_check.specs.Scope.{with_variables}
 use Rattle.px_check.specs.declared.nodes.NodeHead.{NodeHead}
-use Rattle.px_check.proofs.Trees.{action_is, block_is, guarded_is}
-use Rattle.px_check.proofs.Walking.{cut_at}
 
 abbrev pub in_turn : List Action → Actions
 in_turn actions = actions_in_turn (map action_of actions)

@@ -1,15 +1,10 @@
 -- Faults that are noted part by part along a list.
 use Rattle.std.proofs.Common.{◌≡◌, ℕ, ◌+◌, ◌<◌, ◌≤◌, List, [], ◌∷◌, ◌++◌, drop, length, get_or, Option, sym, ap, ◌∙◌}
-use Rattle.std.proofs.lemmas.List.{drop_more}
 use Rattle.std.proofs.Math.ListN.{drop_of_length-le}
+use Rattle.px_value.proofs.General.{cut_at}
 use Rattle.px_syntax.specs.Fault.{Fault}
 use Rattle.px_check.specs.Found.{noted}
 use Rattle.px_check.proofs.Noting.{noted_append, noted_none}
-
--- what is left of a list at a place is the part there and what is left behind it
-pub cut_at : {X : Type 0} (xs : List X) (place : ℕ) (x : X) → place < length xs → x ≡ get_or xs place x
-    → drop place xs ≡ x ∷ drop (place + 1) xs
-cut_at xs place x within is = drop_more xs place x within ∙ ap (λ first. first ∷ drop (place + 1) xs) (sym is)
 
 -- at faults of what is left of a list, where the first part's stand before those of the others
 module _ {X : Type 0} (faults_of : List X → List Fault) (part_of : X → List Fault)

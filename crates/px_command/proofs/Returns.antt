@@ -1,19 +1,17 @@
 -- What a command returned goes to its variable, as the semantics has it.
-use Rattle.std.proofs.Common.{◌≡◌, ℕ, ◌+◌, ◌<◌, Bool, true, false, ◌||◌, List, [], ◌∷◌, length, set, refl, ap, sym, ◌∙◌, subst, arith, Option, Some, None, if◌then◌else◌}
-use Rattle.std.specs.List.{find}
-use Rattle.std.specs.Option.{option_map, option_and_then, unwrap_or}
+use Rattle.std.proofs.Common.{◌≡◌, ℕ, ◌+◌, ◌<◌, true, false, ◌||◌, List, length, set, refl, ap, sym, ◌∙◌, subst, arith, Option, Some, None}
+use Rattle.std.specs.Option.{option_map}
 use Rattle.std.proofs.Math.Logic.{∥∥₁_elim}
 use Rattle.std.proofs.Props.{props}
 use Rattle.std.proofs.lemmas.Bool.{and_parts, and_from, false≢true, ltb-true}
 use Rattle.px_value.specs.declared.value.Value.{Value}
 use Rattle.px_core.specs.declared.variable.VarKind.{VarKind}
-use Rattle.px_core.specs.declared.variable.VarKind.TheVariants as kinds
 use Rattle.px_core.specs.Expr.{Term}
-use Rattle.px_core.specs.Fit.{cells_of, variables_differ}
-use Rattle.px_core.specs.Plan.{Site, BodyData, Nothing, Assign, Command, Update, TargetData, VariableData, is_same}
+use Rattle.px_core.specs.Fit.{variables_differ}
+use Rattle.px_core.specs.Plan.{Site, BodyData, Nothing, Assign, Command, Update, TargetData}
 use Rattle.px_event.specs.declared.event.Event.TheVariants as events
 use Rattle.px_sem.specs.Conflicts.{target_of}
-use Rattle.px_sem.specs.Effects.{as_kind, taken_as, write_at, cell_of}
+use Rattle.px_sem.specs.Effects.{as_kind, write_at, cell_of}
 use Rattle.px_sem.specs.Events.{with_write, returned, result_place, body_at, has_result, changed, take}
 use Rattle.px_sem.specs.Guards.{is_executing, is_finishing}
 use Rattle.px_sem.specs.World as world
@@ -22,21 +20,20 @@ use Rattle.px_flat.specs.declared.act.Act.{Act}
 use Rattle.px_flat.specs.declared.act.Act.TheVariants as under_way
 use Rattle.px_flat.specs.declared.flat.Flat.{Flat}
 use Rattle.px_flat.specs.Flat.{plan_of}
-use Rattle.px_flat.specs.Layout.{Place, place_from, first_cell, state_cell, handle_cell, acknowledgement_cell, variable_cells}
-use Rattle.px_flat.specs.Numbered.{held, numbered_body, place_of, kind_of, kind_among}
+use Rattle.px_flat.specs.Layout.{Place, state_cell, handle_cell, acknowledgement_cell, variable_cells}
+use Rattle.px_flat.specs.Numbered.{held, numbered_body, place_of, kind_of}
 use Rattle.px_flat.specs.Parts.{IsParts, world_of, action_in, act_of, state_in, fits}
 use Rattle.px_flat.specs.Row.{site_in}
 use Rattle.px_flat.proofs.Known.{IsSound}
-use Rattle.px_flat.proofs.Numbers.{number_is}
-use Rattle.px_flat.proofs.Sites.{found_site}
 use Rattle.px_flat.proofs.Slotted.{names_differ}
+use Rattle.px_flat.proofs.Targets.{taken_alike}
+use Rattle.px_flat.proofs.Variables.{IsDeclared, target_declared}
 use Rattle.px_flat.proofs.VariableValues.{place_of-node}
-use Rattle.px_assign.proofs.Variables.{IsDeclared, target_declared}
 use Rattle.px_command.specs.Results.{result_slot}
 use Rattle.px_command.proofs.Rows.{HasNode, has_node, counted, nothing_changes}
 use Rattle.px_command.proofs.Writes.{IsCellOf, variable_written, cells_within}
 
--- ---- the type of a variable
+-- ---- the names of variables
 
 -- the variables of each node differ in name
 abbrev pub AllDiffer : List Site → Type 0
@@ -45,57 +42,6 @@ AllDiffer plan = (node : ℕ) → node < length plan → variables_differ (site_
 pub flat_differs : (flat : Flat) → AllDiffer (plan_of flat)
 flat_differs flat node within =
     ∥∥₁_elim flat.names.fit (hlevel props) (λ fit. names_differ (plan_of flat) fit node within)
-
--- a variable that has a place is found by its name
-record IsFound (variables : List VariableData) (name : List ℕ) : Type 0 where
-  variable : VariableData
-  found : find (λ variable. is_same variable.name name) variables ≡ Some variable
-  kind_is : kind_among variables name ≡ Some variable.kind
-
-found_in : (cell : ℕ) (variables : List VariableData) (name : List ℕ) (place : Place)
-    → place_from cell variables name ≡ Some place → IsFound variables name
-found_in cell [] name place at = absurd (cc)
-found_in cell (variable ∷ variables) name place at =
-    by (is_same variable.name name) refl at (found_in (cell + cells_of variable) variables name place)
-  where
-    by : (same : Bool) → is_same variable.name name ≡ same
-        → (if same then Some (record { first = cell; size = cells_of variable })
-        else place_from (cell + cells_of variable) variables name) ≡ Some place
-        → (place_from (cell + cells_of variable) variables name ≡ Some place → IsFound variables name)
-        → IsFound (variable ∷ variables) name
-    by true is at rest = record { variable = variable; found = rw is refl; kind_is = rw is refl }
-    by false is at rest =
-        let behind = rest at in
-        record { variable = behind.variable; found = rw is behind.found; kind_is = rw is behind.kind_is }
-
-taken_alike : (plan : List Site) (target : TargetData) (given : Value) → IsSound plan
-    → IsDeclared plan target.owner target.name
-    → taken_as plan target given ≡ as_kind (kind_of plan target.owner target.name) given
-taken_alike plan target given sound declared =
-    taken_is ∙ ap (λ kind. as_kind kind given) (sym kind_is)
-  where
-    own : Site
-    own = site_in plan declared.node
-
-    found : IsFound own.head.variables target.name
-    found = found_in (first_cell plan declared.node) own.head.variables target.name declared.has.place declared.has.is
-
-    variable_is : variable_at plan target.owner target.name ≡ Some found.variable
-    variable_is =
-        ap (λ path. variable_at plan path target.name) (sym declared.path_is)
-        ∙ ap (λ (site : Site). find (λ variable. is_same variable.name target.name) site.head.variables)
-        (found_site plan declared.node sound.distinct declared.within)
-        ∙ found.found
-
-    taken_is : taken_as plan target given ≡ as_kind found.variable.kind given
-    taken_is = rw variable_is refl
-
-    kind_is : kind_of plan target.owner target.name ≡ found.variable.kind
-    kind_is =
-        ap (λ path. kind_of plan path target.name) (sym declared.path_is)
-        ∙ ap (λ number. unwrap_or (option_and_then (λ node. kind_among (site_in plan node).head.variables target.name) number) kinds.Boolean)
-        (number_is plan declared.node sound.distinct declared.within)
-        ∙ ap (λ kind. unwrap_or kind kinds.Boolean) found.kind_is
 
 -- ---- where a result goes
 

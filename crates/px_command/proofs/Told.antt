@@ -29,10 +29,6 @@ act_read [] node act is = absurd (cc)
 act_read (first ∷ acts) zero act is = (cc)
 act_read (first ∷ acts) (suc node) act is = act_read acts node act is
 
-pub none_from : {X : Type 0} (o : Option X) → ((x : X) → o ≡ Some x → ⊥) → o ≡ None
-none_from None other = refl
-none_from (Some x) other = absurd (other x refl)
-
 path_in : (plan : List Site) (node : ℕ) → get_or (paths_of plan) node [] ≡ (site_in plan node).path
 path_in [] node = refl
 path_in (site ∷ plan) zero = refl

@@ -3,7 +3,7 @@
 use Rattle.std.proofs.Common.{◌≡◌, ◌≢◌, ℕ, zero, suc, ◌+◌, ◌-◌, ◌<◌, ◌≤◌, Bool, true, false, not, List, [], ◌∷◌, length, map, set, take, drop, refl, ap, sym, ◌∙◌, subst, arith, inl, inr, Some, if◌then◌else◌}
 use Rattle.std.specs.List.{list_any, zip}
 use Rattle.std.specs.Cmp.Lexicographic.{same_text}
-use Rattle.std.proofs.lemmas.Bool.{and_parts, or_parts, cases_lt}
+use Rattle.std.proofs.lemmas.Bool.{and_parts, not-true, or_parts, cases_lt}
 use Rattle.std.proofs.lemmas.Cmp.{nat_list_eq_equiv}
 use Rattle.std.proofs.lemmas.List.{take-set-le, drop-set-lt, drop-set-add, get_or-set_other}
 use Rattle.px_value.specs.declared.value.Value.{Value}
@@ -24,7 +24,7 @@ use Rattle.px_flat.proofs.Known.{IsSound}
 use Rattle.px_flat.proofs.Sites.{found_site}
 use Rattle.px_flat.proofs.Sums.{sum_more, sum_front}
 use Rattle.px_flat.proofs.Worlds.{record_at-world_of}
-use Rattle.px_assign.proofs.Variables.{IsDeclared, place_behind, cells_apart}
+use Rattle.px_flat.proofs.Variables.{IsDeclared, place_behind, cells_apart}
 
 -- ---- the variables of one node
 
@@ -32,10 +32,6 @@ use Rattle.px_assign.proofs.Variables.{IsDeclared, place_behind, cells_apart}
 abbrev after_write : List ℕ → world.Place → Value → VariableData × List Value → List Value
 after_write name place value variable =
     if is_same variable.0.name name then set variable.1 (cell_of place) value else variable.1
-
-not_true : (b : Bool) → not b ≡ true → b ≡ false
-not_true true h = sym h
-not_true false h = refl
 
 -- none of them has the name
 untouched : (name : List ℕ) (place : world.Place) (value : Value) (variables : List VariableData) (cells : List Value)
@@ -92,7 +88,7 @@ values_in-write name place value (variable ∷ variables) cells from k slot at d
         let inside : k < size = omega (arith, within, k_is, ap (λ (slot : Place). slot.size) here) in
         let named : variable.name ≡ name = same_text variable.name name (sym is) in
         let others : list_any (is_same name) (map (λ variable. variable.name) variables) ≡ false =
-        subst (λ name. list_any (is_same name) (map (λ variable. variable.name) variables) ≡ false) named (not_true _ parts.0) in
+        subst (λ name. list_any (is_same name) (map (λ variable. variable.name) variables) ≡ false) named (not-true _ parts.0) in
         ap (λ front. front ∷ values_in variables (drop size (set cells k value))) (take-set_within size cells k value inside)
         ∙ ap (λ behind. set (take size cells) k value ∷ values_in variables behind) (drop-set-lt size cells k value inside)
         ∙ ap (λ n. set (take size cells) n value ∷ values_in variables (drop size cells)) k_is

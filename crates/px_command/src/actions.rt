@@ -11,7 +11,7 @@ use std::alloc::Global;
 use std::marker::Model;
 
 /// What each node has under way, by the number of the node. A node's handle and acknowledgement are cells.
-#[derive(Debug, Drop)]
+#[derive(Drop)]
 pub struct Actions {
     acts: Marked<Act>,
 }

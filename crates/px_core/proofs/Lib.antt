@@ -1,4 +1,6 @@
+pub mod Each
 pub mod Finished
 pub mod Halves
+pub mod Paths
 pub mod SitePaths
 pub mod Trees

@@ -1,8 +1,7 @@
 -- The paths of a tree are all different where the names of siblings are names and differ.
-use Rattle.std.proofs.Common.{◌≡◌, ◌≢◌, ℕ, zero, suc, ◌<◌, Bool, true, false, not, ◌&&◌, ◌||◌, ◌==◌, List, [], ◌∷◌}
-use Rattle.std.proofs.Common.{◌++◌, length, get_or, refl, ap, sym, ◌∙◌, subst, arith, ◌⊎◌, inl, inr, append_assoc}
+use Rattle.std.proofs.Common.{◌≡◌, ◌≢◌, ℕ, zero, suc, Bool, true, false, not, ◌&&◌, ◌||◌, ◌==◌, List, [], ◌∷◌}
+use Rattle.std.proofs.Common.{◌++◌, length, refl, ap, sym, ◌∙◌, subst, arith, ◌⊎◌, inl, inr, append_assoc}
 use Rattle.std.proofs.Common.{append-nil, length-append}
-use Rattle.std.specs.Cmp.Lexicographic.{bytes_decides}
 use Rattle.std.proofs.lemmas.Bool.{and_parts}
 use Rattle.std.specs.List.{list_all, list_any}
 use Rattle.std.proofs.lemmas.List.{append_cancel_left}
@@ -10,42 +9,12 @@ use Rattle.px_value.specs.Name.{is_name}
 use Rattle.px_value.proofs.Paths.{is_dotless, name_dotless}
 use Rattle.px_core.specs.Plan.{Tree, NoNode, Branch, Site, no_site, is_same, path_under, sites_under, sites}
 use Rattle.px_core.specs.Fit.{names_of, siblings_differ, has_name, AreDistinct}
-
--- ---- each site of a list
-
-abbrev Each : (Site → Type 0) → List Site → Type 0
-Each P [] = Unit {0}
-Each P (site ∷ sites) = P site × Each P sites
-
-each-append : (P : Site → Type 0) (xs ys : List Site) → Each P xs → Each P ys → Each P (xs ++ ys)
-each-append P [] ys hx hy = hy
-each-append P (x ∷ xs) ys hx hy = (hx.0, each-append P xs ys hx.1 hy)
-
-each_front : (P : Site → Type 0) (xs ys : List Site) → Each P (xs ++ ys) → Each P xs
-each_front P [] ys h = tt
-each_front P (x ∷ xs) ys h = (h.0, each_front P xs ys h.1)
-
-each_back : (P : Site → Type 0) (xs ys : List Site) → Each P (xs ++ ys) → Each P ys
-each_back P [] ys h = h
-each_back P (x ∷ xs) ys h = each_back P xs ys h.1
-
-each_map : (P Q : Site → Type 0) (xs : List Site) → ((s : Site) → P s → Q s) → Each P xs → Each Q xs
-each_map P Q [] f h = tt
-each_map P Q (x ∷ xs) f h = (f x h.0, each_map P Q xs f h.1)
-
-each_at : (P : Site → Type 0) (xs : List Site) (i : ℕ) (d : Site) → i < length xs → Each P xs → P (get_or xs i d)
-each_at P [] i d lt h = absurd (omega arith)
-each_at P (x ∷ xs) zero d lt h = h.0
-each_at P (x ∷ xs) (suc i) d lt h = each_at P xs i d (omega arith) h.1
+use Rattle.px_core.proofs.Each.{Each, Differ, each-append, each_front, each_back, each_map, each_at}
+use Rattle.px_core.proofs.Paths.{same-self}
 
 each_pass : (p : Site → Bool) (xs : List Site) → list_all p xs ≡ true → Each (λ site. p site ≡ true) xs
 each_pass p [] h = tt
 each_pass p (x ∷ xs) h = let parts = and_parts (p x) (list_all p xs) h in (parts.0, each_pass p xs parts.1)
-
--- no two of them have one path
-abbrev Differ : List Site → Type 0
-Differ [] = Unit {0}
-Differ (site ∷ sites) = Each (λ other. site.path ≢ other.path) sites × Differ sites
 
 differ-append : (xs ys : List Site) → Differ xs → Differ ys → Each (λ x. Each (λ y. x.path ≢ y.path) ys) xs
     → Differ (xs ++ ys)
@@ -205,7 +174,7 @@ differ_tree above (Branch head children rest) siblings named = (
     other_name name [] none among same = among
     other_name name (first ∷ names) none (inl is) same =
         absurd (cc (subst (λ b. not (b || list_any (is_same head.name) names) ≡ true)
-        (ap (is_same head.name) (sym (same ∙ is)) ∙ (bytes_decides head.name head.name).1 refl) none))
+        (ap (is_same head.name) (sym (same ∙ is)) ∙ same-self head.name) none))
     other_name name (first ∷ names) none (inr among) same =
         other_name name names (not_or (is_same head.name first) (list_any (is_same head.name) names) none) among same
 

@@ -8,7 +8,7 @@ use Rattle.px_sem.specs.Expressions.{element}
 use Rattle.px_eval.specs.Arrays.{place_in}
 
 -- only the number of the elements counts for an index
-index_is : (cells : List Value) (size : ℕ) (at : Value) → length cells ≡ size → value_index cells at ≡ place_in size at
+pub index_is : (cells : List Value) (size : ℕ) (at : Value) → length cells ≡ size → value_index cells at ≡ place_in size at
 index_is cells size (values.Integer (pos place)) long = ap (λ n. if nat_lt place n then Some place else None) long
 index_is cells size (values.Integer (negsuc place)) long = refl
 index_is cells size values.Unknown long = refl

@@ -13,7 +13,7 @@ use Rattle.px_event.proofs.Fields.{after}
 abbrev pub with_front : List Value → Read (List Value) → Read (List Value)
 with_front front read = read >>= λ others. Some (front ++ others.0, others.1)
 
-abbrev read_on : Value → List Value × List ℕ → Read (List Value)
+abbrev pub read_on : Value → List Value × List ℕ → Read (List Value)
 read_on first others = Some (first ∷ others.0, others.1)
 
 regroup : (front : List Value) (first : Value) (read : Read (List Value)) → with_front front (read >>= read_on first) ≡ with_front (front ++ first ∷ []) read

@@ -20,7 +20,7 @@ use Rattle.px_event.specs.declared.event.Event.{Event}
 use Rattle.px_event.specs.declared.event.Event.TheVariants as events
 use Rattle.px_event.specs.declared.entry.Entry.{Entry}
 use Rattle.px_event.proofs.Spelled.{report_name_text, path_text}
-use Rattle.px_event.proofs.Fields.{IsBytes, bind_some, after, some_is, only_some, only_passes, Takes, Takes-then, byte_takes, four_back, number_takes, number_again, tested_takes, tested_again, passed}
+use Rattle.px_event.proofs.Fields.{tagged, IsBytes, bind_some, after, some_is, only_some, only_passes, Takes, Takes-then, byte_takes, four_back, number_takes, number_again, tested_takes, tested_again, passed}
 use Rattle.px_event.proofs.ToldValues.{value_takes, value_again, arguments_takes, arguments_again, value_short, arguments_short}
 
 -- ---- names, paths and handles
@@ -89,10 +89,6 @@ handle_again handle rest = after (handle_of (handle_code handle)) (handle_read r
 abbrev Happened : List ℕ → ℕ → Event × List ℕ → Type 0
 Happened bytes kind read = Takes (kind ∷ bytes) (event_bytes read.0) read.1 × (is_fit_event read.0 ≡ true)
 
--- a kind in front of what was taken
-kinded : (kind : ℕ) (bytes spelled rest : List ℕ) → Takes bytes spelled rest → Takes (kind ∷ bytes) (kind ∷ spelled) rest
-kinded kind bytes spelled rest t = record { parts = ap (λ (l : List ℕ). kind ∷ l) t.parts; rest_fits = t.rest_fits }
-
 abbrev is_count : ℕ → Bool
 is_count n = nat_le n 8
 
@@ -137,7 +133,7 @@ report_takes bytes read fits e =
     and_from (is_report_name name && is_count (length args) && list_all is_plain args) (is_plain_or_unknown v.0.0)
     (and_from (is_report_name name && is_count (length args)) (list_all is_plain args) (and_from (is_report_name name) (is_count (length args)) nt.1 few_args) at.1) vt.1 in
     subst (Happened bytes 1) (some_is (events.Report name args v.0.0, v.0.1) read v.2)
-    (kinded 1 bytes (text_bytes name ++ (length args ∷ (flat_map value_bytes args ++ value_bytes v.0.0))) v.0.1 whole, fit)
+    (tagged 1 bytes (text_bytes name ++ (length args ∷ (flat_map value_bytes args ++ value_bytes v.0.0))) v.0.1 whole, fit)
 
 report_again : (name : List ℕ) (args : List Value) (value : Value) (rest : List ℕ) → is_fit_event (events.Report name args value) ≡ true
     → report_at ((text_bytes name ++ (length args ∷ (flat_map value_bytes args ++ value_bytes value))) ++ rest) ≡ Some (events.Report name args value, rest)
@@ -170,7 +166,7 @@ handle_event_takes bytes read fits e =
     let ht = handle_takes n.0.1 h.0 nt.0.rest_fits h.1 in
     let whole = Takes-then bytes (text_bytes n.0.0) n.0.1 (handle_code h.0.0 ∷ []) h.0.1 nt.0 ht in
     subst (Happened bytes 2) (some_is (events.Handle n.0.0 h.0.0, h.0.1) read h.2)
-    (kinded 2 bytes (text_bytes n.0.0 ++ handle_code h.0.0 ∷ []) h.0.1 whole, nt.1)
+    (tagged 2 bytes (text_bytes n.0.0 ++ handle_code h.0.0 ∷ []) h.0.1 whole, nt.1)
 
 handle_event_again : (node : List ℕ) (handle : Handle) (rest : List ℕ) → is_path node ≡ true
     → handle_event_at ((text_bytes node ++ handle_code handle ∷ []) ++ rest) ≡ Some (events.Handle node handle, rest)
@@ -193,7 +189,7 @@ return_takes bytes read fits e =
     let vt = value_takes n.0.1 v.0 nt.0.rest_fits v.1 in
     let whole = Takes-then bytes (text_bytes n.0.0) n.0.1 (value_bytes v.0.0) v.0.1 nt.0 vt.0 in
     subst (Happened bytes 3) (some_is (events.Return n.0.0 v.0.0, v.0.1) read v.2)
-    (kinded 3 bytes (text_bytes n.0.0 ++ value_bytes v.0.0) v.0.1 whole, and_from (is_path n.0.0) (is_plain_or_unknown v.0.0) nt.1 vt.1)
+    (tagged 3 bytes (text_bytes n.0.0 ++ value_bytes v.0.0) v.0.1 whole, and_from (is_path n.0.0) (is_plain_or_unknown v.0.0) nt.1 vt.1)
 
 return_again : (node : List ℕ) (value : Value) (rest : List ℕ) → is_fit_event (events.Return node value) ≡ true
     → return_at ((text_bytes node ++ value_bytes value) ++ rest) ≡ Some (events.Return node value, rest)
@@ -217,11 +213,11 @@ event_behind_takes (suc (suc (suc zero))) bytes read fits e = return_takes bytes
 event_behind_takes (suc (suc (suc (suc zero)))) bytes read fits e =
     let n = bind_some (path_at bytes) (node_read events.AbortDone) read e in
     let nt = path_takes bytes n.0.0 n.0.1 fits n.1 in
-    subst (Happened bytes 4) (some_is (events.AbortDone n.0.0, n.0.1) read n.2) (kinded 4 bytes (text_bytes n.0.0) n.0.1 nt.0, nt.1)
+    subst (Happened bytes 4) (some_is (events.AbortDone n.0.0, n.0.1) read n.2) (tagged 4 bytes (text_bytes n.0.0) n.0.1 nt.0, nt.1)
 event_behind_takes (suc (suc (suc (suc (suc zero))))) bytes read fits e =
     let n = bind_some (path_at bytes) (node_read events.Acknowledged) read e in
     let nt = path_takes bytes n.0.0 n.0.1 fits n.1 in
-    subst (Happened bytes 5) (some_is (events.Acknowledged n.0.0, n.0.1) read n.2) (kinded 5 bytes (text_bytes n.0.0) n.0.1 nt.0, nt.1)
+    subst (Happened bytes 5) (some_is (events.Acknowledged n.0.0, n.0.1) read n.2) (tagged 5 bytes (text_bytes n.0.0) n.0.1 nt.0, nt.1)
 event_behind_takes (suc (suc (suc (suc (suc (suc kind)))))) bytes read fits e = absurd cc
 
 event_takes : (bytes : List ℕ) (read : Event × List ℕ) → IsBytes bytes → event_at bytes ≡ Some read → Takes bytes (event_bytes read.0) read.1 × (is_fit_event read.0 ≡ true)

@@ -1,9 +1,8 @@
 -- A field that is read is the field that was spelled, and a field that was spelled is read again.
 use Rattle.std.proofs.Common.{◌≡◌, ℕ, suc, ◌+◌, ◌^◌, ◌<◌, ◌≤◌, Bool, true, false, cond, ltb, List, [], ◌∷◌, ◌++◌, length, get_or, take, drop, Option, Some, None, refl, sym, ap, subst, ◌∙◌, append_assoc, arith, inl, inr}
-use Rattle.std.specs.Str.{IsUtf8, is_utf8}
-use Rattle.std.proofs.lemmas.Bool.{cases_Bool, cases_lt, ltb-false, le-ltb}
+use Rattle.std.specs.Str.{is_utf8}
+use Rattle.std.proofs.lemmas.Bool.{cases_lt, ltb-false, le-ltb}
 use Rattle.std.proofs.lemmas.List.{take_at, drop_at, take-append-drop, length-append, length-take, get_or-drop, get_or-take, get_or_past}
-use Rattle.std.proofs.lemmas.Str.{IsUtf8-from_is_utf8}
 use Rattle.std.proofs.lemmas.Nat.{be_bytes_2, be_bytes_4}
 use Rattle.byteorder.specs.Endian.{big_bytes, big_number}
 use Rattle.byteorder.specs.Numbers.{big_from-take, big_from-lt, big_number-reads_back, length-bytes_high_first}
@@ -49,10 +48,6 @@ passed false x y e = absurd cc
 pub only_some : {X : Type 0} (test : X → Bool) (read other : X × List ℕ) → only test read ≡ Some other → (test read.0 ≡ true) × (read ≡ other)
 only_some test read other e = passed (test read.0) read other e
 
--- bytes that are no text
-pub not_utf8 : (bytes : List ℕ) → (IsUtf8 bytes → ⊥) → is_utf8 bytes ≡ false
-not_utf8 bytes none = elim (cases_Bool (is_utf8 bytes)) [ inl is ↦ absurd (none (IsUtf8-from_is_utf8 bytes is)) | inr isnt ↦ isnt ]
-
 pub only_passes : {X : Type 0} (test : X → Bool) (read : X × List ℕ) → test read.0 ≡ true → only test read ≡ Some read
 only_passes test read pass = ap (λ b. cond b (Some read) None) pass
 
@@ -63,6 +58,10 @@ pub record Takes (bytes spelled rest : List ℕ) : Type 0 where
 
 pub Takes-then : (a x b y c : List ℕ) → Takes a x b → Takes b y c → Takes a (x ++ y) c
 Takes-then a x b y c p q = record { parts = p.parts ∙ ap (λ (t : List ℕ). x ++ t) q.parts ∙ sym (append_assoc x y c); rest_fits = q.rest_fits }
+
+-- a byte in front of what was taken
+pub tagged : (tag : ℕ) (bytes spelled rest : List ℕ) → Takes bytes spelled rest → Takes (tag ∷ bytes) (tag ∷ spelled) rest
+tagged tag bytes spelled rest t = record { parts = ap (λ (l : List ℕ). tag ∷ l) t.parts; rest_fits = t.rest_fits }
 
 -- ---- a byte
 

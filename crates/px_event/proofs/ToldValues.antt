@@ -17,7 +17,8 @@ use Rattle.px_value.specs.declared.value.Value.TheVariants as values
 use Rattle.px_event.specs.Values.{is_plain, is_plain_or_unknown}
 use Rattle.px_event.specs.Bytes.{text_bytes, integer_bytes, value_bytes}
 use Rattle.px_event.specs.Reading.{Read, ◌>>=◌, only, byte_at, number_at, text_at, value_behind, value_at, argument_at, arguments_at}
-use Rattle.px_event.proofs.Fields.{IsBytes, bind_some, after, some_is, only_some, only_passes, Takes, Takes-then, byte_takes, four_back, number_takes, number_again, text_again, tested_takes}
+use Rattle.px_event.proofs.Arguments.{read_on}
+use Rattle.px_event.proofs.Fields.{tagged, IsBytes, bind_some, after, some_is, only_some, only_passes, Takes, Takes-then, byte_takes, four_back, number_takes, number_again, text_again, tested_takes}
 
 -- ---- integers
 
@@ -51,10 +52,6 @@ shown_plain value text shown is shows utf8 =
 
 abbrev Told : List ℕ → Value × List ℕ → Type 0
 Told bytes read = Takes bytes (value_bytes read.0) read.1 × (is_plain_or_unknown read.0 ≡ true)
-
--- a tag in front of what was taken
-tagged : (tag : ℕ) (bytes spelled rest : List ℕ) → Takes bytes spelled rest → Takes (tag ∷ bytes) (tag ∷ spelled) rest
-tagged tag bytes spelled rest t = record { parts = ap (λ (l : List ℕ). tag ∷ l) t.parts; rest_fits = t.rest_fits }
 
 abbrev integer_read : ℕ × List ℕ → Read Value
 integer_read number = Some (values.Integer (cast_signed w32 number.0), number.1)
@@ -157,17 +154,14 @@ argument_again value rest plain =
 abbrev AllTold : ℕ → List ℕ → List Value × List ℕ → Type 0
 AllTold n bytes read = Takes bytes (flat_map value_bytes read.0) read.1 × (list_all is_plain read.0 ≡ true) × (length read.0 ≡ n)
 
-abbrev arguments_read : Value → List Value × List ℕ → Read (List Value)
-arguments_read first others = Some (first ∷ others.0, others.1)
-
 pub arguments_takes : (n : ℕ) (bytes : List ℕ) (read : List Value × List ℕ) → IsBytes bytes → arguments_at n bytes ≡ Some read → AllTold n bytes read
 unfolding arguments_at
 arguments_takes zero bytes read fits e =
     subst (AllTold 0 bytes) (some_is ([], bytes) read e) (record { parts = refl; rest_fits = fits }, refl, refl)
 arguments_takes (suc n) bytes read fits e =
-    let b = bind_some (argument_at bytes) (λ first. arguments_at n first.1 >>= arguments_read first.0) read e in
+    let b = bind_some (argument_at bytes) (λ first. arguments_at n first.1 >>= read_on first.0) read e in
     let t = argument_takes bytes b.0 fits b.1 in
-    let d = bind_some (arguments_at n b.0.1) (arguments_read b.0.0) read b.2 in
+    let d = bind_some (arguments_at n b.0.1) (read_on b.0.0) read b.2 in
     let o = arguments_takes n b.0.1 d.0 t.0.rest_fits d.1 in
     subst (AllTold (suc n) bytes) (some_is (b.0.0 ∷ d.0.0, d.0.1) read d.2)
     (Takes-then bytes (value_bytes b.0.0) b.0.1 (flat_map value_bytes d.0.0) d.0.1 t.0 o.0, and_from (is_plain b.0.0) (list_all is_plain d.0.0) t.1 o.1, ap suc o.2)
@@ -179,10 +173,10 @@ arguments_again (value ∷ args) rest plain =
     let both = and_parts (is_plain value) (list_all is_plain args) plain in
     let behind = flat_map value_bytes args ++ rest in
     let split : flat_map value_bytes (value ∷ args) ++ rest ≡ value_bytes value ++ behind = append_assoc (value_bytes value) (flat_map value_bytes args) rest in
-    ap (λ (l : List ℕ). argument_at l >>= λ first. arguments_at (length args) first.1 >>= arguments_read first.0) split
-    ∙ after (argument_at (value_bytes value ++ behind)) (λ first. arguments_at (length args) first.1 >>= arguments_read first.0) (value, behind) _
+    ap (λ (l : List ℕ). argument_at l >>= λ first. arguments_at (length args) first.1 >>= read_on first.0) split
+    ∙ after (argument_at (value_bytes value ++ behind)) (λ first. arguments_at (length args) first.1 >>= read_on first.0) (value, behind) _
     (argument_again value behind both.0)
-    (after (arguments_at (length args) behind) (arguments_read value) (args, rest) _ (arguments_again args rest both.1) refl)
+    (after (arguments_at (length args) behind) (read_on value) (args, rest) _ (arguments_again args rest both.1) refl)
 
 -- ---- how long they are
 

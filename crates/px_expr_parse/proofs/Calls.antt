@@ -15,9 +15,10 @@ use Rattle.px_syntax.specs.Operator.{binary_of, unary_of}
 use Rattle.px_expr_parse.specs.declared.opening.Opening.{Opening}
 use Rattle.px_expr_parse.specs.declared.opening.Opening.TheVariants as openings
 use Rattle.px_expr_parse.specs.Opening.{Begins, opening_of}
-use Rattle.px_expr_parse.specs.Verdict.{Agree, HasSign, IsFound, IsRead}
+use Rattle.px_expr_parse.specs.Verdict.{HasSign, IsFound}
 use Rattle.px_expr_parse.proofs.Closed.{closer_ends, semicolon_closes}
 use Rattle.px_expr_parse.proofs.Loops.{loop_begins, loop_ends}
+use Rattle.px_expr_parse.proofs.Openings.{opening_of_name}
 use Rattle.px_expr_parse.proofs.Primaries.{read_variable}
 
 -- what is at a place is within
@@ -36,10 +37,6 @@ name_of name token = record { name = name; token = token }
 paren_no_operator : binary_of (kinds.Sign signs.OpenParen) ≡ None
 unfolding binary_of
 paren_no_operator = refl
-
-name_opens : (name : List ℕ) → opening_of (kinds.Identifier name) ≡ openings.Name
-unfolding opening_of
-name_opens name = refl
 
 name_no_operator : (name : List ℕ) → unary_of (kinds.Identifier name) ≡ None
 unfolding unary_of
@@ -68,7 +65,7 @@ module _ (others : List Token) (from : ℕ) (name : List ℕ) (has : kind_at oth
     opens : Begins others from openings.Name
     opens =
         record {
-          opens = ap (option_map opening_of) has ∙ ap (λ (opening : Opening). Some opening) (name_opens name);
+          opens = ap (option_map opening_of) has ∙ ap (λ (opening : Opening). Some opening) (opening_of_name name);
           no_operator = ap (option_and_then unary_of) has ∙ name_no_operator name;
         }
 

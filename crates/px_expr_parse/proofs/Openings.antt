@@ -91,7 +91,7 @@ opening_of_enumerated (enumerated.Handle handles.CommandFailed) = refl
 opening_of_enumerated (enumerated.Handle handles.CommandDenied) = refl
 opening_of_enumerated (enumerated.Handle handles.CommandSuccess) = refl
 
-opening_of_name : (name : List ℕ) → opening_of (kinds.Identifier name) ≡ openings.Name
+pub opening_of_name : (name : List ℕ) → opening_of (kinds.Identifier name) ≡ openings.Name
 unfolding opening_of
 opening_of_name name = refl
 

@@ -7,6 +7,7 @@ use Rattle.std.proofs.Math.Seq.{take-append_seam, drop-append_seam}
 use Rattle.std.proofs.lemmas.Bool.{and_parts, and_from, or_parts, or_left, cases_Bool, false≢true, lt-ltb, le-ltb, le-leb, eqb-true, not-true, ne_eqb}
 use Rattle.std.proofs.lemmas.Bool.Decides.{nat_tests}
 use Rattle.px_value.specs.Name.{is_digit, begins_identifier, continues_identifier}
+use Rattle.px_value.proofs.General.{none_from}
 use Rattle.px_lex.specs.declared.keyword.Keyword.{Keyword}
 use Rattle.px_lex.specs.declared.sign.Sign.{Sign}
 use Rattle.px_lex.specs.declared.token.TokenKind.{TokenKind}
@@ -20,7 +21,7 @@ use Rattle.px_lex.specs.Sign.{sign_rows, sign_of, opens_comment, ends_sign}
 use Rattle.px_lex.specs.Token.{IsToken}
 use Rattle.px_lex.specs.Fault.{FaultKind, Bad, is_other, word_fault, number_fault, string_fault, IsFaulty}
 use Rattle.px_lex.specs.Lexer.{Stands}
-use Rattle.px_lex.proofs.Signs.{row_of-all, none_unless, sign_is_short}
+use Rattle.px_lex.proofs.Signs.{row_of-all, sign_is_short}
 
 -- what stands at the front
 pub data Front : Type 0 where
@@ -184,7 +185,7 @@ word_is (c ∷ cs) rest w =
     run_is (c ∷ cs) rest on (and_from (continues_identifier c) (list_all continues_identifier cs) on parts.1) w.longest ∙ rw (letter_no_digit c parts.0)
 
 keyword_is : (p : List ℕ → Bool) → list_all (λ (row : List ℕ × Keyword). p row.0) keyword_rows ≡ true → (word : List ℕ) → p word ≡ false → keyword_of word ≡ None
-keyword_is p each word h = none_unless (keyword_of word) (λ k found. false≢true (sym h ∙ row_of-all p keyword_rows word k each found))
+keyword_is p each word h = none_from (keyword_of word) (λ k found. false≢true (sym h ∙ row_of-all p keyword_rows word k each found))
 
 fault_is_no_keyword : (word : List ℕ) (kind : FaultKind) → word_fault word ≡ Some kind → keyword_of word ≡ None
 fault_is_no_keyword word kind h = keyword_is (λ w. is_none (word_fault w)) refl word (rw h)

@@ -1,5 +1,5 @@
 -- Signs at the front of a text.
-use Rattle.std.proofs.Common.{◌≡◌, ℕ, ◌<◌, ◌≤◌, Bool, true, false, List, [], ◌∷◌, length, take, drop, Option, Some, None, refl, subst, arith, inl, inr}
+use Rattle.std.proofs.Common.{◌≡◌, ℕ, ◌<◌, ◌≤◌, Bool, true, false, List, [], ◌∷◌, length, take, drop, Some, None, refl, subst, arith, inl, inr}
 use Rattle.std.specs.Prelude.{nat_le}
 use Rattle.std.specs.Char.{is_ascii}
 use Rattle.std.specs.List.{list_all}
@@ -7,6 +7,7 @@ use Rattle.std.specs.Str.{IsUtf8, IsCharBoundary, bytes_eq}
 use Rattle.std.specs.Cmp.Lexicographic.{bytes_decides}
 use Rattle.std.proofs.lemmas.Bool.{and_parts, cases_Bool, leb-true}
 use Rattle.std.proofs.lemmas.Bool.Decides.{nat_tests}
+use Rattle.px_value.proofs.General.{none_from}
 use Rattle.px_lex.specs.declared.sign.Sign.{Sign}
 use Rattle.px_lex.specs.declared.token.TokenKind.TheVariants as kinds
 use Rattle.px_lex.specs.Gap.{begins}
@@ -35,13 +36,8 @@ sign_is_ascii spelling sign h = row_of-all (λ s. list_all is_ascii s) sign_rows
 pub sign_is_short : (spelling : List ℕ) (sign : Sign) → sign_of spelling ≡ Some sign → length spelling ≤ 2
 sign_is_short spelling sign h = leb-true (length spelling) 2 (row_of-all is_short sign_rows spelling sign refl h)
 
--- there is none where each would be absurd
-pub none_unless : {K : Type 0} (o : Option K) → ((k : K) → o ≡ Some k → ⊥) → o ≡ None
-none_unless None h = refl
-none_unless (Some k) h = absurd (h k refl)
-
 no_longer_sign : (a b c : ℕ) → sign_of (a ∷ b ∷ c ∷ []) ≡ None
-no_longer_sign a b c = none_unless (sign_of (a ∷ b ∷ c ∷ [])) (λ sign found. let short : length (a ∷ b ∷ c ∷ []) ≤ 2 = sign_is_short (a ∷ b ∷ c ∷ []) sign found in omega arith)
+no_longer_sign a b c = none_from (sign_of (a ∷ b ∷ c ∷ [])) (λ sign found. let short : length (a ∷ b ∷ c ∷ []) ≤ 2 = sign_is_short (a ∷ b ∷ c ∷ []) sign found in omega arith)
 
 no_longer_opening : (a b c : ℕ) → opens_comment (a ∷ b ∷ c ∷ []) ≡ false
 no_longer_opening a b c = grind (arith, nat_tests)

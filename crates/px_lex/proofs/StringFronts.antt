@@ -2,6 +2,7 @@
 use Rattle.std.proofs.Common.{◌≡◌, ℕ, ◌≤◌, true, false, ◌==◌, ◌||◌, List, [], ◌∷◌, ◌++◌, length, drop, Option, Some, None, refl, ap, ◌∙◌, arith, inl, inr}
 use Rattle.std.specs.Str.{IsUtf8, IsCharBoundary}
 use Rattle.std.proofs.lemmas.Bool.{cases_Bool, eqb-true}
+use Rattle.std.proofs.lemmas.Option.{none-some}
 use Rattle.px_lex.specs.Gap.{begins}
 use Rattle.px_value.specs.Text.{escaped}
 use Rattle.px_lex.specs.String.{is_quote, with_byte, string_from, escape_from, read_string}
@@ -15,10 +16,8 @@ abbrev behind_of : Option (List ℕ × List ℕ) → List ℕ
 behind_of None = []
 behind_of (Some read) = read.1
 
-nothing : (read : List ℕ × List ℕ) → ◌≡◌ {A = Option (List ℕ × List ℕ)} None (Some read) → ⊥
-nothing read h = cc
-
-inner : (byte : Option ℕ) (read : Option (List ℕ × List ℕ)) (content rest : List ℕ) → with_byte byte read ≡ Some (content, rest) → (less : List ℕ) × (read ≡ Some (less, rest))
+-- what is read with a byte in front is read without it
+pub inner : (byte : Option ℕ) (read : Option (List ℕ × List ℕ)) (content rest : List ℕ) → with_byte byte read ≡ Some (content, rest) → (less : List ℕ) × (read ≡ Some (less, rest))
 inner None read content rest h = cc
 inner (Some b) None content rest h = cc
 inner (Some b) (Some (less, behind)) content rest h = let same : behind ≡ rest = ap behind_of h in (less, ap (λ t. Some (less, t)) same)
@@ -34,7 +33,7 @@ mutual
           let found : (front : List ℕ) × (cs ≡ front ++ rest) = escape_front cs content rest (rw (other, backslash) at h) in
           (c ∷ found.0, ap (λ t. c ∷ t) found.1)
       | inr plain ↦ elim (cases_Bool ((c == 10) || (c == 13))) [
-        | inl line_end ↦ absurd (nothing (content, rest) (rw (other, plain, line_end) at h))
+        | inl line_end ↦ absurd (none-some (content, rest) (rw (other, plain, line_end) at h))
         | inr more ↦
             let one : (less : List ℕ) × (string_from cs ≡ Some (less, rest)) = inner (Some c) (string_from cs) content rest (rw (other, plain, more) at h) in
             let found : (front : List ℕ) × (cs ≡ front ++ rest) = string_front cs one.0 rest one.1 in

@@ -64,7 +64,7 @@ one_way text a b s t =
     s.listed ∙ (agree 0 s.pieces t.pieces [] [] both s.stand t.stand end_stops end_stops).tokens ∙ sym t.listed
 
 -- no fault stands at the end
-not_at_end : (kind : FaultKind) → IsFaulty kind [] → ⊥
+pub not_at_end : (kind : FaultKind) → IsFaulty kind [] → ⊥
 not_at_end kind f = let h : nothing ≡ faulty kind = fault_front kind [] f in cc
 
 no_fault_at_end : (fault : LexFault) (place : ℕ) → fault ≢ faults.NoMemory → IsFault fault place [] → ⊥

@@ -1,11 +1,11 @@
 -- A node stands below its parent, and below all that its parent stands below.
-use Rattle.std.proofs.Common.{◌≡◌, ◌⊎◌, ℕ, ◌<◌, List, [], ◌∷◌, length, get_or, refl, ap, sym, ◌∙◌, arith, inl, inr, Option, Some, None}
+use Rattle.std.proofs.Common.{◌≡◌, ◌⊎◌, ℕ, ◌<◌, List, [], ◌∷◌, length, get_or, refl, ap, ◌∙◌, arith, inl, inr, Option, Some, None}
 use Rattle.std.specs.Option.{ForSome}
 use Rattle.px_core.specs.Plan.{Site, no_site}
 use Rattle.px_flat.specs.declared.flat.Flat.{Flat}
 use Rattle.px_flat.specs.declared.row.Row.{Row}
 use Rattle.px_flat.specs.Flat.{plan_of}
-use Rattle.px_flat.specs.Row.{site_in, parent_number, number_at}
+use Rattle.px_flat.specs.Row.{site_in, parent_number}
 use Rattle.px_flat.specs.Rows.{above_in, site_of, sites_of}
 use Rattle.px_flat.proofs.Numbers.{number_is}
 use Rattle.px_flat.proofs.Sites.{site_at_number, length-sites_of}

@@ -15,14 +15,15 @@ use Rattle.px_flat.specs.Parts.{values_in}
 use Rattle.px_flat.specs.Row.{site_in}
 use Rattle.px_flat.proofs.Known.{IsSound}
 use Rattle.px_flat.proofs.Tables.{flat_sound}
-use Rattle.px_assign.proofs.Variables.{cells_apart}
+use Rattle.px_flat.proofs.Variables.{cells_apart}
 use Rattle.px_command.proofs.Writes.{cells_within}
 use Rattle.px_parts.specs.declared.parts.Parts.{Parts}
 use Rattle.px_micro.specs.declared.sight.Going.{Going}
 use Rattle.px_micro.specs.Moving.{put_value}
 use Rattle.px_parts.specs.Parts.{plan_in, record_of}
 use Rattle.px_micro.specs.Turns.{from_cell, initial_in}
-use Rattle.px_micro.proofs.Blocks.{values_in-same, values_in-initial, initial_total, begun_off, begun_at, begun_length, fold-flat_map}
+use Rattle.px_micro.proofs.Initial.{as_many_of_each}
+use Rattle.px_micro.proofs.Blocks.{values_in-same, values_in-initial, begun_off, begun_at, begun_length, fold-flat_map}
 use Rattle.px_micro.proofs.Goers.{goers_apart}
 use Rattle.px_micro.proofs.Hits.{hit_by, one_hit, found_has}
 
@@ -48,7 +49,7 @@ right_cells plan node sound within = AllPass-from_list_all has_right_variables p
 initial_cells : (plan : List Site) (node : ℕ) → IsSound plan → node < length plan
     → length (initial_of plan node) ≡ cells_of_site (site_in plan node)
 initial_cells plan node sound within =
-    initial_total (site_in plan node).head.variables (right_cells plan node sound within)
+    as_many_of_each (site_in plan node).head.variables (right_cells plan node sound within)
 
 -- cells of variables of different nodes differ
 nodes_apart : (plan : List Site) (a b i j : ℕ) → a < length plan → b < length plan → a ≢ b

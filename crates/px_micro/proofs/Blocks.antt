@@ -1,12 +1,12 @@
 -- The values of variables, by their cells one after another.
-use Rattle.std.proofs.Common.{◌≡◌, ◌≢◌, ℕ, suc, zero, ◌+◌, ◌<◌, ◌≤◌, true, List, [], ◌∷◌, ◌++◌, length, get_or, set, take, drop, fold, map, sum, nat_le, ◌-◌, replicate, refl, ap, sym, ◌∙◌, arith, length-drop}
+use Rattle.std.proofs.Common.{◌≡◌, ◌≢◌, ℕ, suc, zero, ◌+◌, ◌<◌, ◌≤◌, true, List, [], ◌∷◌, ◌++◌, length, get_or, set, take, drop, fold, map, sum, refl, ap, sym, ◌∙◌, arith, length-drop}
 use Rattle.std.specs.List.{flat_map, list_all}
-use Rattle.std.proofs.lemmas.Bool.{and_parts, leb-true}
-use Rattle.std.proofs.lemmas.List.{ext_get_or, get_or-take, get_or-drop, get_or-set_same, get_or-set_other, get_or_append_left, get_or-append-add, length-append, length-replicate, length-set, length-take-le, drop-drop}
+use Rattle.std.proofs.lemmas.Bool.{and_parts}
+use Rattle.std.proofs.lemmas.List.{ext_get_or, get_or-take, get_or-drop, get_or-set_same, get_or-set_other, get_or_append_left, get_or-append-add, length-set, length-take-le, drop-drop}
 use Rattle.std.proofs.lemmas.List.Sums.{fold-append, sum_by-cons}
 use Rattle.px_value.specs.declared.value.Value.{Value}
 use Rattle.px_value.specs.declared.value.Value.TheVariants as values
-use Rattle.px_core.specs.Fit.{cells_of, has_right_cells, has_right_size}
+use Rattle.px_core.specs.Fit.{cells_of, has_right_cells}
 use Rattle.px_core.specs.Plan.{VariableData}
 use Rattle.px_sem.specs.Effects.{initial_values}
 use Rattle.px_flat.specs.Numbered.{held}
@@ -14,6 +14,7 @@ use Rattle.px_flat.specs.Parts.{values_in}
 use Rattle.px_micro.specs.declared.turns.CellValue.{CellValue}
 use Rattle.px_micro.specs.Moving.{put_value}
 use Rattle.px_micro.specs.Turns.{from_cell}
+use Rattle.px_micro.proofs.Initial.{as_many}
 
 -- ---- blocks of cells
 
@@ -51,31 +52,6 @@ values_in-same (variable ∷ variables) first a b long room same =
 
 -- ---- initial values
 
-initial_size : (variable : VariableData) → has_right_cells variable ≡ true
-    → length (initial_values variable) ≡ cells_of variable
-initial_size variable right =
-    let few : length variable.init ≤ cells_of variable = leb-true (length variable.init) (cells_of variable)
-    (and_parts (has_right_size variable.size) (nat_le (length variable.init) (cells_of variable)) right).1 in
-    omega (
-      arith,
-      few,
-      length-append variable.init (replicate (cells_of variable - length variable.init) values.Unknown),
-      length-replicate (cells_of variable - length variable.init) values.Unknown,
-    )
-
-pub initial_total : (variables : List VariableData) → list_all has_right_cells variables ≡ true
-    → length (flat_map initial_values variables) ≡ sum (map cells_of variables)
-initial_total [] right = refl
-initial_total (variable ∷ variables) right =
-    let both = and_parts (has_right_cells variable) (list_all has_right_cells variables) right in
-    omega (
-      arith,
-      length-append (initial_values variable) (flat_map initial_values variables),
-      initial_size variable both.0,
-      initial_total variables both.1,
-      sum_by-cons (λ n. n) (cells_of variable) (map cells_of variables),
-    )
-
 pub values_in-initial : (variables : List VariableData) (first : ℕ) (cells : List Value)
     → list_all has_right_cells variables ≡ true → first + sum (map cells_of variables) ≤ length cells
     → ((i : ℕ) → i < sum (map cells_of variables)
@@ -87,7 +63,7 @@ values_in-initial (variable ∷ variables) first cells right room same =
     let both = and_parts (has_right_cells variable) (list_all has_right_cells variables) right in
     let own : List Value = initial_values variable in
     let others : List Value = flat_map initial_values variables in
-    let sized : length own ≡ n = initial_size variable both.0 in
+    let sized : length own ≡ n = as_many variable both.0 in
     let total : sum (map cells_of (variable ∷ variables)) ≡ n + sum (map cells_of variables) =
     sum_by-cons (λ n. n) n (map cells_of variables) in
     let head : take n (drop first cells) ≡ own =

@@ -1,5 +1,5 @@
 -- Ways up from a node.
-use Rattle.std.proofs.Common.{◌≡◌, ℕ, ◌<◌, ◌≤◌, Bool, true, false, cond, List, [], ◌∷◌, ◌++◌, length, refl, ap, sym, ◌∙◌, subst, arith, inl, inr, Option, Some, None, Ordering, Less, Equal, Greater}
+use Rattle.std.proofs.Common.{◌≡◌, ℕ, ◌<◌, Bool, true, false, cond, List, [], ◌∷◌, ◌++◌, length, refl, ap, sym, ◌∙◌, arith, inl, inr, Option, Some, Ordering, Less, Equal, Greater}
 use Rattle.std.specs.Ordering.{is_eq, nat_cmp}
 use Rattle.std.proofs.lemmas.Map.Lookups.{exact_unsigned}
 use Rattle.px_core.specs.Plan.{Site}
@@ -9,7 +9,7 @@ use Rattle.px_flat.specs.Flat.{plan_of}
 use Rattle.px_flat.specs.Row.{parent_number}
 use Rattle.px_micro.specs.declared.asked.Asked.{Asked}
 use Rattle.px_micro.specs.Above.{asked_of, asked_below, AreRight, IsChain}
-use Rattle.px_micro.proofs.Ancestors.{IsTop, IsUnder, placed}
+use Rattle.px_micro.proofs.Ancestors.{IsUnder, placed}
 use Rattle.px_micro.proofs.Seeing.{asked_under}
 
 -- a node with this parent

@@ -1,17 +1,17 @@
 -- Descendants and children, by number.
-use Rattle.std.proofs.Common.{◌≡◌, ℕ, zero, suc, ◌+◌, ◌<◌, ◌≤◌, Bool, true, false, ◌&&◌, ◌||◌, ◌⊎◌, nat_lt, cond, List, [], ◌∷◌, length, drop, take_while, refl, ap, sym, ◌∙◌, subst, arith, inl, inr, Option, Some, None, length-drop}
+use Rattle.std.proofs.Common.{◌≡◌, ℕ, zero, suc, ◌<◌, ◌≤◌, Bool, true, false, ◌||◌, ◌⊎◌, nat_lt, cond, List, [], ◌∷◌, length, drop, take_while, refl, ap, sym, ◌∙◌, subst, arith, inl, inr, length-drop}
 use Rattle.std.specs.List.{list_any}
 use Rattle.std.specs.Cmp.Lexicographic.{same_text}
 use Rattle.std.proofs.lemmas.Bool.{and_parts, and_from, or_cases, or_left, or_right, ltb-true, lt-ltb}
 use Rattle.std.proofs.lemmas.List.Sums.{take_while-cons}
 use Rattle.px_core.specs.Plan.{Site, is_same, is_child_of}
+use Rattle.px_core.proofs.Paths.{same-self}
 use Rattle.px_flat.specs.declared.flat.Flat.{Flat}
 use Rattle.px_flat.specs.Flat.{plan_of}
 use Rattle.px_flat.specs.Row.{site_in, is_below, after_last}
 use Rattle.px_flat.proofs.Known.{IsSound}
-use Rattle.px_flat.proofs.Paths.{same-self}
 use Rattle.px_flat.proofs.Tables.{flat_sound}
-use Rattle.px_micro.proofs.Ancestors.{IsTop, IsUnder, placed}
+use Rattle.px_micro.proofs.Ancestors.{IsUnder, placed}
 
 -- one node is below another
 abbrev pub IsBelow : List Site → ℕ → ℕ → Type 0

@@ -8,9 +8,8 @@ use Rattle.px_value.specs.declared.value.Value.TheVariants as values
 use Rattle.px_value.specs.Value.{value_index}
 use Rattle.px_core.specs.Expr.{Term}
 use Rattle.px_core.specs.Fit.{terms_of, targets_of}
-use Rattle.px_core.specs.Plan.{Site, BodyData, Nothing, Assign, Command, Update, TargetData, PairData, no_term}
+use Rattle.px_core.specs.Plan.{Site, BodyData, Nothing, Assign, Command, Update, TargetData, PairData}
 use Rattle.px_sem.specs.declared.guards.Arrival.{Arrival}
-use Rattle.px_sem.specs.declared.moves.Effect.{Effect}
 use Rattle.px_sem.specs.declared.moves.Effect.TheVariants as effects
 use Rattle.px_sem.specs.Conflicts.{target_of}
 use Rattle.px_sem.specs.Effects as sem
@@ -31,18 +30,20 @@ use Rattle.px_flat.specs.Within.{IsTargetWithin, IsBodyWithin}
 use Rattle.px_flat.proofs.NodeTerms.{have_values}
 use Rattle.px_flat.proofs.Tables.{flat_sound}
 use Rattle.px_flat.proofs.Withins.{node_is_within}
-use Rattle.px_assign.proofs.Variables.{IsDeclared, target_declared}
+use Rattle.px_flat.proofs.Targets.{taken_alike}
+use Rattle.px_flat.proofs.Variables.{IsDeclared, target_declared}
+use Rattle.px_eval.proofs.Elements.{index_is}
 use Rattle.px_micro.specs.declared.effects.Effects.{Effects}
 use Rattle.px_micro.specs.declared.effects.UnderWay.TheVariants as under_way
 use Rattle.px_parts.specs.declared.parts.Parts.{Parts}
 use Rattle.px_micro.specs.declared.sight.Going.{Going}
-use Rattle.px_micro.specs.Doing.{silent, assigned, sent, updated, started, failed, done, done_by, kept, kept_cell, writing}
+use Rattle.px_micro.specs.Doing.{silent, assigned, sent, updated, failed, done, done_by, kept, kept_cell, writing}
 use Rattle.px_parts.specs.Parts.{plan_in, world_in, record_of, value_in, AreStanding}
 use Rattle.px_micro.specs.declared.places.Place.{Place}
 use Rattle.px_micro.specs.Places.{place_data, place_now}
 use Rattle.px_micro.specs.Turns.{in_cells, act_after, action_after, effects_in, AreEffects}
 use Rattle.px_micro.proofs.Seeing.{record_is}
-use Rattle.px_micro.proofs.Targets.{HasCells, has_cells, value_held, taken_alike, index_is, place_is}
+use Rattle.px_micro.proofs.Targets.{HasCells, has_cells, value_held, place_is}
 
 -- ---- the table of the semantics, by the move and the body
 

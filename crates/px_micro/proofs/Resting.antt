@@ -1,6 +1,5 @@
 -- Whether each child is at rest, from the first child on and behind the descendants of each.
-use Rattle.std.proofs.Common.{◌≡◌, ◌≢◌, ℕ, suc, ◌+◌, ◌<◌, ◌≤◌, Bool, true, false, not, ◌||◌, List, length, get_or, refl, ap, sym, ◌∙◌, subst, arith, inl, inr}
-use Rattle.std.specs.List.{list_all}
+use Rattle.std.proofs.Common.{◌≡◌, ℕ, ◌+◌, ◌<◌, ◌≤◌, Bool, true, false, not, ◌||◌, List, length, get_or, refl, ap, sym, ◌∙◌, subst, arith, inl, inr}
 use Rattle.std.proofs.lemmas.Bool.{cases_lt}
 use Rattle.std.proofs.Math.Nat.{eq-or-lt_of_le}
 use Rattle.std.proofs.lemmas.List.Sums.{list_all-from_AllPass}
@@ -8,7 +7,7 @@ use Rattle.std.proofs.lemmas.List.{get_or_default}
 use Rattle.std.proofs.lemmas.List.Folds.{list_all_at}
 use Rattle.px_core.specs.Plan.{Site, no_site, is_child_of}
 use Rattle.px_sem.specs.Guards.{each_child, is_at_rest}
-use Rattle.px_sem.specs.World.{World, NodeRecord, state_at}
+use Rattle.px_sem.specs.World.{NodeRecord, state_at}
 use Rattle.px_flat.specs.Row.{site_in, after_last}
 use Rattle.px_flat.proofs.Tables.{flat_sound}
 use Rattle.px_parts.specs.declared.parts.Parts.{Parts}

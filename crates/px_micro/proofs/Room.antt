@@ -1,15 +1,14 @@
 -- How many cells a step puts.
-use Rattle.std.proofs.Common.{◌≡◌, ℕ, zero, suc, ◌+◌, ◌*◌, ◌^◌, ◌<◌, ◌≤◌, Bool, true, false, List, [], ◌∷◌, ◌++◌, length, map, sum, fold, get_or, refl, ap, sym, ◌∙◌, arith, length-append, if◌then◌else◌, Option, Some, None, All, AllPairs, nat_eq}
+use Rattle.std.proofs.Common.{◌≡◌, ℕ, zero, suc, ◌+◌, ◌*◌, ◌^◌, ◌<◌, ◌≤◌, Bool, true, false, List, [], ◌∷◌, ◌++◌, length, fold, get_or, refl, ap, sym, ◌∙◌, arith, length-append, if◌then◌else◌, Option, Some, None, All, AllPairs, nat_eq}
 use Rattle.std.specs.List.{flat_map, filter_map, cons_option, list_any}
 use Rattle.std.specs.Option.{option_map}
 use Rattle.std.proofs.lemmas.List.{length-map}
 use Rattle.std.proofs.lemmas.List.Elements.{All-head, All-tail}
 use Rattle.std.proofs.lemmas.List.Sums.{AllPass-from_list_all}
 use Rattle.px_value.specs.declared.value.Value.{Value}
-use Rattle.px_core.specs.Fit.{cells_of, cells_of_site, has_right_variables}
+use Rattle.px_core.specs.Fit.{cells_of_site, has_right_variables}
 use Rattle.px_core.specs.Plan.{Site, no_site}
 use Rattle.px_sem.specs.Effects.{move_kind, is_initializing, initial_values}
-use Rattle.px_sem.specs.World.{World}
 use Rattle.px_flat.specs.Layout.{first_cell, variable_cells}
 use Rattle.px_flat.specs.Row.{site_in}
 use Rattle.px_flat.proofs.Tables.{flat_sound}
@@ -17,12 +16,11 @@ use Rattle.px_command.proofs.Writes.{cells_within}
 use Rattle.px_micro.specs.declared.effects.CellWrite.{CellWrite}
 use Rattle.px_parts.specs.declared.parts.Parts.{Parts}
 use Rattle.px_micro.specs.declared.sight.Going.{Going}
-use Rattle.px_micro.specs.declared.turns.CellValue.{CellValue}
 use Rattle.px_micro.specs.declared.turns.Turn.{Turn}
 use Rattle.px_micro.specs.declared.turns.Turns.{Turns}
 use Rattle.px_micro.specs.Going.{AreAllGoing}
 use Rattle.px_parts.specs.Parts.{plan_in, world_in, record_of}
-use Rattle.px_micro.specs.Turns.{in_cells, effects_in, from_cell, initial_in, with_write, first_writes, AreTurns}
+use Rattle.px_micro.specs.Turns.{in_cells, effects_in, from_cell, initial_in, with_write, AreTurns}
 use Rattle.px_micro.proofs.Initial.{as_many_of_each}
 
 -- ---- no more nodes go than there are

@@ -1,14 +1,13 @@
 -- What is seen of a node by its number is what the semantics asks of it by its path.
-use Rattle.std.proofs.Common.{◌≡◌, ℕ, ◌<◌, false, List, [], ◌∷◌, length, refl, ap, sym, ◌∙◌, arith, inl, inr}
-use Rattle.px_value.specs.declared.enums.NodeState.{NodeState}
+use Rattle.std.proofs.Common.{◌≡◌, ℕ, ◌<◌, false, List, length, refl, ap, sym, ◌∙◌, arith}
 use Rattle.px_value.specs.declared.enums.NodeState.TheVariants as states
 use Rattle.px_value.specs.declared.value.Value.{Value}
 use Rattle.px_value.specs.Truth.{truth_of}
-use Rattle.px_core.specs.Plan.{Site, ConditionTerms, no_term, no_site, site_at}
+use Rattle.px_core.specs.Plan.{Site, ConditionTerms, no_term}
 use Rattle.px_sem.specs.Expressions.{value}
-use Rattle.px_sem.specs.World.{World, NodeRecord, record_at, state_at, parent_state}
+use Rattle.px_sem.specs.World.{World, NodeRecord, record_at, parent_state}
 use Rattle.px_flat.specs.Numbered.{Numbered, ConditionsNumbered, numbered_conditions}
-use Rattle.px_flat.specs.Row.{site_in, parent_number}
+use Rattle.px_flat.specs.Row.{site_in}
 use Rattle.px_flat.proofs.NodeTerms.{have_values}
 use Rattle.px_flat.proofs.Sites.{found_site}
 use Rattle.px_flat.proofs.Tables.{flat_sound}
@@ -19,7 +18,7 @@ use Rattle.px_micro.specs.declared.truths.Truths.{Truths}
 use Rattle.px_micro.specs.Above.{asked_by, asked_of, asked_below, asks_at, asks_in, asked_too}
 use Rattle.px_parts.specs.Parts.{plan_in, world_in, record_of, value_in, AreStanding}
 use Rattle.px_micro.specs.Truths.{truths_in}
-use Rattle.px_micro.proofs.Ancestors.{IsTop, IsUnder, placed}
+use Rattle.px_micro.proofs.Ancestors.{IsTop, IsUnder}
 
 -- the record of a node
 pub record_is : (parts : Parts) (node : ℕ) → node < length (plan_in parts)

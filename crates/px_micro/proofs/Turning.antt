@@ -1,5 +1,5 @@
 -- The turns of one more node that goes.
-use Rattle.std.proofs.Common.{◌≡◌, ℕ, List, [], ◌∷◌, ◌++◌, fold, map, append-nil, refl, ap, sym, ◌∙◌, subst, Option}
+use Rattle.std.proofs.Common.{◌≡◌, List, [], ◌∷◌, ◌++◌, fold, map, append-nil, ap, sym, ◌∙◌, subst, Option}
 use Rattle.std.specs.List.{filter_map, flat_map, cons_option, All}
 use Rattle.std.specs.Option.{option_map}
 use Rattle.std.proofs.lemmas.Grind.{flat_map-append}
@@ -15,7 +15,6 @@ use Rattle.px_flat.specs.Row.{site_in}
 use Rattle.px_micro.specs.declared.effects.CellWrite.{CellWrite}
 use Rattle.px_parts.specs.declared.parts.Parts.{Parts}
 use Rattle.px_micro.specs.declared.sight.Going.{Going}
-use Rattle.px_micro.specs.declared.turns.CellValue.{CellValue}
 use Rattle.px_micro.specs.declared.turns.Turn.{Turn}
 use Rattle.px_micro.specs.declared.turns.Turns.{Turns}
 use Rattle.px_parts.specs.Parts.{plan_in, world_in}
@@ -58,8 +57,7 @@ pub turns_stay : (parts : Parts) (cells : MarkedData Value) (acts : MarkedData A
     → AreTurns (with_room parts cells acts) going made
 turns_stay parts cells acts going made cells_same acts_same are =
     subst (λ parts. AreTurns parts going made)
-    (λ i. with_room parts (record { contents = sym cells_same i; room = cells.room })
-    (record { contents = sym acts_same i; room = acts.room }))
+    (λ i. with_room parts (record cells { contents = sym cells_same i }) (record acts { contents = sym acts_same i }))
     (record {
       writes = are.writes;
       initial = are.initial;

@@ -1,5 +1,5 @@
 -- What the cells and the act of a node say of its action.
-use Rattle.std.proofs.Common.{◌≡◌, ℕ, ◌||◌, Bool, true, false, Option, Some, None, is_some, refl, ap, sym, ◌∙◌}
+use Rattle.std.proofs.Common.{◌≡◌, ℕ, ◌||◌, true, Option, Some, None, is_some, refl, ap, sym, ◌∙◌}
 use Rattle.px_value.specs.declared.enums.Handle.{Handle}
 use Rattle.px_value.specs.declared.value.Value.{Value}
 use Rattle.px_value.specs.Value.{is_known}

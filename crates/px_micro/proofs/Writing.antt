@@ -13,6 +13,7 @@ use Rattle.px_value.specs.declared.value.Value.TheVariants as values
 use Rattle.px_core.specs.Expr.{Term}
 use Rattle.px_core.specs.Fit.{has_right_variables}
 use Rattle.px_core.specs.Plan.{Site, BodyData, Nothing, Assign, Command, Update, TargetData, VariableData, no_site, is_same}
+use Rattle.px_core.proofs.Paths.{same-self}
 use Rattle.px_sem.specs.declared.guards.Arrival.{Arrival}
 use Rattle.px_sem.specs.Conflicts.{target_of, transition}
 use Rattle.px_sem.specs.Effects as sem
@@ -29,10 +30,10 @@ use Rattle.px_flat.specs.Numbered.{held, place_of}
 use Rattle.px_flat.specs.Parts.{action_in, act_of, fits, values_in}
 use Rattle.px_flat.specs.Row.{site_in}
 use Rattle.px_flat.proofs.Known.{IsSound}
-use Rattle.px_flat.proofs.Paths.{same-self}
 use Rattle.px_flat.proofs.Tables.{flat_sound}
 use Rattle.px_flat.proofs.VariableValues.{place_of-node}
-use Rattle.px_assign.proofs.Variables.{IsDeclared, target_declared}
+use Rattle.px_flat.proofs.Variables.{IsDeclared, target_declared, one_cell}
+use Rattle.px_eval.proofs.Elements.{index_is}
 use Rattle.px_command.proofs.Returns.{flat_differs}
 use Rattle.px_command.proofs.Writes.{cells_within}
 use Rattle.px_micro.specs.declared.effects.CellWrite.{CellWrite}
@@ -48,8 +49,8 @@ use Rattle.px_micro.proofs.Goers.{gone}
 use Rattle.px_micro.proofs.Hits.{fold_keeps, hit_by, one_hit}
 use Rattle.px_micro.proofs.Meaning.{row_of, row_is, place_inside}
 use Rattle.px_micro.proofs.Seeing.{record_is}
-use Rattle.px_micro.proofs.Slots.{IsSlot, one_cell, slot_has, values_in-by}
-use Rattle.px_micro.proofs.Targets.{HasCells, has_cells, index_is}
+use Rattle.px_micro.proofs.Slots.{IsSlot, slot_has, values_in-by}
+use Rattle.px_micro.proofs.Targets.{HasCells, has_cells}
 
 -- ---- a write is within its variable
 

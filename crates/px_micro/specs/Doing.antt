@@ -3,7 +3,6 @@ use Rattle.std.specs.Prelude.{ℕ, ◌+◌, List, map, Option, Some, None}
 use Rattle.std.specs.Option.{option_map, option_and_then}
 use Rattle.px_value.specs.declared.value.Value.{Value}
 use Rattle.px_core.specs.Plan.{BodyData, Assign, Command, Update, TargetData, PairData}
-use Rattle.px_sem.specs.declared.moves.Effect.{Effect}
 use Rattle.px_sem.specs.declared.moves.Effect.TheVariants as effects
 use Rattle.px_sem.specs.Effects as sem
 use Rattle.px_sem.specs.Effects.{as_kind, cell_of, index_of, move_kind, told_write}

@@ -1,5 +1,5 @@
 -- The guards of a node, by what is seen of it.
-use Rattle.std.specs.Prelude.{Bool, true, false, Option, is_some}
+use Rattle.std.specs.Prelude.{Bool, true, false, is_some}
 use Rattle.px_value.specs.declared.enums.NodeState.{NodeState}
 use Rattle.px_core.specs.declared.node.Kind.{Kind}
 use Rattle.px_core.specs.declared.node.Kind.TheVariants as kinds

@@ -1,5 +1,5 @@
 -- The places that moves write.
-use Rattle.std.specs.Prelude.{ℕ, Option, Some, None}
+use Rattle.std.specs.Prelude.{Option, Some, None}
 use Rattle.std.specs.Option.{option_map}
 use Rattle.px_sem.specs.World as world
 use Rattle.px_eval.specs.Arrays.{place_in}

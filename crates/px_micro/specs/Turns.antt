@@ -1,5 +1,5 @@
 -- What is gathered of a step: the turns of the nodes that go, and their moves.
-use Rattle.std.specs.Prelude.{◌≡◌, ℕ, ◌+◌, ◌<◌, false, nat_eq, List, [], ◌∷◌, ◌++◌, fold, map, length, Option, Some, None, IsTrue, if◌then◌else◌}
+use Rattle.std.specs.Prelude.{◌≡◌, ℕ, ◌+◌, ◌<◌, false, nat_eq, List, [], ◌∷◌, ◌++◌, fold, map, length, IsTrue, if◌then◌else◌}
 use Rattle.std.specs.BTreeSet.{contains}
 use Rattle.std.specs.List.{flat_map, filter_map, cons_option, list_any, All}
 use Rattle.std.specs.Ordering.{nat_cmp}
@@ -7,7 +7,6 @@ use Rattle.std.specs.Option.{option_map}
 use Rattle.px_value.specs.declared.value.Value.{Value}
 use Rattle.px_value.specs.declared.value.Value.TheVariants as values
 use Rattle.px_core.specs.Plan.{Site}
-use Rattle.px_sem.specs.declared.moves.Move.{Move}
 use Rattle.px_sem.specs.Effects as sem
 use Rattle.px_sem.specs.Effects.{Write, move_kind, is_initializing, initial_values, cell_of}
 use Rattle.px_sem.specs.Step.{move_of}

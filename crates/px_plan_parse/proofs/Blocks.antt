@@ -1,5 +1,6 @@
 -- What blocks consist of.
-use Rattle.std.proofs.Common.{◌≡◌, ℕ, ℤ, ◌+◌, ◌≤◌, ◌<◌, ◌⊎◌, inl, inr, refl, sym, ap, subst, ◌∙◌, List, [], ◌∷◌, length, Option, Some, None, Bool, true, false, arith}
+use Rattle.std.proofs.Common.{◌≡◌, ◌≢◌, ℕ, ◌+◌, ◌≤◌, ◌<◌, refl, sym, ap, subst, ◌∙◌, List, [], ◌∷◌, length, Option, Some, None, true, false, arith}
+use Rattle.std.proofs.lemmas.Option.{none-some}
 use Rattle.px_lex.specs.declared.keyword.Keyword.TheVariants as words
 use Rattle.px_lex.specs.declared.sign.Sign.TheVariants as signs
 use Rattle.px_lex.specs.declared.token.Token.{Token}
@@ -7,20 +8,21 @@ use Rattle.px_lex.specs.declared.token.TokenKind.{TokenKind}
 use Rattle.px_lex.specs.declared.token.TokenKind.TheVariants as kinds
 use Rattle.px_syntax.specs.declared.expr.Identifier.{Identifier}
 use Rattle.px_syntax.specs.declared.fault.ParseFault.{ParseFault}
-use Rattle.px_syntax.specs.declared.fault.ParseFault.TheVariants as faults
 use Rattle.px_syntax.specs.declared.word.BlockForm.{BlockForm}
 use Rattle.px_syntax.specs.declared.word.BlockForm.TheVariants as forms
 use Rattle.px_syntax.specs.Block.{ItemData, BlockTree, Braces, Actions, NoActions, More, ActionTree, Labelled, BodyTree, Inner, Assign, CallInto, Call, Update, If, While, For, actions_in_turn}
-use Rattle.px_syntax.specs.BlockGrammar.{action, block, body, each_action, form_word, item, label, node_list_word}
-use Rattle.px_syntax.specs.Form.{Form, identifier, kind_at, nothing, sign, ◌then◌, each}
+use Rattle.px_syntax.specs.BlockGrammar.{action, block, body, each_action}
+use Rattle.px_syntax.specs.Form.{Form, identifier, kind_at, sign, ◌then◌, each}
 use Rattle.px_expr_parse.specs.Verdict.{Agree}
 use Rattle.px_plan_parse.specs.declared.start.Start.{Start}
 use Rattle.px_plan_parse.specs.declared.start.Start.TheVariants as starts
-use Rattle.px_plan_parse.specs.Part.{Follow, Anything, IsLacking, IsPart}
-use Rattle.px_plan_parse.specs.Start.{NoBranch, NoItem, NoListWord, NoName, is_action, is_branch, is_item, keyword_start, start_at}
+use Rattle.px_plan_parse.specs.Part.{Anything, IsLacking, IsPart}
+use Rattle.px_plan_parse.specs.Start.{NoBranch, NoItem, NoListWord, is_action, is_branch, is_item, keyword_start, start_at}
 use Rattle.px_plan_parse.specs.Tail.{closed_actions, every_item, head, list_word, written_form}
-use Rattle.px_plan_parse.proofs.Parts.{Begins, HasKind, LacksKind, Makes, before, behind, both, both_of, lack_alone, lack_made, lack_word, part_alone, part_made, part_word}
-use Rattle.px_plan_parse.proofs.Starts.{HasStart, found, IsOf, item_starts, start_brace, start_keyword, start_name, start_nothing, start_too, token_of}
+use Rattle.px_plan_parse.proofs.Parts.{Begins, HasKind, LacksKind, Makes, before, both, both_of, lack_alone, lack_made, lack_word, part_alone, part_made, part_word}
+use Rattle.px_plan_parse.proofs.Sorts as sorts
+use Rattle.px_plan_parse.proofs.Sorts.{sort_of, tree_sort}
+use Rattle.px_plan_parse.proofs.Starts.{HasStart, found, start_brace, start_keyword, start_name, start_nothing, start_too, token_of}
 
 -- ---- labels
 
@@ -207,27 +209,6 @@ module _ (tokens : List Token) (from : ℕ) where
 
 -- ---- with what actions begin
 
--- the sorts of action by their first tokens
-abbrev pub sort_of : Start → ℕ
-sort_of starts.Name = 1
-sort_of (starts.Form form) = 2
-sort_of starts.Brace = 2
-sort_of starts.Update = 3
-sort_of starts.If = 4
-sort_of starts.While = 5
-sort_of starts.For = 6
-sort_of start = 0
-
-abbrev pub tree_sort : BodyTree → ℕ
-tree_sort (Inner tree) = 2
-tree_sort (Assign written value) = 1
-tree_sort (CallInto written parts) = 1
-tree_sort (Call parts) = 1
-tree_sort (Update token pairs) = 3
-tree_sort (If first others last) = 4
-tree_sort (While parts) = 5
-tree_sort (For variable first test step parts) = 6
-
 pub update_starts : (tokens : List Token) (place : ℕ) → HasKind tokens place (kinds.Keyword words.Update) → start_at tokens place ≡ starts.Update
 unfolding keyword_start
 update_starts tokens place has = start_keyword tokens place words.Update has
@@ -245,7 +226,7 @@ unfolding keyword_start
 for_starts tokens place has = start_keyword tokens place words.For has
 
 -- a block begins with a form or a brace
-pub block_sort : (tree : BlockTree) (tokens : List Token) (from end : ℕ) → block tree tokens from end → sort_of (start_at tokens from) ≡ 2
+pub block_sort : (tree : BlockTree) (tokens : List Token) (from end : ℕ) → block tree tokens from end → sort_of (start_at tokens from) ≡ Some sorts.Inner
 block_sort (Braces forms.Plain items actions) tokens from end o =
     ap sort_of (start_brace tokens from (subst (λ (p : ℕ). HasKind tokens p (kinds.Sign signs.OpenBrace)) o.1 o.2.1.0))
 block_sort (Braces forms.NodeList items actions) tokens from end o =
@@ -255,7 +236,7 @@ block_sort (Braces forms.UncheckedSequence items actions) tokens from end o = ap
 block_sort (Braces forms.Concurrence items actions) tokens from end o = ap sort_of (form_starts forms.Concurrence tokens from o.0 o.1).0
 block_sort (Braces forms.Try items actions) tokens from end o = ap sort_of (form_starts forms.Try tokens from o.0 o.1).0
 
-pub body_sort : (tree : BodyTree) (tokens : List Token) (from end : ℕ) → body tree tokens from end → sort_of (start_at tokens from) ≡ tree_sort tree
+pub body_sort : (tree : BodyTree) (tokens : List Token) (from end : ℕ) → body tree tokens from end → sort_of (start_at tokens from) ≡ Some (tree_sort tree)
 body_sort (Inner tree) tokens from end o = block_sort tree tokens from end o
 body_sort (Assign written value) tokens from end o = ap sort_of (start_name tokens from written.name.name o.1.1.1.0)
 body_sort (CallInto written parts) tokens from end o = ap sort_of (start_name tokens from written.name.name o.1.1.1.0)
@@ -265,7 +246,7 @@ body_sort (If first others last) tokens from end o = ap sort_of (if_starts token
 body_sort (While parts) tokens from end o = ap sort_of (while_starts tokens from o.1.0)
 body_sort (For variable first test step parts) tokens from end o = ap sort_of (for_starts tokens from o.1.0)
 
-sort_acts : (start : Start) → (sort_of start ≡ 0 → ⊥) → (is_action start ≡ true) × (is_branch start ≡ false) × (is_item start ≡ false)
+sort_acts : (start : Start) → sort_of start ≢ None → (is_action start ≡ true) × (is_branch start ≡ false) × (is_item start ≡ false)
     × (start ≡ starts.NodeList → ⊥)
 sort_acts starts.Name some = (refl, refl, refl, λ e. cc)
 sort_acts (starts.Form form) some = (refl, refl, refl, λ e. cc)
@@ -276,26 +257,16 @@ sort_acts starts.While some = (refl, refl, refl, λ e. cc)
 sort_acts starts.For some = (refl, refl, refl, λ e. cc)
 sort_acts start some = absurd (some refl)
 
-tree_sort_some : (tree : BodyTree) → tree_sort tree ≡ 0 → ⊥
-tree_sort_some (Inner tree) e = omega (arith, e)
-tree_sort_some (Assign written value) e = omega (arith, e)
-tree_sort_some (CallInto written parts) e = omega (arith, e)
-tree_sort_some (Call parts) e = omega (arith, e)
-tree_sort_some (Update token pairs) e = omega (arith, e)
-tree_sort_some (If first others last) e = omega (arith, e)
-tree_sort_some (While parts) e = omega (arith, e)
-tree_sort_some (For variable first test step parts) e = omega (arith, e)
-
 pub action_acts :
     (tree : ActionTree) (tokens : List Token) (from end : ℕ) → action tree tokens from end
     → (is_action (start_at tokens from) ≡ true) × (is_branch (start_at tokens from) ≡ false) × (is_item (start_at tokens from) ≡ false)
     × (start_at tokens from ≡ starts.NodeList → ⊥)
 action_acts (Labelled None parts) tokens from end o =
     let there : body parts tokens from end = subst (λ (p : ℕ). body parts tokens p end) o.1 o.2 in
-    sort_acts (start_at tokens from) (λ e. tree_sort_some parts (sym (body_sort parts tokens from end there) ∙ e))
+    sort_acts (start_at tokens from) (λ e. none-some (tree_sort parts) (sym e ∙ body_sort parts tokens from end there))
 action_acts (Labelled (Some name) parts) tokens from end o =
     let s = start_name tokens from name.name o.1.1.1.0 in
-    sort_acts (start_at tokens from) (λ e. let f : 1 ≡ 0 = sym (ap sort_of s) ∙ e in omega (arith, f))
+    sort_acts (start_at tokens from) (λ e. none-some sorts.Named (sym e ∙ ap sort_of s))
 
 -- ---- actions up to the brace
 

@@ -1,34 +1,36 @@
 -- What actions and branches consist of.
-use Rattle.std.proofs.Common.{◌≡◌, ℕ, ℤ, ◌+◌, ◌≤◌, ◌<◌, ◌⊎◌, inl, inr, refl, sym, ap, subst, ◌∙◌, List, [], ◌∷◌, length, Option, Some, None, Bool, true, false, arith}
+use Rattle.std.proofs.Common.{◌≡◌, ℕ, ℤ, ◌+◌, ◌≤◌, ◌<◌, ◌⊎◌, inl, inr, refl, sym, ap, subst, ◌∙◌, List, [], ◌∷◌, length, Option, Some, None, true, false, arith}
+use Rattle.std.proofs.lemmas.Option.{none-some, same_Some}
 use Rattle.px_lex.specs.declared.keyword.Keyword.TheVariants as words
 use Rattle.px_lex.specs.declared.sign.Sign.TheVariants as signs
 use Rattle.px_lex.specs.declared.token.Token.{Token}
-use Rattle.px_lex.specs.declared.token.TokenKind.{TokenKind}
 use Rattle.px_lex.specs.declared.token.TokenKind.TheVariants as kinds
 use Rattle.px_syntax.specs.declared.expr.Identifier.{Identifier}
 use Rattle.px_syntax.specs.declared.fault.ParseFault.{ParseFault}
 use Rattle.px_syntax.specs.Block.{ActionTree, Labelled, BlockTree, BranchTree, Branch, GuardedTree, Guarded, ElseIfs, NoElseIfs, ElseIf, ElseTree, NoElse, Else, BodyTree, Inner, Assign, CallInto, Call, PairData, Update, If, While, For, else_ifs_in_turn, else_of}
 use Rattle.px_syntax.specs.BlockGrammar.{action, block, body, branch, else_ifs, guarded, label, otherwise}
 use Rattle.px_syntax.specs.Expr.{Term}
-use Rattle.px_syntax.specs.Form.{Form, identifier, keyword, kind_at, optional, sign, ◌then◌, maybe, each}
+use Rattle.px_syntax.specs.Form.{Form, identifier, keyword, optional, maybe, each}
 use Rattle.px_expr_parse.specs.Tail.{closed}
 use Rattle.px_expr_parse.specs.Verdict.{Agree, IsFound}
 use Rattle.px_expr_parse.proofs.Parts.{agree_before}
 use Rattle.px_plan_parse.specs.declared.start.Start.{Start}
 use Rattle.px_plan_parse.specs.declared.start.Start.TheVariants as starts
 use Rattle.px_plan_parse.specs.Named.{NamedData, Calls, Writes, Value, Answer, named, named_body}
-use Rattle.px_plan_parse.specs.Part.{Follow, Anything, IsLacking, IsPart, IsSole, Lacks}
+use Rattle.px_plan_parse.specs.Part.{Anything, IsLacking, IsPart}
 use Rattle.px_plan_parse.specs.Start.{NoBranch, NoElse as NotElse, NoElseIf as NotElseIf, NoName, is_branch, keyword_start, start_at}
 use Rattle.px_plan_parse.specs.Tail.{counter, update_pairs}
-use Rattle.px_plan_parse.proofs.Blocks.{block_sort, body_sort, sort_of, tree_sort}
+use Rattle.px_plan_parse.proofs.Blocks.{block_sort, body_sort}
 use Rattle.px_plan_parse.proofs.Parts.{Begins, HasKind, Makes, behind, both}
+use Rattle.px_plan_parse.proofs.Sorts as sorts
+use Rattle.px_plan_parse.proofs.Sorts.{Sort, sort_of, tree_sort}
 use Rattle.px_plan_parse.proofs.Starts.{start_keyword, start_name, start_too}
 
 -- ---- branches
 
 pub block_no_name : Begins block Anything NoName
 block_no_name tokens tree from end o next is =
-    let e : 1 ≡ 2 = sym (ap sort_of is) ∙ block_sort tree tokens from end o in omega (arith, e)
+    cc (sym (ap sort_of is) ∙ block_sort tree tokens from end o)
 
 pub makes_branch :
     (tokens : List Token) (from : ℕ)
@@ -199,11 +201,25 @@ abbrev pub for_parts : (Identifier × ℤ) × (Term × (Term × BranchTree)) →
 for_parts = behind (kinds.Keyword words.For) (both counter (both (closed signs.Semicolon) (both (closed signs.CloseParen) branch)))
 
 module _ (tokens : List Token) (from : ℕ) where
+  -- a body is made of the parts of its sort where each tree of that sort is
+  makes_sort : {X : Type 0} (sort : Sort) (parts : X → Form) (made : X → BodyTree) → sort_of (start_at tokens from) ≡ Some sort
+      → ((others : List Token) (part : X) (end : ℕ) → parts part others from end → body (made part) others from end)
+      → ((others : List Token) (tree : BodyTree) (end : ℕ) → tree_sort tree ≡ sort → body tree others from end
+      → (part : X) × (tree ≡ made part) × parts part others from end)
+      → Makes body parts made tokens from
+  makes_sort sort parts made begins build split =
+      record {
+        builds = λ others agree part end o. build others part end o;
+        splits = λ others agree tree end o.
+            split others tree end
+            (same_Some (tree_sort tree) sort (sym (body_sort tree others from end o) ∙ ap sort_of (start_too tokens others from from (omega arith) agree) ∙ begins)) o;
+      }
+
   pub makes_named :
-      sort_of (start_at tokens from) ≡ 1
+      sort_of (start_at tokens from) ≡ Some sorts.Named
       → Makes body (both identifier named) (λ (parts : Identifier × NamedData). named_body parts.0 parts.1) tokens from
-  makes_named is =
-      record { builds = λ others agree. build others; splits = λ others agree. split others (ap sort_of (start_too tokens others from from (omega arith) agree) ∙ is) }
+  makes_named begins =
+      makes_sort sorts.Named (both identifier named) (λ (parts : Identifier × NamedData). named_body parts.0 parts.1) begins build split
     where
       build :
           (others : List Token) (parts : Identifier × NamedData) (end : ℕ) → both identifier named parts others from end
@@ -213,165 +229,91 @@ module _ (tokens : List Token) (from : ℕ) where
       build others (name, Writes index (Answer parts)) end o = (o.2.0, (o.0, o.1, o.2.1), o.2.2)
 
       split :
-          (others : List Token) → sort_of (start_at others from) ≡ 1 → (tree : BodyTree) (end : ℕ) → body tree others from end
+          (others : List Token) (tree : BodyTree) (end : ℕ) → tree_sort tree ≡ sorts.Named → body tree others from end
           → (parts : Identifier × NamedData) × (tree ≡ named_body parts.0 parts.1) × both identifier named parts others from end
-      split others begins (Assign written value) end o =
+      split others (Assign written value) end is o =
           ((written.name, Writes written.index (Value value)), refl, (o.1.0, o.1.1, (o.0, o.1.2, o.2)))
-      split others begins (CallInto written parts) end o =
+      split others (CallInto written parts) end is o =
           ((written.name, Writes written.index (Answer parts)), refl, (o.1.0, o.1.1, (o.0, o.1.2, o.2)))
-      split others begins (Call parts) end o = ((parts.name, Calls parts.args), refl, (o.1.0, o.1.1, (o.0, o.1.2, o.2)))
-      split others begins (Inner tree) end o =
-          absurd (let e : 2 ≡ 1 = sym (body_sort (Inner tree) others from end o) ∙ begins in omega (arith, e))
-      split others begins (Update token pairs) end o =
-          absurd (let e : 3 ≡ 1 = sym (body_sort (Update token pairs) others from end o) ∙ begins in omega (arith, e))
-      split others begins (If first others_of last) end o =
-          absurd (let e : 4 ≡ 1 = sym (body_sort (If first others_of last) others from end o) ∙ begins in omega (arith, e))
-      split others begins (While parts) end o =
-          absurd (let e : 5 ≡ 1 = sym (body_sort (While parts) others from end o) ∙ begins in omega (arith, e))
-      split others begins (For variable first test step parts) end o =
-          absurd (let e : 6 ≡ 1 = sym (body_sort (For variable first test step parts) others from end o) ∙ begins in omega (arith, e))
+      split others (Call parts) end is o = ((parts.name, Calls parts.args), refl, (o.1.0, o.1.1, (o.0, o.1.2, o.2)))
+      split others tree end is o = absurd (cc)
 
-  pub makes_inner :
-      sort_of (start_at tokens from) ≡ 2 → Makes body (block) (λ (tree : BlockTree). Inner tree) tokens from
-  makes_inner is =
-      record { builds = λ others agree. λ part end o. o; splits = λ others agree. split others (ap sort_of (start_too tokens others from from (omega arith) agree) ∙ is) }
+  pub makes_inner : sort_of (start_at tokens from) ≡ Some sorts.Inner → Makes body block Inner tokens from
+  makes_inner begins = makes_sort sorts.Inner block Inner begins (λ others part end o. o) split
     where
       split :
-          (others : List Token) → sort_of (start_at others from) ≡ 2 → (tree : BodyTree) (end : ℕ) → body tree others from end
-          → (part : BlockTree) × (tree ≡ (λ (tree : BlockTree). Inner tree) part) × (block) part others from end
-      split others begins (Inner tree) end o = (tree, refl, o)
-      split others begins (Assign written value) end o =
-          absurd (let e : 1 ≡ 2 = sym (body_sort (Assign written value) others from end o) ∙ begins in omega (arith, e))
-      split others begins (CallInto written parts) end o =
-          absurd (let e : 1 ≡ 2 = sym (body_sort (CallInto written parts) others from end o) ∙ begins in omega (arith, e))
-      split others begins (Call parts) end o =
-          absurd (let e : 1 ≡ 2 = sym (body_sort (Call parts) others from end o) ∙ begins in omega (arith, e))
-      split others begins (Update token pairs) end o =
-          absurd (let e : 3 ≡ 2 = sym (body_sort (Update token pairs) others from end o) ∙ begins in omega (arith, e))
-      split others begins (If first others_of last) end o =
-          absurd (let e : 4 ≡ 2 = sym (body_sort (If first others_of last) others from end o) ∙ begins in omega (arith, e))
-      split others begins (While parts) end o =
-          absurd (let e : 5 ≡ 2 = sym (body_sort (While parts) others from end o) ∙ begins in omega (arith, e))
-      split others begins (For variable first test step parts) end o =
-          absurd (let e : 6 ≡ 2 = sym (body_sort (For variable first test step parts) others from end o) ∙ begins in omega (arith, e))
+          (others : List Token) (tree : BodyTree) (end : ℕ) → tree_sort tree ≡ sorts.Inner → body tree others from end
+          → (part : BlockTree) × (tree ≡ Inner part) × block part others from end
+      split others (Inner tree) end is o = (tree, refl, o)
+      split others tree end is o = absurd (cc)
 
   pub makes_update :
-      sort_of (start_at tokens from) ≡ 3 → Makes body (behind (kinds.Keyword words.Update) update_pairs) (λ (pairs : List PairData). Update from pairs) tokens from
-  makes_update is =
-      record { builds = λ others agree. λ part end o. (o.0, (refl, o.1), o.2); splits = λ others agree. split others (ap sort_of (start_too tokens others from from (omega arith) agree) ∙ is) }
+      sort_of (start_at tokens from) ≡ Some sorts.Update
+      → Makes body (behind (kinds.Keyword words.Update) update_pairs) (λ (pairs : List PairData). Update from pairs) tokens from
+  makes_update begins =
+      makes_sort sorts.Update (behind (kinds.Keyword words.Update) update_pairs) (λ (pairs : List PairData). Update from pairs) begins
+      (λ others part end o. (o.0, (refl, o.1), o.2)) split
     where
       split :
-          (others : List Token) → sort_of (start_at others from) ≡ 3 → (tree : BodyTree) (end : ℕ) → body tree others from end
-          → (part : List PairData) × (tree ≡ (λ (pairs : List PairData). Update from pairs) part) × (behind (kinds.Keyword words.Update) update_pairs) part others from end
-      split others begins (Update token pairs) end o =
-          (pairs, ap (λ (t : ℕ). Update t pairs) o.1.0, (o.0, o.1.1, o.2))
-      split others begins (Inner tree) end o =
-          absurd (let e : 2 ≡ 3 = sym (body_sort (Inner tree) others from end o) ∙ begins in omega (arith, e))
-      split others begins (Assign written value) end o =
-          absurd (let e : 1 ≡ 3 = sym (body_sort (Assign written value) others from end o) ∙ begins in omega (arith, e))
-      split others begins (CallInto written parts) end o =
-          absurd (let e : 1 ≡ 3 = sym (body_sort (CallInto written parts) others from end o) ∙ begins in omega (arith, e))
-      split others begins (Call parts) end o =
-          absurd (let e : 1 ≡ 3 = sym (body_sort (Call parts) others from end o) ∙ begins in omega (arith, e))
-      split others begins (If first others_of last) end o =
-          absurd (let e : 4 ≡ 3 = sym (body_sort (If first others_of last) others from end o) ∙ begins in omega (arith, e))
-      split others begins (While parts) end o =
-          absurd (let e : 5 ≡ 3 = sym (body_sort (While parts) others from end o) ∙ begins in omega (arith, e))
-      split others begins (For variable first test step parts) end o =
-          absurd (let e : 6 ≡ 3 = sym (body_sort (For variable first test step parts) others from end o) ∙ begins in omega (arith, e))
+          (others : List Token) (tree : BodyTree) (end : ℕ) → tree_sort tree ≡ sorts.Update → body tree others from end
+          → (part : List PairData) × (tree ≡ Update from part) × behind (kinds.Keyword words.Update) update_pairs part others from end
+      split others (Update token pairs) end is o = (pairs, ap (λ (t : ℕ). Update t pairs) o.1.0, (o.0, o.1.1, o.2))
+      split others tree end is o = absurd (cc)
 
   pub makes_if :
-      sort_of (start_at tokens from) ≡ 4 → Makes body (if_parts) (λ (parts : GuardedTree × (ElseIfs × (ElseTree × Unit {0}))). If parts.0 parts.1.0 parts.1.1.0) tokens from
-  makes_if is =
-      record { builds = λ others agree. λ part end o. o; splits = λ others agree. split others (ap sort_of (start_too tokens others from from (omega arith) agree) ∙ is) }
+      sort_of (start_at tokens from) ≡ Some sorts.If
+      → Makes body if_parts (λ (parts : GuardedTree × (ElseIfs × (ElseTree × Unit {0}))). If parts.0 parts.1.0 parts.1.1.0) tokens from
+  makes_if begins =
+      makes_sort sorts.If if_parts (λ (parts : GuardedTree × (ElseIfs × (ElseTree × Unit {0}))). If parts.0 parts.1.0 parts.1.1.0) begins
+      (λ others part end o. o) split
     where
       split :
-          (others : List Token) → sort_of (start_at others from) ≡ 4 → (tree : BodyTree) (end : ℕ) → body tree others from end
-          → (part : GuardedTree × (ElseIfs × (ElseTree × Unit {0}))) × (tree ≡ (λ (parts : GuardedTree × (ElseIfs × (ElseTree × Unit {0}))). If parts.0 parts.1.0 parts.1.1.0) part) × (if_parts) part others from end
-      split others begins (If first others_of last) end o = ((first, (others_of, (last, tt))), refl, o)
-      split others begins (Inner tree) end o =
-          absurd (let e : 2 ≡ 4 = sym (body_sort (Inner tree) others from end o) ∙ begins in omega (arith, e))
-      split others begins (Assign written value) end o =
-          absurd (let e : 1 ≡ 4 = sym (body_sort (Assign written value) others from end o) ∙ begins in omega (arith, e))
-      split others begins (CallInto written parts) end o =
-          absurd (let e : 1 ≡ 4 = sym (body_sort (CallInto written parts) others from end o) ∙ begins in omega (arith, e))
-      split others begins (Call parts) end o =
-          absurd (let e : 1 ≡ 4 = sym (body_sort (Call parts) others from end o) ∙ begins in omega (arith, e))
-      split others begins (Update token pairs) end o =
-          absurd (let e : 3 ≡ 4 = sym (body_sort (Update token pairs) others from end o) ∙ begins in omega (arith, e))
-      split others begins (While parts) end o =
-          absurd (let e : 5 ≡ 4 = sym (body_sort (While parts) others from end o) ∙ begins in omega (arith, e))
-      split others begins (For variable first test step parts) end o =
-          absurd (let e : 6 ≡ 4 = sym (body_sort (For variable first test step parts) others from end o) ∙ begins in omega (arith, e))
+          (others : List Token) (tree : BodyTree) (end : ℕ) → tree_sort tree ≡ sorts.If → body tree others from end
+          → (part : GuardedTree × (ElseIfs × (ElseTree × Unit {0}))) × (tree ≡ If part.0 part.1.0 part.1.1.0) × if_parts part others from end
+      split others (If first others_of last) end is o = ((first, (others_of, (last, tt))), refl, o)
+      split others tree end is o = absurd (cc)
 
   pub makes_while :
-      sort_of (start_at tokens from) ≡ 5 → Makes body (behind (kinds.Keyword words.While) guarded) (λ (parts : GuardedTree). While parts) tokens from
-  makes_while is =
-      record { builds = λ others agree. λ part end o. o; splits = λ others agree. split others (ap sort_of (start_too tokens others from from (omega arith) agree) ∙ is) }
+      sort_of (start_at tokens from) ≡ Some sorts.While
+      → Makes body (behind (kinds.Keyword words.While) guarded) While tokens from
+  makes_while begins =
+      makes_sort sorts.While (behind (kinds.Keyword words.While) guarded) While begins (λ others part end o. o) split
     where
       split :
-          (others : List Token) → sort_of (start_at others from) ≡ 5 → (tree : BodyTree) (end : ℕ) → body tree others from end
-          → (part : GuardedTree) × (tree ≡ (λ (parts : GuardedTree). While parts) part) × (behind (kinds.Keyword words.While) guarded) part others from end
-      split others begins (While parts) end o = (parts, refl, o)
-      split others begins (Inner tree) end o =
-          absurd (let e : 2 ≡ 5 = sym (body_sort (Inner tree) others from end o) ∙ begins in omega (arith, e))
-      split others begins (Assign written value) end o =
-          absurd (let e : 1 ≡ 5 = sym (body_sort (Assign written value) others from end o) ∙ begins in omega (arith, e))
-      split others begins (CallInto written parts) end o =
-          absurd (let e : 1 ≡ 5 = sym (body_sort (CallInto written parts) others from end o) ∙ begins in omega (arith, e))
-      split others begins (Call parts) end o =
-          absurd (let e : 1 ≡ 5 = sym (body_sort (Call parts) others from end o) ∙ begins in omega (arith, e))
-      split others begins (Update token pairs) end o =
-          absurd (let e : 3 ≡ 5 = sym (body_sort (Update token pairs) others from end o) ∙ begins in omega (arith, e))
-      split others begins (If first others_of last) end o =
-          absurd (let e : 4 ≡ 5 = sym (body_sort (If first others_of last) others from end o) ∙ begins in omega (arith, e))
-      split others begins (For variable first test step parts) end o =
-          absurd (let e : 6 ≡ 5 = sym (body_sort (For variable first test step parts) others from end o) ∙ begins in omega (arith, e))
+          (others : List Token) (tree : BodyTree) (end : ℕ) → tree_sort tree ≡ sorts.While → body tree others from end
+          → (part : GuardedTree) × (tree ≡ While part) × behind (kinds.Keyword words.While) guarded part others from end
+      split others (While parts) end is o = (parts, refl, o)
+      split others tree end is o = absurd (cc)
 
   pub makes_for :
-      sort_of (start_at tokens from) ≡ 6 → Makes body (for_parts) (λ (parts : (Identifier × ℤ) × (Term × (Term × BranchTree))). For parts.0.0 parts.0.1 parts.1.0 parts.1.1.0 parts.1.1.1) tokens from
-  makes_for is =
-      record { builds = λ others agree. λ part end i. (i.0, i.1, (i.2.1.0, i.2.1.1, (i.2.1.2.0, i.2.1.2.1, (i.2.1.2.2.0, i.2.1.2.2.1, (i.2.1.2.2.2.0, i.2.1.2.2.2.1, (i.2.1.2.2.2.2.0, i.2.1.2.2.2.2.1, (i.2.0, i.2.1.2.2.2.2.2, (i.2.2.1.0, i.2.2.1.1, (i.2.2.0, i.2.2.1.2, (i.2.2.2.1.0, i.2.2.2.1.1, (i.2.2.2.0, i.2.2.2.1.2, i.2.2.2.2))))))))))); splits = λ others agree. split others (ap sort_of (start_too tokens others from from (omega arith) agree) ∙ is) }
+      sort_of (start_at tokens from) ≡ Some sorts.For
+      → Makes body for_parts
+      (λ (parts : (Identifier × ℤ) × (Term × (Term × BranchTree))). For parts.0.0 parts.0.1 parts.1.0 parts.1.1.0 parts.1.1.1)
+      tokens from
+  makes_for begins =
+      makes_sort sorts.For for_parts
+      (λ (parts : (Identifier × ℤ) × (Term × (Term × BranchTree))). For parts.0.0 parts.0.1 parts.1.0 parts.1.1.0 parts.1.1.1)
+      begins
+      (λ others part end i. (i.0, i.1, (i.2.1.0, i.2.1.1, (i.2.1.2.0, i.2.1.2.1, (i.2.1.2.2.0, i.2.1.2.2.1, (i.2.1.2.2.2.0, i.2.1.2.2.2.1, (i.2.1.2.2.2.2.0, i.2.1.2.2.2.2.1, (i.2.0, i.2.1.2.2.2.2.2, (i.2.2.1.0, i.2.2.1.1, (i.2.2.0, i.2.2.1.2, (i.2.2.2.1.0, i.2.2.2.1.1, (i.2.2.2.0, i.2.2.2.1.2, i.2.2.2.2))))))))))))
+      split
     where
       split :
-          (others : List Token) → sort_of (start_at others from) ≡ 6 → (tree : BodyTree) (end : ℕ) → body tree others from end
-          → (part : (Identifier × ℤ) × (Term × (Term × BranchTree))) × (tree ≡ (λ (parts : (Identifier × ℤ) × (Term × (Term × BranchTree))). For parts.0.0 parts.0.1 parts.1.0 parts.1.1.0 parts.1.1.1) part) × (for_parts) part others from end
-      split others begins (For variable first test step parts) end o =
+          (others : List Token) (tree : BodyTree) (end : ℕ) → tree_sort tree ≡ sorts.For → body tree others from end
+          → (part : (Identifier × ℤ) × (Term × (Term × BranchTree)))
+          × (tree ≡ For part.0.0 part.0.1 part.1.0 part.1.1.0 part.1.1.1) × for_parts part others from end
+      split others (For variable first test step parts) end is o =
           (((variable, first), (test, (step, parts))), refl, (o.0, o.1, (o.2.2.2.2.2.2.0, (o.2.0, o.2.1, (o.2.2.0, o.2.2.1, (o.2.2.2.0, o.2.2.2.1, (o.2.2.2.2.0, o.2.2.2.2.1, (o.2.2.2.2.2.0, o.2.2.2.2.2.1, o.2.2.2.2.2.2.1))))), (o.2.2.2.2.2.2.2.2.0, (o.2.2.2.2.2.2.2.0, o.2.2.2.2.2.2.2.1, o.2.2.2.2.2.2.2.2.1), (o.2.2.2.2.2.2.2.2.2.2.0, (o.2.2.2.2.2.2.2.2.2.0, o.2.2.2.2.2.2.2.2.2.1, o.2.2.2.2.2.2.2.2.2.2.1), o.2.2.2.2.2.2.2.2.2.2.2)))))
-      split others begins (Inner tree) end o =
-          absurd (let e : 2 ≡ 6 = sym (body_sort (Inner tree) others from end o) ∙ begins in omega (arith, e))
-      split others begins (Assign written value) end o =
-          absurd (let e : 1 ≡ 6 = sym (body_sort (Assign written value) others from end o) ∙ begins in omega (arith, e))
-      split others begins (CallInto written parts) end o =
-          absurd (let e : 1 ≡ 6 = sym (body_sort (CallInto written parts) others from end o) ∙ begins in omega (arith, e))
-      split others begins (Call parts) end o =
-          absurd (let e : 1 ≡ 6 = sym (body_sort (Call parts) others from end o) ∙ begins in omega (arith, e))
-      split others begins (Update token pairs) end o =
-          absurd (let e : 3 ≡ 6 = sym (body_sort (Update token pairs) others from end o) ∙ begins in omega (arith, e))
-      split others begins (If first others_of last) end o =
-          absurd (let e : 4 ≡ 6 = sym (body_sort (If first others_of last) others from end o) ∙ begins in omega (arith, e))
-      split others begins (While parts) end o =
-          absurd (let e : 5 ≡ 6 = sym (body_sort (While parts) others from end o) ∙ begins in omega (arith, e))
+      split others tree end is o = absurd (cc)
 
   pub no_body :
-      sort_of (start_at tokens from) ≡ 0 → (others : List Token) → start_at others from ≡ start_at tokens from → (tree : BodyTree) (end : ℕ)
+      sort_of (start_at tokens from) ≡ None → (others : List Token) → start_at others from ≡ start_at tokens from → (tree : BodyTree) (end : ℕ)
       → body tree others from end → ⊥
   no_body none others same tree end o =
-      some tree (sym (body_sort tree others from end o) ∙ ap sort_of same ∙ none)
-    where
-      some : (tree : BodyTree) → tree_sort tree ≡ 0 → ⊥
-      some (Inner tree) e = omega (arith, e)
-      some (Assign written value) e = omega (arith, e)
-      some (CallInto written parts) e = omega (arith, e)
-      some (Call parts) e = omega (arith, e)
-      some (Update token pairs) e = omega (arith, e)
-      some (If first others_of last) e = omega (arith, e)
-      some (While parts) e = omega (arith, e)
-      some (For variable first test step parts) e = omega (arith, e)
+      none-some (tree_sort tree) (sym none ∙ ap sort_of (sym same) ∙ body_sort tree others from end o)
 
 pub no_sort :
     (start : Start) → (start ≡ starts.Name → ⊥) → ((form : _) → start ≡ starts.Form form → ⊥) → (start ≡ starts.Brace → ⊥)
-    → (start ≡ starts.Update → ⊥) → (start ≡ starts.If → ⊥) → (start ≡ starts.While → ⊥) → (start ≡ starts.For → ⊥) → sort_of start ≡ 0
+    → (start ≡ starts.Update → ⊥) → (start ≡ starts.If → ⊥) → (start ≡ starts.While → ⊥) → (start ≡ starts.For → ⊥) → sort_of start ≡ None
 no_sort starts.Name n f b u i w r = absurd (n refl)
 no_sort (starts.Form form) n f b u i w r = absurd (f form refl)
 no_sort starts.Brace n f b u i w r = absurd (b refl)

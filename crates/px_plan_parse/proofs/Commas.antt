@@ -1,11 +1,11 @@
 -- Parts with commas between them, up to a sign that closes them.
-use Rattle.std.proofs.Common.{◌≡◌, ℕ, ◌+◌, ◌≤◌, ◌<◌, refl, sym, ap, subst, ◌∙◌, List, [], ◌∷◌, ◌++◌, length, arith}
+use Rattle.std.proofs.Common.{◌≡◌, ℕ, ◌+◌, ◌<◌, refl, sym, ap, subst, ◌∙◌, List, [], ◌∷◌, ◌++◌, length, arith}
 use Rattle.px_lex.specs.declared.sign.Sign.{Sign}
 use Rattle.px_lex.specs.declared.sign.Sign.TheVariants as signs
 use Rattle.px_lex.specs.declared.token.Token.{Token}
 use Rattle.px_lex.specs.declared.token.TokenKind.TheVariants as kinds
 use Rattle.px_syntax.specs.declared.fault.ParseFault.{ParseFault}
-use Rattle.px_syntax.specs.Form.{Form, one, ◌then◌, each, with_commas}
+use Rattle.px_syntax.specs.Form.{Form, each, with_commas}
 use Rattle.px_expr_parse.specs.Verdict.{Agree}
 use Rattle.px_plan_parse.specs.Part.{Follow, Anything, IsPart, IsLacking}
 use Rattle.px_plan_parse.specs.Tail.{Only}

@@ -1,6 +1,5 @@
 -- What declarations consist of.
 use Rattle.std.proofs.Common.{◌≡◌, ℕ, ◌+◌, ◌≤◌, ◌<◌, inl, inr, refl, sym, ap, subst, ◌∙◌, List, [], ◌∷◌, length, Option, Some, None, Bool, true, false, arith}
-use Rattle.px_lex.specs.declared.keyword.Keyword.{Keyword}
 use Rattle.px_lex.specs.declared.keyword.Keyword.TheVariants as words
 use Rattle.px_lex.specs.declared.sign.Sign.TheVariants as signs
 use Rattle.px_lex.specs.declared.token.Token.{Token}
@@ -21,7 +20,7 @@ use Rattle.px_plan_parse.specs.Part.{Follow, Anything, IsLacking, IsPart}
 use Rattle.px_plan_parse.specs.Start.{NoDeclaration, NoName, is_declaration, keyword_start, start_at}
 use Rattle.px_plan_parse.specs.Tail.{closed_parameters, declared_parameters, signature}
 use Rattle.px_plan_parse.proofs.Commas.{closed_commas}
-use Rattle.px_plan_parse.proofs.Parts.{HasKind, LacksKind, Makes, before, behind, part_absent, part_present}
+use Rattle.px_plan_parse.proofs.Parts.{HasKind, Makes, before, behind}
 use Rattle.px_plan_parse.proofs.Starts.{start_keyword, start_name, start_nothing, start_too, type_starts}
 
 -- ---- a fault where no part begins

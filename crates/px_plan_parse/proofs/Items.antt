@@ -1,5 +1,5 @@
 -- What items consist of.
-use Rattle.std.proofs.Common.{◌≡◌, ℕ, ◌+◌, ◌≤◌, ◌<◌, ◌⊎◌, inl, inr, refl, sym, ap, subst, ◌∙◌, List, [], ◌∷◌, ◌++◌, length, Option, Some, None, Bool, true, false, arith}
+use Rattle.std.proofs.Common.{◌≡◌, ℕ, ◌+◌, ◌≤◌, ◌<◌, ◌⊎◌, inl, inr, refl, sym, ap, subst, ◌∙◌, List, length, Option, Some, None, true, false, arith}
 use Rattle.px_lex.specs.declared.keyword.Keyword.TheVariants as words
 use Rattle.px_lex.specs.declared.sign.Sign.{Sign}
 use Rattle.px_lex.specs.declared.sign.Sign.TheVariants as signs
@@ -15,21 +15,21 @@ use Rattle.px_syntax.specs.declared.fault.ParseFault.TheVariants as faults
 use Rattle.px_syntax.specs.declared.word.Condition.{Condition}
 use Rattle.px_syntax.specs.declared.word.TypeName.{TypeName}
 use Rattle.px_syntax.specs.Block.{InitialData, Value, Listed, ItemData, Variables, Conditions, Priority, VariableData}
-use Rattle.px_syntax.specs.BlockGrammar.{condition_word, initial, item, listed, literal, signed, type_word, variable}
+use Rattle.px_syntax.specs.BlockGrammar.{condition_word, initial, item, listed, literal, type_word, variable}
 use Rattle.px_syntax.specs.Expr.{Term}
 use Rattle.px_syntax.specs.ExprGrammar.{expression, literal_kind}
-use Rattle.px_syntax.specs.Form.{Form, identifier, kind_at, one, optional, ◌then◌}
-use Rattle.px_expr_parse.specs.Verdict.{Agree, IsFound, IsMissing}
+use Rattle.px_syntax.specs.Form.{Form, identifier, kind_at, one, ◌then◌}
+use Rattle.px_expr_parse.specs.Verdict.{Agree}
 use Rattle.px_expr_parse.specs.Tail.{closed}
 use Rattle.px_expr_parse.proofs.Arguments.{no_colon}
 use Rattle.px_expr_parse.proofs.Parts.{agree_before}
 use Rattle.px_plan_parse.specs.declared.start.Start.{Start}
 use Rattle.px_plan_parse.specs.declared.start.Start.TheVariants as starts
-use Rattle.px_plan_parse.specs.Part.{Follow, Anything, IsLacking, IsPart, IsSole, Lacks}
+use Rattle.px_plan_parse.specs.Part.{Anything, IsLacking, IsPart, IsSole}
 use Rattle.px_plan_parse.specs.Start.{NoItem, is_item, start_at}
 use Rattle.px_plan_parse.specs.Tail.{array_size, closed_variables, first_value, listed_values, NoLiteral, Only, priority, test, Unless, VariableEnded}
-use Rattle.px_plan_parse.proofs.Parts.{Begins, HasKind, Makes, behind, both, lack_word, of_found, of_missing, part_word}
-use Rattle.px_plan_parse.proofs.Starts.{HasStart, condition_stands, condition_starts, item_starts, priority_starts, start_keyword, start_too, token_of, type_stands, type_starts}
+use Rattle.px_plan_parse.proofs.Parts.{Begins, HasKind, Makes, behind, both, lack_word, part_word}
+use Rattle.px_plan_parse.proofs.Starts.{condition_stands, condition_starts, item_starts, priority_starts, start_too, token_of, type_stands, type_starts}
 
 -- ---- literals
 

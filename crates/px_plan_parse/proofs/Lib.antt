@@ -1,6 +1,7 @@
 pub mod Parts
 pub mod Commas
 pub mod Starts
+pub mod Sorts
 pub mod Items
 pub mod Globals
 pub mod Names

@@ -1,31 +1,23 @@
 -- What stands behind a name: a command, an assignment, the pairs of an update.
-use Rattle.std.proofs.Common.{◌≡◌, ℕ, ◌+◌, ◌≤◌, ◌<◌, inl, inr, refl, sym, ap, subst, ◌∙◌, List, [], ◌∷◌, length, Option, Some, None, Bool, true, false, arith, lit≤}
-use Rattle.std.specs.Option.{option_map, option_and_then}
+use Rattle.std.proofs.Common.{◌≡◌, ℕ, ◌+◌, ◌≤◌, ◌<◌, inl, inr, refl, sym, ap, subst, ◌∙◌, List, [], ◌∷◌, Option, Some, None, arith, lit≤}
 use Rattle.px_lex.specs.declared.sign.Sign.{Sign}
 use Rattle.px_lex.specs.declared.sign.Sign.TheVariants as signs
 use Rattle.px_lex.specs.declared.token.Token.{Token}
-use Rattle.px_lex.specs.declared.token.TokenKind.{TokenKind}
 use Rattle.px_lex.specs.declared.token.TokenKind.TheVariants as kinds
 use Rattle.px_syntax.specs.declared.expr.Identifier.{Identifier}
 use Rattle.px_syntax.specs.declared.fault.ParseFault.{ParseFault}
 use Rattle.px_syntax.specs.declared.fault.ParseFault.TheVariants as faults
-use Rattle.px_syntax.specs.declared.operator.BinaryOperator.{BinaryOperator}
-use Rattle.px_syntax.specs.declared.operator.UnaryOperator.{UnaryOperator}
 use Rattle.px_syntax.specs.Block.{CallData, PairData}
-use Rattle.px_syntax.specs.BlockGrammar.{call, pair}
+use Rattle.px_syntax.specs.BlockGrammar.{pair}
 use Rattle.px_syntax.specs.Expr.{Term, Terms, Variable}
 use Rattle.px_syntax.specs.ExprGrammar.{expression}
 use Rattle.px_syntax.specs.Form.{Form, identifier, kind_at, optional, sign, ◌then◌}
-use Rattle.px_syntax.specs.Operator.{binary_of, unary_of}
-use Rattle.px_expr_parse.specs.Tail.{closed_arguments}
-use Rattle.px_expr_parse.specs.Verdict.{Agree, IsFound, IsMissing, IsRead, IsRefused, binary_at}
+use Rattle.px_expr_parse.specs.Verdict.{Agree, IsFound, IsMissing, IsRefused}
 use Rattle.px_expr_parse.proofs.Closed.{closer_ends, semicolon_closes, comma_closes}
 use Rattle.px_expr_parse.proofs.Calls.{inside_of, no_value}
-use Rattle.px_plan_parse.specs.declared.start.Start.TheVariants as starts
 use Rattle.px_plan_parse.specs.Named.{NamedData, Calls, Writes, WrittenData, Value, Answer, called, named, optional_index, written}
 use Rattle.px_plan_parse.specs.Part.{Follow, Anything, Ended, IsLacking, IsPart, IsSole, Lacks}
-use Rattle.px_plan_parse.specs.Start.{start_at}
-use Rattle.px_plan_parse.specs.Tail.{closed_pairs, update_pairs, Unless}
+use Rattle.px_plan_parse.specs.Tail.{closed_pairs, Unless}
 use Rattle.px_plan_parse.proofs.Parts.{Begins, HasKind, Makes, before, behind, both}
 use Rattle.px_expr_parse.proofs.Parts.{agree_before}
 

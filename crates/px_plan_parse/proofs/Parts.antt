@@ -1,17 +1,15 @@
 -- Parts of plans, joined to longer ones.
-use Rattle.std.proofs.Common.{◌≡◌, ℕ, ◌+◌, ◌≤◌, ◌<◌, ◌⊎◌, inl, inr, refl, sym, ap, subst, ◌∙◌, List, [], ◌∷◌, ◌++◌, length, Option, Some, None, append_assoc, arith}
-use Rattle.px_lex.specs.declared.sign.Sign.{Sign}
+use Rattle.std.proofs.Common.{◌≡◌, ℕ, ◌+◌, ◌≤◌, ◌<◌, inl, inr, refl, sym, ap, subst, ◌∙◌, List, [], ◌∷◌, ◌++◌, length, Option, Some, None, append_assoc, arith}
 use Rattle.px_lex.specs.declared.token.Token.{Token}
 use Rattle.px_lex.specs.declared.token.TokenKind.{TokenKind}
-use Rattle.px_lex.specs.declared.token.TokenKind.TheVariants as kinds
 use Rattle.px_syntax.specs.declared.fault.ParseFault.{ParseFault}
 use Rattle.px_syntax.specs.declared.fault.ParseFault.TheVariants as faults
 use Rattle.px_syntax.specs.Expr.{Term}
 use Rattle.px_syntax.specs.ExprGrammar.{expression}
 use Rattle.px_syntax.specs.Form.{Form, kind_at, one, ◌then◌, maybe, each}
-use Rattle.px_expr_parse.specs.Verdict.{Agree, GoesOn, IsRead, IsRefused, IsFound, IsMissing, LacksSign}
+use Rattle.px_expr_parse.specs.Verdict.{Agree, IsRead, IsRefused, IsFound, IsMissing}
 use Rattle.px_expr_parse.proofs.Parts.{agree_before}
-use Rattle.px_plan_parse.specs.Part.{Follow, Anything, Ended, IsSole, IsPart, Lacks, IsLacking}
+use Rattle.px_plan_parse.specs.Part.{Follow, Ended, IsPart, Lacks, IsLacking}
 
 -- ---- what the reader of expressions found
 

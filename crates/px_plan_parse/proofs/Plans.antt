@@ -1,5 +1,5 @@
 -- The whole plan.
-use Rattle.std.proofs.Common.{◌≡◌, ℕ, ◌+◌, ◌≤◌, ◌<◌, ◌⊎◌, inl, inr, get_or, refl, sym, ap, subst, ◌∙◌, List, length, Option, Some, None, Bool, true, false, arith}
+use Rattle.std.proofs.Common.{◌≡◌, ℕ, ◌≤◌, ◌<◌, ◌⊎◌, inl, inr, get_or, refl, sym, ap, subst, ◌∙◌, List, length, Option, Some, None, false, arith}
 use Rattle.std.specs.Option.{option_map}
 use Rattle.std.specs.List.{slice_get}
 use Rattle.std.proofs.lemmas.Option.{slice_get_cases}
@@ -12,7 +12,7 @@ use Rattle.px_syntax.specs.Block.{BlockTree}
 use Rattle.px_syntax.specs.BlockGrammar.{block, label}
 use Rattle.px_syntax.specs.Form.{Form, kind_at}
 use Rattle.px_syntax.specs.Plan.{DeclarationData, PlanTree}
-use Rattle.px_syntax.specs.PlanGrammar.{Spells, plan}
+use Rattle.px_syntax.specs.PlanGrammar.{plan}
 use Rattle.px_expr_parse.specs.Verdict.{Agree}
 use Rattle.px_expr_parse.proofs.Calls.{inside_of}
 use Rattle.px_plan_parse.specs.declared.start.Start.{Start}
@@ -21,8 +21,10 @@ use Rattle.px_plan_parse.specs.Part.{Anything, IsLacking, IsPart}
 use Rattle.px_plan_parse.specs.Start.{NoDeclaration, is_declaration, start_at}
 use Rattle.px_plan_parse.specs.Tail.{every_declaration}
 use Rattle.px_plan_parse.specs.Verdict.{BeginsNoPlan, IsNoPlan, IsPlan}
-use Rattle.px_plan_parse.proofs.Blocks.{block_sort, sort_of}
+use Rattle.px_plan_parse.proofs.Blocks.{block_sort}
 use Rattle.px_plan_parse.proofs.Parts.{Begins, Makes, both}
+use Rattle.px_plan_parse.proofs.Sorts as sorts
+use Rattle.px_plan_parse.proofs.Sorts.{sort_of}
 use Rattle.px_plan_parse.proofs.Starts.{start_name}
 
 abbrev pub plan_parts : List DeclarationData × (Option Identifier × BlockTree) → Form
@@ -39,14 +41,14 @@ makes_plan tokens from =
       splits = λ others agree tree end o. ((tree.declarations, (tree.label, tree.root)), refl, o);
     }
 
-sort_two : (start : Start) → sort_of start ≡ 2 → is_declaration start ≡ false
-sort_two (starts.Type of_type) e = absurd (omega (arith, e))
-sort_two starts.Command e = absurd (omega (arith, e))
-sort_two start e = refl
+inner_declares_none : (start : Start) → sort_of start ≡ Some sorts.Inner → is_declaration start ≡ false
+inner_declares_none (starts.Type of_type) inner = absurd (cc)
+inner_declares_none starts.Command inner = absurd (cc)
+inner_declares_none start inner = refl
 
 pub root_begins : Begins (both label block) Anything NoDeclaration
 root_begins tokens (None, root) from end o next =
-    sort_two (start_at tokens from)
+    inner_declares_none (start_at tokens from)
     (ap (λ (p : ℕ). sort_of (start_at tokens p)) (sym o.1) ∙ block_sort root tokens o.0 end o.2)
 root_begins tokens (Some name, root) from end o next = ap is_declaration (start_name tokens from name.name o.1.1.1.0)
 

@@ -1,5 +1,5 @@
 -- What begins with a token, and which token that is.
-use Rattle.std.proofs.Common.{◌≡◌, ℕ, ◌+◌, ◌≤◌, ◌<◌, ◌⊎◌, inl, inr, refl, sym, ap, subst, ◌∙◌, List, length, Option, Some, None, Bool, true, false, arith}
+use Rattle.std.proofs.Common.{◌≡◌, ℕ, ◌+◌, ◌≤◌, ◌⊎◌, inl, inr, refl, sym, ap, subst, ◌∙◌, List, Option, Some, None, true, false, arith}
 use Rattle.std.specs.Option.{option_map_or}
 use Rattle.px_lex.specs.declared.keyword.Keyword.{Keyword}
 use Rattle.px_lex.specs.declared.keyword.Keyword.TheVariants as words
@@ -8,19 +8,18 @@ use Rattle.px_lex.specs.declared.sign.Sign.TheVariants as signs
 use Rattle.px_lex.specs.declared.token.Token.{Token}
 use Rattle.px_lex.specs.declared.token.TokenKind.{TokenKind}
 use Rattle.px_lex.specs.declared.token.TokenKind.TheVariants as kinds
-use Rattle.px_syntax.specs.declared.word.BlockForm.{BlockForm}
 use Rattle.px_syntax.specs.declared.word.BlockForm.TheVariants as forms
 use Rattle.px_syntax.specs.declared.word.Condition.{Condition}
 use Rattle.px_syntax.specs.declared.word.Condition.TheVariants as conditions
 use Rattle.px_syntax.specs.declared.word.TypeName.{TypeName}
 use Rattle.px_syntax.specs.declared.word.TypeName.TheVariants as types
-use Rattle.px_syntax.specs.Block.{ItemData, Variables, Conditions, Priority, VariableData}
-use Rattle.px_syntax.specs.BlockGrammar.{condition_word, form_word, item, type_word}
+use Rattle.px_syntax.specs.Block.{ItemData, Variables, Conditions, Priority}
+use Rattle.px_syntax.specs.BlockGrammar.{condition_word, item, type_word}
 use Rattle.px_syntax.specs.Form.{kind_at}
 use Rattle.px_expr_parse.specs.Verdict.{Agree}
 use Rattle.px_plan_parse.specs.declared.start.Start.{Start}
 use Rattle.px_plan_parse.specs.declared.start.Start.TheVariants as starts
-use Rattle.px_plan_parse.specs.Start.{is_action, is_item, keyword_start, start_at, start_of}
+use Rattle.px_plan_parse.specs.Start.{is_item, keyword_start, start_at, start_of}
 use Rattle.px_plan_parse.proofs.Parts.{HasKind}
 
 -- the start at a place in other tokens that agree

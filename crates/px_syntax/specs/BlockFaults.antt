@@ -5,7 +5,6 @@ use Rattle.std.specs.Option.{is_some, option_map_or, option_to_list}
 use Rattle.std.specs.Str.{bytes_eq}
 use denote.Enum.Bare.{sameb}
 use Rattle.px_syntax.specs.contracts.word.Condition.{the_type as condition_type}
-use Rattle.px_syntax.specs.declared.block.ListedLiteral.{ListedLiteral}
 use Rattle.px_syntax.specs.declared.expr.Identifier.{Identifier}
 use Rattle.px_syntax.specs.declared.expr.Literal.{Literal as LiteralValue}
 use Rattle.px_syntax.specs.declared.fault.FaultKind.{FaultKind}
@@ -13,12 +12,11 @@ use Rattle.px_syntax.specs.declared.fault.FaultKind.TheVariants.{Redeclared, Typ
 use Rattle.px_syntax.specs.declared.value_type.ValueType.{ValueType}
 use Rattle.px_syntax.specs.declared.value_type.ValueType.TheVariants.{Boolean, Integer}
 use Rattle.px_syntax.specs.declared.word.Condition.{Condition}
-use Rattle.px_syntax.specs.declared.word.TypeName.{TypeName}
 use Rattle.px_syntax.specs.Block.{InitialData, Value, Listed, VariableData, ItemData, Variables, Conditions, Priority, TargetData, CallData, PairData, BlockTree, Braces, Actions, NoActions, More, ActionTree, Labelled, BranchTree, Branch, GuardedTree, Guarded, ElseIfs, NoElseIfs, ElseIf, ElseTree, NoElse, Else, BodyTree, Inner, Assign, CallInto, Call, Update, If, While, For}
 use Rattle.px_syntax.specs.Expr.{Term}
 use Rattle.px_syntax.specs.ExprFaults.{name_faults, type_named, over_eight, count_faults, count_terms, argument_faults, parameters_of, faults_as}
 use Rattle.px_syntax.specs.Fault.{Fault, fault_at, fault_where}
-use Rattle.px_syntax.specs.Scope.{Scope, Visible, Global, Head, Node, inside, declared, head_of, own_action, block_node, branch_child}
+use Rattle.px_syntax.specs.Scope.{Scope, Visible, Global, Head, inside, declared, head_of, own_action, block_node, branch_child}
 use Rattle.px_syntax.specs.ValueType.{named_type, literal_type, fits, told_types, allowed_as}
 
 -- ---- what stands twice

@@ -16,8 +16,8 @@ use Rattle.px_expand.proofs.Counts.{core_count}
 use Rattle.px_expand.proofs.FitCore.{core_fit, core_typed}
 use Rattle.px_compile.specs.Compiled.{IsCompiled}
 use Rattle.px_compile.proofs.Labels.{labels_named}
-use Rattle.px_typing.specs.Typing.{InitialsSuit, IsTyped}
-use Rattle.px_typing.proofs.Runs.{run_typed}
+use Rattle.px_typed.specs.Typing.{InitialsSuit, IsTyped}
+use Rattle.px_typed.proofs.Runs.{run_typed}
 use Rattle.px_typed.proofs.Fronts.{front_runs}
 use Rattle.px_typed.proofs.Initials.{initials_suit}
 use Rattle.px_typed.proofs.Names.{names_at}

@@ -8,7 +8,7 @@ use Rattle.px_core.specs.declared.variable.VarKind.{VarKind}
 use Rattle.px_core.specs.declared.variable.VarKind.TheVariants as kinds
 use Rattle.px_core.specs.Plan.{VariableData, Tree, sites}
 use Rattle.px_expand.specs.Typed.{is_of_kind, is_typed, has_typed_values}
-use Rattle.px_typing.specs.Typing.{suits, Suits, InitialsSuit}
+use Rattle.px_typed.specs.Typing.{suits, Suits, InitialsSuit}
 
 value_suits : (kind : VarKind) (value : Value) → is_of_kind kind value ≡ true → suits kind value ≡ true
 value_suits kinds.Boolean (values.Boolean truth) is = refl

@@ -1,5 +1,11 @@
 pub mod Compiled
+pub mod Effects
+pub mod Events
 pub mod Fronts
 pub mod Initials
 pub mod Names
 pub mod Nodes
+pub mod Records
+pub mod Runs
+pub mod Steps
+pub mod Variables

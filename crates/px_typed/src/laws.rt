@@ -7,11 +7,11 @@ ghost use Rattle.px_core.specs.Plan.{Tree, sites};
 ghost use Rattle.px_event.specs.declared.event.Event.{Event};
 ghost use Rattle.px_sem.specs.Log.{Log, IsLegal, accepted, events_of};
 ghost use Rattle.px_sem.specs.Run.{run};
-ghost use Rattle.px_typing.specs.Typing.{InitialsSuit, IsTyped};
+ghost use Rattle.px_typed.specs.Typing.{InitialsSuit, IsTyped};
 ghost use Rattle.px_compile.specs.Compiled.{IsCompiled};
 
 /// Different nodes of a plan that bytes spell have different paths, and each initial value is of its variable's type or
-/// UNKNOWN. So the laws of px_typing hold of it: a micro step and an event keep the types of cells too.
+/// UNKNOWN. So the laws of `typing` hold of it: a micro step and an event keep the types of cells too.
 pub fn plans(bytes: &[u8])
     ensures distinct { (tree : Tree) → IsCompiled bytes.now tree → AreDistinct (sites tree) }
     ensures initials { (tree : Tree) → IsCompiled bytes.now tree → All InitialsSuit (sites tree) }

@@ -3,18 +3,12 @@ use Rattle.std.proofs.Common.{◌≡◌, ℕ, ◌^◌, ◌<◌, ◌≤◌, true,
 use Rattle.std.specs.Prelude.{◌&&◌, nat_le}
 use Rattle.std.specs.List.{list_all}
 use Rattle.std.specs.Result.{OkIff, result_ok}
-use Rattle.std.specs.Str.Parse.{AllDigits, IsNumeral, digits_value, without_leading_plus}
+use Rattle.std.specs.Str.Parse.{IsNumeral, digits_value, without_leading_plus}
 use Rattle.std.proofs.lemmas.Bool.{cases_Bool, and_parts, leb-true}
-use Rattle.std.proofs.lemmas.Str.Parse.{tells_digits, without_leading_plus_none}
+use Rattle.std.proofs.lemmas.Str.Parse.{without_leading_plus_none}
 use Rattle.px_value.specs.Name.{is_digit}
+use Rattle.px_value.proofs.Digits.{all_digits}
 use Rattle.px_words.specs.Limit.{event_limit, is_digits, is_limit, count_of}
-
-all_digits : (ds : List ℕ) → list_all is_digit ds ≡ true → AllDigits 10 ds
-all_digits [] h = tells_digits.empty
-all_digits (c ∷ cs) h =
-    let parts : (is_digit c ≡ true) × (list_all is_digit cs ≡ true) = and_parts (is_digit c) (list_all is_digit cs) h in
-    let range : (nat_le 48 c ≡ true) × (nat_le c 57 ≡ true) = and_parts (nat_le 48 c) (nat_le c 57) parts.0 in
-    tells_digits.more c cs (leb-true 48 c range.0, leb-true c 57 range.1) (all_digits cs parts.1)
 
 -- digits are a numeral, which begins with no sign
 pub record IsPlain (ds : List ℕ) : Type 0 where

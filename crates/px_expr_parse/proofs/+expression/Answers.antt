@@ -1,5 +1,6 @@
-use Rattle.std.proofs.Common.{◌≡◌, ◌+◌, refl, sym, ap, subst, ◌∙◌, arith, Some, None, List, [], ◌∷◌, ◌++◌, map, true, false}
+use Rattle.std.proofs.Common.{◌≡◌, ◌+◌, refl, sym, ap, subst, ◌∙◌, arith, Some, None, List, [], ◌∷◌, ◌++◌, map}
 use Rattle.std.proofs.lemmas.Result.{IfErr-weaker, IfOk-weaker, err_from_is_err_and}
+use Rattle.std.proofs.lemmas.Bool.{false≢true}
 use Rattle.px_lex.specs.declared.sign.Sign.TheVariants as signs
 use Rattle.px_syntax.specs.declared.expr.NodeReference.TheVariants as nodes
 use Rattle.px_syntax.specs.Expr.{Attribute, BinaryCall, Element, Enumerated, Look, Term, Unary, UnaryCall, Variable, in_turn, term_of}
@@ -21,10 +22,6 @@ use Rattle.px_expr_parse.proofs.+expression.Goals.{operation::operation-in-Some+
 second_closes : IsClosing second_argument
 second_closes tokens part from end o = closer_ends tokens from signs.Comma comma_closes o.1.0
 
--- a test that failed
-not_true : false ≡ true → ⊥
-not_true e = cc
-
 pub argument::arguments-returns-then-is_sign-clause-ok : goal.argument::arguments-returns-then-is_sign-clause-ok
 argument::arguments-returns-then-is_sign-clause-ok t c =
     rw c.new-args.ensures.items
@@ -33,7 +30,7 @@ argument::arguments-returns-then-is_sign-clause-ok t c =
 pub argument::arguments-loop-args-init : goal.argument::arguments-loop-args-init
 argument::arguments-loop-args-init t c =
     rw c.new-args.ensures.items
-    (no_arguments c.args.tokens.now c.args.from c.requires (λ has. not_true (c.if-is_sign.ensures.answer.1 has)))
+    (no_arguments c.args.tokens.now c.args.from c.requires (λ has. false≢true (c.if-is_sign.ensures.answer.1 has)))
 
 pub argument::arguments-returns-in_err-arg-clause-fault : goal.argument::arguments-returns-in_err-arg-clause-fault
 argument::arguments-returns-in_err-arg-clause-fault t c =
@@ -46,7 +43,7 @@ argument::arguments-returns-in_err-expect-clause-fault t c =
     let p = err_from_is_err_and c.from_residual-in_err-expect.result c.from_residual-in_err-expect.ensures.1 in
     rw (p.1, p.2) (missing_last c.args.tokens.now c.args.from (map term_of c.loop-args.args.items) c.loop-args.at c.loop-args.invariant
     (term_of c.in_ok-arg.arg) c.in_ok-arg.end c.in_ok-arg.ensures.ok c.in_err-expect.field-0.0
-    (λ has. not_true (c.if-not-is_sign.ensures.answer.1 has)) c.in_err-expect.ensures.fault)
+    (λ has. false≢true (c.if-not-is_sign.ensures.answer.1 has)) c.in_err-expect.ensures.fault)
 
 pub argument::arguments-returns-then-not-is_sign-clause-ok : goal.argument::arguments-returns-then-not-is_sign-clause-ok
 argument::arguments-returns-then-not-is_sign-clause-ok t c =
@@ -308,7 +305,7 @@ pub primary::named-returns-clause-ok : goal.primary::named-returns-clause-ok
 primary::named-returns-clause-ok t c =
     read_as 8 c.args.tokens.now c.args.from (Variable c.in_ok-name.name) (term_of c.variable.result) (c.args.from + 1) (c.args.from + 1) c.variable.ensures refl
     (read_variable c.args.tokens.now c.args.from c.in_ok-name.name c.requires.begins c.in_ok-name.ensures.ok
-    (λ has. not_true (c.if-is_sign.ensures.answer.1 has)) (λ has. not_true (c.if-is_sign-2.ensures.answer.1 has)))
+    (λ has. false≢true (c.if-is_sign.ensures.answer.1 has)) (λ has. false≢true (c.if-is_sign-2.ensures.answer.1 has)))
 
 pub primary::primary-returns-in_default-clause-fault : goal.primary::primary-returns-in_default-clause-fault
 primary::primary-returns-in_default-clause-fault t c =

@@ -1,5 +1,6 @@
-use Rattle.std.proofs.Common.{◌≡◌, ℕ, ◌+◌, ◌<◌, refl, sym, ap, subst, ◌∙◌, inl, inr, arith, Some, None, List, [], ◌∷◌, ◌++◌, map, true, false}
+use Rattle.std.proofs.Common.{◌≡◌, ◌+◌, refl, sym, ap, subst, ◌∙◌, inl, inr, None, List, map}
 use Rattle.std.proofs.lemmas.Result.{IfErr-weaker, IfOk-weaker, err_from_is_err_and}
+use Rattle.std.proofs.lemmas.Bool.{false≢true}
 use Rattle.px_lex.specs.declared.keyword.Keyword.TheVariants as words
 use Rattle.px_lex.specs.declared.sign.Sign.TheVariants as signs
 use Rattle.px_lex.specs.declared.token.TokenKind.TheVariants as kinds
@@ -16,18 +17,15 @@ use Rattle.px_expr_parse.proofs.Arguments.{map_push}
 use Rattle.px_plan_parse.specs.Part.{Anything, IsPart}
 use Rattle.px_plan_parse.specs.Start.{NoBranch, NoElseIf, is_action}
 use Rattle.px_plan_parse.specs.Tail.{Only}
-use Rattle.px_plan_parse.proofs.Blocks.{action_acts, action_goes_on, actions_follow, block_tail, closing_no_branch, list_begins, makes_actions, makes_block, no_action, sort_of}
+use Rattle.px_plan_parse.proofs.Blocks.{action_acts, action_goes_on, actions_follow, block_tail, closing_no_branch, list_begins, makes_actions, makes_block, no_action}
 use Rattle.px_plan_parse.proofs.Bodies.{block_no_name, else_follows, else_goes_on, else_if_goes_on, end_follows, lack_labelled, lack_plain, makes_branch, makes_else_ifs, makes_for, makes_guarded, makes_if, makes_inner, makes_named, makes_otherwise, makes_unlabelled, makes_update, makes_while, no_body, no_else, no_else_if, no_sort, one_else_if, part_end_if, part_labelled, part_plain}
 use Rattle.px_plan_parse.proofs.Globals.{lacks_here}
 use Rattle.px_plan_parse.proofs.Names.{name_missing}
 use Rattle.px_plan_parse.proofs.Parts.{IsFront, front_ends, front_lacks, front_more, lack_before, lack_behind, lack_first, lack_first_of, lack_kind, lack_made, lack_narrowed, lack_present, lack_second, lack_second_of, lack_token, of_found, of_missing, part_absent, part_before, part_behind, part_both, part_both_of, part_made, part_narrowed, part_present}
+use Rattle.px_plan_parse.proofs.Sorts.{sort_of}
 use Rattle.px_plan_parse.proofs.Starts.{here, name_here}
 use Rattle.px_plan_parse.proofs.+block.Goals as goal
 use Rattle.px_plan_parse.proofs.+block.Goals.{body::conditional-then-begins, body::conditional-else-begins}
-
--- a test that failed
-not_true : false ≡ true → ⊥
-not_true e = cc
 
 pub block::block-returns-in_err-word-clause-fault : goal.block::block-returns-in_err-word-clause-fault
 block::block-returns-in_err-word-clause-fault t c =
@@ -137,12 +135,12 @@ branch::else_ifs-loop-alloc-preserved t c =
 pub branch::else_ifs-returns-clause-ok : goal.branch::else_ifs-returns-clause-ok
 branch::else_ifs-returns-clause-ok t c =
     part_made (makes_else_ifs c.args.tokens.now c.args.from) (front_ends c.loop-alloc.invariant
-    (no_else_if c.args.tokens.now c.loop-alloc.at (λ is. not_true (c.loop-alloc-test.ensures.answer.1 is))))
+    (no_else_if c.args.tokens.now c.loop-alloc.at (λ is. false≢true (c.loop-alloc-test.ensures.answer.1 is))))
 
 pub branch::otherwise-returns-then-not-begins-clause-ok : goal.branch::otherwise-returns-then-not-begins-clause-ok
 branch::otherwise-returns-then-not-begins-clause-ok t c =
     part_made (makes_otherwise c.args.tokens.now c.args.from) (part_absent c.requires.place
-    (no_else c.args.tokens.now c.args.from (λ is. not_true (c.if-not-begins.ensures.answer.1 is))))
+    (no_else c.args.tokens.now c.args.from (λ is. false≢true (c.if-not-begins.ensures.answer.1 is))))
 
 pub branch::otherwise-returns-in_err-branch-clause-fault : goal.branch::otherwise-returns-in_err-branch-clause-fault
 branch::otherwise-returns-in_err-branch-clause-fault t c =
@@ -158,12 +156,12 @@ branch::otherwise-returns-clause-ok t c =
 pub action::action-returns-in_err-body-clause-fault : goal.action::action-returns-in_err-body-clause-fault
 action::action-returns-in_err-body-clause-fault t c =
     let p = err_from_is_err_and c.from_residual.result c.from_residual.ensures.1 in
-    rw (p.1, p.2) (lack_made (makes_unlabelled c.args.tokens.now c.args.from (λ is. not_true (c.if-not-begins.ensures.answer.1 is))) c.in_err-body.ensures.fault)
+    rw (p.1, p.2) (lack_made (makes_unlabelled c.args.tokens.now c.args.from (λ is. false≢true (c.if-not-begins.ensures.answer.1 is))) c.in_err-body.ensures.fault)
 
 pub action::action-returns-then-not-begins-clause-ok : goal.action::action-returns-then-not-begins-clause-ok
 action::action-returns-then-not-begins-clause-ok t c =
     subst (λ (tree : ActionTree). IsPart action NoBranch c.args.tokens.now c.args.from tree c.in_ok-body.end) (sym c.action.ensures)
-    (part_made (makes_unlabelled c.args.tokens.now c.args.from (λ is. not_true (c.if-not-begins.ensures.answer.1 is))) c.in_ok-body.ensures.ok)
+    (part_made (makes_unlabelled c.args.tokens.now c.args.from (λ is. false≢true (c.if-not-begins.ensures.answer.1 is))) c.in_ok-body.ensures.ok)
 
 pub action::action-returns-in_err-name-clause-fault : goal.action::action-returns-in_err-name-clause-fault
 action::action-returns-in_err-name-clause-fault t c =
@@ -184,13 +182,13 @@ action::action-returns-then-is_sign-clause-ok t c =
 pub action::action-returns-in_err-body-3-clause-fault : goal.action::action-returns-in_err-body-3-clause-fault
 action::action-returns-in_err-body-3-clause-fault t c =
     let p = err_from_is_err_and c.from_residual-in_err-body-3.result c.from_residual-in_err-body-3.ensures.1 in
-    rw (p.1, p.2) (lack_plain c.args.tokens.now c.args.from c.in_ok-name.name c.in_ok-name.ensures.ok (λ has. not_true (c.if-is_sign.ensures.answer.1 has)) c.in_err-body-3.field-0.0 c.in_err-body-3.ensures.fault)
+    rw (p.1, p.2) (lack_plain c.args.tokens.now c.args.from c.in_ok-name.name c.in_ok-name.ensures.ok (λ has. false≢true (c.if-is_sign.ensures.answer.1 has)) c.in_err-body-3.field-0.0 c.in_err-body-3.ensures.fault)
 
 pub action::action-returns-clause-ok : goal.action::action-returns-clause-ok
 action::action-returns-clause-ok t c =
     subst (λ (tree : ActionTree). IsPart action NoBranch c.args.tokens.now c.args.from tree c.in_ok-body-3.end)
     (sym (c.action-2.ensures ∙ ap (λ (b : BodyTree). Labelled None b) c.in_ok-body-3.ensures.ok.1))
-    (part_plain c.args.tokens.now c.args.from c.in_ok-name.name c.in_ok-name.ensures.ok (λ has. not_true (c.if-is_sign.ensures.answer.1 has)) c.in_ok-body-3.ensures.ok.0 c.in_ok-body-3.end c.in_ok-body-3.ensures.ok.2)
+    (part_plain c.args.tokens.now c.args.from c.in_ok-name.name c.in_ok-name.ensures.ok (λ has. false≢true (c.if-is_sign.ensures.answer.1 has)) c.in_ok-body-3.ensures.ok.0 c.in_ok-body-3.end c.in_ok-body-3.ensures.ok.2)
 
 pub body::body-returns-in_err-name-in-Name-clause-fault : goal.body::body-returns-in_err-name-in-Name-clause-fault
 body::body-returns-in_err-name-in-Name-clause-fault t c =
@@ -230,7 +228,7 @@ body::conditional-returns-clause-ok t c =
             w.if-begins.ensures.inside refl (λ e. cc),
             w.end-is,
           )
-      | body::conditional-else-begins w ↦ inr (λ is. not_true (w.if-begins.ensures.answer.1 is), w.end-is)
+      | body::conditional-else-begins w ↦ inr (λ is. false≢true (w.if-begins.ensures.answer.1 is), w.end-is)
     ])))))))
 
 pub body::counted-returns-in_err-variable-clause-fault : goal.body::counted-returns-in_err-variable-clause-fault

@@ -1,12 +1,12 @@
 use Rattle.std.proofs.Common.{◌≡◌, ◌++◌, ◌∷◌, [], Option, map, option_map, ap, sym, ◌∙◌, append-nil}
 use Rattle.std.proofs.lemmas.List.{map-append}
+use Rattle.px_value.proofs.General.{none_from}
 use Rattle.px_syntax.specs.declared.block.Branch.{Branch}
 use Rattle.px_syntax.specs.declared.block.Guarded.{out-Guarded}
 use Rattle.px_syntax.specs.Block.{branch_of, else_of}
 use Rattle.px_syntax.specs.BlockFaults.{else_child}
 use Rattle.px_syntax.specs.Scope.{branch_child}
 use Rattle.px_check.specs.Nodes.{head_data}
-use Rattle.px_check.proofs.ItemWalks.{none_left}
 use Rattle.px_check.proofs.Seeing.{chain_children, end_children}
 use Rattle.px_check.proofs.branches.if_children.Goals as goal
 use Rattle.px_check.proofs.branches.if_children.Goals.{in-Some+in_ok-branch_child+in_ok-push, in_default}
@@ -32,6 +32,6 @@ returns c =
           ∙ ap (λ otherwise. first ++ last otherwise) (sym w.in-Some.is)
       | in_default w ↦
           ap (λ heads. map head_data heads.items) w.heads-is ∙ c.in_ok-heads.ensures ∙ sym (append-nil first)
-          ∙ ap (λ otherwise. first ++ last otherwise) (sym (none_left c.args.otherwise.now w.in_default.not-Some))
+          ∙ ap (λ otherwise. first ++ last otherwise) (sym (none_from c.args.otherwise.now w.in_default.not-Some))
     ] in
     heads ∙ end_children c.args.first.now c.args.others.now (last c.args.otherwise.now) c.if-others-gt0.false

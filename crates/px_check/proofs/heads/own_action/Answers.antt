@@ -4,8 +4,8 @@ use Rattle.px_syntax.specs.declared.block.Action.{out-Action}
 use Rattle.px_syntax.specs.declared.block.Block.{out-Block}
 use Rattle.px_syntax.specs.Block.{item_data, action_of, body_of}
 use Rattle.px_syntax.specs.Scope.{own_action}
+use Rattle.px_syntax.proofs.Trees.{block_is}
 use Rattle.px_check.proofs.Seeing.{own_several, own_labelled, own_alone, block_of_one}
-use Rattle.px_check.proofs.Trees.{block_is}
 use Rattle.px_check.proofs.heads.own_action.Goals as goal
 
 pub returns-then-is_some : goal.returns-then-is_some

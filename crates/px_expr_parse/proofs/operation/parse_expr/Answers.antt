@@ -1,14 +1,11 @@
-use Rattle.std.proofs.Common.{◌≡◌, refl, true, false}
+use Rattle.std.proofs.Common.{refl}
 use Rattle.std.proofs.lemmas.Result.{err_from_is_err_and}
+use Rattle.std.proofs.lemmas.Bool.{false≢true}
 use Rattle.px_syntax.specs.Expr.{term_of}
 use Rattle.px_expr_parse.specs.Verdict.{GoesOn, index, attribute}
 use Rattle.px_expr_parse.proofs.Loops.{is_expression, is_followed, is_no_expression, is_refused}
 use Rattle.px_expr_parse.proofs.operation.parse_expr.Goals as goal
 use Rattle.px_expr_parse.proofs.operation.parse_expr.Goals.{then-is_sign-via-then-is_sign, then-is_sign-via-else-is_sign+then-is_sign-2}
-
--- a test that failed
-not_true : false ≡ true → ⊥
-not_true e = cc
 
 pub returns-in_err-tree-clause-fault : goal.returns-in_err-tree-clause-fault
 returns-in_err-tree-clause-fault c =
@@ -36,4 +33,4 @@ returns-then-is_sign-clause-refused c =
 pub returns-clause-ok : goal.returns-clause-ok
 returns-clause-ok c =
     is_expression c.args.tokens.now c.args.from (term_of c.in_ok-tree.tree) c.in_ok-tree.end c.in_ok-tree.ensures.ok
-    (λ has. not_true (c.if-is_sign.ensures.answer.1 has)) (λ has. not_true (c.if-is_sign-2.ensures.answer.1 has))
+    (λ has. false≢true (c.if-is_sign.ensures.answer.1 has)) (λ has. false≢true (c.if-is_sign-2.ensures.answer.1 has))

@@ -1,10 +1,10 @@
-use Rattle.std.proofs.Common.{◌≡◌, ◌<◌, ◌++◌, ◌∷◌, [], length, ap, sym, ◌∙◌, subst, arith, rules}
+use Rattle.std.proofs.Common.{◌≡◌, ◌<◌, ◌++◌, ◌∷◌, [], length, ap, ◌∙◌, subst, arith, rules}
 use Rattle.std.specs.BTreeMap.{get}
 use Rattle.std.specs.Ordering.{is_eq, nat_cmp}
 use Rattle.px_flat.specs.Row.{site_in}
 use Rattle.px_micro.specs.Above.{asked_of, asked_below, asks_at, asked_too, IsChain}
 use Rattle.px_parts.specs.Parts.{plan_in, world_in}
-use Rattle.px_micro.proofs.Chains.{IsLonger, chain_less, chain_within, asked_by_parent, still_right, same_key}
+use Rattle.px_micro.proofs.Chains.{chain_less, chain_within, asked_by_parent, still_right, same_key}
 use Rattle.px_micro.proofs.asked.asked_of.Goals as goal
 
 pub asks-requires-clause-node : goal.asks-requires-clause-node

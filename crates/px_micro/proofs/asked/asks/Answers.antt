@@ -1,8 +1,6 @@
 use Rattle.std.proofs.Common.{◌≡◌, Option, Bool, ap, ◌∙◌}
-use Rattle.px_value.specs.declared.enums.NodeState.{NodeState}
-use Rattle.px_value.specs.declared.enums.Failure.{Failure}
 use Rattle.px_value.specs.Truth.{truth_of}
-use Rattle.px_flat.specs.Numbered.{Numbered, ConditionsNumbered, NodeNumbered}
+use Rattle.px_flat.specs.Numbered.{Numbered, NodeNumbered}
 use Rattle.px_flat.specs.NumberedData.{expr_data, conditions_data}
 use Rattle.px_micro.specs.Above.{asks_in, in_state}
 use Rattle.px_parts.specs.Parts.{value_in}

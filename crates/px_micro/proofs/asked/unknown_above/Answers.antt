@@ -1,7 +1,6 @@
-use Rattle.std.proofs.Common.{◌≡◌, ◌<◌, ◌++◌, ◌∷◌, [], length, ap, sym, ◌∙◌, subst, arith, rules, inl, inr, Some, None}
+use Rattle.std.proofs.Common.{◌≡◌, ◌<◌, ◌++◌, ◌∷◌, [], length, sym, ◌∙◌, subst, arith, rules, inl, inr, Some, None}
 use Rattle.std.specs.BTreeMap.{get}
 use Rattle.std.specs.Ordering.{nat_cmp}
-use Rattle.px_flat.specs.Row.{parent_number}
 use Rattle.px_micro.specs.Above.{IsChain}
 use Rattle.px_parts.specs.Parts.{plan_in, world_in}
 use Rattle.px_micro.proofs.Ancestors.{placed}

@@ -1,4 +1,4 @@
-use Rattle.std.proofs.Common.{◌≡◌, ◌<◌, ◌≤◌, false, true, length, ap, sym, arith, rules}
+use Rattle.std.proofs.Common.{◌≡◌, ◌<◌, false, true, length, ap, arith, rules}
 use Rattle.px_sem.specs.Guards.{is_at_rest}
 use Rattle.px_flat.specs.declared.row.Extent.{Extent}
 use Rattle.px_flat.specs.Row.{after_last}

@@ -3,7 +3,6 @@ use Rattle.std.proofs.lemmas.Option.{get_or_from_slice_get}
 use Rattle.px_core.specs.Plan.{Head}
 use Rattle.px_core.specs.Plan as core
 use Rattle.px_sem.specs.Effects.{move_kind}
-use Rattle.px_value.specs.declared.enums.NodeState.{NodeState}
 use Rattle.px_flat.specs.declared.act.Act.TheVariants as under_way
 use Rattle.px_flat.specs.Numbered.{NodeNumbered}
 use Rattle.px_flat.specs.NumberedData.{body_data}

@@ -1,9 +1,9 @@
-use Rattle.std.proofs.Common.{◌≡◌, ◌+◌, ap, ◌∙◌}
+use Rattle.std.proofs.Common.{◌+◌, ap, ◌∙◌}
 use Rattle.std.specs.Option.{option_map}
 use Rattle.px_sem.specs.Effects.{cell_of}
 use Rattle.px_flat.specs.declared.numbered.NumberedBody.{NumberedBody}
 use Rattle.px_flat.specs.NumberedData.{body_data}
-use Rattle.px_micro.specs.Doing.{kept_cell, kept_place}
+use Rattle.px_micro.specs.Doing.{kept_cell}
 use Rattle.px_micro.proofs.failing.fails.Goals as goal
 
 pub writes_back-requires : goal.writes_back-requires

@@ -1,7 +1,5 @@
 use Rattle.std.proofs.Common.{◌≡◌, ap, sym, ◌∙◌}
-use Rattle.px_core.specs.declared.node.Kind.{Kind}
 use Rattle.px_core.specs.Plan.{Head}
-use Rattle.px_value.specs.declared.enums.NodeState.{NodeState}
 use Rattle.px_sem.specs.Table.{dest}
 use Rattle.px_sem.specs.World.{NodeRecord, record_at}
 use Rattle.px_flat.specs.Row.{site_in}

@@ -1,5 +1,4 @@
-use Rattle.std.proofs.Common.{◌≡◌, ◌∙◌}
-use Rattle.px_sem.specs.declared.guards.Guards.{Guards}
+use Rattle.std.proofs.Common.{◌∙◌}
 use Rattle.px_flat.specs.Row.{site_in}
 use Rattle.px_micro.specs.Guarded.{guards_in}
 use Rattle.px_parts.specs.Parts.{plan_in, record_of}

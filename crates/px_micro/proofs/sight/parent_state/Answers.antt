@@ -1,4 +1,4 @@
-use Rattle.std.proofs.Common.{◌≡◌, Some, None, ap, sym, ◌∙◌, inl, inr}
+use Rattle.std.proofs.Common.{ap, sym, ◌∙◌, inl, inr}
 use Rattle.px_parts.specs.Parts.{record_of}
 use Rattle.px_micro.proofs.Ancestors.{placed}
 use Rattle.px_micro.proofs.Chains.{has_parent}

@@ -1,4 +1,4 @@
-use Rattle.std.proofs.Common.{◌≡◌, ◌++◌, [], get_or, ap, ◌∙◌}
+use Rattle.std.proofs.Common.{◌++◌, [], get_or, ap, ◌∙◌}
 use Rattle.std.specs.List.{cons_option}
 use Rattle.px_micro.specs.Going.{with_node}
 use Rattle.px_parts.specs.Parts.{plan_in, world_in}

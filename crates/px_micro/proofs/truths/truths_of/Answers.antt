@@ -1,11 +1,9 @@
 use Rattle.std.proofs.Common.{◌≡◌, Option, Bool, ap, ◌∙◌}
 use Rattle.px_value.specs.Truth.{truth_of}
-use Rattle.px_flat.specs.Numbered.{Numbered, ConditionsNumbered, NodeNumbered, numbered_conditions}
+use Rattle.px_flat.specs.Numbered.{Numbered, NodeNumbered}
 use Rattle.px_flat.specs.NumberedData.{expr_data, conditions_data}
-use Rattle.px_flat.specs.Row.{site_in}
-use Rattle.px_micro.specs.declared.truths.Truths.{Truths}
-use Rattle.px_parts.specs.Parts.{plan_in, value_in}
-use Rattle.px_micro.proofs.Seeing.{truths_by, truths_are}
+use Rattle.px_parts.specs.Parts.{value_in}
+use Rattle.px_micro.proofs.Seeing.{truths_are}
 use Rattle.px_micro.proofs.truths.truths_of.Goals as goal
 
 pub returns : goal.returns

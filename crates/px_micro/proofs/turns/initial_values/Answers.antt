@@ -1,5 +1,4 @@
-use Rattle.std.proofs.Common.{◌≡◌, ◌+◌, ◌++◌, take, ap, sym, ◌∙◌, arith}
-use Rattle.px_core.specs.Fit.{cells_of}
+use Rattle.std.proofs.Common.{◌+◌, ◌++◌, ap, sym, ◌∙◌, arith}
 use Rattle.px_core.specs.Plan.{variable_data}
 use Rattle.px_sem.specs.Effects.{initial_values}
 use Rattle.px_flat.proofs.Sums.{cells_are}

@@ -1,7 +1,6 @@
 use Rattle.std.proofs.Common.{◌≡◌, ◌+◌, map, sum, take}
 use Rattle.std.specs.List.{flat_map}
 use Rattle.px_core.specs.Fit.{cells_of}
-use Rattle.px_core.specs.Plan.{variable_data}
 use Rattle.px_flat.specs.Layout.{first_cell}
 use Rattle.px_flat.specs.Row.{site_in}
 use Rattle.px_sem.specs.Effects.{initial_values}

@@ -1,4 +1,4 @@
-use Rattle.std.proofs.Common.{◌≡◌, ap, sym, ◌∙◌}
+use Rattle.std.proofs.Common.{ap, sym, ◌∙◌}
 use Rattle.px_sem.specs.World.{NodeRecord}
 use Rattle.px_micro.proofs.Seeing.{record_is}
 use Rattle.px_micro.proofs.turns.told_move.Goals as goal

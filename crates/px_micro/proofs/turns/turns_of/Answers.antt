@@ -1,4 +1,4 @@
-use Rattle.std.proofs.Common.{take, get_or, sym, subst}
+use Rattle.std.proofs.Common.{take, sym, subst}
 use Rattle.std.proofs.lemmas.List.{take_more, take_all}
 use Rattle.px_micro.specs.Turns.{AreTurns}
 use Rattle.px_micro.proofs.Turning.{turns_more}

@@ -1,4 +1,4 @@
-use Rattle.std.proofs.Common.{◌≡◌, ◌<◌, ℕ, length, filter, not, nat_eq, All, AllPairs, ap, sym, ◌∙◌, subst}
+use Rattle.std.proofs.Common.{◌≡◌, ◌<◌, length, filter, not, nat_eq, All, AllPairs, ap, sym, ◌∙◌, subst}
 use Rattle.std.specs.List.{list_any}
 use Rattle.px_assign.specs.Conflicts.{AreWriters}
 use Rattle.px_micro.specs.declared.sight.Going.{Going}

@@ -1,4 +1,4 @@
-use Rattle.std.proofs.Common.{◌≡◌, ◌<◌, ◌++◌, ◌∷◌, [], length, filter, append-nil, true, false, rules, arith, ap, sym, ◌∙◌, ℕ, Bool}
+use Rattle.std.proofs.Common.{◌≡◌, ◌++◌, ◌∷◌, [], filter, append-nil, true, false, rules, ap, sym, ◌∙◌, ℕ, Bool}
 use Rattle.std.specs.List.{range_with_len}
 use Rattle.px_sem.specs.Guards.{is_active}
 use Rattle.px_sem.specs.World.{state_at}

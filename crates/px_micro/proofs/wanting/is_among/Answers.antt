@@ -1,4 +1,4 @@
-use Rattle.std.proofs.Common.{◌≡◌, ◌∙◌}
+use Rattle.std.proofs.Common.{◌∙◌}
 use Rattle.px_micro.proofs.Lists.{found_rising}
 use Rattle.px_micro.proofs.wanting.is_among.Goals as goal
 

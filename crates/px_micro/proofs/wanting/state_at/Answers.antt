@@ -1,4 +1,4 @@
-use Rattle.std.proofs.Common.{◌≡◌, sym, ◌∙◌}
+use Rattle.std.proofs.Common.{sym, ◌∙◌}
 use Rattle.px_micro.proofs.Resting.{state_is}
 use Rattle.px_micro.proofs.wanting.state_at.Goals as goal
 

@@ -1,9 +1,6 @@
-use Rattle.std.proofs.Common.{◌≡◌, ℕ, ◌+◌, ◌<◌, refl, sym, ap, subst, ◌∙◌, inl, inr, arith, Some, None, List, [], ◌∷◌, ◌++◌, map, true, false}
-use Rattle.std.proofs.lemmas.Result.{IfErr-weaker, IfOk-weaker, err_from_is_err_and}
-use Rattle.px_lex.specs.declared.keyword.Keyword.TheVariants as words
-use Rattle.px_lex.specs.declared.sign.Sign.TheVariants as signs
-use Rattle.px_lex.specs.declared.token.TokenKind.TheVariants as kinds
-use Rattle.px_plan_parse.specs.declared.start.Start.TheVariants as starts
+use Rattle.std.proofs.Common.{refl}
+use Rattle.std.proofs.lemmas.Result.{err_from_is_err_and}
+use Rattle.std.proofs.lemmas.Bool.{false≢true}
 use Rattle.px_syntax.specs.Form.{identifier}
 use Rattle.px_plan_parse.specs.Part.{Anything}
 use Rattle.px_plan_parse.proofs.Blocks.{no_label}
@@ -11,13 +8,9 @@ use Rattle.px_plan_parse.proofs.Globals.{name_goes_on}
 use Rattle.px_plan_parse.proofs.Parts.{lack_before, lack_present, of_missing, part_absent}
 use Rattle.px_plan_parse.proofs.block.label.Goals as goal
 
--- a test that failed
-not_true : false ≡ true → ⊥
-not_true e = cc
-
 pub returns-then-not-begins-clause-ok : goal.returns-then-not-begins-clause-ok
 returns-then-not-begins-clause-ok c =
-    part_absent c.requires (no_label c.args.tokens.now c.args.from (λ name. not_true (c.if-not-begins.ensures.answer.1 name)))
+    part_absent c.requires (no_label c.args.tokens.now c.args.from (λ name. false≢true (c.if-not-begins.ensures.answer.1 name)))
 
 pub returns-in_err-name-clause-fault : goal.returns-in_err-name-clause-fault
 returns-in_err-name-clause-fault c =

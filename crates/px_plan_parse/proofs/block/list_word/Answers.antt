@@ -1,7 +1,7 @@
-use Rattle.std.proofs.Common.{◌≡◌, ℕ, ◌+◌, ◌<◌, refl, sym, ap, subst, ◌∙◌, inl, inr, arith, Some, None, List, [], ◌∷◌, ◌++◌, map, true, false}
-use Rattle.std.proofs.lemmas.Result.{IfErr-weaker, IfOk-weaker, err_from_is_err_and}
+use Rattle.std.proofs.Common.{◌+◌, refl, sym, subst, arith}
+use Rattle.std.proofs.lemmas.Result.{err_from_is_err_and}
+use Rattle.std.proofs.lemmas.Bool.{false≢true}
 use Rattle.px_lex.specs.declared.keyword.Keyword.TheVariants as words
-use Rattle.px_lex.specs.declared.sign.Sign.TheVariants as signs
 use Rattle.px_lex.specs.declared.token.TokenKind.TheVariants as kinds
 use Rattle.px_plan_parse.specs.declared.start.Start.TheVariants as starts
 use Rattle.px_syntax.specs.declared.word.BlockForm.{BlockForm}
@@ -14,10 +14,6 @@ use Rattle.px_plan_parse.proofs.Blocks.{list_absent, list_given, list_lacks, lis
 use Rattle.px_plan_parse.proofs.Starts.{here}
 use Rattle.px_plan_parse.proofs.block.list_word.Goals as goal
 
--- a test that failed
-not_true : false ≡ true → ⊥
-not_true e = cc
-
 pub returns-in-Some-clause-ok : goal.returns-in-Some-clause-ok
 returns-in-Some-clause-ok c =
     subst (λ (word : Option BlockForm). IsPart (list_word word) NoListWord c.args.tokens.now c.args.from c.in-Some.form c.args.from)
@@ -27,7 +23,7 @@ pub returns-then-not-begins-clause-ok : goal.returns-then-not-begins-clause-ok
 returns-then-not-begins-clause-ok c =
     subst (λ (word : Option BlockForm). IsPart (list_word word) NoListWord c.args.tokens.now c.args.from forms.Plain c.args.from)
     (sym c.in_default.is)
-    (list_absent c.args.tokens.now c.args.from c.requires (λ is. not_true (c.if-not-begins.ensures.answer.1 is)))
+    (list_absent c.args.tokens.now c.args.from c.requires (λ is. false≢true (c.if-not-begins.ensures.answer.1 is)))
 
 pub returns-in_err-expect-clause-fault : goal.returns-in_err-expect-clause-fault
 returns-in_err-expect-clause-fault c =

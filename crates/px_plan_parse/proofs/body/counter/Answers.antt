@@ -1,28 +1,19 @@
-use Rattle.std.proofs.Common.{◌≡◌, ℕ, ◌+◌, ◌<◌, refl, sym, ap, subst, ◌∙◌, inl, inr, arith, Some, None, List, [], ◌∷◌, ◌++◌, map, true, false}
-use Rattle.std.proofs.lemmas.Result.{IfErr-weaker, IfOk-weaker, err_from_is_err_and}
+use Rattle.std.proofs.Common.{◌≡◌, ℕ, ◌+◌, refl, sym, subst, arith}
+use Rattle.std.proofs.lemmas.Result.{err_from_is_err_and}
+use Rattle.std.proofs.lemmas.Bool.{false≢true}
 use Rattle.px_lex.specs.declared.keyword.Keyword.TheVariants as words
-use Rattle.px_lex.specs.declared.sign.Sign.TheVariants as signs
 use Rattle.px_lex.specs.declared.token.TokenKind.TheVariants as kinds
 use Rattle.px_plan_parse.specs.declared.start.Start.TheVariants as starts
-use Rattle.px_lex.specs.declared.token.TokenKind.{TokenKind}
-use Rattle.px_syntax.specs.declared.fault.ParseFault.{ParseFault}
-use Rattle.px_syntax.specs.declared.fault.ParseFault.TheVariants as faults
 use Rattle.px_syntax.specs.declared.word.TypeName.TheVariants as types
-use Rattle.px_syntax.specs.BlockGrammar.{signed}
-use Rattle.px_syntax.specs.Form.{identifier}
-use Rattle.px_plan_parse.specs.Part.{Anything, IsPart, IsLacking}
+use Rattle.px_plan_parse.specs.Part.{Anything, IsPart}
 use Rattle.px_plan_parse.specs.Tail.{counter}
 use Rattle.std.proofs.lemmas.Int.{to_z-of_z}
 use Rattle.std.proofs.Common.{ℤ}
 use mir.Syntax.{w32}
 use mir.Val.{SFits, of_z, to_z}
-use Rattle.px_plan_parse.proofs.Parts.{HasKind, before, behind, both, lack_before, lack_behind, lack_kind, lack_second, lack_token, of_found, part_before, part_behind, part_both}
+use Rattle.px_plan_parse.proofs.Parts.{lack_before, lack_behind, lack_kind, lack_second, lack_token, of_found, part_before, part_behind, part_both}
 use Rattle.px_plan_parse.proofs.Starts.{here, start_integer}
 use Rattle.px_plan_parse.proofs.body.counter.Goals as goal
-
--- a test that failed
-not_true : false ≡ true → ⊥
-not_true e = cc
 
 two : (n : ℕ) → n + 2 ≡ n + 1 + 1
 two n = omega arith
@@ -36,7 +27,7 @@ four n = omega arith
 pub returns-then-not-begins-clause-fault : goal.returns-then-not-begins-clause-fault
 returns-then-not-begins-clause-fault c =
     lack_behind (lack_kind (omega (arith, c.in_ok-expect.ensures.ok.0))
-    (refl, λ has. not_true (c.if-not-begins.ensures.answer.1 (start_integer c.args.tokens.now (c.args.from + 1) has))))
+    (refl, λ has. false≢true (c.if-not-begins.ensures.answer.1 (start_integer c.args.tokens.now (c.args.from + 1) has))))
 
 pub returns-in_err-first-clause-fault : goal.returns-in_err-first-clause-fault
 returns-in_err-first-clause-fault c =

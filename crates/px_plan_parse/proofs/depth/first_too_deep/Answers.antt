@@ -1,9 +1,8 @@
-use Rattle.std.proofs.Common.{◌≡◌, ℕ, ◌+◌, ◌<◌, refl, sym, ap, subst, ◌∙◌, arith, Some, List, length, true, false, get_or}
+use Rattle.std.proofs.Common.{◌≡◌, ℕ, ◌+◌, ◌<◌, refl, sym, ap, subst, ◌∙◌, arith, Some, List, length, get_or}
 use Rattle.std.specs.List.{slice_get}
 use Rattle.std.proofs.lemmas.Option.{slice_get_read}
 use Rattle.px_lex.specs.declared.token.Token.{Token}
 use Rattle.px_plan_parse.specs.declared.depth.Walk.{Walk}
-use Rattle.px_plan_parse.specs.Walk.{is_deep, walk_behind}
 use Rattle.px_plan_parse.proofs.Depths.{IsWalked, deep_first, none_deep, walk_begins, walk_within, walked_more}
 use Rattle.px_plan_parse.proofs.depth.first_too_deep.Goals as goal
 

@@ -1,7 +1,6 @@
-use Rattle.std.proofs.Common.{◌≡◌, ℕ, ◌+◌, ◌<◌, refl, sym, ap, subst, ◌∙◌, inl, inr, arith, Some, None, List, [], ◌∷◌, ◌++◌, map, true, false}
-use Rattle.std.proofs.lemmas.Result.{IfErr-weaker, IfOk-weaker, err_from_is_err_and}
+use Rattle.std.proofs.Common.{refl, sym, ap, subst, ◌∙◌}
+use Rattle.std.proofs.lemmas.Result.{err_from_is_err_and}
 use Rattle.px_lex.specs.declared.keyword.Keyword.TheVariants as words
-use Rattle.px_lex.specs.declared.sign.Sign.TheVariants as signs
 use Rattle.px_lex.specs.declared.token.TokenKind.TheVariants as kinds
 use Rattle.px_plan_parse.specs.declared.start.Start.TheVariants as starts
 use Rattle.px_syntax.specs.Plan.{DeclarationData}
@@ -12,10 +11,6 @@ use Rattle.px_plan_parse.proofs.Globals.{lacks_here, makes_command, no_declarati
 use Rattle.px_plan_parse.proofs.Parts.{lack_behind, lack_made, part_behind, part_made}
 use Rattle.px_plan_parse.proofs.Starts.{here}
 use Rattle.px_plan_parse.proofs.global.declaration.Goals as goal
-
--- a test that failed
-not_true : false ≡ true → ⊥
-not_true e = cc
 
 pub returns-in_err-name-in-Command-clause-fault : goal.returns-in_err-name-in-Command-clause-fault
 returns-in_err-name-in-Command-clause-fault c =

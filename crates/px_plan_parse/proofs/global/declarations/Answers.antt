@@ -1,9 +1,5 @@
-use Rattle.std.proofs.Common.{◌≡◌, ℕ, ◌+◌, ◌<◌, refl, sym, ap, subst, ◌∙◌, inl, inr, arith, Some, None, List, [], ◌∷◌, ◌++◌, map, true, false}
-use Rattle.std.proofs.lemmas.Result.{IfErr-weaker, IfOk-weaker, err_from_is_err_and}
-use Rattle.px_lex.specs.declared.keyword.Keyword.TheVariants as words
-use Rattle.px_lex.specs.declared.sign.Sign.TheVariants as signs
-use Rattle.px_lex.specs.declared.token.TokenKind.TheVariants as kinds
-use Rattle.px_plan_parse.specs.declared.start.Start.TheVariants as starts
+use Rattle.std.proofs.Common.{sym, ap, subst, ◌∙◌, arith, List, map}
+use Rattle.std.proofs.lemmas.Result.{err_from_is_err_and}
 use Rattle.px_syntax.specs.Plan.{DeclarationData, declaration_data}
 use Rattle.px_syntax.specs.PlanGrammar.{declaration}
 use Rattle.px_expr_parse.proofs.Arguments.{map_push}
@@ -12,10 +8,6 @@ use Rattle.px_plan_parse.proofs.Globals.{declaration_goes_on, no_declaration}
 use Rattle.px_plan_parse.proofs.Parts.{IsFront, front_ends, front_lacks, front_more}
 use Rattle.px_plan_parse.proofs.Starts.{start_too}
 use Rattle.px_plan_parse.proofs.global.declarations.Goals as goal
-
--- a test that failed
-not_true : false ≡ true → ⊥
-not_true e = cc
 
 pub returns-in_err-declaration-clause-fault : goal.returns-in_err-declaration-clause-fault
 returns-in_err-declaration-clause-fault c =

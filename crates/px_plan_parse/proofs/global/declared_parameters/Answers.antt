@@ -1,28 +1,20 @@
-use Rattle.std.proofs.Common.{◌≡◌, ℕ, ◌+◌, ◌<◌, refl, sym, ap, subst, ◌∙◌, inl, inr, arith, Some, None, List, [], ◌∷◌, ◌++◌, map, true, false}
-use Rattle.std.proofs.lemmas.Result.{IfErr-weaker, IfOk-weaker, err_from_is_err_and}
-use Rattle.px_lex.specs.declared.keyword.Keyword.TheVariants as words
-use Rattle.px_lex.specs.declared.sign.Sign.TheVariants as signs
-use Rattle.px_lex.specs.declared.token.TokenKind.TheVariants as kinds
-use Rattle.px_plan_parse.specs.declared.start.Start.TheVariants as starts
-use Rattle.px_plan_parse.specs.Tail.{closed_parameters, declared_parameters}
+use Rattle.std.proofs.Common.{refl}
+use Rattle.std.proofs.lemmas.Result.{err_from_is_err_and}
+use Rattle.std.proofs.lemmas.Bool.{false≢true}
 use Rattle.px_plan_parse.proofs.Globals.{makes_given_parameters, makes_no_parameters}
 use Rattle.px_plan_parse.proofs.Parts.{lack_alone, lack_before, lack_behind, lack_made, lack_token, part_alone, part_before, part_behind, part_made}
 use Rattle.px_plan_parse.proofs.global.declared_parameters.Goals as goal
 
--- a test that failed
-not_true : false ≡ true → ⊥
-not_true e = cc
-
 pub returns-in_err-expect-clause-fault : goal.returns-in_err-expect-clause-fault
 returns-in_err-expect-clause-fault c =
     let p = err_from_is_err_and c.from_residual.result c.from_residual.ensures.1 in
-    rw (p.1, p.2) (lack_made (makes_no_parameters c.args.tokens.now c.args.from (λ has. not_true (c.if-not-is_sign.ensures.answer.1 has)))
+    rw (p.1, p.2) (lack_made (makes_no_parameters c.args.tokens.now c.args.from (λ has. false≢true (c.if-not-is_sign.ensures.answer.1 has)))
     (lack_alone c.requires c.in_err-expect.ensures.fault))
 
 pub returns-then-not-is_sign-clause-ok : goal.returns-then-not-is_sign-clause-ok
 returns-then-not-is_sign-clause-ok c =
     rw c.new.ensures.items
-    (part_made (makes_no_parameters c.args.tokens.now c.args.from (λ has. not_true (c.if-not-is_sign.ensures.answer.1 has)))
+    (part_made (makes_no_parameters c.args.tokens.now c.args.from (λ has. false≢true (c.if-not-is_sign.ensures.answer.1 has)))
     (part_alone c.in_ok-expect.ensures.ok.0 c.in_ok-expect.ensures.ok.1))
 
 pub returns-in_err-parameters-clause-fault : goal.returns-in_err-parameters-clause-fault

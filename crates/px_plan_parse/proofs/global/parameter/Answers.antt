@@ -1,9 +1,6 @@
-use Rattle.std.proofs.Common.{◌≡◌, ℕ, ◌+◌, ◌<◌, refl, sym, ap, subst, ◌∙◌, inl, inr, arith, Some, None, List, [], ◌∷◌, ◌++◌, map, true, false}
-use Rattle.std.proofs.lemmas.Result.{IfErr-weaker, IfOk-weaker, err_from_is_err_and}
-use Rattle.px_lex.specs.declared.keyword.Keyword.TheVariants as words
-use Rattle.px_lex.specs.declared.sign.Sign.TheVariants as signs
-use Rattle.px_lex.specs.declared.token.TokenKind.TheVariants as kinds
-use Rattle.px_plan_parse.specs.declared.start.Start.TheVariants as starts
+use Rattle.std.proofs.Common.{◌≡◌, ℕ, ◌+◌, refl, sym, subst, ◌∙◌, arith, Some}
+use Rattle.std.proofs.lemmas.Result.{err_from_is_err_and}
+use Rattle.std.proofs.lemmas.Bool.{false≢true}
 use Rattle.px_syntax.specs.Form.{identifier, maybe}
 use Rattle.px_syntax.specs.BlockGrammar.{type_word}
 use Rattle.px_syntax.specs.PlanGrammar.{parameter}
@@ -14,10 +11,6 @@ use Rattle.px_plan_parse.proofs.Globals.{lacks_here, makes_parameter, name_goes_
 use Rattle.px_plan_parse.proofs.Parts.{lack_made, lack_present, lack_word, of_found, of_missing, part_absent, part_made, part_present, part_word}
 use Rattle.px_plan_parse.proofs.Starts.{typed_ends, typed_stands}
 use Rattle.px_plan_parse.proofs.global.parameter.Goals as goal
-
--- a test that failed
-not_true : false ≡ true → ⊥
-not_true e = cc
 
 pub returns-in_default-clause-fault : goal.returns-in_default-clause-fault
 returns-in_default-clause-fault c =
@@ -32,7 +25,7 @@ returns-then-not-begins-clause-ok c =
     (part_word (type_word c.in-Type.of_type) (maybe identifier)
     (typed_stands c.args.tokens.now c.args.from c.in-Type.of_type is) (typed_ends c.args.tokens.now c.args.from c.in-Type.of_type)
     (part_absent (omega (arith, c.start_at.ensures.inside (λ e. let t = c.in-Type.is in cc)))
-    (no_name c.args.tokens.now (c.args.from + 1) (λ name. not_true (c.if-not-begins.ensures.answer.1 name))))))
+    (no_name c.args.tokens.now (c.args.from + 1) (λ name. false≢true (c.if-not-begins.ensures.answer.1 name))))))
 
 pub returns-in_err-name-clause-fault : goal.returns-in_err-name-clause-fault
 returns-in_err-name-clause-fault c =

@@ -1,22 +1,16 @@
-use Rattle.std.proofs.Common.{◌≡◌, ℕ, ◌+◌, ◌<◌, refl, sym, ap, subst, ◌∙◌, inl, inr, arith, Some, None, List, [], ◌∷◌, ◌++◌, map, true, false}
-use Rattle.std.proofs.lemmas.Result.{IfErr-weaker, IfOk-weaker, err_from_is_err_and}
+use Rattle.std.proofs.Common.{◌≡◌, ℕ, ◌+◌, refl, sym, subst, ◌∙◌, arith}
+use Rattle.std.proofs.lemmas.Result.{err_from_is_err_and}
 use Rattle.px_lex.specs.declared.keyword.Keyword.TheVariants as words
-use Rattle.px_lex.specs.declared.sign.Sign.TheVariants as signs
 use Rattle.px_lex.specs.declared.token.TokenKind.TheVariants as kinds
 use Rattle.px_plan_parse.specs.declared.start.Start.TheVariants as starts
 use Rattle.px_syntax.specs.BlockGrammar.{type_word}
 use Rattle.px_syntax.specs.Plan.{DeclarationData}
 use Rattle.px_syntax.specs.PlanGrammar.{declaration}
 use Rattle.px_plan_parse.specs.Part.{Anything, IsPart}
-use Rattle.px_plan_parse.specs.Tail.{signature}
 use Rattle.px_plan_parse.proofs.Globals.{lacks_here, makes_command_word, makes_lookup_word, makes_typed, no_word, worded}
 use Rattle.px_plan_parse.proofs.Parts.{lack_behind, lack_made, lack_word, part_behind, part_made, part_word}
 use Rattle.px_plan_parse.proofs.Starts.{here, typed_ends, typed_stands}
 use Rattle.px_plan_parse.proofs.global.typed.Goals as goal
-
--- a test that failed
-not_true : false ≡ true → ⊥
-not_true e = cc
 
 two : (n : ℕ) → n + 2 ≡ n + 1 + 1
 two n = omega arith

@@ -1,7 +1,6 @@
-use Rattle.std.proofs.Common.{◌≡◌, ℕ, ◌+◌, ◌<◌, refl, sym, ap, subst, ◌∙◌, inl, inr, arith, Some, None, List, [], ◌∷◌, ◌++◌, map, true, false}
-use Rattle.std.proofs.lemmas.Result.{IfErr-weaker, IfOk-weaker, err_from_is_err_and}
+use Rattle.std.proofs.Common.{refl, sym, ap, subst, ◌∙◌}
+use Rattle.std.proofs.lemmas.Result.{err_from_is_err_and}
 use Rattle.px_lex.specs.declared.keyword.Keyword.TheVariants as words
-use Rattle.px_lex.specs.declared.sign.Sign.TheVariants as signs
 use Rattle.px_lex.specs.declared.token.TokenKind.TheVariants as kinds
 use Rattle.px_syntax.specs.Block.{ItemData}
 use Rattle.px_syntax.specs.BlockGrammar.{item}
@@ -12,10 +11,6 @@ use Rattle.px_plan_parse.proofs.Starts.{here, not_item}
 use Rattle.px_plan_parse.specs.Start.{is_item}
 use Rattle.px_plan_parse.specs.declared.start.Start.TheVariants as starts
 use Rattle.px_plan_parse.proofs.item.item.Goals as goal
-
--- a test that failed
-not_true : false ≡ true → ⊥
-not_true e = cc
 
 pub returns-in_err-variables-in-Type-clause-fault : goal.returns-in_err-variables-in-Type-clause-fault
 returns-in_err-variables-in-Type-clause-fault c =

@@ -1,21 +1,12 @@
-use Rattle.std.proofs.Common.{◌≡◌, ℕ, ◌+◌, ◌<◌, refl, sym, ap, subst, ◌∙◌, inl, inr, arith, Some, None, List, [], ◌∷◌, ◌++◌, map, true, false}
-use Rattle.std.proofs.lemmas.Result.{IfErr-weaker, IfOk-weaker, err_from_is_err_and}
-use Rattle.px_lex.specs.declared.keyword.Keyword.TheVariants as words
-use Rattle.px_lex.specs.declared.sign.Sign.TheVariants as signs
-use Rattle.px_lex.specs.declared.token.TokenKind.TheVariants as kinds
-use Rattle.px_lex.specs.declared.token.Token.{Token}
+use Rattle.std.proofs.Common.{sym, ap, subst, ◌∙◌, List, map}
+use Rattle.std.proofs.lemmas.Result.{err_from_is_err_and}
 use Rattle.px_syntax.specs.Block.{ItemData, item_data}
 use Rattle.px_syntax.specs.BlockGrammar.{item}
-use Rattle.px_expr_parse.specs.Verdict.{Agree}
 use Rattle.px_expr_parse.proofs.Arguments.{map_push}
-use Rattle.px_plan_parse.specs.Start.{NoItem, is_item, start_at}
+use Rattle.px_plan_parse.specs.Start.{NoItem, is_item}
 use Rattle.px_plan_parse.proofs.Items.{item_goes_on, no_item_there}
 use Rattle.px_plan_parse.proofs.Parts.{IsFront, front_ends, front_lacks, front_more}
 use Rattle.px_plan_parse.proofs.item.items.Goals as goal
-
--- a test that failed
-not_true : false ≡ true → ⊥
-not_true e = cc
 
 pub returns-in_err-item-clause-fault : goal.returns-in_err-item-clause-fault
 returns-in_err-item-clause-fault c =

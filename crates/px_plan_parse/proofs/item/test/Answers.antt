@@ -1,16 +1,12 @@
-use Rattle.std.proofs.Common.{◌≡◌, ◌+◌, ◌<◌, refl, sym, ap, subst, ◌∙◌, inl, inr, arith, Some, None, List, [], ◌∷◌, ◌++◌, map, true, false}
-use Rattle.std.proofs.lemmas.Result.{IfErr-weaker, IfOk-weaker, err_from_is_err_and}
+use Rattle.std.proofs.Common.{◌+◌, refl}
+use Rattle.std.proofs.lemmas.Result.{IfErr-weaker, IfOk-weaker}
+use Rattle.std.proofs.lemmas.Bool.{false≢true}
 use Rattle.px_lex.specs.declared.sign.Sign.TheVariants as signs
-use Rattle.px_lex.specs.declared.token.TokenKind.TheVariants as kinds
 use Rattle.px_expr_parse.specs.Tail.{closed}
 use Rattle.px_plan_parse.specs.Part.{Anything}
 use Rattle.px_plan_parse.proofs.Items.{makes_test, makes_test_behind}
 use Rattle.px_plan_parse.proofs.Parts.{lack_behind, lack_made, of_found, of_missing, part_behind, part_made}
 use Rattle.px_plan_parse.proofs.item.test.Goals as goal
-
--- a test that failed
-not_true : false ≡ true → ⊥
-not_true e = cc
 
 pub returns-then-is_sign-clause-ok : goal.returns-then-is_sign-clause-ok
 returns-then-is_sign-clause-ok c =
@@ -28,10 +24,10 @@ returns-then-is_sign-clause-fault c =
 pub returns-clause-ok : goal.returns-clause-ok
 returns-clause-ok c =
     IfOk-weaker c.parse_closed-2.result _ _ (λ read found.
-    part_made (makes_test c.args.tokens.now c.args.from (λ has. not_true (c.if-is_sign.ensures.answer.1 has))) (of_found Anything found)) c.parse_closed-2.ensures.ok
+    part_made (makes_test c.args.tokens.now c.args.from (λ has. false≢true (c.if-is_sign.ensures.answer.1 has))) (of_found Anything found)) c.parse_closed-2.ensures.ok
 
 pub returns-clause-fault : goal.returns-clause-fault
 returns-clause-fault c =
     IfErr-weaker c.parse_closed-2.result _ _ (λ fault missing.
-    lack_made (makes_test c.args.tokens.now c.args.from (λ has. not_true (c.if-is_sign.ensures.answer.1 has)))
+    lack_made (makes_test c.args.tokens.now c.args.from (λ has. false≢true (c.if-is_sign.ensures.answer.1 has)))
     (of_missing (closed signs.Semicolon) c.args.tokens.now c.args.from fault Anything missing)) c.parse_closed-2.ensures.fault

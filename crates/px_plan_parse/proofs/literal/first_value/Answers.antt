@@ -1,14 +1,7 @@
-use Rattle.std.proofs.Common.{◌≡◌, ◌+◌, ◌<◌, refl, sym, ap, subst, ◌∙◌, inl, inr, arith, Some, None, List, [], ◌∷◌, ◌++◌, map, true, false}
-use Rattle.std.proofs.lemmas.Result.{IfErr-weaker, IfOk-weaker, err_from_is_err_and}
-use Rattle.px_lex.specs.declared.sign.Sign.TheVariants as signs
-use Rattle.px_lex.specs.declared.token.TokenKind.TheVariants as kinds
+use Rattle.std.proofs.Common.{refl}
 use Rattle.px_plan_parse.proofs.Items.{not_ended}
 use Rattle.px_plan_parse.proofs.Parts.{part_behind, part_narrowed, part_present}
 use Rattle.px_plan_parse.proofs.literal.first_value.Goals as goal
-
--- a test that failed
-not_true : false ≡ true → ⊥
-not_true e = cc
 
 pub returns-clause-ok : goal.returns-clause-ok
 returns-clause-ok c =

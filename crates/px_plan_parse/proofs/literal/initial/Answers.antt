@@ -1,17 +1,12 @@
-use Rattle.std.proofs.Common.{◌≡◌, ◌+◌, ◌<◌, refl, sym, ap, subst, ◌∙◌, inl, inr, arith, Some, None, List, [], ◌∷◌, ◌++◌, map, true, false}
-use Rattle.std.proofs.lemmas.Result.{IfErr-weaker, IfOk-weaker, err_from_is_err_and}
-use Rattle.px_lex.specs.declared.sign.Sign.TheVariants as signs
-use Rattle.px_lex.specs.declared.token.TokenKind.TheVariants as kinds
+use Rattle.std.proofs.Common.{refl, sym, subst}
+use Rattle.std.proofs.lemmas.Result.{err_from_is_err_and}
+use Rattle.std.proofs.lemmas.Bool.{false≢true}
 use Rattle.px_syntax.specs.Block.{InitialData}
 use Rattle.px_syntax.specs.BlockGrammar.{initial}
 use Rattle.px_plan_parse.specs.Part.{Anything, IsPart}
 use Rattle.px_plan_parse.proofs.Items.{makes_list, makes_value}
 use Rattle.px_plan_parse.proofs.Parts.{lack_behind, lack_made, part_behind, part_made}
 use Rattle.px_plan_parse.proofs.literal.initial.Goals as goal
-
--- a test that failed
-not_true : false ≡ true → ⊥
-not_true e = cc
 
 pub returns-in_err-values-clause-fault : goal.returns-in_err-values-clause-fault
 returns-in_err-values-clause-fault c =
@@ -27,4 +22,4 @@ returns-then-is_sign-clause-ok c =
 pub returns-clause-ok : goal.returns-clause-ok
 returns-clause-ok c =
     subst (λ (tree : InitialData). IsPart initial Anything c.args.tokens.now c.args.from tree c.in_ok-value.end) (sym c.first_literal.ensures)
-    (part_made (makes_value c.args.tokens.now c.args.from (λ has. not_true (c.if-is_sign.ensures.answer.1 has))) c.in_ok-value.ensures.ok)
+    (part_made (makes_value c.args.tokens.now c.args.from (λ has. false≢true (c.if-is_sign.ensures.answer.1 has))) c.in_ok-value.ensures.ok)

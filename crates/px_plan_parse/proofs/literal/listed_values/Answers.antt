@@ -1,26 +1,20 @@
-use Rattle.std.proofs.Common.{◌≡◌, ◌+◌, ◌<◌, refl, sym, ap, subst, ◌∙◌, inl, inr, arith, Some, None, List, [], ◌∷◌, ◌++◌, map, true, false}
-use Rattle.std.proofs.lemmas.Result.{IfErr-weaker, IfOk-weaker, err_from_is_err_and}
+use Rattle.std.proofs.Common.{refl, sym, subst, ◌∙◌, arith, List}
+use Rattle.std.proofs.lemmas.Result.{err_from_is_err_and}
+use Rattle.std.proofs.lemmas.Bool.{false≢true}
 use Rattle.px_lex.specs.declared.sign.Sign.TheVariants as signs
-use Rattle.px_lex.specs.declared.token.TokenKind.TheVariants as kinds
-use Rattle.px_expr_parse.specs.Verdict.{Agree}
 use Rattle.px_syntax.specs.declared.block.ListedLiteral.{ListedLiteral}
 use Rattle.px_syntax.specs.BlockGrammar.{listed}
-use Rattle.px_lex.specs.declared.token.Token.{Token}
 use Rattle.px_plan_parse.specs.Tail.{Only}
 use Rattle.px_plan_parse.proofs.Items.{comma_is_no_minus, listed_begins, paren_is_no_minus, paren_no_comma}
 use Rattle.px_plan_parse.proofs.Parts.{IsFront, front_ends, front_lacks, front_more, lack_before, part_before}
 use Rattle.px_plan_parse.proofs.literal.listed_values.Goals as goal
-
--- a test that failed
-not_true : false ≡ true → ⊥
-not_true e = cc
 
 pub returns-in_err-value-clause-fault : goal.returns-in_err-value-clause-fault
 returns-in_err-value-clause-fault c =
     let p = err_from_is_err_and c.from_residual.result c.from_residual.ensures.1 in
     rw (p.1, p.2) (lack_before (λ others place has. has) (front_lacks c.loop-alloc.invariant
     (λ others part from end o. listed_begins signs.Comma comma_is_no_minus part others from end o) paren_no_comma
-    (λ others agree closes. not_true (c.loop-alloc-test.ensures.answer.1 (sym (agree c.loop-alloc.at (omega arith)) ∙ closes)))
+    (λ others agree closes. false≢true (c.loop-alloc-test.ensures.answer.1 (sym (agree c.loop-alloc.at (omega arith)) ∙ closes)))
     c.in_err-value.ensures.fault))
 
 pub loop-alloc-preserved : goal.loop-alloc-preserved
@@ -29,7 +23,7 @@ loop-alloc-preserved c =
     (sym c.in_ok-push.ensures.items)
     (front_more c.loop-alloc.invariant
     (λ others part from end o. listed_begins signs.Comma comma_is_no_minus part others from end o) paren_no_comma
-    (λ others agree closes. not_true (c.loop-alloc-test.ensures.answer.1 (sym (agree c.loop-alloc.at (omega arith)) ∙ closes)))
+    (λ others agree closes. false≢true (c.loop-alloc-test.ensures.answer.1 (sym (agree c.loop-alloc.at (omega arith)) ∙ closes)))
     c.in_ok-value.ensures.ok)
 
 pub returns-clause-ok : goal.returns-clause-ok

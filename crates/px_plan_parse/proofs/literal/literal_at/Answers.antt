@@ -1,16 +1,10 @@
-use Rattle.std.proofs.Common.{◌≡◌, ◌+◌, ◌<◌, refl, sym, ap, subst, ◌∙◌, inl, inr, arith, Some, None, List, [], ◌∷◌, ◌++◌, map, true, false}
-use Rattle.std.proofs.lemmas.Result.{IfErr-weaker, IfOk-weaker, err_from_is_err_and}
-use Rattle.px_lex.specs.declared.sign.Sign.TheVariants as signs
-use Rattle.px_lex.specs.declared.token.TokenKind.TheVariants as kinds
+use Rattle.std.proofs.lemmas.Result.{err_from_is_err_and}
+use Rattle.std.proofs.lemmas.Bool.{false≢true}
 use Rattle.px_plan_parse.proofs.Items.{lacks_literal}
 use Rattle.px_plan_parse.proofs.literal.literal_at.Goals as goal
-
--- a test that failed
-not_true : false ≡ true → ⊥
-not_true e = cc
 
 pub returns-in_err-token_literal-in-Some-clause-fault : goal.returns-in_err-token_literal-in-Some-clause-fault
 returns-in_err-token_literal-in-Some-clause-fault c =
     let p = err_from_is_err_and c.from_residual-in_err-token_literal-in-Some.result c.from_residual-in_err-token_literal-in-Some.ensures.1 in
     rw (p.1, p.2) (lacks_literal c.args.tokens.now c.args.from c.in-Some.kind.now c.in-Some.ensures.1
-    (λ has. not_true (c.if-is_sign.ensures.answer.1 has)) c.in-Some.ensures.0 _ c.in_err-token_literal-in-Some.ensures.fault)
+    (λ has. false≢true (c.if-is_sign.ensures.answer.1 has)) c.in-Some.ensures.0 _ c.in_err-token_literal-in-Some.ensures.fault)

@@ -1,17 +1,9 @@
-use Rattle.std.proofs.Common.{◌≡◌, ℕ, ◌+◌, ◌<◌, refl, sym, ap, subst, ◌∙◌, inl, inr, arith, Some, None, List, [], ◌∷◌, ◌++◌, map, true, false}
-use Rattle.std.proofs.lemmas.Result.{IfErr-weaker, IfOk-weaker, err_from_is_err_and}
-use Rattle.px_lex.specs.declared.keyword.Keyword.TheVariants as words
-use Rattle.px_lex.specs.declared.sign.Sign.TheVariants as signs
-use Rattle.px_lex.specs.declared.token.TokenKind.TheVariants as kinds
-use Rattle.px_plan_parse.specs.declared.start.Start.TheVariants as starts
+use Rattle.std.proofs.Common.{◌+◌}
+use Rattle.std.proofs.lemmas.Result.{err_from_is_err_and}
 use Rattle.px_expr_parse.specs.Tail.{closed_arguments}
 use Rattle.px_plan_parse.specs.Part.{Anything}
-use Rattle.px_plan_parse.proofs.Parts.{behind, lack_before, lack_behind, lack_kind, lack_token, of_found, of_missing, part_before, part_behind}
+use Rattle.px_plan_parse.proofs.Parts.{lack_before, lack_behind, lack_token, of_found, of_missing, part_before, part_behind}
 use Rattle.px_plan_parse.proofs.named.called.Goals as goal
-
--- a test that failed
-not_true : false ≡ true → ⊥
-not_true e = cc
 
 pub returns-in_err-args-clause-fault : goal.returns-in_err-args-clause-fault
 returns-in_err-args-clause-fault c =

@@ -1,8 +1,7 @@
-use Rattle.std.proofs.Common.{◌≡◌, ℕ, ◌+◌, ◌<◌, refl, sym, ap, subst, ◌∙◌, inl, inr, arith, Some, None, List, [], ◌∷◌, ◌++◌, map, true, false}
-use Rattle.std.proofs.lemmas.Result.{IfErr-weaker, IfOk-weaker, err_from_is_err_and}
-use Rattle.px_lex.specs.declared.keyword.Keyword.TheVariants as words
+use Rattle.std.proofs.Common.{refl, sym, ap, subst, ◌∙◌, List, map}
+use Rattle.std.proofs.lemmas.Result.{err_from_is_err_and}
+use Rattle.std.proofs.lemmas.Bool.{false≢true}
 use Rattle.px_lex.specs.declared.sign.Sign.TheVariants as signs
-use Rattle.px_lex.specs.declared.token.TokenKind.TheVariants as kinds
 use Rattle.px_syntax.specs.Block.{PairData, pair_data}
 use Rattle.px_syntax.specs.BlockGrammar.{pair}
 use Rattle.px_expr_parse.proofs.Arguments.{map_push}
@@ -12,10 +11,6 @@ use Rattle.px_plan_parse.proofs.Commas.{HasCommas, commas_end, commas_lack, comm
 use Rattle.px_plan_parse.proofs.Items.{semicolon_is_no_comma}
 use Rattle.px_plan_parse.proofs.Names.{comma_ends, semicolon_ends}
 use Rattle.px_plan_parse.proofs.named.closed_pairs.Goals as goal
-
--- a test that failed
-not_true : false ≡ true → ⊥
-not_true e = cc
 
 pub returns-in_err-first-clause-fault : goal.returns-in_err-first-clause-fault
 returns-in_err-first-clause-fault c =
@@ -40,10 +35,10 @@ pub returns-in_err-expect-clause-fault : goal.returns-in_err-expect-clause-fault
 returns-in_err-expect-clause-fault c =
     let p = err_from_is_err_and c.from_residual-in_err-expect.result c.from_residual-in_err-expect.ensures.1 in
     rw (p.1, p.2) (commas_lack_close pair Ended signs.Semicolon c.args.tokens.now c.args.from semicolon_is_no_comma
-    comma_ends semicolon_ends c.loop-alloc.invariant (λ has. not_true (c.loop-alloc-test.ensures.answer.1 has)) c.in_err-expect.ensures.fault)
+    comma_ends semicolon_ends c.loop-alloc.invariant (λ has. false≢true (c.loop-alloc-test.ensures.answer.1 has)) c.in_err-expect.ensures.fault)
 
 pub returns-clause-ok : goal.returns-clause-ok
 returns-clause-ok c =
     commas_end pair Ended signs.Semicolon c.args.tokens.now c.args.from semicolon_is_no_comma
-    comma_ends semicolon_ends c.loop-alloc.invariant (λ has. not_true (c.loop-alloc-test.ensures.answer.1 has))
+    comma_ends semicolon_ends c.loop-alloc.invariant (λ has. false≢true (c.loop-alloc-test.ensures.answer.1 has))
     c.in_ok-expect.ensures.ok.0 c.in_ok-expect.ensures.ok.1

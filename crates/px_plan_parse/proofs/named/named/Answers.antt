@@ -1,20 +1,12 @@
-use Rattle.std.proofs.Common.{◌≡◌, ℕ, ◌+◌, ◌<◌, refl, sym, ap, subst, ◌∙◌, inl, inr, arith, Some, None, List, [], ◌∷◌, ◌++◌, map, true, false}
-use Rattle.std.proofs.lemmas.Result.{IfErr-weaker, IfOk-weaker, err_from_is_err_and}
-use Rattle.px_lex.specs.declared.keyword.Keyword.TheVariants as words
-use Rattle.px_lex.specs.declared.sign.Sign.TheVariants as signs
-use Rattle.px_lex.specs.declared.token.TokenKind.TheVariants as kinds
-use Rattle.px_plan_parse.specs.declared.start.Start.TheVariants as starts
-use Rattle.px_plan_parse.specs.Part.{Anything}
+use Rattle.std.proofs.Common.{refl, map}
+use Rattle.std.proofs.lemmas.Result.{err_from_is_err_and}
+use Rattle.std.proofs.lemmas.Bool.{false≢true}
 use Rattle.px_plan_parse.proofs.Names.{assign_begins, makes_assignment, makes_call}
 use Rattle.px_plan_parse.proofs.Parts.{lack_behind, lack_first, lack_kind, lack_made, lack_second, part_behind, part_both, part_made}
 use Rattle.px_plan_parse.specs.Named.{Calls, Writes, written_data}
 use Rattle.px_syntax.specs.Expr.{in_turn, term_of}
 use Rattle.std.specs.Option.{option_map}
 use Rattle.px_plan_parse.proofs.named.named.Goals as goal
-
--- a test that failed
-not_true : false ≡ true → ⊥
-not_true e = cc
 
 pub returns-in_err-args-clause-fault : goal.returns-in_err-args-clause-fault
 returns-in_err-args-clause-fault c =
@@ -31,25 +23,25 @@ returns-then-is_sign-clause-ok c = (
 pub returns-in_err-index-clause-fault : goal.returns-in_err-index-clause-fault
 returns-in_err-index-clause-fault c =
     let p = err_from_is_err_and c.from_residual-in_err-index.result c.from_residual-in_err-index.ensures.1 in
-    rw (p.1, p.2) (lack_made (makes_assignment c.args.tokens.now c.args.from (λ has. not_true (c.if-is_sign.ensures.answer.1 has)))
+    rw (p.1, p.2) (lack_made (makes_assignment c.args.tokens.now c.args.from (λ has. false≢true (c.if-is_sign.ensures.answer.1 has)))
     (lack_first assign_begins c.in_err-index.ensures.fault))
 
 pub returns-in_err-expect-clause-fault : goal.returns-in_err-expect-clause-fault
 returns-in_err-expect-clause-fault c =
     let p = err_from_is_err_and c.from_residual-in_err-expect.result c.from_residual-in_err-expect.ensures.1 in
-    rw (p.1, p.2) (lack_made (makes_assignment c.args.tokens.now c.args.from (λ has. not_true (c.if-is_sign.ensures.answer.1 has)))
+    rw (p.1, p.2) (lack_made (makes_assignment c.args.tokens.now c.args.from (λ has. false≢true (c.if-is_sign.ensures.answer.1 has)))
     (lack_second assign_begins c.in_ok-index.ensures.ok (lack_kind c.in_ok-index.ensures.ok.within c.in_err-expect.ensures.fault)))
 
 pub returns-in_err-value-clause-fault : goal.returns-in_err-value-clause-fault
 returns-in_err-value-clause-fault c =
     let p = err_from_is_err_and c.from_residual-in_err-value.result c.from_residual-in_err-value.ensures.1 in
-    rw (p.1, p.2) (lack_made (makes_assignment c.args.tokens.now c.args.from (λ has. not_true (c.if-is_sign.ensures.answer.1 has)))
+    rw (p.1, p.2) (lack_made (makes_assignment c.args.tokens.now c.args.from (λ has. false≢true (c.if-is_sign.ensures.answer.1 has)))
     (lack_second assign_begins c.in_ok-index.ensures.ok (lack_behind c.in_err-value.ensures.fault)))
 
 pub returns-clause-ok : goal.returns-clause-ok
 returns-clause-ok c = (
   Writes (option_map term_of c.in_ok-index.index) (written_data c.in_ok-value.value),
   c.written-2.ensures,
-  part_made (makes_assignment c.args.tokens.now c.args.from (λ has. not_true (c.if-is_sign.ensures.answer.1 has)))
+  part_made (makes_assignment c.args.tokens.now c.args.from (λ has. false≢true (c.if-is_sign.ensures.answer.1 has)))
       (part_both assign_begins c.in_ok-index.ensures.ok (part_behind c.in_ok-expect.ensures.ok.1 c.in_ok-value.ensures.ok)),
 )

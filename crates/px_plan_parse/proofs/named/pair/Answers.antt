@@ -1,19 +1,11 @@
-use Rattle.std.proofs.Common.{◌≡◌, ℕ, ◌+◌, ◌<◌, refl, sym, ap, subst, ◌∙◌, inl, inr, arith, Some, None, List, [], ◌∷◌, ◌++◌, map, true, false}
-use Rattle.std.proofs.lemmas.Result.{IfErr-weaker, IfOk-weaker, err_from_is_err_and}
-use Rattle.px_lex.specs.declared.keyword.Keyword.TheVariants as words
-use Rattle.px_lex.specs.declared.sign.Sign.TheVariants as signs
-use Rattle.px_lex.specs.declared.token.TokenKind.TheVariants as kinds
-use Rattle.px_plan_parse.specs.declared.start.Start.TheVariants as starts
+use Rattle.std.proofs.Common.{◌≡◌, ℕ, ◌+◌, sym, subst, arith}
+use Rattle.std.proofs.lemmas.Result.{err_from_is_err_and}
 use Rattle.px_syntax.specs.Block.{PairData}
 use Rattle.px_syntax.specs.BlockGrammar.{pair}
 use Rattle.px_plan_parse.specs.Part.{Anything, Ended, IsPart}
 use Rattle.px_plan_parse.proofs.Names.{makes_pair}
 use Rattle.px_plan_parse.proofs.Parts.{lack_behind, lack_made, lack_second, of_found, of_read, of_refused, part_behind, part_both, part_made}
 use Rattle.px_plan_parse.proofs.named.pair.Goals as goal
-
--- a test that failed
-not_true : false ≡ true → ⊥
-not_true e = cc
 
 two : (n : ℕ) → n + 2 ≡ n + 1 + 1
 two n = omega arith

@@ -1,17 +1,10 @@
-use Rattle.std.proofs.Common.{◌≡◌, ℕ, ◌+◌, ◌<◌, refl, sym, ap, subst, ◌∙◌, inl, inr, arith, Some, None, List, [], ◌∷◌, ◌++◌, map, true, false}
-use Rattle.std.proofs.lemmas.Result.{IfErr-weaker, IfOk-weaker, err_from_is_err_and}
-use Rattle.px_lex.specs.declared.keyword.Keyword.TheVariants as words
-use Rattle.px_lex.specs.declared.sign.Sign.TheVariants as signs
-use Rattle.px_lex.specs.declared.token.TokenKind.TheVariants as kinds
-use Rattle.px_plan_parse.specs.declared.start.Start.TheVariants as starts
+use Rattle.std.proofs.Common.{refl}
+use Rattle.std.proofs.lemmas.Result.{IfErr-weaker, IfOk-weaker}
+use Rattle.std.proofs.lemmas.Bool.{false≢true}
 use Rattle.px_plan_parse.specs.Tail.{closed_pairs}
 use Rattle.px_plan_parse.proofs.Names.{makes_with_colon, makes_without_colon, no_colon_pairs}
 use Rattle.px_plan_parse.proofs.Parts.{lack_behind, lack_made, part_behind, part_made}
 use Rattle.px_plan_parse.proofs.named.update_pairs.Goals as goal
-
--- a test that failed
-not_true : false ≡ true → ⊥
-not_true e = cc
 
 pub returns-then-is_sign-clause-ok : goal.returns-then-is_sign-clause-ok
 returns-then-is_sign-clause-ok c =
@@ -28,11 +21,11 @@ returns-then-is_sign-clause-fault c =
 pub returns-clause-ok : goal.returns-clause-ok
 returns-clause-ok c =
     IfOk-weaker c.closed_pairs-2.result _ _ (λ read found.
-    part_made (makes_without_colon closed_pairs no_colon_pairs c.args.tokens.now c.args.from (λ has. not_true (c.if-is_sign.ensures.answer.1 has))) found)
+    part_made (makes_without_colon closed_pairs no_colon_pairs c.args.tokens.now c.args.from (λ has. false≢true (c.if-is_sign.ensures.answer.1 has))) found)
     c.closed_pairs-2.ensures.ok
 
 pub returns-clause-fault : goal.returns-clause-fault
 returns-clause-fault c =
     IfErr-weaker c.closed_pairs-2.result _ _ (λ fault missing.
-    lack_made (makes_without_colon closed_pairs no_colon_pairs c.args.tokens.now c.args.from (λ has. not_true (c.if-is_sign.ensures.answer.1 has))) missing)
+    lack_made (makes_without_colon closed_pairs no_colon_pairs c.args.tokens.now c.args.from (λ has. false≢true (c.if-is_sign.ensures.answer.1 has))) missing)
     c.closed_pairs-2.ensures.fault

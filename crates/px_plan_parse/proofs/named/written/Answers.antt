@@ -1,25 +1,15 @@
-use Rattle.std.proofs.Common.{◌≡◌, ℕ, ◌+◌, ◌<◌, refl, sym, ap, subst, ◌∙◌, inl, inr, arith, Some, None, List, [], ◌∷◌, ◌++◌, map, true, false}
-use Rattle.std.proofs.lemmas.Result.{IfErr-weaker, IfOk-weaker, err_from_is_err_and}
-use Rattle.px_lex.specs.declared.keyword.Keyword.TheVariants as words
-use Rattle.px_lex.specs.declared.sign.Sign.TheVariants as signs
-use Rattle.px_lex.specs.declared.token.TokenKind.TheVariants as kinds
-use Rattle.px_plan_parse.specs.declared.start.Start.TheVariants as starts
-use Rattle.px_lex.specs.declared.token.Token.{Token}
+use Rattle.std.proofs.Common.{◌≡◌, ◌+◌, refl, sym, subst, arith}
+use Rattle.std.proofs.lemmas.Result.{err_from_is_err_and}
+use Rattle.std.proofs.lemmas.Bool.{false≢true}
 use Rattle.px_syntax.specs.declared.fault.ParseFault.{ParseFault}
-use Rattle.px_syntax.specs.declared.fault.ParseFault.TheVariants as faults
 use Rattle.px_syntax.specs.Expr.{term_of}
-use Rattle.px_syntax.specs.Form.{identifier}
-use Rattle.px_expr_parse.specs.Verdict.{IsMissing, IsRefused, LacksSign}
+use Rattle.px_expr_parse.specs.Verdict.{IsRefused}
 use Rattle.px_plan_parse.specs.Named.{WrittenData, written}
-use Rattle.px_plan_parse.specs.Part.{Anything, IsLacking, IsPart}
+use Rattle.px_plan_parse.specs.Part.{Anything, IsPart}
 use Rattle.px_plan_parse.proofs.Names.{lack_answer, lack_value, later, name_missing, part_answer, part_value, semicolon_ends}
-use Rattle.px_plan_parse.proofs.Parts.{HasKind, lack_before, lack_token, of_read, of_refused, part_before}
+use Rattle.px_plan_parse.proofs.Parts.{lack_before, lack_token, of_read, of_refused, part_before}
 use Rattle.px_plan_parse.proofs.Starts.{name_here, start_name}
 use Rattle.px_plan_parse.proofs.named.written.Goals as goal
-
--- a test that failed
-not_true : false ≡ true → ⊥
-not_true e = cc
 
 pub returns-in_err-name-clause-fault : goal.returns-in_err-name-clause-fault
 returns-in_err-name-clause-fault c =
@@ -43,7 +33,7 @@ pub returns-in_err-value-clause-fault : goal.returns-in_err-value-clause-fault
 returns-in_err-value-clause-fault c =
     let p = err_from_is_err_and c.from_residual-in_err-value.result c.from_residual-in_err-value.ensures.1 in
     rw (p.1, p.2) (lack_value c.args.tokens.now c.args.from
-    (λ name has paren. not_true (c.if-calls.ensures.1 (start_name c.args.tokens.now c.args.from name has, paren)))
+    (λ name has paren. false≢true (c.if-calls.ensures.1 (start_name c.args.tokens.now c.args.from name has, paren)))
     c.in_err-value.field-0.0
     (λ token is name has. later c.args.tokens.now c.args.from name has token
     (subst (λ (fault : ParseFault). IsRefused 0 c.args.tokens.now c.args.from fault) is c.in_err-value.ensures.refused))
@@ -54,7 +44,7 @@ returns-in_err-expect-clause-fault c =
     let p = err_from_is_err_and c.from_residual-in_err-expect.result c.from_residual-in_err-expect.ensures.1 in
     let at_end = c.in_err-expect.ensures.fault.0 in
     rw (p.1, p.2) (lack_value c.args.tokens.now c.args.from
-    (λ name has paren. not_true (c.if-calls.ensures.1 (start_name c.args.tokens.now c.args.from name has, paren)))
+    (λ name has paren. false≢true (c.if-calls.ensures.1 (start_name c.args.tokens.now c.args.from name has, paren)))
     c.in_err-expect.field-0.0
     (λ token is name has. let same : token ≡ c.in_ok-value.end = cc in omega (arith, same, c.in_ok-value.ensures.read.advances))
     (lack_token semicolon_ends (of_read c.in_ok-value.ensures.read) c.in_err-expect.ensures.fault))
@@ -62,6 +52,6 @@ returns-in_err-expect-clause-fault c =
 pub returns-clause-ok : goal.returns-clause-ok
 returns-clause-ok c =
     part_value c.args.tokens.now c.args.from
-    (λ name has paren. not_true (c.if-calls.ensures.1 (start_name c.args.tokens.now c.args.from name has, paren)))
+    (λ name has paren. false≢true (c.if-calls.ensures.1 (start_name c.args.tokens.now c.args.from name has, paren)))
     (term_of c.in_ok-value.value) (c.in_ok-value.end + 1) (omega (arith, c.in_ok-value.ensures.read.advances))
     (part_before semicolon_ends c.in_ok-expect.ensures.ok.0 (of_read c.in_ok-value.ensures.read) c.in_ok-expect.ensures.ok.1)

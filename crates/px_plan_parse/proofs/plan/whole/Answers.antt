@@ -1,20 +1,11 @@
-use Rattle.std.proofs.Common.{◌≡◌, ℕ, ◌+◌, ◌<◌, refl, sym, ap, subst, ◌∙◌, inl, inr, arith, Some, None, List, [], ◌∷◌, ◌++◌, map, true, false}
-use Rattle.std.proofs.lemmas.Result.{IfErr-weaker, IfOk-weaker, err_from_is_err_and}
-use Rattle.px_lex.specs.declared.keyword.Keyword.TheVariants as words
-use Rattle.px_lex.specs.declared.sign.Sign.TheVariants as signs
-use Rattle.px_lex.specs.declared.token.TokenKind.TheVariants as kinds
-use Rattle.px_plan_parse.specs.declared.start.Start.TheVariants as starts
-use Rattle.px_syntax.specs.Plan.{PlanTree, declaration_data}
-use Rattle.px_syntax.specs.Block.{block_of}
+use Rattle.std.proofs.Common.{sym, subst, arith}
+use Rattle.std.proofs.lemmas.Result.{err_from_is_err_and}
+use Rattle.px_syntax.specs.Plan.{PlanTree}
 use Rattle.px_plan_parse.specs.Verdict.{IsPlan}
 use Rattle.px_plan_parse.proofs.Bodies.{block_no_name}
 use Rattle.px_plan_parse.proofs.Plans.{goes_on, is_no_plan, is_plan, makes_plan, root_begins}
 use Rattle.px_plan_parse.proofs.Parts.{lack_first, lack_made, lack_second, part_both, part_made}
 use Rattle.px_plan_parse.proofs.plan.whole.Goals as goal
-
--- a test that failed
-not_true : false ≡ true → ⊥
-not_true e = cc
 
 pub returns-in_err-declarations-clause-fault : goal.returns-in_err-declarations-clause-fault
 returns-in_err-declarations-clause-fault c =

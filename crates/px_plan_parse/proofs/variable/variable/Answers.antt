@@ -1,19 +1,12 @@
-use Rattle.std.proofs.Common.{◌≡◌, ℕ, ◌+◌, ◌<◌, refl, sym, ap, subst, ◌∙◌, inl, inr, arith, Some, None, List, [], ◌∷◌, ◌++◌, map, true, false}
-use Rattle.std.proofs.lemmas.Result.{IfErr-weaker, IfOk-weaker, err_from_is_err_and}
-use Rattle.px_lex.specs.declared.keyword.Keyword.TheVariants as words
-use Rattle.px_lex.specs.declared.sign.Sign.TheVariants as signs
-use Rattle.px_lex.specs.declared.token.TokenKind.TheVariants as kinds
-use Rattle.px_syntax.specs.Block.{VariableData, InitialData, initial_data}
+use Rattle.std.proofs.Common.{sym, subst}
+use Rattle.std.proofs.lemmas.Result.{err_from_is_err_and}
+use Rattle.px_syntax.specs.Block.{VariableData}
 use Rattle.px_syntax.specs.BlockGrammar.{variable}
 use Rattle.px_plan_parse.specs.Part.{Anything, IsPart}
 use Rattle.px_plan_parse.specs.Tail.{VariableEnded}
 use Rattle.px_plan_parse.proofs.Items.{makes_variable, size_begins}
 use Rattle.px_plan_parse.proofs.Parts.{lack_made, lack_second, of_found, part_both, part_made}
 use Rattle.px_plan_parse.proofs.variable.variable.Goals as goal
-
--- a test that failed
-not_true : false ≡ true → ⊥
-not_true e = cc
 
 pub returns-in_err-initial-clause-fault : goal.returns-in_err-initial-clause-fault
 returns-in_err-initial-clause-fault c =

@@ -11,13 +11,13 @@ use Rattle.px_syntax.specs.Block.{BodyTree, body_of, branch_of, guarded_of, else
 use Rattle.px_syntax.specs.BlockFaults.{redeclared, items_faults, action_labels, actions_faults, body_faults, guarded_faults, else_if_faults, else_child, else_faults, if_label_faults, inside_if, inside_last}
 use Rattle.px_syntax.specs.Expr.{term_of}
 use Rattle.px_syntax.specs.Scope.{Scope}
+use Rattle.px_syntax.proofs.Trees as trees
 use Rattle.px_check.specs.Found.{noted}
 use Rattle.px_check.specs.Scope.{outside}
 use Rattle.px_check.specs.declared.scope.Mark.{Mark}
 use Rattle.px_check.proofs.Blocks.{own_told, block_noted, action_walked, guarded_noted, branch_noted, found_at, for_noted, if_left, if_noted, chain_walked}
 use Rattle.px_check.proofs.Noting.{noted_none}
 use Rattle.px_check.proofs.Seeing.{in_turn}
-use Rattle.px_check.proofs.Trees as trees
 use Rattle.px_check.proofs.Walking.{all_walked}
 use Rattle.px_check.proofs.scope.Scope.+block.Goals as goal
 

@@ -1,4 +1,5 @@
 use Rattle.std.proofs.Common.{◌≡◌, ap, sym, ◌∙◌, arith, Some}
+use Rattle.px_value.proofs.General.{none_from}
 use Rattle.px_cells.specs.Marked.{written}
 use Rattle.px_flat.specs.Flat.{plan_of}
 use Rattle.px_flat.specs.Numbered.{NodeNumbered, numbered_body}
@@ -8,7 +9,7 @@ use Rattle.px_command.specs.Counting.{return_counts}
 use Rattle.px_command.specs.Results.{result_slot}
 use Rattle.px_command.proofs.Returns.{slot_within}
 use Rattle.px_command.proofs.Taken.{return_row, no_return, return_lost}
-use Rattle.px_command.proofs.Told.{act_read, none_from}
+use Rattle.px_command.proofs.Told.{act_read}
 use Rattle.px_command.proofs.actions.Actions.take_return.Goals as goal
 
 pub result_slot-requires : goal.result_slot-requires

@@ -1,7 +1,8 @@
 use Rattle.std.proofs.Common.{◌≡◌, true, false}
 use Rattle.std.specs.Str.{is_utf8}
 use Rattle.std.proofs.lemmas.Str.{is_utf8-from_IsUtf8}
-use Rattle.px_event.proofs.Fields.{text_is, text_is_none, not_utf8}
+use Rattle.px_value.proofs.General.{not_utf8}
+use Rattle.px_event.proofs.Fields.{text_is, text_is_none}
 use Rattle.px_event.proofs.bytes.fields.Reader.text.Goals as goal
 
 pub returns-in-Ok : goal.returns-in-Ok

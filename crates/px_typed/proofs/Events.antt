@@ -12,10 +12,10 @@ use Rattle.px_sem.specs.World.{World, NodeRecord, Action, NoAction, Assigned, Co
 use Rattle.px_sem.specs.Conflicts.{target_of}
 use Rattle.px_sem.specs.Effects.{Write, write_at, written}
 use Rattle.px_sem.specs.Events.{with_record, with_action, with_write, with_handle, with_abort_done, result_place, returned, body_at, action_at, counts, changed, take}
-use Rattle.px_typing.specs.Typing.{Suits, KeptSuits, IsTyped}
-use Rattle.px_typing.proofs.Effects.{WriteSuits, write_at_suits, command_kept, update_kept}
-use Rattle.px_typing.proofs.Records.{with_record_holds}
-use Rattle.px_typing.proofs.Variables.{named_so, HoldsSuiting, Keeps, changed_suit, written_suits}
+use Rattle.px_typed.specs.Typing.{Suits, KeptSuits, IsTyped}
+use Rattle.px_typed.proofs.Effects.{WriteSuits, write_at_suits, command_kept, update_kept}
+use Rattle.px_typed.proofs.Records.{with_record_holds}
+use Rattle.px_typed.proofs.Variables.{named_so, HoldsSuiting, Keeps, changed_suit, written_suits}
 
 -- the record of the node at a path is typed
 record RecordSuits (plan : List Site) (path : List ℕ) (r : NodeRecord) : Type 0 where

@@ -10,7 +10,7 @@ ghost use Rattle.px_sem.specs.Events.{take};
 ghost use Rattle.px_sem.specs.Run.{run};
 ghost use Rattle.px_sem.specs.Step.{micro};
 ghost use Rattle.px_sem.specs.World.{World};
-ghost use Rattle.px_typing.specs.Typing.{InitialsSuit, IsTyped};
+ghost use Rattle.px_typed.specs.Typing.{InitialsSuit, IsTyped};
 
 /// A micro step keeps the types of cells and of kept values, from every world in which all are of their types.
 pub fn steps()

@@ -8,12 +8,12 @@ use Rattle.px_event.specs.declared.event.Event.{Event}
 use Rattle.px_sem.specs.World.{World, initial_world, initial_record}
 use Rattle.px_sem.specs.Events.{take}
 use Rattle.px_sem.specs.Run.{after_steps, settling_count, settled, settled_world, started, posted, run_on, run}
-use Rattle.px_typing.specs.Typing.{InitialsSuit, KeptSuits, IsTyped}
-use Rattle.px_typing.proofs.Effects.{nothing_kept}
-use Rattle.px_typing.proofs.Events.{event_typed}
-use Rattle.px_typing.proofs.Records.{found, record_of, record_of_start}
-use Rattle.px_typing.proofs.Steps.{step_typed}
-use Rattle.px_typing.proofs.Variables.{HoldsSuiting, unknown_values_suit}
+use Rattle.px_typed.specs.Typing.{InitialsSuit, KeptSuits, IsTyped}
+use Rattle.px_typed.proofs.Effects.{nothing_kept}
+use Rattle.px_typed.proofs.Events.{event_typed}
+use Rattle.px_typed.proofs.Records.{found, record_of, record_of_start}
+use Rattle.px_typed.proofs.Steps.{step_typed}
+use Rattle.px_typed.proofs.Variables.{HoldsSuiting, unknown_values_suit}
 
 start_typed : (plan : List Site) → IsTyped plan (initial_world plan)
 start_typed plan = record {

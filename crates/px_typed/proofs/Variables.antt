@@ -11,8 +11,8 @@ use Rattle.px_core.specs.Fit.{cells_of}
 use Rattle.px_core.specs.Plan.{VariableData, is_same}
 use Rattle.px_sem.specs.World.{of_variable}
 use Rattle.px_sem.specs.Effects.{Write, initial_values, written, cell_of}
-use Rattle.px_typing.specs.Typing.{Suits}
-use Rattle.px_typing.proofs.Effects.{unknown_suits}
+use Rattle.px_typed.specs.Typing.{Suits}
+use Rattle.px_typed.proofs.Effects.{unknown_suits}
 
 -- the first variable of a name
 abbrev pub named : List VariableData → List ℕ → Option VariableData

@@ -17,7 +17,7 @@ use Rattle.px_sem.specs.Expressions.{value}
 use Rattle.px_value.specs.declared.enums.Handle.{Handle}
 use Rattle.px_sem.specs.World.{World, Abort, Action, NoAction, Assigned, Commanded, Updated, Place, record_at, variable_at, cells_at}
 use Rattle.px_sem.specs.Effects.{MoveKind, Initializes, Resets, Starts, Fails, Other, move_kind, as_kind, Write, write_at, value_at, cell_of, place_of, Effects, silent, writing, sends, updates, writes_back, aborts, effects_of}
-use Rattle.px_typing.specs.Typing.{suits, Suits, CellsSuit, KeptSuits}
+use Rattle.px_typed.specs.Typing.{suits, Suits, CellsSuit, KeptSuits}
 
 -- a write is of its variable's type, or UNKNOWN
 abbrev pub WriteSuits : List Site → Write → Type 0

@@ -11,10 +11,10 @@ use Rattle.px_sem.specs.World.{World, NodeRecord, record_at, variable_at}
 use Rattle.px_sem.specs.Conflicts.{transition}
 use Rattle.px_sem.specs.Effects.{Write, effects_of, initial_values, write_to, written}
 use Rattle.px_sem.specs.Step.{micro, record_after, initializes, step_writes}
-use Rattle.px_typing.specs.Typing.{InitialsSuit, KeptSuits, IsTyped}
-use Rattle.px_typing.proofs.Effects.{WriteSuits, effects_suit, effects_keep}
-use Rattle.px_typing.proofs.Records.{found, found_path, found_holds, each_is_found, record_of, record_of_step}
-use Rattle.px_typing.proofs.Variables.{named, named_so, HoldsSuiting, Keeps, initial_values_suit, changed_suit, written_suits}
+use Rattle.px_typed.specs.Typing.{InitialsSuit, KeptSuits, IsTyped}
+use Rattle.px_typed.proofs.Effects.{WriteSuits, effects_suit, effects_keep}
+use Rattle.px_typed.proofs.Records.{found, found_path, found_holds, each_is_found, record_of, record_of_step}
+use Rattle.px_typed.proofs.Variables.{named, named_so, HoldsSuiting, Keeps, initial_values_suit, changed_suit, written_suits}
 
 -- ---- the writes of a step
 

@@ -1,0 +1,5 @@
+use Rattle.px_typed.proofs.Events.{event_typed}
+use Rattle.px_typed.proofs.typing.events.Goals as goal
+
+pub returns : goal.returns
+returns c = event_typed

@@ -1,6 +1,0 @@
-pub mod Effects
-pub mod Events
-pub mod Records
-pub mod Runs
-pub mod Steps
-pub mod Variables
