@@ -1,5 +1,5 @@
 -- What an executive keeps, at its opening and after each answer of a post.
-use Rattle.std.proofs.Common.{◌≡◌, ◌≤◌, ◌<◌, ◌^◌, ℕ, List, [], ◌∷◌, ◌++◌, Option, Some, None, IsSome, length, refl, sym, ◌∙◌, ap, subst, arith, append_assoc, append-nil, IsTrue, IsFalse}
+use Rattle.std.proofs.Common.{◌≡◌, ◌≤◌, ◌<◌, ◌+◌, ◌^◌, ℕ, List, [], ◌∷◌, ◌++◌, Option, Some, None, IsSome, length, refl, sym, ◌∙◌, ap, subst, arith, append_assoc, append-nil, IsTrue, IsFalse}
 use Rattle.std.proofs.lemmas.List.{length-map, map-append, take_all}
 use Rattle.px_core.specs.Plan.{Site}
 use Rattle.px_event.specs.Fit.{is_fit_entry}
@@ -19,7 +19,8 @@ use Rattle.px_exec.specs.declared.failed.Failed.{Failed}
 use Rattle.px_exec.specs.Answers.{answer_now, logged}
 use Rattle.px_exec.specs.Crash.{AddsAtMost}
 use Rattle.px_exec.specs.Executive.{Opening, Executive, Keeps, KeepsDisk, IsOpen, IsClosed, KeepsSinceOpening, plan_of, world_of}
-use Rattle.px_exec.proofs.Growing.{accepted_more, answers_more, run_after, some_run}
+use Rattle.px_sem.proofs.Logs.{accepted_more, answers_more}
+use Rattle.px_exec.proofs.Growing.{accepted_by, run_after, some_run}
 use Rattle.px_exec.proofs.Images.{ready_leaves, within_at_once, within_more}
 
 pub told_of : {T : Type 0} (o : Option T) → IsSome o → (told : T) × (o ≡ Some told)
@@ -151,6 +152,10 @@ module _ {S D : Type 0} (runs : Stepper.Ghosts S) (members : Disk.Ghosts D) wher
     faults = omega (arith, keeps.faults, adds.faults);
     disk = record {
       fit = fit;
+      due = record {
+        runs = some_run (plan_of runs old) (events_of old.history) (world_of runs old) keeps.runs_to;
+        answers = ((world_of runs old, keeps.runs_to, now_due), tt);
+      };
       settles = some_run (plan_of runs old) (events_of (old.history ++ entry ∷ [])) _
           (run_after (plan_of runs old) old.opening.limit old.history (world_of runs old) entry (replies.Accepted position) keeps.runs_to (sym due));
       rose = rose_on _ _ _ keeps.faults rose;
@@ -170,6 +175,13 @@ module _ {S D : Type 0} (runs : Stepper.Ghosts S) (members : Disk.Ghosts D) wher
 
       world_is : (runs.state stepper).world ≡ world_of runs old
       world_is = ap (λ (s : State). s.world) same
+
+      -- the position is the next one, and the count is that of the history's events
+      now_due : replies.Accepted (length old.history + 1) ≡ answer (plan_of runs old) old.opening.limit (length (events_of old.history)) (world_of runs old) entry.event
+      now_due =
+          let found = accepted_by _ _ _ (length old.history) position due in
+          ap replies.Accepted (sym found.2) ∙ sym due
+          ∙ ap (λ n. answer (plan_of runs old) old.opening.limit n (world_of runs old) entry.event) (sym (count_of old.history))
 
       rose_on : (first before now : ℕ) → first ≤ before → Rose before now → Rose first now
       rose_on first before now later rose = omega (arith, rose)
@@ -204,6 +216,7 @@ module _ {S D : Type 0} (runs : Stepper.Ghosts S) (members : Disk.Ghosts D) wher
       moved None unfailed = record { stands = unfailed.stands; since = unfailed.since }
       moved (Some f) closed = record {
         fit = closed.fit;
+        due = closed.due;
         settles = closed.settles;
         rose = closed.rose;
         counted = closed.counted;

@@ -10,7 +10,7 @@ use Rattle.px_journal.specs.declared.journal.Journal.{Journal}
 use Rattle.px_ports.specs.Host.{Rose}
 use Rattle.px_ports.specs.declared.disk.Disk
 use Rattle.px_ports.specs.declared.moment.Moment.{Moment}
-use Rattle.px_sem.specs.Log.{Log, IsLegal, accepted, events_of}
+use Rattle.px_sem.specs.Log.{Log, IsLegal, WouldBeAccepted, accepted, events_of}
 use Rattle.px_sem.specs.Run.{run}
 use Rattle.px_sem.specs.Stepper.{settled_state}
 use Rattle.px_sem.specs.World.{World}
@@ -77,6 +77,7 @@ pub record IsOpen {S D : Type 0} (members : Disk.Ghosts D) (exec : Executive S D
 pub record IsClosed {S D : Type 0} (runs : Stepper.Ghosts S) (members : Disk.Ghosts D) (exec : Executive S D)
     (failed : Failed) : Type 0 where
   pub fit : IsTrue (is_fit_entry failed.entry)
+  pub due : WouldBeAccepted (plan_of runs exec) exec.opening.limit exec.history failed.entry
   pub settles : IsSome (run (plan_of runs exec) (events_of (exec.history ++ failed.entry ∷ [])))
   pub rose : Rose (members.faults exec.opening.journal.disk) failed.faults
   pub counted : failed.faults ≤ members.faults exec.journal.disk

@@ -2,4 +2,3 @@ pub mod Executive
 pub mod Opening
 pub mod Answers
 pub mod Crash
-pub mod Asking

@@ -1,6 +1,6 @@
 // An entry that is answered by a stepper and kept by a journal.
 //
-// The stepper advances first, since an event that runs away is not to be journaled. The append comes before the stepper
+// The event is offered first, since one that is refused is not to be journaled. The append comes before the stepper
 // settles, so that a fault of the disk can still be taken back; after it nothing takes memory or can fail.
 ghost use Rattle.std.specs.Prelude.{◌≡◌, ◌≤◌, ◌+◌, [], ◌∷◌, ◌++◌, ℕ, List, length, IsTrue, IsFalse, IfOk, OnErr, IsErrOf};
 ghost use Rattle.px_event.specs.Fit.{is_fit_entry};
@@ -15,7 +15,7 @@ ghost use Rattle.px_exec.specs.Crash.{AddsAtMost};
 use px_event::{Entry, Reply};
 use px_journal::Journal;
 use px_ports::Disk;
-use px_sem::{Standing, StepFault, Stepper};
+use px_sem::{Offered, Stepper, offer};
 use std::alloc::Global;
 
 /// Why an entry has no reply.
@@ -57,23 +57,15 @@ pub(crate) fn answer<S: Stepper, D: Disk>(
 
     ensures crash { AddsAtMost D.Disk entry.now journal.old journal.new }
 {
-    if let Standing::Finished { .. } = stepper.standing() {
-        return Ok(Reply::PlanFinished);
-    }
-    if limit <= count {
-        return Ok(Reply::Full);
-    }
-    match stepper.advance(alloc, &entry.event) {
-        Ok(_) => {}
-        Err(StepFault::Runaway) => return Ok(Reply::Runaway),
-        Err(StepFault::NoMemory) => return Err(Unanswered::NoMemory),
-    }
+    let position = match offer(stepper, alloc, limit, count, &entry.event) {
+        Ok(Offered::Refused(reply)) => return Ok(reply),
+        Ok(Offered::Pending { position }) => position,
+        Err(_) => return Err(Unanswered::NoMemory),
+    };
     match journal.append(entry) {
         Ok(()) => {
             stepper.settle();
-            Ok(Reply::Accepted {
-                position: count + 1,
-            })
+            Ok(Reply::Accepted { position })
         }
         Err(_) => {
             stepper.give_up();

@@ -2,7 +2,7 @@
 ghost use Rattle.std.specs.Prelude.{◌≡◌, IsTrue, IsFalse, Some, None};
 ghost use Rattle.std.specs.Option.{option_map};
 ghost use Rattle.px_sem.specs.World.{standing_of, integer_at};
-ghost use Rattle.px_exec.specs.Asking.{Holds};
+ghost use Rattle.px_sem.specs.Asking.{Holds};
 ghost use Rattle.px_exec.specs.Executive.{Keeps, plan_of, world_of};
 
 use crate::exec::Exec;

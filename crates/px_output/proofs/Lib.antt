@@ -1,3 +1,4 @@
+pub mod Listing
 pub mod Logging
 pub mod Printed
 pub mod Telling

@@ -78,6 +78,14 @@ pub fails_first : (U : Type 0) {T : Type 0} (a c : View) (p q' rest piece later 
 fails_first U a c p q' rest piece later whole fault r is prints w =
     fails U a a c p p q' rest [] piece later whole fault r is (leaves_none a p) (only_same a) prints w
 
+-- the last piece of a text is printed, or breaks off
+pub ends : (a b c : View) (p q rest told piece whole : List ℕ) (r : Result Unit PrintFault) → whole ≡ told ++ piece → Leaves a p b q told
+    → OnlyPrints a b → Prints b q c rest piece r → Prints a p c rest whole r
+ends a b c p q rest told piece whole (Ok done) w leaves only more = rw w (goes_on a b c p q rest told piece leaves more)
+ends a b c p q rest told piece whole (Err fault) w leaves only more =
+    fails Unit {T = Unit} a b c p q rest rest told piece [] whole fault (Err fault) refl leaves only more
+    (w ∙ ap (λ text. told ++ text) (sym (append-nil piece)))
+
 -- ---- a piece by way of the buffer
 
 pub piece_printed : {T : Type 0} (a b : View) (p q rest piece : List ℕ) (r : Result T PrintFault) → q ≡ p ++ piece → Prints a q b rest [] r
@@ -103,12 +111,14 @@ emitted_whole a b text (front, is, emits) = rw (is, append-nil) emits
 pub emitted_part : (a b : View) (left text : List ℕ) → Leaves a [] b left text → EmitsPart a b text
 emitted_part a b left text (front, is, emits) = (front, left, is, emits)
 
+-- by a printer that holds nothing
+pub from_nothing : (a b : View) (p q text : List ℕ) (r : Result Unit PrintFault) → p ≡ [] → Prints a p b q text r → Prints a [] b q text r
+from_nothing a b p q text r is prints = subst (λ p. Prints a p b q text r) is prints
+
 -- what is left of a text is emitted at its end
 pub finished : (a b c : View) (q text whole : List ℕ) (r : Result Unit PrintFault) → whole ≡ text → Leaves a [] b q text → OnlyPrints a b
     → Prints b q c [] [] r → Prints a [] c [] whole r
-finished a b c q text whole (Ok done) w leaves only more = rw (w, ← append-nil text) (goes_on a b c [] q [] text [] leaves more)
-finished a b c q text whole (Err fault) w leaves only more =
-    fails Unit {T = Unit} a b c [] q [] [] text [] [] whole fault (Err fault) refl leaves only more (w ∙ sym (append-nil text))
+finished a b c q text whole r w leaves only more = ends a b c [] q [] text [] whole r (w ∙ sym (append-nil text)) leaves only more
 
 -- ---- what one emit does
 

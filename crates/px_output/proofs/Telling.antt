@@ -1,22 +1,19 @@
--- The trace of a history, and the line of each post, on their way to the sink.
-use Rattle.std.proofs.Common.{◌≡◌, ℕ, suc, ◌+◌, ◌<◌, ◌≤◌, List, [], ◌∷◌, ◌++◌, Option, Some, None, IsSome, take, drop, get_or, length, refl, ap, subst, ◌∙◌, sym, add-one, append-nil, append_assoc}
-use Rattle.std.proofs.lemmas.Grind.{flat_map-append}
-use Rattle.std.proofs.lemmas.List.{take-append-drop, take_more, drop_all}
-use Rattle.std.proofs.Math.Seq.{drop-cons}
+-- The trace of a history on its way to the sink.
+use Rattle.std.proofs.Common.{◌≡◌, ℕ, ◌+◌, ◌≤◌, List, [], ◌∷◌, ◌++◌, Option, Some, None, IsSome, drop, length, refl, ap, subst, ◌∙◌, sym, add-one, append-nil, append_assoc}
+use Rattle.std.proofs.lemmas.List.{drop_all}
 use Rattle.px_core.specs.Plan.{Site}
 use Rattle.px_event.specs.declared.entry.Entry.{Entry}
 use Rattle.px_event.specs.declared.event.Event.{Event}
-use Rattle.px_sem.specs.declared.log.LogEntry.{LogEntry}
 use Rattle.px_sem.specs.World.{World, initial_world}
 use Rattle.px_sem.specs.Events.{take as taken}
-use Rattle.px_sem.specs.Log.{Log, events_of}
+use Rattle.px_sem.specs.Log.{events_of}
 use Rattle.px_sem.specs.Run.{settled, started, posted, settled_world, run_on, run}
 use Rattle.px_sem.specs.Stepper.{State, fresh, settled_state, with_event}
-use Rattle.px_sem.specs.Text.{start_text, heading_text, settled_text, events_trace, trace, reply_line, log_lines}
+use Rattle.px_sem.specs.Text.{start_text, heading_text, settled_text, events_trace, trace}
 use Rattle.px_sem.proofs.Logs.{run_on_none}
 use Rattle.px_output.specs.Printing.{Leaves}
 use Rattle.px_output.specs.View.{View, OnlyPrints}
-use Rattle.px_output.proofs.Printed.{leaves_none, goes_on, only_same, only_more}
+use Rattle.px_output.proofs.Printed.{goes_on, only_more}
 
 -- ---- a run that exists has settled before
 
@@ -75,10 +72,6 @@ told_at_start plan history from now old mid new p q r f heads one ((count, s), r
   where
     start : started plan ≡ Some (now.world, count)
     start = subst (λ (x : State). settled x.nodes x.world ≡ Some (now.world, count)) f s
-
-pub drop_item : {X : Type 0} (xs : List X) (k : ℕ) (x : X) → k < length xs → x ≡ get_or xs k x → drop k xs ≡ x ∷ drop (k + 1) xs
-drop_item xs k x within is =
-    drop-cons xs k x within ∙ ap (λ y. y ∷ drop (suc k) xs) (sym is) ∙ ap (λ n. x ∷ drop n xs) (sym (add-one k))
 
 -- an entry is the next of the history, and its event was begun
 pub record IsNext (plan : List Site) (history : List Entry) (position : ℕ) (now begun : State) (entry : Entry) : Type 0 where
@@ -177,40 +170,3 @@ told_to_end plan history position now old new p q t end =
       sym t.runs ∙ ap (λ entries. run_on plan (Some now.world) (events_of entries)) none ∙ run_on_none plan (Some now.world),
       rw (t.left ∙ ap (λ entries. t.told ++ events_trace plan (position + 1) (Some now.world) entries) none ∙ append-nil t.told) t.leaves,
     )
-
--- ---- the line of each post
-
-abbrev pub line_of : LogEntry → List ℕ
-line_of logged = reply_line logged.entry.thread logged.entry.line logged.reply
-
--- so many lines of a log are told
-pub record IsReplied (log : Log) (count : ℕ) (old : View) (p : List ℕ) (new : View) (q : List ℕ) : Type 0 where
-  pub leaves : Leaves old p new q (log_lines (take count log))
-  pub only : OnlyPrints old new
-
-pub replied_none : (log : Log) (v : View) (p : List ℕ) → IsReplied log 0 v p v p
-replied_none log v p = record { leaves = leaves_none v p; only = only_same v }
-
-lines_more : (log : Log) (count : ℕ) (logged : LogEntry) → count < length log → logged ≡ get_or log count logged
-    → log_lines (take (count + 1) log) ≡ log_lines (take count log) ++ line_of logged
-lines_more log count logged within is =
-    ap log_lines (take_more log count logged within ∙ ap (λ l. take count log ++ l ∷ []) (sym is))
-    ∙ flat_map-append line_of (take count log) (logged ∷ [])
-    ∙ ap (λ text. log_lines (take count log) ++ text) (append-nil (line_of logged))
-
--- one line more
-pub replied_more : (log : Log) (count : ℕ) (logged : LogEntry) (old mid new : View) (p q r : List ℕ)
-    → IsReplied log count old p mid q → count < length log → logged ≡ get_or log count logged
-    → Leaves mid q new r (line_of logged) → OnlyPrints mid new → IsReplied log (count + 1) old p new r
-replied_more log count logged old mid new p q r t within is leaves only = record {
-  leaves = rw (lines_more log count logged within is) (goes_on old mid new p q r (log_lines (take count log)) (line_of logged) t.leaves leaves);
-  only = only_more old mid new t.only only;
-}
-
--- the next line, and those behind it
-pub lines_left : (log : Log) (count : ℕ) (logged : LogEntry) → count < length log → logged ≡ get_or log count logged
-    → log_lines log ≡ log_lines (take count log) ++ (line_of logged ++ log_lines (drop (count + 1) log))
-lines_left log count logged within is =
-    ap log_lines (sym (take-append-drop count log))
-    ∙ flat_map-append line_of (take count log) (drop count log)
-    ∙ ap (λ entries. log_lines (take count log) ++ log_lines entries) (drop_item log count logged within is)

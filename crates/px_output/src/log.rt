@@ -1,5 +1,5 @@
 // The text of a log: the trace of its history, which is run once more for it, then the line of each post, and how
-// the plan stands. So no trace is kept.
+// the plan stands. So no trace is kept. Behind it stand the waits at which a script is stalled.
 ghost use Rattle.std.specs.Prelude.{◌≡◌, ℕ, ◌<◌, ◌^◌, ◌++◌, List, [], length, IfOk, OnOk, IsSome, IsTrue, Some};
 ghost use Rattle.std.specs.List.{list_all};
 ghost use Rattle.px_core.specs.Fit.{IsFit};
@@ -10,14 +10,15 @@ ghost use Rattle.px_sem.specs.Log.{events_of, accepted};
 ghost use Rattle.px_sem.specs.Run.{run, settled};
 ghost use Rattle.px_sem.specs.Stepper.{is_pending, fresh, settled_state};
 ghost use Rattle.px_sem.specs.Text.{settled_text, trace, log_lines, text_of};
-ghost use Rattle.px_output.specs.Printing.{Prints};
-ghost use Rattle.px_output.specs.Printing.{run_text};
+ghost use Rattle.px_output.specs.Printing.{Prints, run_text};
+ghost use Rattle.px_output.specs.Stalls.{stall_lines};
 ghost use Rattle.px_output.specs.View.{view, OnlyPrints};
 
 use crate::printer::{PrintFault, Printer};
 use px_core::Plan;
 use px_event::Entry;
 use px_ports::Host;
+use px_script::Stall;
 use px_sem::{LogEntry, Stepper};
 use std::alloc::Global;
 
@@ -42,12 +43,61 @@ pub fn print_log<H: Host, S: Stepper>(
         (text_of (sites (tree_of plan.now)) before log.now) result }
     ensures only { OnlyPrints (view H.Host host.old) (view H.Host host.new) }
 {
-    let mut stepper = S::fresh(alloc, plan)?;
     let mut printer = Printer::new(alloc);
-    print_trace(alloc, &mut stepper, history, &mut printer, host)?;
-    print_replies(log, &mut printer, host)?;
-    printer.standing(host, stepper.standing())?;
+    print_text::<H, S>(alloc, plan, history, log, &mut printer, host)?;
     printer.finish(host)
+}
+
+/// Prints the text of a log that goes on from a history, and behind it a line for each wait at which a thread stands. The
+/// whole history, which ends with the accepted entries of the log, has to settle.
+///
+/// `SinkFailed` comes only where an emit failed or took nothing, `NoMemory` where memory ran out; a front of the text is
+/// emitted then.
+pub fn print_stalled<H: Host, S: Stepper>(
+    alloc: Global,
+    plan: &Plan,
+    history: &[Entry],
+    log: &[LogEntry],
+    stalls: &[Stall],
+    host: &mut H,
+) -> Result<(), PrintFault>
+    requires fit { IsFit (tree_of plan.now) }
+    requires events { IsTrue (list_all is_fit_entry history.now) }
+    requires within { length history.now < 2 ^ 32 }
+    requires runs { IsSome (run (sites (tree_of plan.now)) (events_of history.now)) }
+    ensures prints { (before : List Posted) → history.now ≡ before ++ accepted log.now
+        → Prints (view H.Host host.old) [] (view H.Host host.new) []
+        (text_of (sites (tree_of plan.now)) before log.now ++ stall_lines stalls.now) result }
+    ensures only { OnlyPrints (view H.Host host.old) (view H.Host host.new) }
+{
+    let mut printer = Printer::new(alloc);
+    print_text::<H, S>(alloc, plan, history, log, &mut printer, host)?;
+    print_stalls(stalls, &mut printer, host)?;
+    printer.finish(host)
+}
+
+// Prints the text of a log, the end of which may stay with the printer.
+fn print_text<H: Host, S: Stepper>(
+    alloc: Global,
+    plan: &Plan,
+    history: &[Entry],
+    log: &[LogEntry],
+    printer: &mut Printer,
+    host: &mut H,
+) -> Result<(), PrintFault>
+    requires fit { IsFit (tree_of plan.now) }
+    requires events { IsTrue (list_all is_fit_entry history.now) }
+    requires within { length history.now < 2 ^ 32 }
+    requires runs { IsSome (run (sites (tree_of plan.now)) (events_of history.now)) }
+    ensures prints { (before : List Posted) → history.now ≡ before ++ accepted log.now
+        → Prints (view H.Host host.old) printer.old (view H.Host host.new) printer.new
+        (text_of (sites (tree_of plan.now)) before log.now) result }
+    ensures only { OnlyPrints (view H.Host host.old) (view H.Host host.new) }
+{
+    let mut stepper = S::fresh(alloc, plan)?;
+    print_trace(alloc, &mut stepper, history, printer, host)?;
+    print_replies(log, printer, host)?;
+    printer.standing(host, stepper.standing())
 }
 
 // Runs the history from the start, and prints its trace.
@@ -141,6 +191,22 @@ fn print_replies<H: Host>(
 {
     for logged in log {
         printer.reply(host, logged)?;
+    }
+    Ok(())
+}
+
+// Prints the line of each wait at which a thread stands.
+fn print_stalls<H: Host>(
+    stalls: &[Stall],
+    printer: &mut Printer,
+    host: &mut H,
+) -> Result<(), PrintFault>
+    ensures prints { Prints (view H.Host host.old) printer.old (view H.Host host.new) printer.new
+        (stall_lines stalls.now) result }
+    ensures only { OnlyPrints (view H.Host host.old) (view H.Host host.new) }
+{
+    for stall in stalls {
+        printer.stall(host, stall)?;
     }
     Ok(())
 }

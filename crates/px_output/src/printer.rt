@@ -3,13 +3,15 @@ ghost use Rattle.std.specs.Prelude.{◌≡◌, ◌<◌, [], length, OnOk, IfErr}
 ghost use Rattle.px_output.specs.declared.printer.PrintFault.TheVariants.{SinkFailed, NoMemory as OutOfMemory};
 ghost use Rattle.px_output.specs.Printing.{Prints};
 ghost use Rattle.px_output.specs.View.{view, OnlyPrints};
-ghost use Rattle.px_sem.specs.Text.{start_text, heading_text, step_text, quiet_text, reply_line, standing_text};
+ghost use Rattle.px_sem.specs.Text.{start_text, heading_text, step_text, quiet_text, reply_line, standing_text, stall_line};
 
 use px_event::Entry;
 use px_ports::Host;
+use px_script::Stall;
 use px_sem::{LogEntry, Move, Standing};
 use px_trace::{
-    LoggedLine, push_heading, push_quiet, push_reply, push_standing, push_start, push_step,
+    LoggedLine, push_heading, push_quiet, push_reply, push_stall, push_standing, push_start,
+    push_step,
 };
 use px_value::NoMemory;
 use std::alloc::Global;
@@ -162,6 +164,24 @@ impl Printer {
         ensures only { OnlyPrints (view H.Host host.old) (view H.Host host.new) }
     {
         push_standing(self.alloc, &standing, &mut self.buffer)?;
+        self.emit_piece(host)
+    }
+
+    /// Prints the line of a wait at which a thread stands.
+    #[tactic(auto, using(crate::proofs::Printed::nothing_printed))]
+    pub fn stall<H: Host>(&mut self, host: &mut H, stall: &Stall) -> Result<(), PrintFault>
+        ensures prints { Prints (view H.Host host.old) self.old (view H.Host host.new) self.new
+            (stall_line stall.now.thread stall.now.line stall.now.cond) result }
+        ensures short { OnOk result (length self.new < 65536) }
+        ensures only { OnlyPrints (view H.Host host.old) (view H.Host host.new) }
+    {
+        push_stall(
+            self.alloc,
+            stall.thread,
+            stall.line,
+            &stall.cond,
+            &mut self.buffer,
+        )?;
         self.emit_piece(host)
     }
 

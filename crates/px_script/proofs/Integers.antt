@@ -1,9 +1,9 @@
 -- A number that spells no integer of 32 bits.
-use Rattle.std.proofs.Common.{◌≡◌, ◌≢◌, ℕ, ◌^◌, ◌<◌, ◌≤◌, Bool, true, false, List, [], ◌∷◌, length, get_or, refl, ap, arith, Option, Some, None, inl, inr, w32}
+use Rattle.std.proofs.Common.{◌≡◌, ◌≢◌, ℕ, ◌^◌, ◌<◌, ◌≤◌, true, List, [], ◌∷◌, length, refl, arith, None, inl, inr, w32}
 use Rattle.std.specs.Prelude.{◌&&◌, ◌==◌, nat_le, ℤ, pos, negsuc, FitsSigned}
 use Rattle.std.specs.List.{list_all}
 use Rattle.std.specs.Str.Parse.{AllDigits, IsNumeral, signed_digits_value, without_leading_sign}
-use Rattle.std.proofs.lemmas.Bool.{cases_Bool, and_parts, leb-true, ltb-true, eqb-true}
+use Rattle.std.proofs.lemmas.Bool.{cases_Bool, and_parts, leb-true, ltb-true}
 use Rattle.std.proofs.lemmas.Int.{ints}
 use Rattle.std.proofs.lemmas.Str.Parse.{tells_digits, without_leading_plus_none}
 use Rattle.px_value.specs.Arithmetic.{fits_32_bits}
@@ -11,7 +11,7 @@ use Rattle.px_value.specs.Name.{is_digit}
 use Rattle.px_value.specs.declared.value.Value.TheVariants as values
 use Rattle.px_script.specs.Value.{plain, is_digits, is_number, integer_of}
 
-all_digits : (ds : List ℕ) → list_all is_digit ds ≡ true → AllDigits 10 ds
+pub all_digits : (ds : List ℕ) → list_all is_digit ds ≡ true → AllDigits 10 ds
 all_digits [] h = tells_digits.empty
 all_digits (c ∷ cs) h =
     let parts : (is_digit c ≡ true) × (list_all is_digit cs ≡ true) = and_parts (is_digit c) (list_all is_digit cs) h in

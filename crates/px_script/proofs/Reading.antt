@@ -1,118 +1,225 @@
--- A script is read line by line: what is left of it, behind lines that posted these.
-use Rattle.std.proofs.Common.{◌≡◌, ℕ, ◌+◌, ◌<◌, ◌≤◌, Bool, List, [], ◌∷◌, ◌++◌, length, refl, sym, ap, ◌∙◌, subst, arith, Some, None, cond, inl, inr}
-use Rattle.std.specs.Prelude.{nat_le, nat_lt, if◌then◌else◌}
-use Rattle.std.specs.List.{filter_map, cons_option, count_by, enumerate_from}
+-- A script is read line by line: what is left of it, behind lines of which the threads keep these.
+use Rattle.std.proofs.Common.{◌≡◌, ℕ, zero, suc, ◌+◌, ◌-◌, ◌<◌, ◌≤◌, Bool, true, false, List, [], ◌∷◌, ◌++◌, length, replicate, set, map, refl, sym, ap, ◌∙◌, subst, arith, Result, Ok, Err, IfErr, Option, Some, None, cond, inl, inr}
+use Rattle.std.specs.Prelude.{◌==◌, nat_le, if◌then◌else◌}
+use Rattle.std.specs.List.{filter, filter_map, cons_option, range_with_len}
 use Rattle.std.proofs.lemmas.List.{append-nil, append_assoc}
 use Rattle.std.proofs.lemmas.List.Elements.{filter_map-append}
-use Rattle.std.proofs.lemmas.List.Sums.{sum_by-append, sum_by-cons}
-use Rattle.std.proofs.lemmas.Bool.{lt-ltb, le-ltb, cases_Bool}
-use Rattle.px_event.specs.declared.event.Event.{Event}
+use Rattle.std.proofs.lemmas.List.FromFn.{get_or-map-range_with_len}
+use Rattle.std.proofs.lemmas.Bool.{and_parts, leb-true, leb-false, eqb-true, cases_Bool}
+use Rattle.px_core.specs.Plan.{Site}
 use Rattle.px_script.specs.declared.line.Line.{Line}
+use Rattle.px_script.specs.declared.line.What.{What}
 use Rattle.px_script.specs.declared.line.What.TheVariants as whats
 use Rattle.px_script.specs.declared.parsed_line.ParsedLine.{ParsedLine}
-use Rattle.px_script.specs.declared.parsed_line.ParsedLine.TheVariants.{Nothing, Posts, Faulty}
+use Rattle.px_script.specs.declared.parsed_line.ParsedLine.TheVariants.{Nothing, Posts, Waits, Thread, Faulty}
 use Rattle.px_script.specs.declared.fault.FaultKind.{FaultKind}
 use Rattle.px_script.specs.declared.fault.FaultKind.TheVariants.{TooManyLines}
+use Rattle.px_script.specs.declared.fault.ScriptFault.{ScriptFault}
+use Rattle.px_script.specs.declared.fault.ScriptFault.TheVariants.{NoMemory}
 use Rattle.px_script.specs.Fault.{number_of}
-use Rattle.px_script.specs.Script.{Reading, Threads, Fault, posts, post_of, posts_before, fault_in, by_faults, reading, threads_of}
+use Rattle.px_script.specs.ParsedLine.{parsed_line}
+use Rattle.px_script.specs.Rest.{has_a_line}
+use Rattle.px_script.specs.Script.{Reading, Threads, Fault, Said, said_from, done_at, lines_of_thread, lines_before, fault_in, threads_of, by_faults, reading, IsFaultOf}
+use Rattle.px_script.specs.ThreadLine.{is_thread}
+use Rattle.px_script.specs.Threads.{lines_in, with_line, todos_from}
+use Rattle.px_script.proofs.FitLines.{IsFitParsedLine, AllFit}
+use Rattle.px_script.proofs.SaidLines.{say, AllBelow, below_said, said_later, count_is, lines_push}
 
-abbrev pub post_line : ℕ → Event → Line
-post_line number event = record { number = number; what = whats.Post event }
+-- where the thread has room for one more line, what is behind that line
+abbrev pub with_room : List (List Line) → ℕ → ℕ → Reading → Reading
+with_room kept thread number behind =
+    if nat_le 100000 (length (lines_in kept thread)) then Fault number (number_of TooManyLines) else behind
 
-abbrev pub read_on : List Line → ℕ → List ParsedLine → Reading
-read_on kept number [] = Threads (threads_of kept)
-read_on kept number (Nothing ∷ more) = read_on kept (number + 1) more
-read_on kept number (Posts event ∷ more) =
-    if nat_le 100000 (length kept) then Fault number (number_of TooManyLines) else read_on (kept ++ post_line number event ∷ []) (number + 1) more
-read_on kept number (Faulty kind ∷ more) = Fault number (number_of kind)
+abbrev pub line_of : ℕ → What → Line
+line_of number what = record { number = number; what = what }
 
-abbrev pub AllBelow : ℕ → List Line → Type 0
-AllBelow number [] = Unit {0}
-AllBelow number (line ∷ lines) = (line.number < number) × AllBelow number lines
+abbrev pub read_on : List (List Line) → ℕ → ℕ → List ParsedLine → Reading
+read_on kept thread number [] = Threads (filter has_a_line (todos_from 1 kept))
+read_on kept thread number (Nothing ∷ more) = read_on kept thread (number + 1) more
+read_on kept thread number (Posts event ∷ more) =
+    with_room kept thread number (read_on (with_line kept thread (line_of number (whats.Post event))) thread (number + 1) more)
+read_on kept thread number (Waits cond ∷ more) =
+    with_room kept thread number (read_on (with_line kept thread (line_of number (whats.Wait cond))) thread (number + 1) more)
+read_on kept thread number (Thread named ∷ more) = read_on kept named (number + 1) more
+read_on kept thread number (Faulty kind ∷ more) = Fault number (number_of kind)
 
-pub below_next : (number : ℕ) (lines : List Line) → AllBelow number lines → AllBelow (number + 1) lines
-below_next number [] below = tt
-below_next number (line ∷ lines) below = (omega arith, below_next number lines below.1)
+-- ---- the lines that are kept
 
-pub below_push : (number : ℕ) (lines : List Line) (line : Line) → AllBelow number lines → line.number < number → AllBelow number (lines ++ line ∷ [])
-below_push number [] line below last = (last, tt)
-below_push number (first ∷ lines) line below last = (below.0, below_push number lines line below.1 last)
+-- the lines of all threads, of what is said
+abbrev kept_of : List Said → List (List Line)
+kept_of before = map (λ thread. lines_of_thread thread before) (range_with_len 1 8)
 
-abbrev is_before : ℕ → Line → Bool
-is_before number line = nat_lt line.number number
+-- one place among those of all threads
+place_of : {X : Type 0} (f : ℕ → X) (x : X) (thread : ℕ) → is_thread thread ≡ true
+    → set (map f (range_with_len 1 8)) (thread - 1) x ≡ map (λ t. cond (thread == t) x (f t)) (range_with_len 1 8)
+place_of f x thread is = by thread (leb-true 1 thread parts.0) (leb-true thread 8 parts.1)
+  where
+    parts : (nat_le 1 thread ≡ true) × (nat_le thread 8 ≡ true)
+    parts = and_parts (nat_le 1 thread) (nat_le thread 8) is
 
-all_count : (number : ℕ) (lines : List Line) → AllBelow number lines → count_by (is_before number) lines ≡ length lines
-all_count number [] below = refl
-all_count number (line ∷ lines) below =
-    sum_by-cons (λ line. cond (is_before number line) 1 0) line lines ∙ rw (lt-ltb line.number number below.0) (omega (arith, all_count number lines below.1))
+    by : (thread : ℕ) → 1 ≤ thread → thread ≤ 8 → set (map f (range_with_len 1 8)) (thread - 1) x ≡ map (λ t. cond (thread == t) x (f t)) (range_with_len 1 8)
+    by zero low high = absurd (omega arith)
+    by (suc zero) low high = refl
+    by (suc (suc zero)) low high = refl
+    by (suc (suc (suc zero))) low high = refl
+    by (suc (suc (suc (suc zero)))) low high = refl
+    by (suc (suc (suc (suc (suc zero))))) low high = refl
+    by (suc (suc (suc (suc (suc (suc zero)))))) low high = refl
+    by (suc (suc (suc (suc (suc (suc (suc zero))))))) low high = refl
+    by (suc (suc (suc (suc (suc (suc (suc (suc zero)))))))) low high = refl
+    by (suc (suc (suc (suc (suc (suc (suc (suc (suc thread))))))))) low high = absurd (omega arith)
 
-none_count : (number start : ℕ) (more : List ParsedLine) → number ≤ start → count_by (is_before number) (posts (enumerate_from start more)) ≡ 0
-none_count number start [] from = refl
-none_count number start (Nothing ∷ more) from = none_count number (start + 1) more (omega arith)
-none_count number start (Posts event ∷ more) from =
-    sum_by-cons (λ line. cond (is_before number line) 1 0) (post_line start event) (posts (enumerate_from (start + 1) more))
-    ∙ rw (le-ltb start number from) (omega (arith, none_count number (start + 1) more (omega arith)))
-none_count number start (Faulty kind ∷ more) from = none_count number (start + 1) more (omega arith)
+lines_there : (before : List Said) (kept : List (List Line)) (thread : ℕ) → is_thread thread ≡ true → kept ≡ kept_of before
+    → lines_in kept thread ≡ lines_of_thread thread before
+lines_there before kept thread is same =
+    let parts = and_parts (nat_le 1 thread) (nat_le thread 8) is in
+    let low : 1 ≤ thread = leb-true 1 thread parts.0 in
+    let high : thread ≤ 8 = leb-true thread 8 parts.1 in
+    ap (λ lists. lines_in lists thread) same
+    ∙ get_or-map-range_with_len (λ t. lines_of_thread t before) 1 8 (thread - 1) thread [] (omega arith) (omega arith)
 
--- the posts before a line are those of the lines before it
-count_is : (all before : List (ℕ × ParsedLine)) (number : ℕ) (more : List ParsedLine) → all ≡ before ++ enumerate_from number more
-    → AllBelow number (posts before) → posts_before number all ≡ length (posts before)
-count_is all before number more whole below =
-    let cut : posts all ≡ posts before ++ posts (enumerate_from number more) = ap posts whole ∙ filter_map-append post_of before (enumerate_from number more) in
-    let sum : posts_before number all ≡ count_by (is_before number) (posts before) + count_by (is_before number) (posts (enumerate_from number more))
-    = ap (count_by (is_before number)) cut ∙ sum_by-append (λ line. cond (is_before number line) 1 0) (posts before) (posts (enumerate_from number more)) in
-    omega (arith, all_count number (posts before) below, none_count number number more (omega arith))
+-- lines that differ at no thread
+same_lists : (f g : ℕ → List Line) → ((t : ℕ) → f t ≡ g t) → map f (range_with_len 1 8) ≡ map g (range_with_len 1 8)
+same_lists f g same i = map (λ t. same t i) (range_with_len 1 8)
+
+silent : (before : List Said) (kept : List (List Line)) (said : Said) → kept ≡ kept_of before → done_at said ≡ None → kept ≡ kept_of (before ++ said ∷ [])
+silent before kept said is none = is ∙ same_lists _ _ each
+  where
+    each : (t : ℕ) → lines_of_thread t before ≡ lines_of_thread t (before ++ said ∷ [])
+    each t = sym (lines_push t before said ∙ ap (λ done. lines_of_thread t before ++ cond (said.thread == t) (cons_option done []) []) none ∙ by (said.thread == t))
+      where
+        by : (b : Bool) → lines_of_thread t before ++ cond b [] [] ≡ lines_of_thread t before
+        by true = append-nil (lines_of_thread t before)
+        by false = append-nil (lines_of_thread t before)
+
+one_more : (before : List Said) (kept : List (List Line)) (said : Said) (line : Line) → is_thread said.thread ≡ true → kept ≡ kept_of before
+    → done_at said ≡ Some line → with_line kept said.thread line ≡ kept_of (before ++ said ∷ [])
+one_more before kept said line thread is done =
+    ap (λ lines. set kept (said.thread - 1) (lines ++ line ∷ [])) (lines_there before kept said.thread thread is)
+    ∙ ap (λ lists. set lists (said.thread - 1) (lines_of_thread said.thread before ++ line ∷ [])) is
+    ∙ place_of (λ t. lines_of_thread t before) (lines_of_thread said.thread before ++ line ∷ []) said.thread thread
+    ∙ same_lists _ _ each
+  where
+    each : (t : ℕ) → cond (said.thread == t) (lines_of_thread said.thread before ++ line ∷ []) (lines_of_thread t before) ≡ lines_of_thread t (before ++ said ∷ [])
+    each t = by (said.thread == t) (λ same. eqb-true said.thread t same) ∙ sym (lines_push t before said ∙ ap (λ done. lines_of_thread t before ++ cond (said.thread == t) (cons_option done []) []) done)
+      where
+        by : (b : Bool) → (b ≡ true → said.thread ≡ t) → cond b (lines_of_thread said.thread before ++ line ∷ []) (lines_of_thread t before)
+            ≡ lines_of_thread t before ++ cond b (line ∷ []) []
+        by true same = ap (λ t. lines_of_thread t before ++ line ∷ []) (same refl)
+        by false same = sym (append-nil (lines_of_thread t before))
+
+-- ---- the faults
 
 -- a line without a fault behind lines without one
-pass : (all before : List (ℕ × ParsedLine)) (line : ℕ × ParsedLine) → filter_map (fault_in all) before ≡ [] → fault_in all line ≡ None
-    → filter_map (fault_in all) (before ++ line ∷ []) ≡ []
-pass all before line none sound =
-    filter_map-append (fault_in all) before (line ∷ []) ∙ ap (λ faults. faults ++ filter_map (fault_in all) (line ∷ [])) none
+pass : (all before : List Said) (said : Said) → filter_map (fault_in all) before ≡ [] → fault_in all said ≡ None
+    → filter_map (fault_in all) (before ++ said ∷ []) ≡ []
+pass all before said none sound =
+    filter_map-append (fault_in all) before (said ∷ []) ∙ ap (λ faults. faults ++ filter_map (fault_in all) (said ∷ [])) none
     ∙ ap (λ fault. cons_option fault []) sound
 
 -- a line with a fault behind lines without one
-stop : (all before after : List (ℕ × ParsedLine)) (line : ℕ × ParsedLine) (fault : ℕ × FaultKind) → all ≡ before ++ line ∷ after
-    → filter_map (fault_in all) before ≡ [] → fault_in all line ≡ Some fault → Fault fault.0 (number_of fault.1) ≡ reading all
-stop all before after line fault whole none at =
+stop : (all before after : List Said) (said : Said) (fault : ℕ × FaultKind) → all ≡ before ++ said ∷ after
+    → filter_map (fault_in all) before ≡ [] → fault_in all said ≡ Some fault → Fault fault.0 (number_of fault.1) ≡ reading all
+stop all before after said fault whole none at =
     let cut : filter_map (fault_in all) all ≡ fault ∷ filter_map (fault_in all) after
-    = ap (filter_map (fault_in all)) whole ∙ filter_map-append (fault_in all) before (line ∷ after)
-    ∙ ap (λ faults. faults ++ filter_map (fault_in all) (line ∷ after)) none
+    = ap (filter_map (fault_in all)) whole ∙ filter_map-append (fault_in all) before (said ∷ after)
+    ∙ ap (λ faults. faults ++ filter_map (fault_in all) (said ∷ after)) none
     ∙ ap (λ found. cons_option found (filter_map (fault_in all) after)) at in
-    sym (ap (λ faults. by_faults faults (posts all)) cut)
+    sym (ap (λ faults. by_faults faults (threads_of all)) cut)
 
-more_posts : (before : List (ℕ × ParsedLine)) (kept : List Line) (line : ℕ × ParsedLine) → kept ≡ posts before
-    → kept ++ posts (line ∷ []) ≡ posts (before ++ line ∷ [])
-more_posts before kept line is = ap (λ lines. lines ++ posts (line ∷ [])) is ∙ sym (filter_map-append post_of before (line ∷ []))
+-- ---- line by line
 
-same_posts : (before : List (ℕ × ParsedLine)) (kept : List Line) (line : ℕ × ParsedLine) → kept ≡ posts before → posts (line ∷ []) ≡ []
-    → kept ≡ posts (before ++ line ∷ [])
-same_posts before kept line is silent = sym (append-nil kept) ∙ ap (λ lines. kept ++ lines) (sym silent) ∙ more_posts before kept line is
+-- the fault of a line at which its thread does something, which so many of its lines are before
+abbrev pub fault_after : ℕ → ℕ → Option (ℕ × FaultKind)
+fault_after number count = if nat_le 100000 count then Some (number, TooManyLines) else None
 
-reads : (all before : List (ℕ × ParsedLine)) (number : ℕ) (kept : List Line) (more : List ParsedLine) → all ≡ before ++ enumerate_from number more
-    → kept ≡ posts before → AllBelow number kept → filter_map (fault_in all) before ≡ [] → read_on kept number more ≡ reading all
-reads all before number kept [] whole is below none =
-    let same : all ≡ before = whole ∙ append-nil before in
-    ap (λ lines. Threads (threads_of lines)) (is ∙ sym (ap posts same))
-    ∙ sym (ap (λ faults. by_faults faults (posts all)) (ap (filter_map (fault_in all)) same ∙ none))
-reads all before number kept (Nothing ∷ more) whole is below none =
-    let line : ℕ × ParsedLine = (number, Nothing) in
-    reads all (before ++ line ∷ []) (number + 1) kept more (whole ∙ sym (append_assoc before (line ∷ []) (enumerate_from (number + 1) more)))
-    (same_posts before kept line is refl) (below_next number kept below) (pass all before line none refl)
-reads all before number kept (Posts event ∷ more) whole is below none =
-    let line : ℕ × ParsedLine = (number, Posts event) in
-    let count : posts_before number all ≡ length kept
-    = count_is all before number (Posts event ∷ more) whole (subst (AllBelow number) is below) ∙ sym (ap length is) in
-    elim (cases_Bool (nat_le 100000 (length kept))) [
-      | inl full ↦ rw full (stop all before (enumerate_from (number + 1) more) line (number, TooManyLines) whole none (rw (count, full)))
-      | inr room ↦ rw room
-          (reads all (before ++ line ∷ []) (number + 1) (kept ++ post_line number event ∷ []) more
-          (whole ∙ sym (append_assoc before (line ∷ []) (enumerate_from (number + 1) more)))
-          (more_posts before kept line is) (below_push (number + 1) kept (post_line number event) (below_next number kept below) (omega arith))
-          (pass all before line none (rw (count, room))))
-    ]
-reads all before number kept (Faulty kind ∷ more) whole is below none =
-    stop all before (enumerate_from (number + 1) more) (number, Faulty kind) (number, kind) whole none refl
+module _ (all : List Said) where
+  -- what is left is read as the whole is, whatever was said before it without a fault
+  abbrev IsRead : ℕ → List ParsedLine → Type 0
+  IsRead number more =
+      (before : List Said) (kept : List (List Line)) (thread : ℕ) → all ≡ before ++ said_from thread number more → kept ≡ kept_of before
+      → AllBelow number before → is_thread thread ≡ true → filter_map (fault_in all) before ≡ [] → read_on kept thread number more ≡ reading all
+
+  at_end : (number : ℕ) → IsRead number []
+  at_end number before kept thread whole is below named none =
+      let same : all ≡ before = whole ∙ append-nil before in
+      ap (λ lists. Threads (filter has_a_line (todos_from 1 lists))) (is ∙ ap kept_of (sym same))
+      ∙ sym (ap (λ faults. by_faults faults (threads_of all)) (ap (filter_map (fault_in all)) same ∙ none))
+
+  -- behind a line without a fault
+  behind : (number : ℕ) (more : List ParsedLine) (before : List Said) (lists : List (List Line)) (thread to : ℕ) (says : ParsedLine)
+      → IsRead (number + 1) more → all ≡ before ++ say thread number says ∷ said_from to (number + 1) more
+      → lists ≡ kept_of (before ++ say thread number says ∷ []) → AllBelow number before → is_thread to ≡ true
+      → filter_map (fault_in all) before ≡ [] → fault_in all (say thread number says) ≡ None → read_on lists to (number + 1) more ≡ reading all
+  behind number more before lists thread to says later whole is below named none sound =
+      let said : Said = say thread number says in
+      later (before ++ said ∷ []) lists to (whole ∙ sym (append_assoc before (said ∷ []) (said_from to (number + 1) more))) is
+      (below_said number before said below refl) named (pass all before said none sound)
+
+  -- at a line at which its thread does something
+  done : (number : ℕ) (more : List ParsedLine) (before : List Said) (kept : List (List Line)) (thread : ℕ) (says : ParsedLine) (what : What)
+      → IsRead (number + 1) more → all ≡ before ++ say thread number says ∷ said_from thread (number + 1) more
+      → kept ≡ kept_of before → AllBelow number before → is_thread thread ≡ true → filter_map (fault_in all) before ≡ []
+      → done_at (say thread number says) ≡ Some (line_of number what)
+      → fault_in all (say thread number says) ≡ fault_after number (lines_before (say thread number says) all)
+      → with_room kept thread number (read_on (with_line kept thread (line_of number what)) thread (number + 1) more) ≡ reading all
+  done number more before kept thread says what later whole is below named none does fault =
+      let said : Said = say thread number says in
+      let rest : List Said = said_from thread (number + 1) more in
+      let count : lines_before said all ≡ length (lines_in kept thread)
+      = count_is all before (said ∷ rest) thread number says whole below (omega arith, said_later number thread (number + 1) more (omega arith))
+      ∙ sym (ap length (lines_there before kept thread named is)) in
+      let found : fault_in all said ≡ fault_after number (length (lines_in kept thread)) = fault ∙ ap (fault_after number) count in
+      elim (cases_Bool (nat_le 100000 (length (lines_in kept thread)))) [
+        | inl full ↦ rw full (stop all before rest said (number, TooManyLines) whole none (found ∙ rw full refl))
+        | inr room ↦ rw room
+            (behind number more before (with_line kept thread (line_of number what)) thread thread says later whole
+            (one_more before kept said (line_of number what) named is does) below named none (found ∙ rw room refl))
+      ]
+
+  line_read : (number : ℕ) (says : ParsedLine) (more : List ParsedLine) → IsFitParsedLine says → IsRead (number + 1) more → IsRead number (says ∷ more)
+  line_read number Nothing more fit later before kept thread whole is below named none =
+      behind number more before kept thread thread Nothing later whole (silent before kept (say thread number Nothing) is refl) below named none refl
+  line_read number (Posts event) more fit later before kept thread whole is below named none =
+      done number more before kept thread (Posts event) (whats.Post event) later whole is below named none refl refl
+  line_read number (Waits cond) more fit later before kept thread whole is below named none =
+      done number more before kept thread (Waits cond) (whats.Wait cond) later whole is below named none refl refl
+  line_read number (Thread to) more fit later before kept thread whole is below named none =
+      behind number more before kept thread to (Thread to) later whole (silent before kept (say thread number (Thread to)) is refl) below fit none refl
+  line_read number (Faulty kind) more fit later before kept thread whole is below named none =
+      stop all before (said_from thread (number + 1) more) (say thread number (Faulty kind)) (number, kind) whole none refl
+
+  reads : (number : ℕ) (more : List ParsedLine) → AllFit more → IsRead number more
+  reads number [] fit = at_end number
+  reads number (says ∷ more) fit = line_read number says more fit.0 (reads (number + 1) more fit.1)
 
 -- a script is what is left of it before the first line
-pub script_reads : (lines : List ParsedLine) → read_on [] 1 lines ≡ reading (enumerate_from 1 lines)
-script_reads lines = reads (enumerate_from 1 lines) [] 1 [] lines refl refl tt refl
+pub script_reads : (kept : List (List Line)) (lines : List ParsedLine) → kept ≡ replicate 8 [] → AllFit lines → read_on kept 1 1 lines ≡ reading (said_from 1 1 lines)
+script_reads kept lines empty fit = reads (said_from 1 1 lines) 1 lines fit [] kept 1 refl empty tt refl refl
+
+-- the line that comes next
+pub next_line : (plan : List Site) (kept : List (List Line)) (thread number : ℕ) (left rest : List (List ℕ)) (line : List ℕ) (says : ParsedLine) (whole : Reading)
+    → left ≡ line ∷ rest → says ≡ parsed_line plan line → read_on kept thread number (map (parsed_line plan) left) ≡ whole
+    → read_on kept thread number (says ∷ map (parsed_line plan) rest) ≡ whole
+next_line plan kept thread number left rest line says whole cut is reads =
+    ap (λ says. read_on kept thread number (says ∷ map (parsed_line plan) rest)) is
+    ∙ sym (ap (λ lines. read_on kept thread number (map (parsed_line plan) lines)) cut) ∙ reads
+
+-- an error at a line at which its thread does something, unless memory ran out, is that there is no room
+error_of : (kept : List (List Line)) (thread number : ℕ) (behind : Reading) (fault : ScriptFault) → IsFaultOf (Fault number (number_of TooManyLines)) fault
+    → (length (lines_in kept thread) < 100000 → fault ≡ NoMemory) → IsFaultOf (with_room kept thread number behind) fault
+error_of kept thread number behind fault is memory = elim (cases_Bool (nat_le 100000 (length (lines_in kept thread)))) [
+  | inl full ↦ rw full is
+  | inr room ↦ rw room (subst (IsFaultOf behind) (sym (memory (leb-false 100000 (length (lines_in kept thread)) room))) tt)
+]
+
+-- such an error is the first fault of the script
+pub first_error : {T : Type 0} (result : Result T ScriptFault) (plan : List Site) (kept : List (List Line)) (thread number : ℕ) (left rest : List (List ℕ))
+    (line : List ℕ) (says : ParsedLine) (whole behind : Reading) → read_on kept thread number (says ∷ map (parsed_line plan) rest) ≡ with_room kept thread number behind
+    → left ≡ line ∷ rest → says ≡ parsed_line plan line → read_on kept thread number (map (parsed_line plan) left) ≡ whole
+    → IfErr result (IsFaultOf (Fault number (number_of TooManyLines))) → (length (lines_in kept thread) < 100000 → IfErr result (λ fault. fault ≡ NoMemory))
+    → IfErr result (IsFaultOf whole)
+first_error (Ok value) plan kept thread number left rest line says whole behind does cut is reads fault memory = tt
+first_error (Err error) plan kept thread number left rest line says whole behind does cut is reads fault memory =
+    subst (λ read. IsFaultOf read error) (sym does ∙ next_line plan kept thread number left rest line says whole cut is reads)
+    (error_of kept thread number behind error fault memory)

@@ -16,10 +16,10 @@ use Rattle.px_script.specs.declared.script.Script.{Script}
 
 -- ---- the greatest line of a thread
 
-abbrev line_of : Entry → ℕ
+abbrev pub line_of : Entry → ℕ
 line_of entry = entry.line
 
-abbrev numbers_of : ℕ → List Entry → List ℕ
+abbrev pub numbers_of : ℕ → List Entry → List ℕ
 numbers_of thread history = map line_of (entries_of thread history)
 
 -- a greatest number so far never falls
@@ -131,13 +131,13 @@ rest_more threads history todo kept left so_far is =
 
 -- ---- fit scripts
 
-rise_from : (low high : ℕ) (numbers : List ℕ) → low ≤ high → rise_above high numbers ≡ true → rise_above low numbers ≡ true
+pub rise_from : (low high : ℕ) (numbers : List ℕ) → low ≤ high → rise_above high numbers ≡ true → rise_above low numbers ≡ true
 rise_from low high [] order rising = refl
 rise_from low high (number ∷ numbers) order rising =
     let parts = and_parts (nat_lt high number) (rise_above number numbers) rising in
     and_from (nat_lt low number) (rise_above number numbers) (lt-ltb low number (omega (arith, ltb-true high number parts.0))) parts.1
 
-rise-filter : {X : Type 0} (number : X → ℕ) (p : X → Bool) (low : ℕ) (xs : List X) → rise_above low (map number xs) ≡ true
+pub rise-filter : {X : Type 0} (number : X → ℕ) (p : X → Bool) (low : ℕ) (xs : List X) → rise_above low (map number xs) ≡ true
     → rise_above low (map number (filter p xs)) ≡ true
 rise-filter number p low [] rising = refl
 rise-filter number p low (x ∷ xs) rising =
@@ -148,7 +148,7 @@ rise-filter number p low (x ∷ xs) rising =
       | inr dropped ↦ rw dropped (rise_from low (number x) (map number (filter p xs)) (omega (arith, ltb-true low (number x) parts.0)) later)
     ]
 
-list_all-filter : {X : Type 0} (q p : X → Bool) (xs : List X) → list_all q xs ≡ true → list_all q (filter p xs) ≡ true
+pub list_all-filter : {X : Type 0} (q p : X → Bool) (xs : List X) → list_all q xs ≡ true → list_all q (filter p xs) ≡ true
 list_all-filter q p [] all = refl
 list_all-filter q p (x ∷ xs) all =
     let parts = and_parts (q x) (list_all q xs) all in
@@ -159,13 +159,13 @@ list_all-filter q p (x ∷ xs) all =
     ]
 
 -- the parts of `are_fit_lines`
-record AreFitLines (lines : List Line) : Type 0 where
-  some : 1 ≤ length lines
-  few : length lines ≤ 100000
-  rising : rise_above 0 (map (λ line. line.number) lines) ≡ true
-  fit : list_all is_fit_line lines ≡ true
+pub record AreFitLines (lines : List Line) : Type 0 where
+  pub some : 1 ≤ length lines
+  pub few : length lines ≤ 100000
+  pub rising : rise_above 0 (map (λ line. line.number) lines) ≡ true
+  pub fit : list_all is_fit_line lines ≡ true
 
-fit_parts : (lines : List Line) → are_fit_lines lines ≡ true → AreFitLines lines
+pub fit_parts : (lines : List Line) → are_fit_lines lines ≡ true → AreFitLines lines
 fit_parts lines fit =
     let some = nat_le 1 (length lines) in
     let few = nat_le (length lines) 100000 in
@@ -175,7 +175,7 @@ fit_parts lines fit =
     let count = and_parts some few front.0 in
     record { some = leb-true 1 (length lines) count.0; few = leb-true (length lines) 100000 count.1; rising = front.1; fit = all.1 }
 
-fit_from : (lines : List Line) → AreFitLines lines → are_fit_lines lines ≡ true
+pub fit_from : (lines : List Line) → AreFitLines lines → are_fit_lines lines ≡ true
 fit_from lines parts = rw (le-leb 1 (length lines) parts.some, le-leb (length lines) 100000 parts.few, parts.rising, parts.fit)
 
 lines_above_fit : (number : ℕ) (lines : List Line) → 0 < length (lines_above number lines) → are_fit_lines lines ≡ true → are_fit_lines (lines_above number lines) ≡ true

@@ -1,5 +1,5 @@
 -- What a line says by its first word.
-use Rattle.std.proofs.Common.{◌≡◌, ℕ, Bool, true, false, List, [], ◌∷◌, refl, ap, sym, ◌∙◌, Option, Some, None, inl, inr}
+use Rattle.std.proofs.Common.{◌≡◌, ℕ, true, false, List, refl, ap, Some, inl, inr}
 use Rattle.std.specs.Prelude.{codes}
 use Rattle.std.specs.Option.{unwrap_or}
 use Rattle.std.specs.Str.{IsUtf8, is_utf8}
@@ -9,6 +9,7 @@ use Rattle.px_core.specs.Plan.{Site, is_same}
 use Rattle.px_script.specs.NodeLine.{return_line}
 use Rattle.px_script.specs.ParsedLine.{said, is_silent, of_content}
 use Rattle.px_script.specs.Text.{first_word, behind_word}
+use Rattle.px_script.specs.WaitLine.{wait_line}
 use Rattle.px_script.specs.declared.fault.FaultKind.TheVariants.{BadLine}
 use Rattle.px_script.specs.declared.parsed_line.ParsedLine.{ParsedLine}
 use Rattle.px_script.specs.declared.parsed_line.ParsedLine.TheVariants.{Faulty}
@@ -16,6 +17,11 @@ use Rattle.px_script.specs.declared.parsed_line.ParsedLine.TheVariants.{Faulty}
 pub return_row : (plan : List Site) (text : List ℕ) → is_same (codes "set") (first_word text) ≡ false → is_same (codes "handle") (first_word text) ≡ false
     → is_same (codes "return") (first_word text) ≡ true → said plan text ≡ return_line plan (behind_word text)
 return_row plan text set handle return = rw (set, handle, return) refl
+
+pub wait_row : (plan : List Site) (text : List ℕ) → is_same (codes "set") (first_word text) ≡ false → is_same (codes "handle") (first_word text) ≡ false
+    → is_same (codes "return") (first_word text) ≡ false → is_same (codes "abort") (first_word text) ≡ false → is_same (codes "ack") (first_word text) ≡ false
+    → is_same (codes "wait") (first_word text) ≡ true → said plan text ≡ wait_line plan (behind_word text)
+wait_row plan text set handle return abort ack wait = rw (set, handle, return, abort, ack, wait) refl
 
 pub no_text : (plan : List Site) (text : List ℕ) → is_silent text ≡ false → (IsUtf8 text → ⊥) → Faulty BadLine ≡ of_content plan text
 no_text plan text silent other = elim (cases_Bool (is_utf8 text)) [

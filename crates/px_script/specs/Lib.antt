@@ -1,6 +1,7 @@
 pub mod Equality
 pub mod Fault
 pub mod Fit
+pub mod Follows
 pub mod LineEquality
 pub mod NodeLine
 pub mod Order
@@ -10,6 +11,10 @@ pub mod Rest
 pub mod Script
 pub mod SetLine
 pub mod Setting
+pub mod Sound
 pub mod Text
+pub mod ThreadLine
+pub mod Threads
 pub mod TodoEquality
 pub mod Value
+pub mod WaitLine

@@ -1,5 +1,5 @@
 -- The lines that tell of a node: `handle PATH HANDLE`, `return PATH VALUE`, `abort PATH` and `ack PATH`.
-use Rattle.std.specs.Prelude.{ℕ, Bool, not, ◌&&◌, List, [], ◌∷◌, Option, Some, None, codes, if◌then◌else◌}
+use Rattle.std.specs.Prelude.{ℕ, Bool, not, ◌&&◌, List, [], ◌∷◌, Option, Some, None, if◌then◌else◌}
 use Rattle.std.specs.List.{find}
 use Rattle.std.specs.Option.{option_map}
 use Rattle.px_value.specs.Path.{is_path}
@@ -10,7 +10,6 @@ use Rattle.px_value.specs.declared.value.Value.{Value}
 use Rattle.px_core.specs.declared.node.Kind.{Kind}
 use Rattle.px_core.specs.declared.node.Kind.TheVariants as kinds
 use Rattle.px_core.specs.Plan.{Site, is_same}
-use Rattle.px_event.specs.declared.event.Event.{Event}
 use Rattle.px_event.specs.declared.event.Event.TheVariants as events
 use Rattle.px_script.specs.Text.{first_word, behind_word, is_nothing}
 use Rattle.px_script.specs.Value.{value_of}

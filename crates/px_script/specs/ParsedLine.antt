@@ -7,6 +7,8 @@ use Rattle.px_core.specs.Plan.{Site}
 use Rattle.px_script.specs.NodeLine.{handle_line, return_line, abort_line, ack_line}
 use Rattle.px_script.specs.SetLine.{set_line}
 use Rattle.px_script.specs.Text.{content, first_word, behind_word}
+use Rattle.px_script.specs.ThreadLine.{thread_line}
+use Rattle.px_script.specs.WaitLine.{wait_line}
 use Rattle.px_script.specs.declared.fault.FaultKind.TheVariants.{BadLine}
 use Rattle.px_script.specs.declared.parsed_line.ParsedLine.{ParsedLine}
 use Rattle.px_script.specs.declared.parsed_line.ParsedLine.TheVariants.{Nothing, Faulty}
@@ -20,6 +22,8 @@ lines plan =
     ∷ (codes "return", return_line plan)
     ∷ (codes "abort", abort_line plan)
     ∷ (codes "ack", ack_line plan)
+    ∷ (codes "wait", wait_line plan)
+    ∷ (codes "thread", thread_line)
     ∷ []
 
 -- what a text says, in the words of its row

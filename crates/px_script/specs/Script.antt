@@ -1,62 +1,97 @@
 -- The script that bytes spell over a plan.
-use Rattle.std.specs.Prelude.{◌≡◌, ℕ, nat_le, nat_lt, List, [], ◌∷◌, map, Option, Some, None, if◌then◌else◌}
-use Rattle.std.specs.List.{filter_map, count_by, enumerate_from}
+use Rattle.std.specs.Prelude.{◌≡◌, ℕ, ◌+◌, ◌==◌, nat_le, nat_lt, List, [], ◌∷◌, map, filter, Option, Some, None, if◌then◌else◌}
+use Rattle.std.specs.List.{filter_map, count_by, range_with_len}
 use Rattle.px_script.specs.declared.fault.FaultKind.{FaultKind}
 use Rattle.px_script.specs.declared.fault.FaultKind.TheVariants.{TooManyLines}
 use Rattle.px_script.specs.declared.fault.ScriptFault.{ScriptFault}
 use Rattle.px_script.specs.declared.fault.ScriptFault.TheVariants as faults
 use Rattle.px_script.specs.declared.line.Line.{Line}
+use Rattle.px_script.specs.declared.line.What.{What}
 use Rattle.px_script.specs.declared.line.What.TheVariants as whats
 use Rattle.px_script.specs.declared.todo.Todo.{Todo}
 use Rattle.px_core.specs.Plan.{Site}
 use Rattle.px_script.specs.Text.{lines_of}
 use Rattle.px_script.specs.declared.parsed_line.ParsedLine.{ParsedLine}
-use Rattle.px_script.specs.declared.parsed_line.ParsedLine.TheVariants.{Nothing, Posts, Faulty}
+use Rattle.px_script.specs.declared.parsed_line.ParsedLine.TheVariants.{Nothing, Posts, Waits, Thread, Faulty}
 use Rattle.px_script.specs.Fault.{number_of}
 use Rattle.px_script.specs.ParsedLine.{parsed_line}
+use Rattle.px_script.specs.Rest.{has_a_line}
 
 -- a script's threads, or its first faulty line with the number of its fault
 pub data Reading : Type 0 where
   Threads : (threads : List Todo) → Reading
   Fault : (line kind : ℕ) → Reading
 
--- what each line says, with the line's number
-abbrev pub parsed_lines : List Site → List ℕ → List (ℕ × ParsedLine)
-parsed_lines plan bytes = enumerate_from 1 (map (parsed_line plan) (lines_of bytes))
+-- what a line says, with its number and the thread that it belongs to
+pub record Said : Type 0 where
+  pub thread : ℕ
+  pub number : ℕ
+  pub says : ParsedLine
 
--- what a line posts
-abbrev pub post_of : ℕ × ParsedLine → Option Line
-post_of (number, Nothing) = None
-post_of (number, Posts event) = Some (record { number = number; what = whats.Post event })
-post_of (number, Faulty kind) = None
+-- the thread that the line behind belongs to: the one that is named, or the same
+abbrev pub thread_behind : ℕ → ParsedLine → ℕ
+thread_behind thread (Thread named) = named
+thread_behind thread says = thread
 
--- the lines that post
-abbrev pub posts : List (ℕ × ParsedLine) → List Line
-posts lines = filter_map post_of lines
+-- what lines say that go on from this number, for this thread
+abbrev pub said_from : ℕ → ℕ → List ParsedLine → List Said
+said_from thread number [] = []
+said_from thread number (says ∷ more) =
+    record { thread = thread; number = number; says = says } ∷ said_from (thread_behind thread says) (number + 1) more
 
--- how many lines with a lower number post
-abbrev pub posts_before : ℕ → List (ℕ × ParsedLine) → ℕ
-posts_before number lines = count_by (λ post. nat_lt post.number number) (posts lines)
+-- what each line says; lines belong to thread 1 before another is named
+abbrev pub parsed_lines : List Site → List ℕ → List Said
+parsed_lines plan bytes = said_from 1 1 (map (parsed_line plan) (lines_of bytes))
 
--- the fault of one of the lines, if it has one: its own, or that it posts after 100,000 others
-abbrev pub fault_in : List (ℕ × ParsedLine) → ℕ × ParsedLine → Option (ℕ × FaultKind)
-fault_in lines (number, Nothing) = None
-fault_in lines (number, Posts event) = if nat_le 100000 (posts_before number lines) then Some (number, TooManyLines) else None
-fault_in lines (number, Faulty kind) = Some (number, kind)
+-- what its thread does at a line
+abbrev pub done_at : Said → Option Line
+done_at said = at said.says
+  where
+    line : What → Option Line
+    line what = Some (record { number = said.number; what = what })
 
--- all lines belong to thread 1, and a script without a post has no thread
-abbrev pub threads_of : List Line → List Todo
-threads_of [] = []
-threads_of (line ∷ lines) = record { thread = 1; lines = line ∷ lines } ∷ []
+    at : ParsedLine → Option Line
+    at (Posts event) = line (whats.Post event)
+    at (Waits cond) = line (whats.Wait cond)
+    at Nothing = None
+    at (Thread named) = None
+    at (Faulty kind) = None
 
--- the first fault decides; where there is none, the posts are the script
-abbrev pub by_faults : List (ℕ × FaultKind) → List Line → Reading
-by_faults [] lines = Threads (threads_of lines)
-by_faults ((line, kind) ∷ later) lines = Fault line (number_of kind)
+-- the lines at which a thread does something
+abbrev pub lines_of_thread : ℕ → List Said → List Line
+lines_of_thread thread lines = filter_map done_at (filter (λ said. said.thread == thread) lines)
+
+-- how many of its thread's lines have a lower number
+abbrev pub lines_before : Said → List Said → ℕ
+lines_before said lines = count_by (λ line. nat_lt line.number said.number) (lines_of_thread said.thread lines)
+
+-- the fault of one of the lines, if it has one: its own, or that its thread does something after 100,000 others
+abbrev pub fault_in : List Said → Said → Option (ℕ × FaultKind)
+fault_in lines said = by said.says
+  where
+    one_more : Option (ℕ × FaultKind)
+    one_more = if nat_le 100000 (lines_before said lines) then Some (said.number, TooManyLines) else None
+
+    by : ParsedLine → Option (ℕ × FaultKind)
+    by (Posts event) = one_more
+    by (Waits cond) = one_more
+    by Nothing = None
+    by (Thread named) = None
+    by (Faulty kind) = Some (said.number, kind)
+
+-- the threads from 1 to 8 that have a line, each with its lines
+abbrev pub threads_of : List Said → List Todo
+threads_of lines =
+    filter has_a_line (map (λ thread. record { thread = thread; lines = lines_of_thread thread lines }) (range_with_len 1 8))
+
+-- the first fault decides; where there is none, the threads are the script
+abbrev pub by_faults : List (ℕ × FaultKind) → List Todo → Reading
+by_faults [] threads = Threads threads
+by_faults ((line, kind) ∷ later) threads = Fault line (number_of kind)
 
 -- what lines are read as
-abbrev pub reading : List (ℕ × ParsedLine) → Reading
-reading lines = by_faults (filter_map (fault_in lines) lines) (posts lines)
+abbrev pub reading : List Said → Reading
+reading lines = by_faults (filter_map (fault_in lines) lines) (threads_of lines)
 
 -- the script that bytes spell over the nodes of a plan, or its first fault
 abbrev pub script : List Site → List ℕ → Reading

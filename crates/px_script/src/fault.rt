@@ -15,6 +15,8 @@ pub(crate) enum FaultKind {
     BadNode = 2,
     /// A VALUE spells none.
     BadValue = 3,
+    /// It names a thread that there isn't.
+    BadThread = 4,
     /// It comes after as many lines of its thread as there may be.
     TooManyLines = 5,
 }
@@ -38,7 +40,8 @@ impl FaultKind {
 #[derive(Debug, Drop, PartialEq, Eq, Error)]
 pub enum ScriptFault {
     /// The first faulty line, counted from 1, and what is wrong with it: 1, it has none of the shapes of a line; 2, the
-    /// plan has no such node, or one of another kind; 3, a VALUE spells none; 5, it is the 100,001st post of its thread.
+    /// plan has no such node, or one of another kind; 3, a VALUE spells none; 4, it names a thread by a number that isn't
+    /// from 1 to 8; 5, it is the 100,001st line of its thread that posts or waits.
     #[error("line {line}: fault of kind {kind}")]
     Fault { line: u32, kind: u8 },
     #[error("out of memory")]

@@ -58,7 +58,7 @@ fn lines_above(number: u32, lines: Lines) -> Lines
 }
 
 /// Appends a thread, where it has a line.
-fn push_todo(threads: &mut Vec<Todo>, todo: Todo) -> Result<(), NoMemory>
+pub(crate) fn push_todo(threads: &mut Vec<Todo>, todo: Todo) -> Result<(), NoMemory>
     ensures { OnOk result (threads.new.items ≡ threads.old.items ++ filter has_a_line (todo ∷ [])) }
 {
     if !todo.lines.as_slice().is_empty() {

@@ -1,14 +1,17 @@
 //! Scripts: what each thread posts to a running plan, and what it waits for, line by line.
 //!
 //! `script`, `todo` and `line` are the parts of a script, with `Todos` and `Lines` the lists of them. `read` reads a
-//! script from bytes, and `parsed_line` one line: `set_line` and `node_line` have the kinds of lines, `place` finds the
-//! VALUEs, `value` reads them, and `text` cuts lines and words. `order` turns a script into its posts, in file order, and
-//! `left` is what a history leaves of a script.
+//! script from bytes, with `threads` for the lines of each thread so far, and `parsed_line` one line: `set_line`,
+//! `node_line`, `wait_line` and `thread_line` have the kinds of lines, `place` finds the VALUEs, `value` reads them, and
+//! `text` cuts lines and words. `order` turns a script into its posts, in file order, `left` is what a history leaves of
+//! a script, and `stall` says what stops a thread.
 //!
 //! `specs/Script.antt` says which script the bytes spell over a plan, `specs/ParsedLine.antt` what a line says,
-//! `specs/Order.antt` what file order is, and `specs/Rest.antt` what is left; `laws` has what a script means.
+//! `specs/Order.antt` what file order is, `specs/Rest.antt` what is left, and `specs/Follows.antt` how a log goes through
+//! it; `laws` has what a script means.
 #![tactic(auto)]
 
+mod crew_end;
 mod fault;
 pub mod laws;
 mod left;
@@ -16,21 +19,29 @@ mod line;
 mod lines;
 mod node_line;
 mod order;
+mod pace;
 mod parsed_line;
 mod place;
 mod read;
 mod script;
 mod set_line;
+mod stall;
 mod text;
+mod thread_line;
+mod threads;
 mod todo;
 mod todos;
 mod value;
+mod wait_line;
 
+pub use crew_end::CrewEnd;
 pub use fault::ScriptFault;
 pub use left::rest;
 pub use line::{Line, What};
 pub use lines::Lines;
+pub use pace::{NoPace, Pace};
 pub use read::{LINE_LIMIT, SCRIPT_LIMIT, read_script};
 pub use script::Script;
+pub use stall::Stall;
 pub use todo::Todo;
 pub use todos::Todos;

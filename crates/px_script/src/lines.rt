@@ -1,11 +1,12 @@
 // The lines of a thread.
-ghost use Rattle.std.specs.Prelude.{◌≡◌};
+ghost use Rattle.std.specs.Prelude.{◌≡◌, [], ◌∷◌, ◌++◌, OnOk};
 ghost use Rattle.std.specs.Cmp.Lexicographic.{pointwise, lists_per, lists_equiv};
 ghost use Rattle.px_script.specs.contracts.line.LinePartialEq.TheImpl.Laws as same_lines;
 ghost use Rattle.px_script.specs.contracts.line.LineEq.TheImpl.Laws as equal_lines;
 ghost use Rattle.px_script.specs.LineEquality.{line_eq};
 
 use crate::line::Line;
+use px_value::NoMemory;
 use std::marker::Model;
 
 /// Lines in order. To contracts they are a list.
@@ -37,6 +38,14 @@ impl Lines {
         ensures { result.now ≡ self.now }
     {
         self.items.as_slice()
+    }
+
+    /// Appends a line.
+    pub(crate) fn push(&mut self, line: Line) -> Result<(), NoMemory>
+        ensures { OnOk result (self.new ≡ self.old ++ line ∷ []) }
+    {
+        self.items.push(line)?;
+        Ok(())
     }
 
     /// The vector that holds the lines.

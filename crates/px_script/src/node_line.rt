@@ -115,7 +115,11 @@ fn handle_of(word: &str) -> Option<Handle>
 }
 
 /// The node at a path, with its kind; None exactly where the plan has none there.
-fn node_at(alloc: Global, flat: &Flat, text: &str) -> Result<Option<(Path, Kind)>, NoMemory>
+pub(crate) fn node_at(
+    alloc: Global,
+    flat: &Flat,
+    text: &str,
+) -> Result<Option<(Path, Kind)>, NoMemory>
     ensures { IfOk result (λ node. node ≡ option_map (λ kind. (text.now, kind)) (kind_at (plan_of flat.now) text.now)) }
 {
     let path = match Path::new(alloc, text) {

@@ -7,7 +7,9 @@ use crate::fault::FaultKind;
 use crate::node_line::{abort_line, ack_line, handle_line, return_line};
 use crate::set_line::set_line;
 use crate::text::{content, is_word, split_word};
-use px_event::Event;
+use crate::thread_line::thread_line;
+use crate::wait_line::wait_line;
+use px_event::{Cond, Event};
 use px_flat::Flat;
 use px_value::NoMemory;
 use std::alloc::Global;
@@ -19,6 +21,10 @@ pub(crate) enum ParsedLine {
     Nothing,
     /// The thread posts the event.
     Posts(Event),
+    /// The thread goes on once the condition holds.
+    Waits(Cond),
+    /// The lines behind belong to this thread.
+    Thread(u8),
     /// The line is at fault.
     Faulty(FaultKind),
 }
@@ -62,6 +68,10 @@ fn said(alloc: Global, flat: &Flat, text: &str) -> Result<Option<ParsedLine>, No
         abort_line(alloc, flat, behind)
     } else if is_word(word, "ack") {
         ack_line(alloc, flat, behind)
+    } else if is_word(word, "wait") {
+        wait_line(alloc, flat, behind)
+    } else if is_word(word, "thread") {
+        Ok(thread_line(behind))
     } else {
         Ok(None)
     }

@@ -81,7 +81,7 @@ fn is_digits(digits: &[u8]) -> bool
     !digits.is_empty() && digits.len() <= DIGIT_LIMIT && are_all_digits(digits)
 }
 
-fn are_all_digits(bytes: &[u8]) -> bool
+pub(crate) fn are_all_digits(bytes: &[u8]) -> bool
     ensures { result ≡ list_all is_digit bytes.now }
 {
     bytes.iter().all(|c| is_digit(*c))

@@ -60,7 +60,7 @@ history_of log = events_of (accepted log)
 history_first : (logged : LogEntry) (log : Log) → history_of (logged ∷ log) ≡ history_of (logged ∷ []) ++ history_of log
 history_first logged log = ap events_of (accepted_first logged log) ∙ map-append (λ e. e.event) (accepted (logged ∷ [])) (accepted log)
 
-accepted_more : (log : Log) (logged : LogEntry) → accepted (log ++ logged ∷ []) ≡ accepted log ++ accepted (logged ∷ [])
+pub accepted_more : (log : Log) (logged : LogEntry) → accepted (log ++ logged ∷ []) ≡ accepted log ++ accepted (logged ∷ [])
 accepted_more [] logged = refl
 accepted_more (first ∷ log) logged =
     accepted_first first (log ++ logged ∷ [])
@@ -72,7 +72,7 @@ history_more : (log : Log) (logged : LogEntry) → history_of (log ++ logged ∷
 history_more log logged = ap events_of (accepted_more log logged) ∙ map-append (λ e. e.event) (accepted log) (accepted (logged ∷ []))
 
 -- one post more, answered over the history of its moment
-answers_more : (plan : List Site) (limit : ℕ) (history : List Event) (log : Log) (logged : LogEntry) (world : World)
+pub answers_more : (plan : List Site) (limit : ℕ) (history : List Event) (log : Log) (logged : LogEntry) (world : World)
     → AnswersEach plan limit history log → run plan (history ++ history_of log) ≡ Some world
     → logged.reply ≡ answer plan limit (length (history ++ history_of log)) world logged.entry.event
     → AnswersEach plan limit history (log ++ logged ∷ [])

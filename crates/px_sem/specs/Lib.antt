@@ -1,9 +1,11 @@
+pub mod Asking
 pub mod Conflicts
 pub mod Effects
 pub mod Events
 pub mod Expressions
 pub mod Guards
 pub mod Log
+pub mod Offer
 pub mod Run
 pub mod Step
 pub mod Stepper

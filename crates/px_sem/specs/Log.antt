@@ -19,6 +19,10 @@ Log = List LogEntry
 abbrev pub events_of : List Entry → List Event
 events_of entries = map (λ entry. entry.event) entries
 
+-- the entries of a log, in order
+abbrev pub posted_in : Log → List Entry
+posted_in log = map (λ logged. logged.entry) log
+
 -- whether a reply is that the event was accepted
 abbrev pub is_accepted : Reply → Bool
 is_accepted (replies.Accepted position) = true
@@ -72,3 +76,8 @@ PostsPart plan limit entries world =
 pub record IsLegal (plan : List Site) (history : List Entry) (limit : ℕ) (log : Log) : Type 0 where
   pub runs : IsSome (run plan (events_of history))
   pub answers : AnswersEach plan limit (events_of history) log
+
+-- the entry would be accepted over the history, which may grow up to the limit
+abbrev pub WouldBeAccepted : List Site → ℕ → List Entry → Entry → Type 0
+WouldBeAccepted plan limit history entry =
+    IsLegal plan history limit (record { entry = entry; reply = replies.Accepted (length history + 1) } ∷ [])

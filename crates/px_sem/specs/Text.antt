@@ -8,6 +8,8 @@ use Rattle.px_value.specs.declared.value.Value.{Value}
 use Rattle.px_value.specs.declared.value.Value.TheVariants as values
 use Rattle.px_value.specs.Enums.{state_word, outcome_word, failure_word, handle_word}
 use Rattle.px_core.specs.Plan.{Site}
+use Rattle.px_event.specs.declared.cond.Cond.{Cond}
+use Rattle.px_event.specs.declared.cond.Cond.TheVariants.{State, Events}
 use Rattle.px_event.specs.declared.entry.Entry.{Entry}
 use Rattle.px_event.specs.declared.event.Event.{Event}
 use Rattle.px_event.specs.declared.event.Event.TheVariants as events
@@ -192,3 +194,15 @@ text_of plan history log = of_run (run plan (events_of (history ++ accepted log)
     of_run None = []
     of_run (Some world) =
         trace plan (history ++ accepted log) ++ (log_lines log ++ standing_text (standing_of plan world))
+
+-- ---- stalls
+
+-- what a line waits for
+abbrev pub cond_text : Cond → List ℕ
+cond_text (State node state) = codes "state " ++ node ++ codes " " ++ state_word state
+cond_text (Events least) = codes "events " ++ decimal least
+
+-- the line of a thread that stands at a wait
+abbrev pub stall_line : ℕ → ℕ → Cond → List ℕ
+stall_line thread number cond =
+    line (codes "stalled " ++ source_text thread number ++ codes ": wait " ++ cond_text cond)

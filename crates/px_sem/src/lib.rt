@@ -2,8 +2,9 @@
 //!
 //! `specs/` has the definitions: `World` and `Expressions`, the value of an expression; `Guards` and `Table`, where a
 //! node goes; `Conflicts` and `Effects`, which nodes go and what they do; `Step`, the micro step; `Events`, `Run` and
-//! `Log`; and `Text`. `laws` has what some of them mean. A `Stepper` is what runs a plan by them, `start` brings one
-//! up, and `post` and `post_each` post events to it.
+//! `Log`; and `Text`. `laws` has what some of them mean. A `Stepper` is what runs a plan by them, and `start` brings one
+//! up; an event is offered to it (`offer`), and what the offer comes to is settled or given up; `post` and `post_each` post
+//! events to it so.
 #![tactic(auto)]
 
 mod guards;
@@ -11,6 +12,7 @@ pub mod laws;
 mod log;
 mod moves;
 mod names;
+mod offering;
 mod posting;
 mod settling;
 mod standing;
@@ -20,6 +22,7 @@ pub use guards::{Arrival, Guards};
 pub use log::LogEntry;
 pub use moves::{Effect, Move};
 pub use names::Names;
+pub use offering::{Offered, offer};
 pub use posting::{Session, post, post_each};
 pub use settling::{STEP_LIMIT, StepFault, start};
 pub use standing::Standing;

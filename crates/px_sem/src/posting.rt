@@ -6,11 +6,11 @@ ghost use Rattle.px_sem.specs.Log.{events_of, accepted, answer, world_after, Ans
 ghost use Rattle.px_sem.specs.Run.{run};
 ghost use Rattle.px_sem.specs.Stepper.{Pending, settled_state};
 
-use crate::settling::StepFault;
-use crate::{LogEntry, Standing, Stepper};
+use crate::offering::{Offered, offer};
+use crate::{LogEntry, Stepper};
 use px_event::{Entry, Event, Reply};
 use px_value::NoMemory;
-use std::alloc::{AllocError, Global};
+use std::alloc::Global;
 
 /// What posts have come to.
 #[derive(Debug, Drop)]
@@ -39,21 +39,12 @@ pub fn post<S: Stepper>(
         (world_after (S.state stepper.old).nodes (S.state stepper.old).world event.now reply)) }
     ensures err { OnErr result (S.state stepper.new ≡ S.state stepper.old) }
 {
-    if let Standing::Finished { .. } = stepper.standing() {
-        return Ok(Reply::PlanFinished);
-    }
-    if limit <= count {
-        return Ok(Reply::Full);
-    }
-    match stepper.advance(alloc, event) {
-        Ok(_) => {
+    match offer(stepper, alloc, limit, count, event)? {
+        Offered::Refused(reply) => Ok(reply),
+        Offered::Pending { position } => {
             stepper.settle();
-            Ok(Reply::Accepted {
-                position: count + 1,
-            })
+            Ok(Reply::Accepted { position })
         }
-        Err(StepFault::Runaway) => Ok(Reply::Runaway),
-        Err(StepFault::NoMemory) => Err(AllocError),
     }
 }
 

@@ -21,11 +21,7 @@ keeps_further old mid new h k =
     let whole : mid ≡ old ++ rest = sym (take-append-drop (length old) mid) ∙ ap (λ front. front ++ rest) h in
     keeps_longer old rest new (subst (λ (x : List ℕ). Keeps x new) whole k)
 
--- the same where a call has failed, or where it may have
-pub err_of : {T E P : Type 0} (r : Result T E) → P → OnErr r P
-err_of (Ok _) h = tt
-err_of (Err _) h = h
-
+-- the same where a call has failed
 pub err_further : {T E : Type 0} (r : Result T E) (old mid new : List ℕ) → Keeps old mid → OnErr r (Keeps mid new)
     → OnErr r (Keeps old new)
 err_further (Ok _) old mid new h k = tt

@@ -1,12 +1,13 @@
 use Rattle.std.proofs.Common.{◌+◌, take, drop}
 use Rattle.px_sem.specs.Text.{log_lines}
+use Rattle.px_output.proofs.Logging.{line_of}
 use Rattle.px_output.specs.View.{view}
+use Rattle.px_output.proofs.Listing.{none_listed, one_listed, lines_left}
 use Rattle.px_output.proofs.Printed.{fails}
-use Rattle.px_output.proofs.Telling.{line_of, replied_none, replied_more, lines_left}
 use Rattle.px_output.proofs.log.print_replies.Goals as goal
 
 pub loop-logged-init : goal.loop-logged-init
-loop-logged-init g c = replied_none c.args.log.now (view g.H.Host c.args.host.now) c.args.printer.now
+loop-logged-init g c = none_listed line_of c.args.log.now (view g.H.Host c.args.host.now) c.args.printer.now
 
 pub returns-in_err-reply-clause-prints : goal.returns-in_err-reply-clause-prints
 returns-in_err-reply-clause-prints g c =
@@ -16,10 +17,10 @@ returns-in_err-reply-clause-prints g c =
     fails Unit (view g.H.Host c.args.host.now) (view g.H.Host c.loop-logged.host) (view g.H.Host c.reply.new.host) c.args.printer.now
     c.loop-logged.printer c.reply.new.self _ (log_lines (take count log)) (line_of logged) (log_lines (drop (count + 1) log)) _ _ _
     c.from_residual.ensures.1 c.loop-logged.invariant.leaves c.loop-logged.invariant.only c.in_err-reply.ensures.prints
-    (lines_left log count logged c.loop-logged-test.true c.logged-item.is)
+    (lines_left line_of log count logged c.loop-logged-test.true c.logged-item.is)
 
 pub loop-logged-preserved : goal.loop-logged-preserved
 loop-logged-preserved g c =
-    replied_more c.args.log.now c.loop-logged.logged-index c.logged-item.result (view g.H.Host c.args.host.now)
-    (view g.H.Host c.loop-logged.host) (view g.H.Host c.reply.new.host) c.args.printer.now c.loop-logged.printer c.reply.new.self
-    c.loop-logged.invariant c.loop-logged-test.true c.logged-item.is c.in_ok-reply.ensures.prints c.in_ok-reply.ensures.only
+    one_listed line_of c.args.log.now c.loop-logged.logged-index c.logged-item.result c.loop-logged-test.true c.logged-item.is
+    (view g.H.Host c.args.host.now) (view g.H.Host c.loop-logged.host) (view g.H.Host c.reply.new.host) c.args.printer.now c.loop-logged.printer
+    c.reply.new.self c.loop-logged.invariant c.in_ok-reply.ensures.prints c.in_ok-reply.ensures.only

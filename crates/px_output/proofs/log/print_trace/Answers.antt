@@ -1,4 +1,5 @@
 use Rattle.std.proofs.Common.{◌≡◌, ◌+◌, ◌++◌, ◌∙◌, drop, ap, sym, subst, refl, IsSome, Err, append_assoc}
+use Rattle.px_value.proofs.General.{cut_at}
 use Rattle.px_event.specs.declared.entry.Entry.{Entry}
 use Rattle.px_sem.specs.Log.{events_of}
 use Rattle.px_sem.specs.Run.{settled, started, posted, settled_world}
@@ -8,7 +9,7 @@ use Rattle.px_sem.specs.World.{initial_world}
 use Rattle.px_output.specs.Printing.{Leaves, Prints}
 use Rattle.px_output.specs.View.{view}
 use Rattle.px_output.proofs.Printed.{goes_on, only_more, wants_memory, fails, fails_first}
-use Rattle.px_output.proofs.Telling.{IsNext, run_starts, start_is, told_at_start, drop_item, next_settles, event_left, told_more, told_to_end}
+use Rattle.px_output.proofs.Telling.{IsNext, run_starts, start_is, told_at_start, next_settles, event_left, told_more, told_to_end}
 use Rattle.px_output.proofs.log.print_trace.Goals as goal
 
 pub returns-in_err-start-clause-prints : goal.returns-in_err-start-clause-prints
@@ -56,7 +57,7 @@ returns-in_err-heading-clause-prints g c =
     let told = c.loop-entry.invariant.told in
     let begun : State = with_event now entry.event in
     let next : IsNext plan history index now begun entry = record {
-      behind = drop_item history index entry c.loop-entry-test.true c.entry-item.is;
+      behind = cut_at history index entry c.loop-entry-test.true c.entry-item.is;
       rest = told.rest;
       begins = refl;
     } in
@@ -79,7 +80,7 @@ returns-in_err-begin-clause-prints g c =
     let told = c.loop-entry.invariant.told in
     let begun : State = with_event now entry.event in
     let next : IsNext plan history index now begun entry = record {
-      behind = drop_item history index entry c.loop-entry-test.true c.entry-item.is;
+      behind = cut_at history index entry c.loop-entry-test.true c.entry-item.is;
       rest = told.rest;
       begins = refl;
     } in
@@ -103,7 +104,7 @@ print_settling-requires-in-loop-entry-clause-settles g c = λ _ _.
     let told = c.loop-entry.invariant.told in
     let begun : State = g.S.Stepper.state c.begin.new.self in
     let next : IsNext plan history index now begun entry = record {
-      behind = drop_item history index entry c.loop-entry-test.true c.entry-item.is;
+      behind = cut_at history index entry c.loop-entry-test.true c.entry-item.is;
       rest = told.rest;
       begins = c.in_ok-begin.ensures.ok;
     } in
@@ -120,7 +121,7 @@ returns-in_err-print_settling-2-clause-prints g c =
     let told = c.loop-entry.invariant.told in
     let begun : State = g.S.Stepper.state c.begin.new.self in
     let next : IsNext plan history index now begun entry = record {
-      behind = drop_item history index entry c.loop-entry-test.true c.entry-item.is;
+      behind = cut_at history index entry c.loop-entry-test.true c.entry-item.is;
       rest = told.rest;
       begins = c.in_ok-begin.ensures.ok;
     } in
@@ -148,7 +149,7 @@ loop-entry-preserved g c =
     let told = c.loop-entry.invariant.told in
     let begun : State = g.S.Stepper.state c.begin.new.self in
     let next : IsNext plan history index now begun entry = record {
-      behind = drop_item history index entry c.loop-entry-test.true c.entry-item.is;
+      behind = cut_at history index entry c.loop-entry-test.true c.entry-item.is;
       rest = told.rest;
       begins = c.in_ok-begin.ensures.ok;
     } in

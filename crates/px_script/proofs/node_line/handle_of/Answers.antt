@@ -1,7 +1,7 @@
 use Rattle.std.proofs.Common.{sym, ◌∙◌}
 use Rattle.px_value.specs.Enums.{handle_word}
 use Rattle.px_core.specs.Plan.{is_same}
-use Rattle.px_script.proofs.Handles.{find_rest}
+use Rattle.px_script.proofs.Searches.{find_rest}
 use Rattle.px_script.proofs.node_line.handle_of.Goals as goal
 
 pub loop-handles-preserved : goal.loop-handles-preserved

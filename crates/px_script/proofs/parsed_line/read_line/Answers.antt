@@ -1,7 +1,6 @@
-use Rattle.std.proofs.Common.{◌≡◌, Some, rules, sym, ◌∙◌}
+use Rattle.std.proofs.Common.{◌≡◌, rules, sym, ◌∙◌}
 use Rattle.std.specs.Str.{IsUtf8}
 use Rattle.px_flat.specs.Flat.{plan_of}
-use Rattle.px_script.specs.ParsedLine.{said}
 use Rattle.px_script.specs.Text.{content}
 use Rattle.px_script.proofs.Saids.{no_text, text_says}
 use Rattle.px_script.proofs.parsed_line.read_line.Goals as goal

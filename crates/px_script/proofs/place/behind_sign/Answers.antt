@@ -1,8 +1,4 @@
-use Rattle.std.proofs.Common.{◌≡◌, ◌<◌, ℕ, List, [], ◌∷◌, Option, Some, None, refl}
-use Rattle.std.specs.Borrow.{Bor}
-use Rattle.std.specs.Option.{option_copied, MatchOption}
 use Rattle.std.proofs.lemmas.Str.Pattern.{strip_prefix_char}
-use Rattle.px_script.specs.Place.{behind_sign}
 use Rattle.px_script.proofs.Signs.{sign_stripped}
 use Rattle.px_script.proofs.place.behind_sign.Goals as goal
 

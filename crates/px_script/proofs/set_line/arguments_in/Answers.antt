@@ -1,4 +1,4 @@
-use Rattle.std.proofs.Common.{◌≡◌, Some, rules, refl, sym, ap, ◌∙◌, arith, length}
+use Rattle.std.proofs.Common.{rules, sym, ◌∙◌, arith, length}
 use Rattle.std.proofs.lemmas.List.{length_push}
 use Rattle.px_script.specs.SetLine.{arguments_in}
 use Rattle.px_script.specs.Setting.{places_of}

@@ -1,4 +1,4 @@
-use Rattle.std.proofs.Common.{rules, sym, ◌∙◌}
+use Rattle.std.proofs.Common.{sym, ◌∙◌}
 use Rattle.px_script.proofs.Settings.{values_step}
 use Rattle.px_script.proofs.set_line.arguments_of.Goals as goal
 

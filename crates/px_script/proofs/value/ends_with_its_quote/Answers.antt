@@ -1,5 +1,5 @@
 use Rattle.std.proofs.Common.{rules}
-use Rattle.px_script.proofs.Quotes.{list_goes_on, closed_by, opened_by}
+use Rattle.px_script.proofs.Quotes.{list_goes_on, opened_by}
 use Rattle.px_script.proofs.value.ends_with_its_quote.Goals as goal
 
 pub loop-rest-init : goal.loop-rest-init

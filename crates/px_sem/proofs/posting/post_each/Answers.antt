@@ -1,5 +1,5 @@
-use Rattle.std.proofs.Common.{◌≡◌, ap, sym, ◌∙◌, subst, List, ℕ, ◌++◌, ◌∷◌, [], append_assoc, Result, Ok, Err}
-use Rattle.std.specs.Result.{OnErr}
+use Rattle.std.proofs.Common.{◌≡◌, ap, sym, ◌∙◌, subst, List, ℕ, ◌++◌, ◌∷◌, [], append_assoc}
+use Rattle.px_value.proofs.General.{on_err}
 use Rattle.px_core.specs.Plan.{Site}
 use Rattle.px_event.specs.declared.entry.Entry.{Entry}
 use Rattle.px_event.specs.declared.reply.Reply.{Reply}
@@ -8,10 +8,6 @@ use Rattle.px_sem.specs.Stepper.{State, settled_state}
 use Rattle.px_sem.proofs.Logs.{IsPosting, logged_as, counted_after, counted_other, history_after, history_other, posting_more, posts_part}
 use Rattle.px_sem.proofs.posting.post_each.Goals as goal
 use Rattle.px_sem.proofs.posting.post_each.Goals.{in-Accepted+in_ok-copy+in_ok-push, in_default}
-
-on_err : {T E P : Type 0} (r : Result T E) → P → OnErr r P
-on_err (Ok answer) holds = tt
-on_err (Err fault) holds = holds
 
 -- one entry of the rest is posted too
 one_further : (all yielded : List Entry) (entry : Entry) (rest left : List Entry) → all ≡ yielded ++ rest → rest ≡ entry ∷ left

@@ -1,5 +1,5 @@
--- The search for a handle goes on behind one that it isn't.
-use Rattle.std.proofs.Common.{◌≡◌, ℕ, ◌-◌, ◌≤◌, Bool, false, List, [], ◌∷◌, length, get_or, take, drop, refl, arith}
+-- The search for a row goes on behind one that it isn't.
+use Rattle.std.proofs.Common.{◌≡◌, ◌-◌, ◌≤◌, Bool, false, List, [], ◌∷◌, length, get_or, take, drop, refl, arith}
 use Rattle.std.specs.List.{find}
 use Rattle.std.proofs.lemmas.List.{take_rest}
 

@@ -1,0 +1,62 @@
+-- Numbers in digits, as the library reads them.
+use Rattle.std.proofs.Common.{◌≡◌, ℕ, ◌^◌, ◌<◌, ◌≤◌, true, false, List, length, refl, ap, subst, arith, Result, Ok, Err, Some, None, inl, inr}
+use Rattle.std.specs.Prelude.{nat_le}
+use Rattle.std.specs.List.{list_all}
+use Rattle.std.specs.Result.{OkIff, result_ok}
+use Rattle.std.specs.Str.Parse.{AllDigits, ParsesUnsigned, digits_value}
+use Rattle.std.proofs.lemmas.Bool.{cases_Bool, and_parts, leb-true}
+use Rattle.std.proofs.lemmas.Str.Parse.{IsNumeralModel, numerals_by_value, tells_digits, digits_value_short, parse_digits, parse_gives}
+use Rattle.px_value.specs.Name.{is_digit}
+use Rattle.px_script.specs.ThreadLine.{are_digits, is_thread, thread_line}
+use Rattle.px_script.specs.declared.fault.FaultKind.TheVariants.{BadThread}
+use Rattle.px_script.specs.declared.parsed_line.ParsedLine.TheVariants.{Thread, Faulty}
+use Rattle.px_script.proofs.Integers.{all_digits}
+
+numerals : IsNumeralModel (AllDigits 10) (digits_value 10)
+numerals = numerals_by_value (AllDigits 10) tells_digits
+
+digits_of : (ds : List ℕ) → are_digits ds ≡ true → AllDigits 10 ds
+digits_of ds digits = all_digits ds (and_parts (nat_le 1 (length ds)) (list_all is_digit ds) digits).1
+
+some_of : (ds : List ℕ) → are_digits ds ≡ true → 1 ≤ length ds
+some_of ds digits = leb-true 1 (length ds) (and_parts (nat_le 1 (length ds)) (list_all is_digit ds) digits).0
+
+-- six digits are always read
+pub read_short : {E : Type 0} (ds : List ℕ) (read : Result ℕ E) → are_digits ds ≡ true → length ds ≤ 6 → ParsesUnsigned 32 10 ds read
+    → result_ok read ≡ None → ⊥
+read_short ds read digits short parses none =
+    let small : digits_value 10 ds < 10 ^ 6 = digits_value_short numerals ds 6 (digits_of ds digits) short in
+    let is : read ≡ Ok (digits_value 10 ds)
+    = parse_gives numerals 32 ds read parses (digits_of ds digits) (omega (arith, some_of ds digits)) (omega arith) in
+    let some : result_ok read ≡ Some (digits_value 10 ds) = ap result_ok is in
+    cc
+
+-- what is read is the number that the digits spell
+value_read : {E : Type 0} (ds : List ℕ) (read : Result ℕ E) (number : ℕ) → are_digits ds ≡ true → ParsesUnsigned 8 10 ds read → read ≡ Ok number
+    → number ≡ digits_value 10 ds
+value_read ds read number digits parses is =
+    (subst (λ r. OkIff r ((0 < length ds) × (digits_value 10 ds < 2 ^ 8)) (digits_value 10 ds)) is (parse_digits numerals 8 ds read parses (digits_of ds digits))).1
+
+-- a thread
+pub named : {E : Type 0} (ds : List ℕ) (read : Result ℕ E) (number : ℕ) → are_digits ds ≡ true → ParsesUnsigned 8 10 ds read → read ≡ Ok number
+    → is_thread number ≡ true → Some (Thread number) ≡ thread_line ds
+named ds read number digits parses is thread = rw (digits, ← value_read ds read number digits parses is, thread) refl
+
+-- a number that is none
+pub unnamed : {E : Type 0} (ds : List ℕ) (read : Result ℕ E) (number : ℕ) → are_digits ds ≡ true → ParsesUnsigned 8 10 ds read → read ≡ Ok number
+    → is_thread number ≡ false → Some (Faulty BadThread) ≡ thread_line ds
+unnamed ds read number digits parses is other = rw (digits, ← value_read ds read number digits parses is, other) refl
+
+-- a number that is too large to be read
+pub unread : {E : Type 0} (ds : List ℕ) (read : Result ℕ E) → are_digits ds ≡ true → ParsesUnsigned 8 10 ds read → result_ok read ≡ None
+    → Some (Faulty BadThread) ≡ thread_line ds
+unread ds (Ok number) digits parses none = cc
+unread ds (Err fault) digits parses none =
+    let value : ℕ = digits_value 10 ds in
+    let large : ¬ ((0 < length ds) × (value < 2 ^ 8)) = parse_digits numerals 8 ds (Err fault) parses (digits_of ds digits) in
+    rw digits (elim (cases_Bool (is_thread value)) [
+      | inl is ↦
+          let small : value ≤ 8 = leb-true value 8 (and_parts (nat_le 1 value) (nat_le value 8) is).1 in
+          absurd (large (omega (arith, some_of ds digits), omega arith))
+      | inr isnt ↦ rw isnt refl
+    ])

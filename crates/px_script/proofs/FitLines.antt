@@ -1,0 +1,301 @@
+-- What a line says is fit.
+use Rattle.std.proofs.Common.{◌≡◌, ℕ, zero, suc, ◌≤◌, Bool, true, false, List, [], ◌∷◌, length, map, refl, arith, Option, Some, None, cond, inl, inr}
+use Rattle.std.specs.Prelude.{◌&&◌, ◌==◌, nat_le, codes}
+use Rattle.std.specs.List.{list_all, find}
+use Rattle.std.specs.Option.{option_map, option_and_then, option_or, unwrap_or}
+use Rattle.std.specs.Str.{is_utf8}
+use Rattle.std.specs.Str.Parse.{digits_value, signed_digits_value}
+use Rattle.std.proofs.lemmas.Bool.{le-leb, and_from, cases_Bool}
+use Rattle.px_value.specs.Path.{is_path}
+use Rattle.px_value.specs.declared.value.Value.{Value}
+use Rattle.px_value.specs.declared.value.Value.TheVariants as values
+use Rattle.px_lex.specs.String.{read_string}
+use Rattle.px_lex.specs.Table.{row_of}
+use Rattle.px_core.specs.declared.node.Kind.{Kind}
+use Rattle.px_core.specs.declared.node.Kind.TheVariants as kinds
+use Rattle.px_core.specs.Plan.{Site, is_same}
+use Rattle.px_event.specs.Fit.{is_report_name, is_fit_event}
+use Rattle.px_event.specs.Values.{is_plain, is_plain_or_unknown}
+use Rattle.px_event.specs.declared.cond.Cond.TheVariants.{State}
+use Rattle.px_event.specs.declared.event.Event.TheVariants as events
+use Rattle.px_script.specs.NodeLine.{kind_at, of_command, of_update, handle_of, handle_line, returned, return_line, is_one_word, abort_line, ack_line}
+use Rattle.px_script.specs.ParsedLine.{lines, said, is_silent, parsed_line}
+use Rattle.px_script.specs.Place.{in_place, behind_place, behind_sign}
+use Rattle.px_script.specs.SetLine.{Setting, told_in, with_argument, arguments_from, arguments_in, plain_setting, setting_with, setting_with_arguments, setting_of, all_values, report, setting_says, set_line}
+use Rattle.px_script.specs.Text.{content, first_word, behind_word, is_nothing}
+use Rattle.px_script.specs.ThreadLine.{are_digits, is_thread, thread_line}
+use Rattle.px_script.specs.Value.{plain, is_number, integer_of, all_of, text_of, argument_of, value_of}
+use Rattle.px_script.specs.WaitLine.{of_node, state_of, state_wait, events_wait, waits, wait_line}
+use Rattle.px_script.specs.declared.fault.FaultKind.TheVariants.{BadLine, BadThread}
+use Rattle.px_script.specs.declared.parsed_line.ParsedLine.{ParsedLine}
+use Rattle.px_script.specs.declared.parsed_line.ParsedLine.TheVariants.{Nothing, Posts, Waits, Thread, Faulty}
+
+-- ---- what is said of an option's value
+
+abbrev pub Of : {X : Type 0} → (X → Type 0) → Option X → Type 0
+Of P None = Unit {0}
+Of P (Some x) = P x
+
+of_cond : {X : Type 0} (P : X → Type 0) (b : Bool) (o p : Option X) → Of P o → Of P p → Of P (cond b o p)
+of_cond P true o p left right = left
+of_cond P false o p left right = right
+
+of_or : {X : Type 0} (P : X → Type 0) (o p : Option X) → Of P o → Of P p → Of P (option_or o p)
+of_or P None p left right = right
+of_or P (Some x) p left right = left
+
+of_map : {X Y : Type 0} (P : Y → Type 0) (f : X → Y) (o : Option X) → ((x : X) → P (f x)) → Of P (option_map f o)
+of_map P f None each = tt
+of_map P f (Some x) each = each x
+
+of_and_then : {X Y : Type 0} (P : Y → Type 0) (Q : X → Type 0) (f : X → Option Y) (o : Option X) → ((x : X) → Q x → Of P (f x)) → Of Q o
+    → Of P (option_and_then f o)
+of_and_then P Q f None each q = tt
+of_and_then P Q f (Some x) each q = each x q
+
+-- ---- values
+
+abbrev IsPlain : Value → Type 0
+IsPlain value = is_plain value ≡ true
+
+abbrev IsTold : Value → Type 0
+IsTold value = is_plain_or_unknown value ≡ true
+
+plain_fit : (value : Value) → Of IsPlain (plain value)
+plain_fit value = elim (cases_Bool (is_plain value)) [
+  | inl is ↦ rw is is
+  | inr isnt ↦ rw isnt tt
+]
+
+all_fit_text : (read : Option (List ℕ × List ℕ)) → Of IsPlain (all_of read)
+all_fit_text None = tt
+all_fit_text (Some (content, [])) = plain_fit (values.Text content)
+all_fit_text (Some (content, c ∷ cs)) = tt
+
+argument_fit : (spelling : List ℕ) → Of IsPlain (argument_of spelling)
+argument_fit spelling =
+    of_or IsPlain _ _
+    (of_cond IsPlain (is_same (codes "true") spelling) _ _ refl (of_cond IsPlain (is_same (codes "false") spelling) _ _ refl tt))
+    (of_or IsPlain (integer_of spelling) (text_of spelling)
+    (of_cond IsPlain (is_number spelling) _ _ (plain_fit (values.Integer (signed_digits_value 10 spelling))) tt) (all_fit_text (read_string spelling)))
+
+plain_told : (value : Value) → IsPlain value → IsTold value
+plain_told values.Unknown is = refl
+plain_told (values.Boolean truth) is = is
+plain_told (values.Integer number) is = is
+plain_told (values.Text text) is = is
+plain_told (values.State state) is = is
+plain_told (values.Outcome outcome) is = is
+plain_told (values.Failure failure) is = is
+plain_told (values.Handle handle) is = is
+
+told_fit : (o : Option Value) → Of IsPlain o → Of IsTold o
+told_fit None is = tt
+told_fit (Some value) is = plain_told value is
+
+value_fit : (spelling : List ℕ) → Of IsTold (value_of spelling)
+value_fit spelling =
+    of_or IsTold _ _ (of_cond IsTold (is_same (codes "UNKNOWN") spelling) _ _ refl tt) (told_fit (argument_of spelling) (argument_fit spelling))
+
+-- ---- set lines
+
+-- plain arguments, at most so many
+record AreFew (most : ℕ) (args : List Value) : Type 0 where
+  plain : list_all is_plain args ≡ true
+  few : length args ≤ most
+
+one_more : (value : Value) (most : ℕ) (o : Option (List Value)) → IsPlain value → Of (AreFew most) o → Of (AreFew (suc most)) (option_map (λ values. value ∷ values) o)
+one_more value most None is few = tt
+one_more value most (Some args) is few =
+    record { plain = and_from (is_plain value) (list_all is_plain args) is few.plain; few = omega (arith, few.few) }
+
+arguments_fit : (places : List (List ℕ)) → Of (AreFew (length places)) (all_values (map argument_of places))
+arguments_fit [] = record { plain = refl; few = omega arith }
+arguments_fit (place ∷ places) = by (argument_of place) (argument_fit place) (arguments_fit places)
+  where
+    by : (o : Option Value) → Of IsPlain o → Of (AreFew (length places)) (all_values (map argument_of places))
+        → Of (AreFew (suc (length places))) (all_values (o ∷ map argument_of places))
+    by None is few = tt
+    by (Some value) is few = one_more value (length places) (all_values (map argument_of places)) is few
+
+abbrev IsFew : ℕ → List (List ℕ) × List ℕ → Type 0
+IsFew most read = length read.0 ≤ most
+
+few_more : (arg : List ℕ) (most : ℕ) (o : Option (List (List ℕ) × List ℕ)) → Of (IsFew most) o → Of (IsFew (suc most)) (option_map (with_argument arg) o)
+few_more arg most None few = tt
+few_more arg most (Some read) few = omega (arith, few)
+
+few_from : (arg : List ℕ) (most : ℕ) (more : List ℕ → Option (List (List ℕ) × List ℕ)) (text : List ℕ) → ((text : List ℕ) → Of (IsFew most) (more text))
+    → Of (IsFew (suc most)) (arguments_from arg more text)
+few_from arg most more [] each = tt
+few_from arg most more (c ∷ cs) each =
+    of_cond (IsFew (suc most)) (c == 44) _ _ (few_more arg most (more cs) (each cs))
+    (of_cond (IsFew (suc most)) (c == 41) (Some (arg ∷ [], cs)) None (omega arith) tt)
+
+few_in : (most : ℕ) (text : List ℕ) → Of (IsFew most) (arguments_in most text)
+few_in zero text = tt
+few_in (suc most) text = few_from (in_place text) most (arguments_in most) (behind_place text) (few_in most)
+
+abbrev HasFew : Setting → Type 0
+HasFew setting = length setting.args ≤ 8
+
+with_few : (name : List ℕ) (read : List (List ℕ) × List ℕ) → IsFew 8 read → Of HasFew (setting_with name read)
+with_few name (args, behind) few =
+    of_cond HasFew (is_nothing (in_place behind)) _ _ (of_map HasFew _ (told_in (behind_place behind)) (λ value. few)) tt
+
+called_few : (name : List ℕ) (o : Option (List ℕ)) → Of HasFew (option_and_then (setting_with name) (option_and_then (arguments_in 8) o))
+called_few name None = tt
+called_few name (Some text) = of_and_then HasFew (IsFew 8) (setting_with name) (arguments_in 8 text) (with_few name) (few_in 8 text)
+
+setting_few : (text : List ℕ) → Of HasFew (setting_of text)
+setting_few text =
+    of_or HasFew (plain_setting text) (setting_with_arguments text)
+    (of_map HasFew _ (told_in (behind_place text)) (λ value. omega arith))
+    (called_few (in_place text) (behind_sign 40 (behind_place text)))
+
+-- what a line posts is fit, and what it names is a thread
+abbrev pub IsFitParsedLine : ParsedLine → Type 0
+IsFitParsedLine Nothing = Unit {0}
+IsFitParsedLine (Posts event) = is_fit_event event ≡ true
+IsFitParsedLine (Waits cond) = Unit {0}
+IsFitParsedLine (Thread named) = is_thread named ≡ true
+IsFitParsedLine (Faulty kind) = Unit {0}
+
+report_fit : (name : List ℕ) (most : ℕ) (args : Option (List Value)) (value : Option Value) → is_report_name name ≡ true → most ≤ 8
+    → Of (AreFew most) args → Of IsTold value → IsFitParsedLine (report name args value)
+report_fit name most None value named small few told = tt
+report_fit name most (Some args) None named small few told = tt
+report_fit name most (Some args) (Some value) named small few told =
+    let short : nat_le (length args) 8 ≡ true = le-leb (length args) 8 (omega (arith, few.few)) in
+    and_from (is_report_name name && nat_le (length args) 8 && list_all is_plain args) (is_plain_or_unknown value)
+    (and_from (is_report_name name && nat_le (length args) 8) (list_all is_plain args)
+    (and_from (is_report_name name) (nat_le (length args) 8) named short) few.plain) told
+
+says_fit : (setting : Setting) → HasFew setting → Of IsFitParsedLine (setting_says setting)
+says_fit setting few = elim (cases_Bool (is_report_name setting.name)) [
+  | inl named ↦
+      rw named
+      (report_fit setting.name (length setting.args) (all_values (map argument_of setting.args)) (value_of setting.value) named few
+      (arguments_fit setting.args) (value_fit setting.value))
+  | inr isnt ↦ rw isnt tt
+]
+
+set_fit : (text : List ℕ) → Of IsFitParsedLine (set_line text)
+set_fit text = of_and_then IsFitParsedLine HasFew setting_says (setting_of text) says_fit (setting_few text)
+
+-- ---- lines that tell of a node
+
+command_fit : (plan : List Site) (path : List ℕ) (says : ParsedLine) → (is_path path ≡ true → IsFitParsedLine says) → IsFitParsedLine (of_command (kind_at plan path) says)
+command_fit plan path says fit = elim (cases_Bool (is_path path)) [
+  | inl is ↦ rw is (by (option_map (λ site. site.head.kind) (find (λ site. is_same path site.path) plan)) (fit is))
+  | inr isnt ↦ rw isnt tt
+]
+  where
+    by : (kind : Option Kind) → IsFitParsedLine says → IsFitParsedLine (of_command kind says)
+    by None fit = tt
+    by (Some kinds.List) fit = tt
+    by (Some kinds.Empty) fit = tt
+    by (Some kinds.Assignment) fit = tt
+    by (Some kinds.Command) fit = fit
+    by (Some kinds.Update) fit = tt
+
+update_fit : (plan : List Site) (path : List ℕ) (says : ParsedLine) → (is_path path ≡ true → IsFitParsedLine says) → IsFitParsedLine (of_update (kind_at plan path) says)
+update_fit plan path says fit = elim (cases_Bool (is_path path)) [
+  | inl is ↦ rw is (by (option_map (λ site. site.head.kind) (find (λ site. is_same path site.path) plan)) (fit is))
+  | inr isnt ↦ rw isnt tt
+]
+  where
+    by : (kind : Option Kind) → IsFitParsedLine says → IsFitParsedLine (of_update kind says)
+    by None fit = tt
+    by (Some kinds.List) fit = tt
+    by (Some kinds.Empty) fit = tt
+    by (Some kinds.Assignment) fit = tt
+    by (Some kinds.Command) fit = tt
+    by (Some kinds.Update) fit = fit
+
+returned_fit : (path : List ℕ) (value : Option Value) → Of IsTold value → is_path path ≡ true → IsFitParsedLine (returned path value)
+returned_fit path None told is = tt
+returned_fit path (Some value) told is = and_from (is_path path) (is_plain_or_unknown value) is told
+
+handle_fit : (plan : List Site) (text : List ℕ) → Of IsFitParsedLine (handle_line plan text)
+handle_fit plan text =
+    of_map IsFitParsedLine _ (handle_of (behind_word text)) (λ handle.
+    command_fit plan (first_word text) (Posts (events.Handle (first_word text) handle)) (λ is. is))
+
+return_fit : (plan : List Site) (text : List ℕ) → Of IsFitParsedLine (return_line plan text)
+return_fit plan text =
+    of_cond IsFitParsedLine (is_nothing (behind_word text)) _ _ tt
+    (command_fit plan (first_word text) (returned (first_word text) (value_of (behind_word text))) (returned_fit (first_word text) (value_of (behind_word text)) (value_fit (behind_word text))))
+
+abort_fit : (plan : List Site) (text : List ℕ) → Of IsFitParsedLine (abort_line plan text)
+abort_fit plan text =
+    of_cond IsFitParsedLine (is_one_word text) _ _ (command_fit plan (first_word text) (Posts (events.AbortDone (first_word text))) (λ is. is)) tt
+
+ack_fit : (plan : List Site) (text : List ℕ) → Of IsFitParsedLine (ack_line plan text)
+ack_fit plan text =
+    of_cond IsFitParsedLine (is_one_word text) _ _ (update_fit plan (first_word text) (Posts (events.Acknowledged (first_word text))) (λ is. is)) tt
+
+-- ---- lines that wait, or name a thread
+
+-- each row of a table of lines says what is fit
+abbrev AllRows : List (List ℕ × (List ℕ → Option ParsedLine)) → Type 0
+AllRows [] = Unit {0}
+AllRows (row ∷ rows) = ((text : List ℕ) → Of IsFitParsedLine (row.1 text)) × AllRows rows
+
+row_fit : (rows : List (List ℕ × (List ℕ → Option ParsedLine))) (word text : List ℕ) → AllRows rows
+    → Of IsFitParsedLine (option_and_then (λ line. line text) (row_of rows word))
+row_fit [] word text all = tt
+row_fit (row ∷ rows) word text all = elim (cases_Bool (is_same row.0 word)) [
+  | inl is ↦ rw is (all.0 text)
+  | inr isnt ↦ rw isnt (row_fit rows word text all.1)
+]
+
+node_fit : (kind : Option Kind) (says : ParsedLine) → IsFitParsedLine says → IsFitParsedLine (of_node kind says)
+node_fit None says fit = tt
+node_fit (Some kind) says fit = fit
+
+state_fit : (plan : List Site) (text : List ℕ) → Of IsFitParsedLine (state_wait plan text)
+state_fit plan text =
+    of_map IsFitParsedLine _ (state_of (behind_word text)) (λ state.
+    node_fit (kind_at plan (first_word text)) (Waits (State (first_word text) state)) tt)
+
+events_fit : (text : List ℕ) → Of IsFitParsedLine (events_wait text)
+events_fit text = of_cond IsFitParsedLine (are_digits text && nat_le (length text) 6) _ _ tt tt
+
+wait_fit : (plan : List Site) (text : List ℕ) → Of IsFitParsedLine (wait_line plan text)
+wait_fit plan text = row_fit (waits plan) (first_word text) (behind_word text) (state_fit plan, (events_fit, tt))
+
+named_fit : (number : ℕ) → IsFitParsedLine (cond (is_thread number) (Thread number) (Faulty BadThread))
+named_fit number = elim (cases_Bool (is_thread number)) [
+  | inl is ↦ rw is is
+  | inr isnt ↦ rw isnt tt
+]
+
+thread_fit : (text : List ℕ) → Of IsFitParsedLine (thread_line text)
+thread_fit text = of_cond IsFitParsedLine (are_digits text) _ _ (named_fit (digits_value 10 text)) tt
+
+-- ---- what a line says
+
+said_fit : (plan : List Site) (text : List ℕ) → Of IsFitParsedLine (said plan text)
+said_fit plan text =
+    row_fit (lines plan) (first_word text) (behind_word text) (set_fit, (handle_fit plan, (return_fit plan, (abort_fit plan, (ack_fit plan, (wait_fit plan, (thread_fit, tt)))))))
+
+or_bad : (o : Option ParsedLine) → Of IsFitParsedLine o → IsFitParsedLine (unwrap_or o (Faulty BadLine))
+or_bad None fit = tt
+or_bad (Some says) fit = fit
+
+one_of : (b : Bool) (left right : ParsedLine) → IsFitParsedLine left → IsFitParsedLine right → IsFitParsedLine (cond b left right)
+one_of true left right l r = l
+one_of false left right l r = r
+
+pub parsed_line_fit : (plan : List Site) (line : List ℕ) → IsFitParsedLine (parsed_line plan line)
+parsed_line_fit plan line =
+    one_of (is_silent (content line)) _ _ tt (one_of (is_utf8 (content line)) _ _ (or_bad (said plan (content line)) (said_fit plan (content line))) tt)
+
+abbrev pub AllFit : List ParsedLine → Type 0
+AllFit [] = Unit {0}
+AllFit (says ∷ more) = IsFitParsedLine says × AllFit more
+
+pub all_fit : (plan : List Site) (lines : List (List ℕ)) → AllFit (map (parsed_line plan) lines)
+all_fit plan [] = tt
+all_fit plan (line ∷ lines) = (parsed_line_fit plan line, all_fit plan lines)

@@ -1,0 +1,49 @@
+-- What a thread posts is its own.
+use Rattle.std.proofs.Common.{◌≡◌, ◌≢◌, ℕ, List, [], ◌∷◌, map, refl, ap, subst, arith}
+use Rattle.std.specs.List.{All, filter_map}
+use Rattle.std.proofs.lemmas.Bool.{eq-eqb, ne_eqb}
+use Rattle.std.proofs.lemmas.List.{length-map, get_or-map}
+use Rattle.std.proofs.lemmas.List.Elements.{All-nil, All-cons}
+use Rattle.px_event.specs.declared.entry.Entry.{Entry}
+use Rattle.px_script.specs.Order.{entry_of}
+use Rattle.px_script.specs.Rest.{entries_of}
+use Rattle.px_script.specs.declared.line.Line.{Line}
+use Rattle.px_script.specs.declared.line.What.{What}
+use Rattle.px_script.specs.declared.line.What.TheVariants as whats
+use Rattle.px_script.proofs.Walks.{line_at}
+
+-- what lines post on a thread
+abbrev pub posts_of : ℕ → List Line → List Entry
+posts_of thread lines = filter_map (entry_of thread) lines
+
+pub entries_of_own : (thread : ℕ) (lines : List Line) → entries_of thread (posts_of thread lines) ≡ posts_of thread lines
+entries_of_own thread [] = refl
+entries_of_own thread (line ∷ lines) = by line.what (entries_of_own thread lines)
+  where
+    by : (what : What) → entries_of thread (posts_of thread lines) ≡ posts_of thread lines
+        → entries_of thread (posts_of thread (line_at line.number what ∷ lines)) ≡ posts_of thread (line_at line.number what ∷ lines)
+    by (whats.Post event) others = rw (eq-eqb thread thread refl) (ap (λ (entries : List Entry). record { thread = thread; line = line.number; event = event } ∷ entries) others)
+    by (whats.Wait cond) others = others
+
+pub entries_of_other : (other thread : ℕ) (lines : List Line) → thread ≢ other → entries_of other (posts_of thread lines) ≡ []
+entries_of_other other thread [] differ = refl
+entries_of_other other thread (line ∷ lines) differ = by line.what (entries_of_other other thread lines differ)
+  where
+    by : (what : What) → entries_of other (posts_of thread lines) ≡ [] → entries_of other (posts_of thread (line_at line.number what ∷ lines)) ≡ []
+    by (whats.Post event) others = rw (ne_eqb thread other differ) others
+    by (whats.Wait cond) others = others
+
+pub own_thread : (thread : ℕ) (lines : List Line) → All (λ entry. entry.thread ≡ thread) (posts_of thread lines)
+own_thread thread [] = All-nil (λ (entry : Entry). entry.thread ≡ thread)
+own_thread thread (line ∷ lines) = by line.what (own_thread thread lines)
+  where
+    by : (what : What) → All (λ (entry : Entry). entry.thread ≡ thread) (posts_of thread lines)
+        → All (λ entry. entry.thread ≡ thread) (posts_of thread (line_at line.number what ∷ lines))
+    by (whats.Post event) others =
+        All-cons (λ (entry : Entry). entry.thread ≡ thread) (record { thread = thread; line = line.number; event = event }) (posts_of thread lines) refl others
+    by (whats.Wait cond) others = others
+
+-- what holds of each image holds of each element
+pub All-unmap : {X Y : Type 0} (P : Y → Type 0) (f : X → Y) (xs : List X) → All P (map f xs) → All (λ x. P (f x)) xs
+All-unmap P f xs all k d within =
+    subst P (get_or-map f xs k d (f d) within) (all k (f d) (omega (arith, length-map xs f)))
