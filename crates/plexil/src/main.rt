@@ -8,6 +8,7 @@ mod host;
 use disk::StdDisk;
 use host::StdHost;
 use px_run::plexil;
+use px_script::NoPace;
 use std::env::Env;
 use std::io::ErrorKind;
 use std::process::ExitCode;
@@ -23,7 +24,7 @@ fn main(rt: HostRuntime) -> ExitCode {
     };
     let disk = StdDisk::new(alloc, rt);
     let mut host = StdHost::new(alloc, rt);
-    ExitCode::from(plexil(alloc, &words, &mut host, disk).status)
+    ExitCode::from(plexil(alloc, &words, &mut host, disk, &NoPace).status)
 }
 
 // The words behind the program's own name. A command line that isn't UTF-8 is faulty, and stands as one

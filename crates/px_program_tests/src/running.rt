@@ -2,6 +2,7 @@
 use crate::faults::Faults;
 use px_ports::{MemDisk, MemFile, MemHost};
 use px_run::{Done, plexil};
+use px_script::NoPace;
 use std::alloc::Global;
 
 /// The words of a call, and what it finds: the content of the files P and S, the disk, and what goes wrong.
@@ -68,7 +69,7 @@ pub(crate) fn answer_of(alloc: Global, call: Call<'_>) -> anyhow::Result<Answer>
         call.faults.stop,
     )?;
 
-    let Done { status, disk } = plexil(alloc, &words, &mut host, disk);
+    let Done { status, disk } = plexil(alloc, &words, &mut host, disk, &NoPace);
     Ok(Answer {
         status,
         text: String::from_utf8(host.emitted().to_vec(alloc)?)?,

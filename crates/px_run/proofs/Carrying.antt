@@ -1,54 +1,54 @@
 -- What each command has come to, as one of the program's.
-use Rattle.std.proofs.Common.{◌≡◌, inl, inr, ℕ, List, Option, Some, None, Result, Ok, Err, refl}
+use Rattle.std.proofs.Common.{◌≡◌, inl, inr, ℕ, List, Option, Some, None, Result, Err, refl}
 use Rattle.px_output.specs.View.{View}
 use Rattle.px_ports.specs.declared.disk.Disk
 use Rattle.px_session.specs.Session.{IsBoundAtMost}
 use Rattle.px_session.proofs.Leaving.{untouched_at_once}
 use Rattle.px_words.specs.Words.{Command, TraceStart, DryRun, Check, Run, Resume, Trace, journal_of}
-use Rattle.px_run.specs.Course.{Untouched}
-use Rattle.px_run.specs.Ending.{Ending}
+use Rattle.px_run.specs.Course.{Untouched, Due, EndsIn}
+use Rattle.px_run.specs.Ending.{usage}
 use Rattle.px_run.specs.Finishing.{Performed, Runs, Resumes, Traces}
-use Rattle.px_run.specs.Headline.{TraceStartCalls, DryRunCalls, CheckCalls, CommandCallsFor, Plainly, IsBoundFor}
-use Rattle.px_run.specs.Stops.{Performs, PerformsDue}
+use Rattle.px_run.specs.Headline.{TraceStartCalls, DryRunCalls, CheckCalls, CommandCallsFor, IsBoundFor}
+use Rattle.px_run.specs.Stops.{Performs}
+use Rattle.px_run.specs.declared.ending.End.{End}
 use Rattle.px_run.specs.declared.ending.Refusal.TheVariants as refusals
 use Rattle.px_run.specs.declared.ending.Stop.{Stop}
 use Rattle.px_run.specs.declared.ending.Stop.TheVariants as stops
 use Rattle.px_run.specs.declared.finishing.Carried.{Carried}
+use Rattle.px_run.proofs.Performing.{performs_more}
 
 module _ {D : Type 0} (members : Disk.Ghosts D) (before now : View) (disk : D) (unbound : members.bound_to disk ≡ None) where
-  -- ---- a command without a journal
+  -- ---- a command without a journal, which makes no call of the disk
 
-  plainly : (Calls : Ending → Type 0) (r : Result Unit Stop) → Performs before now Calls r → PerformsDue before now (Plainly members disk disk Calls Untouched) r
-  plainly Calls (Ok done) (ending, is, status, emits) = (ending, (refl, refl, is), status, emits)
-  plainly Calls (Err (stops.Refused refusal)) (is, same) = ((refl, refl, is), same)
-  plainly Calls (Err stops.SinkFailed) (ending, is, part, fault) = (ending, (refl, refl, is), part, fault)
-  plainly Calls (Err stops.NoMemory) (inl (ending, is, part)) = inl (ending, (refl, refl, is), part)
-  plainly Calls (Err stops.NoMemory) (inr same) = inr ((refl, refl, tt), same)
-
-  performed : (asked : Option Command) (r : Result Unit Stop) → PerformsDue before now (CommandCallsFor members asked before now disk disk Untouched) r
+  plainly : (asked : Option Command) (Calls : Due → Type 0) (r : Result End Stop)
+      → ((due : Due) → Calls due → CommandCallsFor members asked before now disk disk Untouched due) → Performs before now Calls r
       → Performed members asked before now disk (record { result = r; disk = disk })
-  performed asked r performs = record {
+  plainly asked Calls r widen performs = record {
     course = Untouched;
-    performs = performs;
+    performs = performs_more before now Calls (CommandCallsFor members asked before now disk disk Untouched) r widen performs;
     leaves = λ tells. untouched_at_once members disk;
     bound = inl unbound;
   }
 
   pub usage_performed : (words : Option Command) → words ≡ None → now.emitted ≡ before.emitted
       → Performed members words before now disk (record { result = Err (stops.Refused refusals.Usage); disk = disk })
-  usage_performed words is same = rw is (performed None (Err (stops.Refused refusals.Usage)) ((refl, refl, refl), same))
+  usage_performed words is same =
+      rw is (plainly None (EndsIn Untouched usage Untouched) (Err (stops.Refused refusals.Usage)) (λ due calls. (refl, calls)) ((refl, refl), same))
 
-  pub trace_start_performed : (words : Option Command) (plan : List ℕ) (r : Result Unit Stop) → words ≡ Some (TraceStart plan) → Performs before now (TraceStartCalls plan before now) r
-      → Performed members words before now disk (record { result = r; disk = disk })
-  trace_start_performed words plan r is performs = rw is (performed (Some (TraceStart plan)) r (plainly (TraceStartCalls plan before now) r performs))
+  pub trace_start_performed : (words : Option Command) (plan : List ℕ) (r : Result End Stop) → words ≡ Some (TraceStart plan)
+      → Performs before now (TraceStartCalls plan before now Untouched) r → Performed members words before now disk (record { result = r; disk = disk })
+  trace_start_performed words plan r is performs =
+      rw is (plainly (Some (TraceStart plan)) (TraceStartCalls plan before now Untouched) r (λ due calls. (refl, calls)) performs)
 
-  pub dry_run_performed : (words : Option Command) (plan script : List ℕ) (r : Result Unit Stop) → words ≡ Some (DryRun plan script)
-      → Performs before now (DryRunCalls plan script before now) r → Performed members words before now disk (record { result = r; disk = disk })
-  dry_run_performed words plan script r is performs = rw is (performed (Some (DryRun plan script)) r (plainly (DryRunCalls plan script before now) r performs))
+  pub dry_run_performed : (words : Option Command) (plan script : List ℕ) (r : Result End Stop) → words ≡ Some (DryRun plan script)
+      → Performs before now (DryRunCalls plan script before now Untouched) r → Performed members words before now disk (record { result = r; disk = disk })
+  dry_run_performed words plan script r is performs =
+      rw is (plainly (Some (DryRun plan script)) (DryRunCalls plan script before now Untouched) r (λ due calls. (refl, calls)) performs)
 
-  pub check_performed : (words : Option Command) (plan : List ℕ) (r : Result Unit Stop) → words ≡ Some (Check plan) → Performs before now (CheckCalls plan before now) r
-      → Performed members words before now disk (record { result = r; disk = disk })
-  check_performed words plan r is performs = rw is (performed (Some (Check plan)) r (plainly (CheckCalls plan before now) r performs))
+  pub check_performed : (words : Option Command) (plan : List ℕ) (r : Result End Stop) → words ≡ Some (Check plan)
+      → Performs before now (CheckCalls plan before now Untouched) r → Performed members words before now disk (record { result = r; disk = disk })
+  check_performed words plan r is performs =
+      rw is (plainly (Some (Check plan)) (CheckCalls plan before now Untouched) r (λ due calls. (refl, calls)) performs)
 
 -- ---- a command with a journal
 

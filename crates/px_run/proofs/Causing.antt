@@ -1,72 +1,116 @@
 -- From the headline to its cause.
-use Rattle.std.proofs.Common.{◌≡◌, ℕ, inl, inr, List, Option, Some, None, IsSome, refl, ap, subst, sym, ◌∙◌}
+use Rattle.std.proofs.Common.{◌≡◌, ℕ, inl, inr, List, [], Option, Some, None, IsSome, refl, ap, subst, sym, ◌∙◌}
 use Rattle.std.specs.Option.{ForSome, option_map, option_and_then}
 use Rattle.px_compile.specs.Compiled.{IsCompiled}
-use Rattle.px_core.specs.Plan.{Tree, sites}
+use Rattle.px_core.specs.Plan.{Site, Tree, sites}
 use Rattle.px_event.specs.declared.entry.Entry.{Entry}
 use Rattle.px_journal.specs.Layout.{Stands}
 use Rattle.px_output.specs.View.{View}
+use Rattle.px_ports.specs.Host.{Emits}
 use Rattle.px_ports.specs.declared.disk.Disk
+use Rattle.px_script.specs.Follows.{AreStalled}
+use Rattle.px_script.specs.Rest.{rest}
 use Rattle.px_script.specs.declared.todo.Todo.{Todo}
 use Rattle.px_sem.specs.Log.{events_of}
 use Rattle.px_sem.specs.Run.{run, started}
 use Rattle.px_sem.specs.World.{World}
+use Rattle.px_session.specs.Session.{Session}
 use Rattle.px_words.specs.Words.{Command, TraceStart, DryRun, Check, Run, Resume, Trace, plan_of, script_of, journal_of, runs_plan, command}
-use Rattle.px_run.specs.Causes.{HasPlan, HasScript, HasJournal, Runs, ReadsScript, Starts, OperandIsRefused, FailsToRead, TakesUp, Cause}
-use Rattle.px_run.specs.Course.{Course}
-use Rattle.px_run.specs.Ending.{Ending, DryRunEndsBy, DryRunEnds, of_start, start_ending, nodes_ending}
-use Rattle.px_run.specs.File.{FileKind, Seen, Content, Longer, Unreadable, Shows, Refuses, Reads, After}
-use Rattle.px_run.specs.Headline.{CommandCallsFor, Delivers, Headline}
-use Rattle.px_run.specs.Journaled.{JournalRefuses, HasNoJournal, CannotRun}
+use Rattle.px_run.specs.Causes.{HasPlan, HasScript, HasJournal, Runs, ReadsScript, Starts, OperandIsRefused, FailsToRead, StallsBehind, StallsOver, TakesUp, Cause}
+use Rattle.px_run.specs.Course.{Course, Untouched, TakenUp, GoneOn, Due, EndsIn, AfterFile}
+use Rattle.px_run.specs.Ending.{Ending, of_start, start_ending, nodes_ending, session_ending, stalled_ending, runaway_at_start}
+use Rattle.px_run.specs.File.{FileKind, Seen, Content, Longer, Unreadable, Shows, Refuses, with_text, Reads}
+use Rattle.px_run.specs.Headline.{DryRunOf, TraceStartCalls, DryRunCalls, CommandCallsFor, Delivers, Headline}
+use Rattle.px_run.specs.Journaled.{IsSession, DueBehind, SessionCalls, NewCalls, RunCallsBy, RunCalls, HasNoJournal, CannotRun, AfterJournal, ResumeCalls, TraceCalls}
 use Rattle.px_run.specs.Kinds.{plan_file, script_file}
-use Rattle.px_run.proofs.Ends.{SessionEnds, StartEnds, RunEnds, JournalEnds, CommandEnds, ends_by}
-use Rattle.px_run.proofs.FileKinds.{IsKind, plan_kind, script_kind}
+use Rattle.px_run.proofs.FileKinds.{IsKind, plan_kind, script_kind, text_kind}
+use Rattle.px_run.proofs.SeenFiles.{WhereDue}
+use Rattle.px_run.proofs.Starting.{some_start}
 
 -- a dry run has the status of its start
-pub dry_run_status : (tree : Tree) (threads : List Todo) (ending : Ending) → DryRunEnds tree threads ending → ending.status ≡ (start_ending tree).status
-dry_run_status tree threads ending ends = at (started (sites tree)) ends
-  where
-    at : (found : Option (World × ℕ)) → DryRunEndsBy (sites tree) threads ending found → ending.status ≡ (of_start (sites tree) found).status
-    at None is = ap (λ e. e.status) is
-    at (Some settled) log = ap (λ e. e.status) log.2
+pub dry_run_status : (tree : Tree) (threads : List Todo) (course : Course) (due : Due) → DryRunOf (sites tree) threads course due
+    → WhereDue (λ ending. ending.status ≡ (start_ending tree).status) due
+dry_run_status tree threads _ _ (DryRunOf.runaway none) = sym (ap (λ found. (of_start (sites tree) found).status) none)
+dry_run_status tree threads _ _ (DryRunOf.whole log dry) =
+    let found = some_start tree dry.legal.runs in sym (ap (λ start. (of_start (sites tree) start).status) found.1)
+dry_run_status tree threads _ _ DryRunOf.no_memory = tt
 
 module _ {D : Type 0} (members : Disk.Ghosts D) (words : List (List ℕ)) (before now : View) (old new : D) where
-  abbrev IsCaused : ℕ → Type 0
-  IsCaused status = Cause members words before now old new status
+  -- an ending that was emitted whole has its cause
+  abbrev IsCaused : Ending → Type 0
+  IsCaused ending = Emits before.emitted now.emitted ending.text → Cause members words before now old new ending.status
+
+  -- the same of whatever is due
+  abbrev AreCaused : Due → Type 0
+  AreCaused due = WhereDue IsCaused due
+
+  caused_as : (ending : Ending) (status : ℕ) → ending.status ≡ status → Cause members words before now old new status → IsCaused ending
+  caused_as ending status is cause = λ emits. subst (Cause members words before now old new) (sym is) cause
 
   -- ---- files
 
   refused_file : (A : Type 0) (kind : FileKind A) (status : ℕ) (Has : List (List ℕ) → List ℕ → Type 0) (name : List ℕ) (seen : Seen) (ending : Ending)
-      → IsKind A kind status → Has words name → (OperandIsRefused kind Has words before now → IsCaused status)
-      → (FailsToRead Has words before now → IsCaused 7) → Shows kind.limit before now name seen → Refuses kind seen ending → IsCaused ending.status
-  refused_file A kind status Has name Unreadable ending k has cause fails shows is = rw is (fails (name, has, shows))
-  refused_file A kind status Has name Longer ending k has cause fails shows is = rw (is, k.too_long) (cause (name, has, inl shows))
+      → IsKind A kind status → Has words name → (OperandIsRefused kind Has words before now → Cause members words before now old new status)
+      → (FailsToRead Has words before now → Cause members words before now old new 7) → Shows kind.limit before now name seen
+      → Refuses kind seen ending → IsCaused ending
+  refused_file A kind status Has name Unreadable ending k has cause fails shows is =
+      caused_as ending 7 (ap (λ e. e.status) is) (fails (name, has, shows))
+  refused_file A kind status Has name Longer ending k has cause fails shows is =
+      caused_as ending status (ap (λ e. e.status) is ∙ k.too_long) (cause (name, has, inl shows))
   refused_file A kind status Has name (Content bytes) ending k has cause fails shows refuses =
-      rw (k.refused bytes ending refuses) (cause (name, has, inr (bytes, ending, shows, refuses)))
+      caused_as ending status (k.refused bytes ending refuses) (cause (name, has, inr (bytes, ending, shows, refuses)))
 
-  after_plan : (plan : List ℕ) (Next : Tree → Ending → Type 0) (ending : Ending) → HasPlan words plan
-      → ((tree : Tree) → Reads plan_file before now plan tree → Next tree ending → IsCaused ending.status) → After plan_file before now plan Next ending
-      → IsCaused ending.status
-  after_plan plan Next ending has behind (seen, shows, inl refuses) =
-      refused_file Tree plan_file 3 HasPlan plan seen ending plan_kind has (λ r. Cause.plan_refused r) (λ fails. Cause.read_fault (inl fails)) shows refuses
-  after_plan plan Next ending has behind (seen, shows, inr (tree, spells, next)) = behind tree (seen, shows, spells) next
+  -- what comes behind a file that is an operand
+  after_operand : (A : Type 0) (kind : FileKind A) (status : ℕ) (Has : List (List ℕ) → List ℕ → Type 0) (name : List ℕ) (so_far : Course)
+      (Next : A → Course → Due → Type 0) (course : Course) (due : Due) → IsKind A kind status → Has words name
+      → (OperandIsRefused kind Has words before now → Cause members words before now old new status)
+      → (FailsToRead Has words before now → Cause members words before now old new 7)
+      → ((part : A) → Reads kind before now name part → Next part course due → AreCaused due)
+      → AfterFile kind before now name so_far Next course due → AreCaused due
+  after_operand A kind status Has name so_far Next _ _ k has cause fails behind AfterFile.no_memory = tt
+  after_operand A kind status Has name so_far Next _ _ k has cause fails behind (AfterFile.refused seen ending shows refuses) =
+      refused_file A kind status Has name seen ending k has cause fails shows refuses
+  after_operand A kind status Has name so_far Next _ _ k has cause fails behind (AfterFile.read seen part course due shows spells next) =
+      behind part (seen, shows, spells) next
 
-  after_script : (tree : Tree) (name : List ℕ) (Next : List Todo → Ending → Type 0) (ending : Ending) → HasScript words name
-      → (OperandIsRefused (script_file (sites tree)) HasScript words before now → IsCaused 4) → (FailsToRead HasScript words before now → IsCaused 7)
-      → ((threads : List Todo) → ReadsScript words before now tree → Next threads ending → IsCaused ending.status)
-      → After (script_file (sites tree)) before now name Next ending → IsCaused ending.status
-  after_script tree name Next ending has cause fails behind (seen, shows, inl refuses) =
-      refused_file (List Todo) (script_file (sites tree)) 4 HasScript name seen ending (script_kind (sites tree)) has cause fails shows refuses
-  after_script tree name Next ending has cause fails behind (seen, shows, inr (threads, spells, next)) = behind threads scripts next
-    where
-      scripts : ReadsScript words before now tree
-      scripts other asks =
-          let same : name ≡ other = cc in
-          (threads, subst (λ n. Reads (script_file (sites tree)) before now n threads) same (seen, shows, spells))
+  after_plan : (plan : List ℕ) (Next : Tree → Course → Due → Type 0) (course : Course) (due : Due) → HasPlan words plan
+      → ((tree : Tree) → Reads plan_file before now plan tree → Next tree course due → AreCaused due)
+      → AfterFile plan_file before now plan Untouched Next course due → AreCaused due
+  after_plan plan Next course due has behind after =
+      after_operand Tree plan_file 3 HasPlan plan Untouched Next course due plan_kind has (λ r. Cause.plan_refused r) (λ fails. Cause.read_fault (inl fails)) behind after
+
+  -- the script that was read is the one that the words ask for
+  reads_script : (tree : Tree) (name : List ℕ) (threads : List Todo) → HasScript words name → Reads (script_file (sites tree)) before now name threads
+      → ReadsScript words before now tree
+  reads_script tree name threads has reads other asks =
+      let same : name ≡ other = cc in (threads, subst (λ n. Reads (script_file (sites tree)) before now n threads) same reads)
 
   -- without a script there is none to be read
   no_script : (tree : Tree) → option_and_then script_of (command words) ≡ None → ReadsScript words before now tree
   no_script tree none name has = absurd (let both = sym none ∙ has in cc)
+
+  -- ---- sessions
+
+  -- behind a session: its script is carried out or stalls, or the disk fails
+  session_caused : (plan : List Site) (text : List ℕ) (first : List Entry) (limit : ℕ) (script : List ℕ) (threads : List Todo) (session : Session) (due : Due)
+      → HasJournal words → Cause members words before now old new 0
+      → (StallsBehind before now script plan limit first → StallsOver members words before now old)
+      → Reads (script_file plan) before now script threads → IsSession plan text first limit (rest threads first) session
+      → DueBehind members plan (rest threads first) session old new due → AreCaused due
+  session_caused plan text first limit script threads session _ journal carried_out stalls reads so (DueBehind.whole none all) = λ emits. carried_out
+  session_caused plan text first limit script threads session _ journal carried_out stalls reads so (DueBehind.stalled waits none stalled) =
+      λ emits. Cause.stalled (stalls (record {
+        threads = threads;
+        read = reads;
+        log = session.log;
+        legal = so.legal;
+        stalls = waits;
+        stalled = subst (λ (h : List Entry). AreStalled plan h session.log (rest threads first) waits) so.same_first stalled;
+        text = subst (λ (h : List Entry). Emits before.emitted now.emitted (stalled_ending plan h session.log waits).text) so.same_first emits;
+      }))
+  session_caused plan text first limit script threads session _ journal carried_out stalls reads so (DueBehind.failed some rose) =
+      λ emits. Cause.disk_fault journal rose
+  session_caused plan text first limit script threads session _ journal carried_out stalls reads so (DueBehind.no_memory none) = tt
 
   -- ---- a plan that is to be run
 
@@ -76,129 +120,172 @@ module _ {D : Type 0} (members : Disk.Ghosts D) (words : List (List ℕ)) (befor
     started_so tree IsSuch reads scripts such = (runs, (plan, tree, has, reads, (scripts, such)))
 
     start_caused : (tree : Tree) (found : Option (World × ℕ)) → Reads plan_file before now plan tree → ReadsScript words before now tree
-        → started (sites tree) ≡ found → IsCaused (of_start (sites tree) found).status
+        → started (sites tree) ≡ found → Cause members words before now old new (of_start (sites tree) found).status
     start_caused tree None reads scripts is = Cause.runaway (started_so tree (λ found. found ≡ None) reads scripts is)
     start_caused tree (Some settled) reads scripts is = Cause.done (started_so tree (λ found. IsSome found) reads scripts (rw is refl))
 
-    run_caused : (tree : Tree) (found : Option (World × ℕ)) (ending : Ending) → HasJournal words → Reads plan_file before now plan tree
-        → ReadsScript words before now tree → started (sites tree) ≡ found → StartEnds members before now old new found ending → IsCaused ending.status
-    run_caused tree None ending journal reads scripts is ends =
-        rw ends (Cause.runaway (started_so tree (λ found. found ≡ None) reads scripts is))
-    run_caused tree (Some settled) ending journal reads scripts is (inl (told, status)) =
-        rw status (Cause.journal_refused (inl (started_so tree (λ found. IsSome found) reads scripts (rw is refl), journal, told)))
-    run_caused tree (Some settled) ending journal reads scripts is (inr (inl (rose, status))) = rw status (Cause.disk_fault journal rose)
-    run_caused tree (Some settled) ending journal reads scripts is (inr (inr (nothing, status))) =
-        rw status (Cause.done (started_so tree (λ found. IsSome found) reads scripts (rw is refl)))
+    trace_start_caused : (course : Course) (due : Due) → option_and_then script_of (command words) ≡ None → TraceStartCalls plan before now course due
+        → AreCaused due
+    trace_start_caused course due none after =
+        after_plan plan (λ tree. EndsIn Untouched (start_ending tree)) course due has
+        (λ tree reads ends. ended tree due reads ends.1) after
+      where
+        ended : (tree : Tree) (d : Due) → Reads plan_file before now plan tree → d ≡ Some (start_ending tree) → AreCaused d
+        ended tree d reads is =
+            rw is (caused_as (start_ending tree) (start_ending tree).status refl (start_caused tree (started (sites tree)) reads (no_script tree none) refl))
 
     -- a script behind the plan
-    behind_plan : (tree : Tree) (script : List ℕ) (Next : List Todo → Ending → Type 0) (ending : Ending) → HasScript words script
+    behind_plan : (tree : Tree) (script : List ℕ) (Next : List Todo → Course → Due → Type 0) (course : Course) (due : Due) → HasScript words script
         → Reads plan_file before now plan tree
-        → ((threads : List Todo) → ReadsScript words before now tree → Next threads ending → IsCaused ending.status)
-        → After (script_file (sites tree)) before now script Next ending → IsCaused ending.status
-    behind_plan tree script Next ending asks reads behind after =
-        after_script tree script Next ending asks (λ r. Cause.script_refused (inl (plan, tree, has, reads, r)))
-        (λ fails. Cause.read_fault (inr (inl (plan, tree, has, reads, fails)))) behind after
+        → ((threads : List Todo) → Reads (script_file (sites tree)) before now script threads → Next threads course due → AreCaused due)
+        → AfterFile (script_file (sites tree)) before now script Untouched Next course due → AreCaused due
+    behind_plan tree script Next course due asks reads behind after =
+        after_operand (List Todo) (script_file (sites tree)) 4 HasScript script Untouched Next course due (script_kind (sites tree)) asks
+        (λ r. Cause.script_refused (inl (plan, tree, has, reads, r))) (λ fails. Cause.read_fault (inr (inl (plan, tree, has, reads, fails)))) behind after
 
-    trace_start_caused : (ending : Ending) → option_and_then script_of (command words) ≡ None
-        → After plan_file before now plan (λ tree e. e ≡ start_ending tree) ending → IsCaused ending.status
-    trace_start_caused ending none after =
-        after_plan plan (λ tree e. e ≡ start_ending tree) ending has
-        (λ tree reads is. subst (λ e. IsCaused e.status) (sym is) (start_caused tree (started (sites tree)) reads (no_script tree none) refl)) after
+    dry_run_caused : (script : List ℕ) (course : Course) (due : Due) → HasScript words script → DryRunCalls plan script before now course due → AreCaused due
+    dry_run_caused script course due asks after =
+        after_plan plan (λ tree. AfterFile (script_file (sites tree)) before now script Untouched (DryRunOf (sites tree))) course due has
+        (λ tree reads next. behind_plan tree script (DryRunOf (sites tree)) course due asks reads
+        (λ threads read dry. ended tree due (start_caused tree (started (sites tree)) reads (reads_script tree script threads asks read) refl)
+        (dry_run_status tree threads course due dry)) next) after
+      where
+        ended : (tree : Tree) (d : Due) → Cause members words before now old new (start_ending tree).status
+            → WhereDue (λ ending. ending.status ≡ (start_ending tree).status) d → AreCaused d
+        ended tree None cause none = tt
+        ended tree (Some ending) cause is = caused_as ending (start_ending tree).status is cause
 
-    dry_run_caused : (script : List ℕ) (ending : Ending) → HasScript words script
-        → After plan_file before now plan (λ tree. After (script_file (sites tree)) before now script (DryRunEnds tree)) ending → IsCaused ending.status
-    dry_run_caused script ending asks after =
-        after_plan plan (λ tree. After (script_file (sites tree)) before now script (DryRunEnds tree)) ending has
-        (λ tree reads next. behind_plan tree script (DryRunEnds tree) ending asks reads
-        (λ threads scripts ends. subst IsCaused (sym (dry_run_status tree threads ending ends))
-        (start_caused tree (started (sites tree)) reads scripts refl)) next) after
+    -- a journal behind them
+    new_caused : (tree : Tree) (text : List ℕ) (limit : ℕ) (script journal : List ℕ) (threads : List Todo) (course : Course) (due : Due)
+        → command words ≡ Some (Run plan script journal limit) → Reads plan_file before now plan tree
+        → Reads (script_file (sites tree)) before now script threads → Starts words before now (λ found. IsSome found) → HasJournal words
+        → NewCalls members (sites tree) text limit threads old new course due → AreCaused due
+    new_caused tree text limit script journal threads _ _ asked reads read starts has_journal (NewCalls.exists told) =
+        λ emits. Cause.journal_refused (inl (starts, has_journal, told))
+    new_caused tree text limit script journal threads _ _ asked reads read starts has_journal (NewCalls.half_made rose) =
+        λ emits. Cause.disk_fault has_journal rose
+    new_caused tree text limit script journal threads _ _ asked reads read starts has_journal (NewCalls.made session due nothing (so, behind)) =
+        session_caused (sites tree) text [] limit script threads session due has_journal (Cause.done starts)
+        (λ stalls. StallsOver.of_new plan script journal limit tree asked reads stalls) read so behind
+    new_caused tree text limit script journal threads _ _ asked reads read starts has_journal NewCalls.no_memory = tt
 
-    run_is_caused : (script : List ℕ) (ending : Ending) → HasScript words script → HasJournal words → RunEnds members before now old new plan script ending
-        → IsCaused ending.status
-    run_is_caused script ending asks journal after =
-        after_plan plan (λ tree. After (script_file (sites tree)) before now script (λ threads. StartEnds members before now old new (started (sites tree)))) ending has
-        (λ tree reads next. behind_plan tree script (λ threads. StartEnds members before now old new (started (sites tree))) ending asks reads
-        (λ threads scripts ends. run_caused tree (started (sites tree)) ending journal reads scripts refl ends) next) after
+    run_caused : (tree : Tree) (text : List ℕ) (limit : ℕ) (script journal : List ℕ) (threads : List Todo) (course : Course) (due : Due)
+        (found : Option (World × ℕ)) → command words ≡ Some (Run plan script journal limit) → HasScript words script → HasJournal words
+        → Reads plan_file before now plan tree → Reads (script_file (sites tree)) before now script threads → started (sites tree) ≡ found
+        → RunCallsBy members (sites tree) text limit threads old new course due found → AreCaused due
+    run_caused tree text limit script journal threads course due None asked asks has_journal reads read is (untouched, ends) =
+        rw ends (caused_as runaway_at_start 6 refl (Cause.runaway (started_so tree (λ found. found ≡ None) reads (reads_script tree script threads asks read) is)))
+    run_caused tree text limit script journal threads course due (Some settled) asked asks has_journal reads read is calls =
+        new_caused tree text limit script journal threads course due asked reads read
+        (started_so tree (λ found. IsSome found) reads (reads_script tree script threads asks read) (rw is refl)) has_journal calls
+
+    run_is_caused : (script journal : List ℕ) (limit : ℕ) (course : Course) (due : Due) → command words ≡ Some (Run plan script journal limit)
+        → HasScript words script → HasJournal words → RunCalls members plan script limit before now old new course due → AreCaused due
+    run_is_caused script journal limit course due asked asks has_journal after =
+        after_operand (List ℕ × Tree) (with_text plan_file) 3 HasPlan plan Untouched _ course due (text_kind Tree plan_file 3 plan_kind) has
+        (λ r. Cause.plan_refused r) (λ fails. Cause.read_fault (inl fails))
+        (λ source reads next. behind_plan source.1 script _ course due asks (without_text plan source reads)
+        (λ threads read calls. run_caused source.1 source.0 limit script journal threads course due (started (sites source.1)) asked asks has_journal
+        (without_text plan source reads) read refl calls) next) after
+      where
+        without_text : (name : List ℕ) (source : List ℕ × Tree) → Reads (with_text plan_file) before now name source → Reads plan_file before now name source.1
+        without_text name source (Content bytes, shows, spells) = (Content bytes, shows, spells.1)
+        without_text name source (Longer, shows, spells) = absurd spells
+        without_text name source (Unreadable, shows, spells) = absurd spells
 
   -- ---- a journal that is to be taken up
 
   module _ (no_plan : option_and_then plan_of (command words) ≡ None) (journal : HasJournal words) where
-    refused_caused : (ending : Ending) → JournalRefuses members old ending → IsCaused ending.status
-    refused_caused _ (inl (HasNoJournal.nothing told)) = Cause.journal_refused (inr (no_plan, journal, _, inl (HasNoJournal.nothing told), refl))
-    refused_caused _ (inl (HasNoJournal.damaged at told)) = Cause.journal_refused (inr (no_plan, journal, _, inl (HasNoJournal.damaged at told), refl))
-    refused_caused _ (inr (text, first, told, CannotRun.no_plan fault other refused)) =
-        Cause.journal_refused (inr (no_plan, journal, _, inr (text, first, told, CannotRun.no_plan fault other refused), refl))
-    refused_caused _ (inr (text, first, told, CannotRun.start_runs_away tree compiled is)) =
-        Cause.taken_up_runaway (no_plan, journal, text, first, tree, told, compiled, is)
-    refused_caused _ (inr (text, first, told, CannotRun.event_runs_away tree at compiled away)) =
-        Cause.journal_refused (inr (no_plan, journal, _, inr (text, first, told, CannotRun.event_runs_away tree at compiled away), refl))
+    no_journal_caused : (ending : Ending) → HasNoJournal members old ending → IsCaused ending
+    no_journal_caused _ (HasNoJournal.nothing told) =
+        λ emits. Cause.journal_refused (inr (no_plan, journal, _, inl (HasNoJournal.nothing told), refl))
+    no_journal_caused _ (HasNoJournal.damaged at told) =
+        λ emits. Cause.journal_refused (inr (no_plan, journal, _, inl (HasNoJournal.damaged at told), refl))
+
+    not_run_caused : (text : List ℕ) (first : List Entry) (ending : Ending) → ForSome (members.content old) (λ told. Stands told text first)
+        → CannotRun text first ending → IsCaused ending
+    not_run_caused text first _ told (CannotRun.no_plan fault other refused) =
+        λ emits. Cause.journal_refused (inr (no_plan, journal, _, inr (text, first, told, CannotRun.no_plan fault other refused), refl))
+    not_run_caused text first _ told (CannotRun.start_runs_away tree compiled is) =
+        λ emits. Cause.taken_up_runaway (no_plan, journal, text, first, tree, told, compiled, is)
+    not_run_caused text first _ told (CannotRun.event_runs_away tree at compiled away) =
+        λ emits. Cause.journal_refused (inr (no_plan, journal, _, inr (text, first, told, CannotRun.event_runs_away tree at compiled away), refl))
 
     -- the disk's plan and history are such
     taken_up : (text : List ℕ) (first : List Entry) (tree : Tree) (IsSuch : Tree → List Entry → Type 0)
         → ForSome (members.content old) (λ told. Stands told text first) → IsCompiled text tree → IsSuch tree first → TakesUp members words old IsSuch
     taken_up text first tree IsSuch told compiled such = (no_plan, journal, text, first, tree, told, compiled, such)
 
-    after_journal : (More : Tree → Ending → Type 0) (ending : Ending)
+    done_by : (text : List ℕ) (first : List Entry) (tree : Tree) → ForSome (members.content old) (λ told. Stands told text first) → IsCompiled text tree
+        → IsSome (run (sites tree) (events_of first)) → ReadsScript words before now tree → Cause members words before now old new 0
+    done_by text first tree told compiled runs scripts =
+        Cause.taken_up (taken_up text first tree (λ t h. ReadsScript words before now t × IsSome (run (sites t) (events_of h))) told compiled (scripts, runs))
+
+    after_journal : (Next : List ℕ → List Entry → Tree → Course → Due → Type 0) (course : Course) (due : Due)
         → ((text : List ℕ) (first : List Entry) (tree : Tree) → ForSome (members.content old) (λ told. Stands told text first) → IsCompiled text tree
-        → IsSome (run (sites tree) (events_of first)) → More tree ending → IsCaused ending.status)
-        → JournalEnds members before now old new More ending → IsCaused ending.status
-    after_journal More ending behind (inl (rose, status)) = rw status (Cause.disk_fault journal rose)
-    after_journal More ending behind (inr (inl refuses)) = refused_caused ending refuses
-    after_journal More ending behind (inr (inr (text, first, tree, told, compiled, runs, more))) = behind text first tree told compiled runs more
+        → IsSome (run (sites tree) (events_of first)) → Next text first tree course due → AreCaused due)
+        → AfterJournal members old new Next course due → AreCaused due
+    after_journal Next _ _ behind AfterJournal.no_memory = tt
+    after_journal Next _ _ behind (AfterJournal.disk_fails rose) = λ emits. Cause.disk_fault journal rose
+    after_journal Next _ _ behind (AfterJournal.no_journal_there ending none) = no_journal_caused ending none
+    after_journal Next _ _ behind (AfterJournal.not_run text first ending told cannot) = not_run_caused text first ending told cannot
+    after_journal Next _ _ behind (AfterJournal.opened text first tree course due told compiled runs next) = behind text first tree told compiled runs next
 
-    gone_on_caused : (text : List ℕ) (first : List Entry) (tree : Tree) (ending : Ending) → ForSome (members.content old) (λ told. Stands told text first)
-        → IsCompiled text tree → IsSome (run (sites tree) (events_of first)) → ReadsScript words before now tree
-        → SessionEnds members before now old new ending → IsCaused ending.status
-    gone_on_caused text first tree ending told compiled runs scripts (inl status) =
-        rw status (Cause.taken_up (taken_up text first tree (λ t h. ReadsScript words before now t × IsSome (run (sites t) (events_of h))) told compiled (scripts, runs)))
-    gone_on_caused text first tree ending told compiled runs scripts (inr (rose, status)) = rw status (Cause.disk_fault journal rose)
+    trace_caused : (course : Course) (due : Due) → option_and_then script_of (command words) ≡ None → TraceCalls members old new course due → AreCaused due
+    trace_caused course due none calls =
+        after_journal (λ text first tree. EndsIn (TakenUp text first) (session_ending (sites tree) first [])) course due
+        (λ text first tree told compiled runs ends. ended tree first due (done_by text first tree told compiled runs (no_script tree none)) ends.1) calls
+      where
+        ended : (tree : Tree) (first : List Entry) (d : Due) → Cause members words before now old new 0 → d ≡ Some (session_ending (sites tree) first [])
+            → AreCaused d
+        ended tree first d carried_out is = rw is (λ emits. carried_out)
 
-    trace_caused : (ending : Ending) → option_and_then script_of (command words) ≡ None
-        → JournalEnds members before now old new (λ tree e. e.status ≡ 0) ending → IsCaused ending.status
-    trace_caused ending none ends =
-        after_journal (λ tree e. e.status ≡ 0) ending
-        (λ text first tree told compiled runs status. gone_on_caused text first tree ending told compiled runs (no_script tree none) (inl status)) ends
-
-    resume_caused : (script : List ℕ) (ending : Ending) → HasScript words script
-        → JournalEnds members before now old new
-        (λ tree. After (script_file (sites tree)) before now script (λ threads. SessionEnds members before now old new)) ending → IsCaused ending.status
-    resume_caused script ending asks ends =
-        after_journal (λ tree. After (script_file (sites tree)) before now script (λ threads. SessionEnds members before now old new)) ending
-        (λ text first tree told compiled runs after. after_script tree script (λ threads. SessionEnds members before now old new) ending asks
+    resume_caused : (script name : List ℕ) (limit : ℕ) (course : Course) (due : Due) → command words ≡ Some (Resume script name limit)
+        → HasScript words script → ResumeCalls members script limit before now old new course due → AreCaused due
+    resume_caused script name limit course due asked asks calls =
+        after_journal (λ text first tree. AfterFile (script_file (sites tree)) before now script (TakenUp text first) (λ threads c d.
+        (session : Session) × (c ≡ GoneOn session) × SessionCalls members (sites tree) text first limit (rest threads first) old new session d)) course due
+        (λ text first tree told compiled runs after. after_operand (List Todo) (script_file (sites tree)) 4 HasScript script (TakenUp text first) _ course due
+        (script_kind (sites tree)) asks
         (λ r. Cause.script_refused (inr (taken_up text first tree (λ t h. OperandIsRefused (script_file (sites t)) HasScript words before now) told compiled r)))
         (λ fails. Cause.read_fault (inr (inr (taken_up text first tree (λ t h. FailsToRead HasScript words before now) told compiled fails))))
-        (λ threads scripts session. gone_on_caused text first tree ending told compiled runs scripts session) after) ends
+        (λ threads read (session, is, (so, behind)). session_caused (sites tree) text first limit script threads session due journal
+        (done_by text first tree told compiled runs (reads_script tree script threads asks read))
+        (λ stalls. StallsOver.of_taken_up script name limit text first tree asked told compiled stalls) read so behind) after) calls
 
   -- ---- whatever the command
 
-  caused_by : (asked : Option Command) (ending : Ending) → command words ≡ asked → CommandEnds members before now old new asked ending → IsCaused ending.status
-  caused_by None ending none is = rw is (Cause.no_command none)
-  caused_by (Some (TraceStart plan)) ending asks ends =
-      trace_start_caused plan (ap (option_map runs_plan) asks) (ap (option_and_then plan_of) asks) ending (ap (option_and_then script_of) asks) ends
-  caused_by (Some (DryRun plan script)) ending asks ends =
-      dry_run_caused plan (ap (option_map runs_plan) asks) (ap (option_and_then plan_of) asks) script ending (ap (option_and_then script_of) asks) ends
-  caused_by (Some (Check plan)) ending asks ends =
-      after_plan plan (λ tree e. e ≡ nodes_ending tree) ending (ap (option_and_then plan_of) asks)
-      (λ tree reads is. subst (λ e. IsCaused e.status) (sym is)
-      (Cause.checked (ap (option_map runs_plan) asks) (plan, tree, ap (option_and_then plan_of) asks, reads, tt))) ends
-  caused_by (Some (Run plan script journal limit)) ending asks ends =
-      run_is_caused plan (ap (option_map runs_plan) asks) (ap (option_and_then plan_of) asks) script ending (ap (option_and_then script_of) asks)
-      (journal, ap (option_and_then journal_of) asks) ends
-  caused_by (Some (Resume script journal limit)) ending asks ends =
-      resume_caused (ap (option_and_then plan_of) asks) (journal, ap (option_and_then journal_of) asks) script ending (ap (option_and_then script_of) asks) ends
-  caused_by (Some (Trace journal)) ending asks ends =
-      trace_caused (ap (option_and_then plan_of) asks) (journal, ap (option_and_then journal_of) asks) ending (ap (option_and_then script_of) asks) ends
+  caused_by : (asked : Option Command) (course : Course) (due : Due) → command words ≡ asked → CommandCallsFor members asked before now old new course due
+      → AreCaused due
+  caused_by None course due none (same, (untouched, is)) = rw is (λ emits. Cause.no_command none)
+  caused_by (Some (TraceStart plan)) course due asks (same, calls) =
+      trace_start_caused plan (ap (option_map runs_plan) asks) (ap (option_and_then plan_of) asks) course due (ap (option_and_then script_of) asks) calls
+  caused_by (Some (DryRun plan script)) course due asks (same, calls) =
+      dry_run_caused plan (ap (option_map runs_plan) asks) (ap (option_and_then plan_of) asks) script course due (ap (option_and_then script_of) asks) calls
+  caused_by (Some (Check plan)) course due asks (same, calls) =
+      after_plan plan (λ tree. EndsIn Untouched (nodes_ending tree)) course due (ap (option_and_then plan_of) asks)
+      (λ tree reads ends. checked tree due reads ends.1) calls
+    where
+      checked : (tree : Tree) (d : Due) → Reads plan_file before now plan tree → d ≡ Some (nodes_ending tree) → AreCaused d
+      checked tree d reads is = rw is (λ emits. Cause.checked (ap (option_map runs_plan) asks) (plan, tree, ap (option_and_then plan_of) asks, reads, tt))
+  caused_by (Some (Run plan script journal limit)) course due asks calls =
+      run_is_caused plan (ap (option_map runs_plan) asks) (ap (option_and_then plan_of) asks) script journal limit course due asks
+      (ap (option_and_then script_of) asks) (journal, ap (option_and_then journal_of) asks) calls
+  caused_by (Some (Resume script journal limit)) course due asks calls =
+      resume_caused (ap (option_and_then plan_of) asks) (journal, ap (option_and_then journal_of) asks) script journal limit course due asks
+      (ap (option_and_then script_of) asks) calls
+  caused_by (Some (Trace journal)) course due asks calls =
+      trace_caused (ap (option_and_then plan_of) asks) (journal, ap (option_and_then journal_of) asks) course due (ap (option_and_then script_of) asks) calls
 
-  caused : (course : Course) (ending : Ending) → CommandCallsFor members (command words) before now old new course (Some ending) → IsCaused ending.status
-  caused course ending calls =
-      caused_by (command words) ending refl (ends_by members before now old new (command words) course ending calls)
+  pub caused : (course : Course) (ending : Ending) → CommandCallsFor members (command words) before now old new course (Some ending) → IsCaused ending
+  caused course ending calls = caused_by (command words) course (Some ending) refl calls
 
 pub causes : {D : Type 0} (members : Disk.Ghosts D) (words : List (List ℕ)) (before now : View) (old new : D) (status : ℕ)
     → Headline members words before now old new status → Cause members words before now old new status
 causes members words before now old new _ (Headline.delivered course ending status calls leaves delivers) = by status delivers
   where
     by : (s : ℕ) → Delivers before now ending s → Cause members words before now old new s
-    by _ (Delivers.whole emits) = caused members words before now old new course ending calls
+    by _ (Delivers.whole emits) = caused members words before now old new course ending calls emits
     by _ (Delivers.sink_fault part fault) = Cause.sink_fault fault
     by _ (Delivers.no_memory part) = Cause.no_memory
 causes members words before now old new _ (Headline.nothing_emitted course calls leaves same) = Cause.no_memory

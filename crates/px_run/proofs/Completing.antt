@@ -1,46 +1,57 @@
 -- From the headline to completeness, and to refusals.
-use Rattle.std.proofs.Common.{◌≡◌, ℕ, ◌⊎◌, inl, inr, List, Option, Some, None, IsSome, IsTrue, IsFalse, refl, ap, subst, sym, ◌∙◌}
+use Rattle.std.proofs.Common.{◌≡◌, ℕ, ◌⊎◌, inl, inr, List, [], Option, Some, None, IsSome, IsTrue, IsFalse, refl, ap, subst, sym, ◌∙◌}
 use Rattle.std.specs.Option.{option_and_then}
 use Rattle.px_compile.specs.Compiled.{IsCompiled}
-use Rattle.px_core.specs.Plan.{Tree, sites}
+use Rattle.px_core.specs.Plan.{Site, Tree, sites}
 use Rattle.px_event.specs.declared.entry.Entry.{Entry}
 use Rattle.px_journal.specs.Layout.{is_nothing, Stands}
 use Rattle.px_journal.proofs.Creating.{nothing_or_not}
 use Rattle.px_output.specs.View.{View, Faulted}
 use Rattle.px_ports.specs.Host.{Files, Rose}
 use Rattle.px_ports.specs.declared.disk.Disk
+use Rattle.px_script.specs.Rest.{rest}
 use Rattle.px_script.specs.declared.todo.Todo.{Todo}
 use Rattle.px_sem.specs.Log.{events_of}
 use Rattle.px_sem.specs.Run.{run, started}
 use Rattle.px_sem.specs.World.{World}
+use Rattle.px_session.specs.Session.{Session}
 use Rattle.px_words.specs.Words.{Command, TraceStart, DryRun, Check, Run, Resume, Trace, plan_of, script_of, journal_of, command}
 use Rattle.px_run.specs.Causes.{HasPlan, HasScript, HasJournal, FailsToRead, status_behind, IsSound, IsComplete, IsRefused}
-use Rattle.px_run.specs.Ending.{Ending, DryRunEnds, of_start, start_ending, nodes_ending}
-use Rattle.px_run.specs.File.{After, Holds, HoldsNone}
-use Rattle.px_run.specs.Headline.{Delivers, Headline}
-use Rattle.px_run.specs.Journaled.{JournalRefuses}
+use Rattle.px_run.specs.Course.{Course, Untouched, TakenUp, Due, EndsIn, AfterFile}
+use Rattle.px_run.specs.Ending.{Ending, of_start, start_ending, nodes_ending, session_ending, runaway_at_start}
+use Rattle.px_run.specs.File.{FileKind, with_text, Holds, HoldsNone}
+use Rattle.px_run.specs.Headline.{CommandCallsFor, Delivers, Headline}
+use Rattle.px_run.specs.Journaled.{DueBehind, NewCalls, RunCallsBy, JournalRefuses, AfterJournal}
 use Rattle.px_run.specs.Kinds.{plan_file, script_file}
 use Rattle.px_run.proofs.Causing.{dry_run_status}
-use Rattle.px_run.proofs.Ends.{SessionEnds, StartEnds, JournalEnds, CommandEnds, ends_by}
-use Rattle.px_run.proofs.Excluding.{none_or_some, same_tree, never_refused, one_status}
-use Rattle.px_run.proofs.FileKinds.{plan_kind, script_kind, held, none_held}
+use Rattle.px_run.proofs.Excluding.{none_or_some, same_text, same_first, same_tree, never_refused, one_status}
+use Rattle.px_run.proofs.FileKinds.{IsKind, plan_kind, script_kind, text_kind, holds_text, held, none_held}
+use Rattle.px_run.proofs.SeenFiles.{WhereDue}
 
 -- where no fault of the sink was counted, the status is that of the ending, or 10
-sound_status : {D : Type 0} (members : Disk.Ghosts D) (words : List (List ℕ)) (before now : View) (old new : D) (status expected : ℕ)
+sound_status : {D : Type 0} (members : Disk.Ghosts D) (words : List (List ℕ)) (before now : View) (old new : D) (Expected : ℕ → Type 0) (status : ℕ)
     → Headline members words before now old new status → ¬ Faulted before now
-    → ((ending : Ending) → CommandEnds members before now old new (command words) ending → ending.status ≡ expected)
-    → (status ≡ 10) ⊎ (status ≡ expected)
-sound_status members words before now old new _ expected (Headline.delivered course ending status calls leaves delivers) sound is = by status delivers
+    → ((course : Course) (ending : Ending) → CommandCallsFor members (command words) before now old new course (Some ending) → Expected ending.status)
+    → (status ≡ 10) ⊎ Expected status
+sound_status members words before now old new Expected _ (Headline.delivered course ending status calls leaves delivers) sound is = by status delivers
   where
-    by : (s : ℕ) → Delivers before now ending s → (s ≡ 10) ⊎ (s ≡ expected)
-    by _ (Delivers.whole emits) = inr (is ending (ends_by members before now old new (command words) course ending calls))
+    by : (s : ℕ) → Delivers before now ending s → (s ≡ 10) ⊎ Expected s
+    by _ (Delivers.whole emits) = inr (is course ending calls)
     by _ (Delivers.sink_fault part fault) = absurd (sound fault)
     by _ (Delivers.no_memory part) = inl refl
-sound_status members words before now old new _ expected (Headline.nothing_emitted course calls leaves same) sound is = inl refl
+sound_status members words before now old new Expected _ (Headline.nothing_emitted course calls leaves same) sound is = inl refl
+
+-- carried out, or stalled
+abbrev pub OrStalled : ℕ → ℕ → Type 0
+OrStalled expected status = (status ≡ expected) ⊎ (status ≡ 11)
+
+-- an ending that is due is the one that is named
+ending_is : (course so_far : Course) (ending named : Ending) → EndsIn so_far named course (Some ending) → ending.status ≡ named.status
+ending_is course so_far ending named (same, is) = let e : ending ≡ named = cc in ap (λ x. x.status) e
 
 module _ {D : Type 0} (members : Disk.Ghosts D) (words : List (List ℕ)) (before now : View) (old new : D) where
-  abbrev EndsBy : Option Command → Ending → Type 0
-  EndsBy asked ending = CommandEnds members before now old new asked ending
+  abbrev Calls : Option Command → Course → Ending → Type 0
+  Calls asked course ending = CommandCallsFor members asked before now old new course (Some ending)
 
   -- what the words have, they have once
   one_plan_asked : (one other : List ℕ) → HasPlan words one → HasPlan words other → one ≡ other
@@ -58,142 +69,176 @@ module _ {D : Type 0} (members : Disk.Ghosts D) (words : List (List ℕ)) (befor
   journal_or_none : HasJournal words → option_and_then journal_of (command words) ≡ None → ⊥
   journal_or_none (journal, has) none = let both = sym none ∙ has in cc
 
+  -- ---- sessions whose disk doesn't fail
+
+  module _ (steady : ¬ Rose (members.faults old) (members.faults new)) where
+    session_sound : (plan : List Site) (left : List Todo) (session : Session) (due : Due) → DueBehind members plan left session old new due
+        → WhereDue (λ ending. OrStalled 0 ending.status) due
+    session_sound plan left session _ (DueBehind.whole none all) = inl refl
+    session_sound plan left session _ (DueBehind.stalled stalls none stalled) = inr refl
+    session_sound plan left session _ (DueBehind.failed some rose) = absurd (steady rose)
+    session_sound plan left session _ (DueBehind.no_memory none) = tt
+
+    -- over a new journal, on a disk that was nothing
+    new_sound : (plan : List Site) (text : List ℕ) (limit : ℕ) (threads : List Todo) (course : Course) (due : Due) (bytes : List ℕ)
+        → members.content old ≡ Some bytes → IsTrue (is_nothing bytes) → NewCalls members plan text limit threads old new course due
+        → WhereDue (λ ending. OrStalled 0 ending.status) due
+    new_sound plan text limit threads _ _ bytes content nothing (NewCalls.exists told) =
+        absurd (nothing_or_not (is_nothing bytes) nothing (told bytes content))
+    new_sound plan text limit threads _ _ bytes content nothing (NewCalls.half_made rose) = absurd (steady rose)
+    new_sound plan text limit threads _ _ bytes content nothing (NewCalls.made session due was (so, behind)) =
+        session_sound plan (rest threads []) session due behind
+    new_sound plan text limit threads _ _ bytes content nothing NewCalls.no_memory = tt
+
+    -- or on one that was something
+    new_refused : (plan : List Site) (text : List ℕ) (limit : ℕ) (threads : List Todo) (course : Course) (due : Due) (bytes : List ℕ)
+        → members.content old ≡ Some bytes → IsFalse (is_nothing bytes) → NewCalls members plan text limit threads old new course due
+        → WhereDue (λ ending. ending.status ≡ 5) due
+    new_refused plan text limit threads _ _ bytes content something (NewCalls.exists told) = refl
+    new_refused plan text limit threads _ _ bytes content something (NewCalls.half_made rose) = absurd (steady rose)
+    new_refused plan text limit threads _ _ bytes content something (NewCalls.made session due was (so, behind)) =
+        absurd (nothing_or_not (is_nothing bytes) (was bytes content) something)
+    new_refused plan text limit threads _ _ bytes content something NewCalls.no_memory = tt
+
   module _ (files : Files) (told : before.files ≡ Some files) where
-    -- ---- behind a script that the host holds
+    -- ---- a script that the host holds, or that is none
 
-    module _ (tree : Tree)
-        (scripts : (name : List ℕ) → HasScript words name → (threads : List Todo) × Holds (script_file (sites tree)) files name threads)
-        (readable : ¬ FailsToRead HasScript words before now) where
-      behind_script : (name : List ℕ) (Next : List Todo → Ending → Type 0) (ending : Ending) (asks : HasScript words name)
-          → After (script_file (sites tree)) before now name Next ending → Next (scripts name asks).0 ending
-      behind_script name Next ending asks after =
-          held (List Todo) (script_file (sites tree)) 4 before now files name (script_kind (sites tree)) told Next ending
-          (λ rose. readable (name, asks, rose)) after (scripts name asks).0 (scripts name asks).1
+    module _ (plan : List Site) (readable : ¬ FailsToRead HasScript words before now) (so_far : Course) (Next : List Todo → Course → Due → Type 0)
+        (name : List ℕ) (asks : HasScript words name) (course : Course) (ending : Ending)
+        (after : AfterFile (script_file plan) before now name so_far Next course (Some ending)) where
+      behind_script : (threads : List Todo) → Holds (script_file plan) files name threads → Next threads course (Some ending)
+      behind_script threads holds =
+          held (List Todo) (script_file plan) 4 before now files name (script_kind plan) told (λ rose. readable (name, asks, rose)) so_far Next threads course
+          (Some ending) holds after
 
-    -- ---- a plan that the host holds
+      without_script : (other : List ℕ) → HasScript words other → HoldsNone (script_file plan) files other → ending.status ≡ 4
+      without_script other also none =
+          none_held (List Todo) (script_file plan) 4 before now files name (script_kind plan) told (λ rose. readable (name, asks, rose)) so_far Next course
+          (Some ending) (subst (λ n. HoldsNone (script_file plan) files n) (one_script_asked other name also asks) none) after
+
+    -- ---- a plan that the host holds, or that is none
 
     module _ (plan : List ℕ) (has : HasPlan words plan) (readable : ¬ FailsToRead HasPlan words before now) where
-      behind_plan : (tree : Tree) (other : List ℕ) (Next : Tree → Ending → Type 0) (ending : Ending) → Holds plan_file files plan tree → HasPlan words other
-          → After plan_file before now other Next ending → Next tree ending
-      behind_plan tree other Next ending holds asks after =
-          held Tree plan_file 3 before now files plan plan_kind told Next ending (λ rose. readable (plan, has, rose))
-          (subst (λ n. After plan_file before now n Next ending) (one_plan_asked other plan asks has) after) tree holds
+      module _ (A : Type 0) (kind : FileKind A) (is_kind : IsKind A kind 3) (Next : A → Course → Due → Type 0) (other : List ℕ) (asks : HasPlan words other)
+          (course : Course) (ending : Ending) (after : AfterFile kind before now other Untouched Next course (Some ending)) where
+        here : AfterFile kind before now plan Untouched Next course (Some ending)
+        here = subst (λ n. AfterFile kind before now n Untouched Next course (Some ending)) (one_plan_asked other plan asks has) after
 
-      -- or that is none
-      without_plan : (other : List ℕ) (Next : Tree → Ending → Type 0) (ending : Ending) → HoldsNone plan_file files plan → HasPlan words other
-          → After plan_file before now other Next ending → ending.status ≡ 3
-      without_plan other Next ending none asks after =
-          none_held Tree plan_file 3 before now files plan plan_kind told Next ending (λ rose. readable (plan, has, rose))
-          (subst (λ n. After plan_file before now n Next ending) (one_plan_asked other plan asks has) after) none
+        behind_plan : (part : A) → Holds kind files plan part → Next part course (Some ending)
+        behind_plan part holds =
+            held A kind 3 before now files plan is_kind told (λ rose. readable (plan, has, rose)) Untouched Next part course (Some ending) holds here
 
-      plan_refused_by : HoldsNone plan_file files plan → (asked : Option Command) (ending : Ending) → command words ≡ asked → EndsBy asked ending
-          → ending.status ≡ 3
-      plan_refused_by none None ending is ends = absurd (plan_or_none plan has (ap (option_and_then plan_of) is))
-      plan_refused_by none (Some (TraceStart other)) ending is ends =
-          without_plan other (λ tree e. e ≡ start_ending tree) ending none (ap (option_and_then plan_of) is) ends
-      plan_refused_by none (Some (DryRun other script)) ending is ends =
-          without_plan other (λ tree. After (script_file (sites tree)) before now script (DryRunEnds tree)) ending none (ap (option_and_then plan_of) is) ends
-      plan_refused_by none (Some (Check other)) ending is ends =
-          without_plan other (λ tree e. e ≡ nodes_ending tree) ending none (ap (option_and_then plan_of) is) ends
-      plan_refused_by none (Some (Run other script journal limit)) ending is ends =
-          without_plan other
-          (λ tree. After (script_file (sites tree)) before now script (λ threads. StartEnds members before now old new (started (sites tree)))) ending none
-          (ap (option_and_then plan_of) is) ends
-      plan_refused_by none (Some (Resume script journal limit)) ending is ends = absurd (plan_or_none plan has (ap (option_and_then plan_of) is))
-      plan_refused_by none (Some (Trace journal)) ending is ends = absurd (plan_or_none plan has (ap (option_and_then plan_of) is))
+        without_plan : HoldsNone kind files plan → ending.status ≡ 3
+        without_plan none =
+            none_held A kind 3 before now files plan is_kind told (λ rose. readable (plan, has, rose)) Untouched Next course (Some ending) none here
+
+      text_of_kind : IsKind (List ℕ × Tree) (with_text plan_file) 3
+      text_of_kind = text_kind Tree plan_file 3 plan_kind
+
+      plan_refused_by : HoldsNone plan_file files plan → (asked : Option Command) (course : Course) (ending : Ending) → command words ≡ asked
+          → Calls asked course ending → ending.status ≡ 3
+      plan_refused_by none None course ending is calls = absurd (plan_or_none plan has (ap (option_and_then plan_of) is))
+      plan_refused_by none (Some (TraceStart other)) course ending is (same, calls) =
+          without_plan Tree plan_file plan_kind _ other (ap (option_and_then plan_of) is) course ending calls none
+      plan_refused_by none (Some (DryRun other script)) course ending is (same, calls) =
+          without_plan Tree plan_file plan_kind _ other (ap (option_and_then plan_of) is) course ending calls none
+      plan_refused_by none (Some (Check other)) course ending is (same, calls) =
+          without_plan Tree plan_file plan_kind _ other (ap (option_and_then plan_of) is) course ending calls none
+      plan_refused_by none (Some (Run other script journal limit)) course ending is calls =
+          without_plan (List ℕ × Tree) (with_text plan_file) text_of_kind _ other (ap (option_and_then plan_of) is) course ending calls none
+      plan_refused_by none (Some (Resume script journal limit)) course ending is calls = absurd (plan_or_none plan has (ap (option_and_then plan_of) is))
+      plan_refused_by none (Some (Trace journal)) course ending is calls = absurd (plan_or_none plan has (ap (option_and_then plan_of) is))
 
       module _ (tree : Tree) (holds : Holds plan_file files plan tree) (script_readable : ¬ FailsToRead HasScript words before now) where
+        abbrev source : List ℕ × Tree
+        source = (holds.0, tree)
+
+        source_holds : Holds (with_text plan_file) files plan source
+        source_holds = holds_text Tree plan_file files plan tree holds
+
         -- a script that is none
-        without_script : (name other : List ℕ) (Next : List Todo → Ending → Type 0) (ending : Ending) → HasScript words name → HasScript words other
-            → HoldsNone (script_file (sites tree)) files name → After (script_file (sites tree)) before now other Next ending → ending.status ≡ 4
-        without_script name other Next ending asks found none after =
-            none_held (List Todo) (script_file (sites tree)) 4 before now files name (script_kind (sites tree)) told Next ending
-            (λ rose. script_readable (name, asks, rose))
-            (subst (λ n. After (script_file (sites tree)) before now n Next ending) (one_script_asked other name found asks) after) none
-
         script_refused_by : (name : List ℕ) → HasScript words name → HoldsNone (script_file (sites tree)) files name → (asked : Option Command)
-            (ending : Ending) → command words ≡ asked → EndsBy asked ending → ending.status ≡ 4
-        script_refused_by name asks none None ending is ends = absurd (script_or_none name asks (ap (option_and_then script_of) is))
-        script_refused_by name asks none (Some (TraceStart other)) ending is ends =
+            (course : Course) (ending : Ending) → command words ≡ asked → Calls asked course ending → ending.status ≡ 4
+        script_refused_by name asks none None course ending is calls = absurd (script_or_none name asks (ap (option_and_then script_of) is))
+        script_refused_by name asks none (Some (TraceStart other)) course ending is calls =
             absurd (script_or_none name asks (ap (option_and_then script_of) is))
-        script_refused_by name asks none (Some (DryRun other script)) ending is ends =
-            without_script name script (DryRunEnds tree) ending asks (ap (option_and_then script_of) is) none
-            (behind_plan tree other (λ t. After (script_file (sites t)) before now script (DryRunEnds t)) ending holds (ap (option_and_then plan_of) is) ends)
-        script_refused_by name asks none (Some (Check other)) ending is ends =
+        script_refused_by name asks none (Some (DryRun other script)) course ending is (same, calls) =
+            without_script (sites tree) script_readable Untouched _ script (ap (option_and_then script_of) is) course ending
+            (behind_plan Tree plan_file plan_kind _ other (ap (option_and_then plan_of) is) course ending calls tree holds) name asks none
+        script_refused_by name asks none (Some (Check other)) course ending is calls =
             absurd (script_or_none name asks (ap (option_and_then script_of) is))
-        script_refused_by name asks none (Some (Run other script journal limit)) ending is ends =
-            without_script name script (λ threads. StartEnds members before now old new (started (sites tree))) ending asks
-            (ap (option_and_then script_of) is) none
-            (behind_plan tree other
-            (λ t. After (script_file (sites t)) before now script (λ threads. StartEnds members before now old new (started (sites t)))) ending holds
-            (ap (option_and_then plan_of) is) ends)
-        script_refused_by name asks none (Some (Resume script journal limit)) ending is ends =
+        script_refused_by name asks none (Some (Run other script journal limit)) course ending is calls =
+            without_script (sites tree) script_readable Untouched _ script (ap (option_and_then script_of) is) course ending
+            (behind_plan (List ℕ × Tree) (with_text plan_file) text_of_kind _ other (ap (option_and_then plan_of) is) course ending calls source source_holds)
+            name asks none
+        script_refused_by name asks none (Some (Resume script journal limit)) course ending is calls =
             absurd (plan_or_none plan has (ap (option_and_then plan_of) is))
-        script_refused_by name asks none (Some (Trace journal)) ending is ends = absurd (plan_or_none plan has (ap (option_and_then plan_of) is))
+        script_refused_by name asks none (Some (Trace journal)) course ending is calls =
+            absurd (plan_or_none plan has (ap (option_and_then plan_of) is))
 
-        module _ (scripts : (name : List ℕ) → HasScript words name → (threads : List Todo) × Holds (script_file (sites tree)) files name threads)
-            (journal : IsSound members words old new (λ bytes. IsTrue (is_nothing bytes))) where
-          -- the start of a plan behind a disk that is nothing and doesn't fail
-          start_sound : HasJournal words → (found : Option (World × ℕ)) (ending : Ending) → StartEnds members before now old new found ending
-              → ending.status ≡ (of_start (sites tree) found).status
-          start_sound has_journal None ending is = ap (λ e. e.status) is
-          start_sound has_journal (Some settled) ending (inl (something, status)) =
-              let ((bytes, content, nothing), steady) = journal has_journal in
-              absurd (nothing_or_not (is_nothing bytes) nothing (something bytes content))
-          start_sound has_journal (Some settled) ending (inr (inl (rose, status))) = absurd ((journal has_journal).1 rose)
-          start_sound has_journal (Some settled) ending (inr (inr (nothing, status))) = status
+        module _ (scripts : (name : List ℕ) → HasScript words name → (threads : List Todo) × Holds (script_file (sites tree)) files name threads) where
+          -- the calls of a run behind its files
+          run_behind : (other script journal : List ℕ) (limit : ℕ) (course : Course) (ending : Ending) → HasPlan words other → (asks : HasScript words script)
+              → Calls (Some (Run other script journal limit)) course ending
+              → RunCallsBy members (sites tree) holds.0 limit (scripts script asks).0 old new course (Some ending) (started (sites tree))
+          run_behind other script journal limit course ending asked asks calls =
+              behind_script (sites tree) script_readable Untouched _ script asks course ending
+              (behind_plan (List ℕ × Tree) (with_text plan_file) text_of_kind _ other asked course ending calls source source_holds)
+              (scripts script asks).0 (scripts script asks).1
 
-          complete_by : (asked : Option Command) (ending : Ending) → command words ≡ asked → EndsBy asked ending
-              → ending.status ≡ status_behind asked tree
-          complete_by None ending is ends = absurd (plan_or_none plan has (ap (option_and_then plan_of) is))
-          complete_by (Some (TraceStart other)) ending is ends =
-              ap (λ e. e.status)
-              (behind_plan tree other (λ t e. e ≡ start_ending t) ending holds (ap (option_and_then plan_of) is) ends)
-          complete_by (Some (DryRun other script)) ending is ends =
-              let asks : HasScript words script = ap (option_and_then script_of) is in
-              dry_run_status tree (scripts script asks).0 ending
-              (behind_script tree scripts script_readable script (DryRunEnds tree) ending asks
-              (behind_plan tree other (λ t. After (script_file (sites t)) before now script (DryRunEnds t)) ending holds (ap (option_and_then plan_of) is) ends))
-          complete_by (Some (Check other)) ending is ends =
-              ap (λ e. e.status)
-              (behind_plan tree other (λ t e. e ≡ nodes_ending t) ending holds (ap (option_and_then plan_of) is) ends)
-          complete_by (Some (Run other script name limit)) ending is ends =
-              let asks : HasScript words script = ap (option_and_then script_of) is in
-              start_sound (name, ap (option_and_then journal_of) is) (started (sites tree)) ending
-              (behind_script tree scripts script_readable script (λ threads. StartEnds members before now old new (started (sites tree))) ending asks
-              (behind_plan tree other
-              (λ t. After (script_file (sites t)) before now script (λ threads. StartEnds members before now old new (started (sites t)))) ending holds
-              (ap (option_and_then plan_of) is) ends))
-          complete_by (Some (Resume script name limit)) ending is ends = absurd (plan_or_none plan has (ap (option_and_then plan_of) is))
-          complete_by (Some (Trace name)) ending is ends = absurd (plan_or_none plan has (ap (option_and_then plan_of) is))
+          module _ (journal : IsSound members words old new (λ bytes. IsTrue (is_nothing bytes))) where
+            -- the start of a plan behind a disk that is nothing and doesn't fail
+            start_sound : HasJournal words → (text : List ℕ) (limit : ℕ) (threads : List Todo) (course : Course) (ending : Ending) (found : Option (World × ℕ))
+                → RunCallsBy members (sites tree) text limit threads old new course (Some ending) found
+                → OrStalled (of_start (sites tree) found).status ending.status
+            start_sound has_journal text limit threads course ending None ends = inl (ending_is course Untouched ending runaway_at_start ends)
+            start_sound has_journal text limit threads course ending (Some settled) calls =
+                let ((bytes, content, nothing), steady) = journal has_journal in
+                new_sound steady (sites tree) text limit threads course (Some ending) bytes content nothing calls
 
-        module _ (scripts : (name : List ℕ) → HasScript words name → (threads : List Todo) × Holds (script_file (sites tree)) files name threads)
-            (has_journal : HasJournal words) (starts : IsSome (started (sites tree)))
-            (journal : IsSound members words old new (λ bytes. IsFalse (is_nothing bytes))) where
-          -- the start of a plan behind a journal that doesn't fail
-          start_refused : (found : Option (World × ℕ)) (ending : Ending) → IsSome found → StartEnds members before now old new found ending
-              → ending.status ≡ 5
-          start_refused None ending some is = absurd (none_or_some {A = World × ℕ} None refl some)
-          start_refused (Some settled) ending some (inl (something, status)) = status
-          start_refused (Some settled) ending some (inr (inl (rose, status))) = absurd ((journal has_journal).1 rose)
-          start_refused (Some settled) ending some (inr (inr (nothing, status))) =
-              let ((bytes, content, something), steady) = journal has_journal in
-              absurd (nothing_or_not (is_nothing bytes) (nothing bytes content) something)
+            complete_by : (asked : Option Command) (course : Course) (ending : Ending) → command words ≡ asked → Calls asked course ending
+                → OrStalled (status_behind asked tree) ending.status
+            complete_by None course ending is calls = absurd (plan_or_none plan has (ap (option_and_then plan_of) is))
+            complete_by (Some (TraceStart other)) course ending is (same, calls) =
+                inl (ending_is course Untouched ending (start_ending tree)
+                (behind_plan Tree plan_file plan_kind _ other (ap (option_and_then plan_of) is) course ending calls tree holds))
+            complete_by (Some (DryRun other script)) course ending is (same, calls) =
+                let asks : HasScript words script = ap (option_and_then script_of) is in
+                inl (dry_run_status tree (scripts script asks).0 course (Some ending)
+                (behind_script (sites tree) script_readable Untouched _ script asks course ending
+                (behind_plan Tree plan_file plan_kind _ other (ap (option_and_then plan_of) is) course ending calls tree holds)
+                (scripts script asks).0 (scripts script asks).1))
+            complete_by (Some (Check other)) course ending is (same, calls) =
+                inl (ending_is course Untouched ending (nodes_ending tree)
+                (behind_plan Tree plan_file plan_kind _ other (ap (option_and_then plan_of) is) course ending calls tree holds))
+            complete_by (Some (Run other script name limit)) course ending is calls =
+                let asks : HasScript words script = ap (option_and_then script_of) is in
+                start_sound (name, ap (option_and_then journal_of) is) holds.0 limit (scripts script asks).0 course ending (started (sites tree))
+                (run_behind other script name limit course ending (ap (option_and_then plan_of) is) asks calls)
+            complete_by (Some (Resume script name limit)) course ending is calls = absurd (plan_or_none plan has (ap (option_and_then plan_of) is))
+            complete_by (Some (Trace name)) course ending is calls = absurd (plan_or_none plan has (ap (option_and_then plan_of) is))
 
-          exists_by : (asked : Option Command) (ending : Ending) → command words ≡ asked → EndsBy asked ending → ending.status ≡ 5
-          exists_by None ending is ends = absurd (plan_or_none plan has (ap (option_and_then plan_of) is))
-          exists_by (Some (TraceStart other)) ending is ends = absurd (journal_or_none has_journal (ap (option_and_then journal_of) is))
-          exists_by (Some (DryRun other script)) ending is ends = absurd (journal_or_none has_journal (ap (option_and_then journal_of) is))
-          exists_by (Some (Check other)) ending is ends = absurd (journal_or_none has_journal (ap (option_and_then journal_of) is))
-          exists_by (Some (Run other script name limit)) ending is ends =
-              start_refused (started (sites tree)) ending starts
-              (behind_script tree scripts script_readable script (λ threads. StartEnds members before now old new (started (sites tree))) ending
-              (ap (option_and_then script_of) is)
-              (behind_plan tree other
-              (λ t. After (script_file (sites t)) before now script (λ threads. StartEnds members before now old new (started (sites t)))) ending holds
-              (ap (option_and_then plan_of) is) ends))
-          exists_by (Some (Resume script name limit)) ending is ends = absurd (plan_or_none plan has (ap (option_and_then plan_of) is))
-          exists_by (Some (Trace name)) ending is ends = absurd (plan_or_none plan has (ap (option_and_then plan_of) is))
+          module _ (has_journal : HasJournal words) (starts : IsSome (started (sites tree)))
+              (journal : IsSound members words old new (λ bytes. IsFalse (is_nothing bytes))) where
+            -- the start of a plan behind a journal that doesn't fail
+            start_refused : (text : List ℕ) (limit : ℕ) (threads : List Todo) (course : Course) (ending : Ending) (found : Option (World × ℕ)) → IsSome found
+                → RunCallsBy members (sites tree) text limit threads old new course (Some ending) found → ending.status ≡ 5
+            start_refused text limit threads course ending None some ends = absurd (none_or_some {A = World × ℕ} None refl some)
+            start_refused text limit threads course ending (Some settled) some calls =
+                let ((bytes, content, something), steady) = journal has_journal in
+                new_refused steady (sites tree) text limit threads course (Some ending) bytes content something calls
+
+            exists_by : (asked : Option Command) (course : Course) (ending : Ending) → command words ≡ asked → Calls asked course ending → ending.status ≡ 5
+            exists_by None course ending is calls = absurd (plan_or_none plan has (ap (option_and_then plan_of) is))
+            exists_by (Some (TraceStart other)) course ending is calls = absurd (journal_or_none has_journal (ap (option_and_then journal_of) is))
+            exists_by (Some (DryRun other script)) course ending is calls = absurd (journal_or_none has_journal (ap (option_and_then journal_of) is))
+            exists_by (Some (Check other)) course ending is calls = absurd (journal_or_none has_journal (ap (option_and_then journal_of) is))
+            exists_by (Some (Run other script name limit)) course ending is calls =
+                let asks : HasScript words script = ap (option_and_then script_of) is in
+                start_refused holds.0 limit (scripts script asks).0 course ending (started (sites tree)) starts
+                (run_behind other script name limit course ending (ap (option_and_then plan_of) is) asks calls)
+            exists_by (Some (Resume script name limit)) course ending is calls = absurd (plan_or_none plan has (ap (option_and_then plan_of) is))
+            exists_by (Some (Trace name)) course ending is calls = absurd (plan_or_none plan has (ap (option_and_then plan_of) is))
 
   -- ---- a journal
 
@@ -202,78 +247,79 @@ module _ {D : Type 0} (members : Disk.Ghosts D) (words : List (List ℕ)) (befor
     -- that is taken up
     module _ (text : List ℕ) (first : List Entry) (tree : Tree) (stands : Stands bytes text first) (compiled : IsCompiled text tree)
         (runs : IsSome (run (sites tree) (events_of first))) where
-      taken_up : (More : Tree → Ending → Type 0) (ending : Ending) → JournalEnds members before now old new More ending → More tree ending
-      taken_up More ending (inl (rose, status)) = absurd (steady rose)
-      taken_up More ending (inr (inl refuses)) =
-          absurd (never_refused members old bytes text first tree content stands compiled ending runs refuses)
-      taken_up More ending (inr (inr (other, others, found, so, spells, settles, more))) =
-          subst (λ t. More t ending) (same_tree members old bytes text first tree content stands compiled other others found so spells) more
-
-      session_sound : (ending : Ending) → SessionEnds members before now old new ending → ending.status ≡ 0
-      session_sound ending (inl status) = status
-      session_sound ending (inr (rose, status)) = absurd (steady rose)
+      taken_up : (Next : List ℕ → List Entry → Tree → Course → Due → Type 0) (course : Course) (due : Due) → AfterJournal members old new Next course due
+          → WhereDue (λ ending. Next text first tree course (Some ending)) due
+      taken_up Next _ _ AfterJournal.no_memory = tt
+      taken_up Next _ _ (AfterJournal.disk_fails rose) = absurd (steady rose)
+      taken_up Next _ _ (AfterJournal.no_journal_there ending none) =
+          absurd (never_refused members old bytes text first tree content stands compiled ending runs (inl none))
+      taken_up Next _ _ (AfterJournal.not_run other others ending so cannot) =
+          absurd (never_refused members old bytes text first tree content stands compiled ending runs (inr (other, others, so, cannot)))
+      taken_up Next _ _ (AfterJournal.opened other others found course None so spells settles next) = tt
+      taken_up Next _ _ (AfterJournal.opened other others found course (Some ending) so spells settles next) =
+          subst (λ t. Next text first t course (Some ending)) (same_tree members old bytes text first tree content stands compiled other others found so spells)
+          (subst (λ h. Next text h found course (Some ending)) (same_first members old bytes text first tree content stands compiled other others so)
+          (subst (λ b. Next b others found course (Some ending)) (same_text members old bytes text first tree content stands compiled other others so) next))
 
       taken_up_by : ((name : List ℕ) → HasScript words name
           → (files : Files) × (before.files ≡ Some files) × ((threads : List Todo) × Holds (script_file (sites tree)) files name threads))
-          → ¬ FailsToRead HasScript words before now → (asked : Option Command) (ending : Ending) → command words ≡ asked → EndsBy asked ending
-          → ending.status ≡ 0
-      taken_up_by scripts readable None ending is ends = absurd (journal_or_none has_journal (ap (option_and_then journal_of) is))
-      taken_up_by scripts readable (Some (TraceStart plan)) ending is ends =
+          → ¬ FailsToRead HasScript words before now → (asked : Option Command) (course : Course) (ending : Ending) → command words ≡ asked
+          → Calls asked course ending → OrStalled 0 ending.status
+      taken_up_by scripts readable None course ending is calls = absurd (journal_or_none has_journal (ap (option_and_then journal_of) is))
+      taken_up_by scripts readable (Some (TraceStart plan)) course ending is calls = absurd (plan_or_none plan (ap (option_and_then plan_of) is) no_plan)
+      taken_up_by scripts readable (Some (DryRun plan script)) course ending is calls = absurd (plan_or_none plan (ap (option_and_then plan_of) is) no_plan)
+      taken_up_by scripts readable (Some (Check plan)) course ending is calls = absurd (plan_or_none plan (ap (option_and_then plan_of) is) no_plan)
+      taken_up_by scripts readable (Some (Run plan script name limit)) course ending is calls =
           absurd (plan_or_none plan (ap (option_and_then plan_of) is) no_plan)
-      taken_up_by scripts readable (Some (DryRun plan script)) ending is ends =
-          absurd (plan_or_none plan (ap (option_and_then plan_of) is) no_plan)
-      taken_up_by scripts readable (Some (Check plan)) ending is ends =
-          absurd (plan_or_none plan (ap (option_and_then plan_of) is) no_plan)
-      taken_up_by scripts readable (Some (Run plan script name limit)) ending is ends =
-          absurd (plan_or_none plan (ap (option_and_then plan_of) is) no_plan)
-      taken_up_by scripts readable (Some (Resume script name limit)) ending is ends =
+      taken_up_by scripts readable (Some (Resume script name limit)) course ending is calls =
           let asks : HasScript words script = ap (option_and_then script_of) is in
           let (files, told, (threads, holds)) = scripts script asks in
-          session_sound ending
-          (held (List Todo) (script_file (sites tree)) 4 before now files script (script_kind (sites tree)) told (λ threads. SessionEnds members before now old new)
-          ending (λ rose. readable (script, asks, rose))
-          (taken_up (λ t. After (script_file (sites t)) before now script (λ threads. SessionEnds members before now old new)) ending ends) threads holds)
-      taken_up_by scripts readable (Some (Trace name)) ending is ends = taken_up (λ t e. e.status ≡ 0) ending ends
+          let (session, gone_on, (so, behind)) =
+          behind_script files told (sites tree) readable (TakenUp text first) _ script asks course ending (taken_up _ course (Some ending) calls) threads holds in
+          session_sound steady (sites tree) (rest threads first) session (Some ending) behind
+      taken_up_by scripts readable (Some (Trace name)) course ending is calls =
+          inl (ending_is course (TakenUp text first) ending (session_ending (sites tree) first []) (taken_up _ course (Some ending) calls))
 
       -- behind which the script is none
       script_refused_behind : (name : List ℕ) (files : Files) → HasScript words name → before.files ≡ Some files
-          → HoldsNone (script_file (sites tree)) files name → ¬ FailsToRead HasScript words before now → (asked : Option Command) (ending : Ending)
-          → command words ≡ asked → EndsBy asked ending → ending.status ≡ 4
-      script_refused_behind name files asks told none readable None ending is ends = absurd (script_or_none name asks (ap (option_and_then script_of) is))
-      script_refused_behind name files asks told none readable (Some (TraceStart plan)) ending is ends =
+          → HoldsNone (script_file (sites tree)) files name → ¬ FailsToRead HasScript words before now → (asked : Option Command) (course : Course)
+          (ending : Ending) → command words ≡ asked → Calls asked course ending → ending.status ≡ 4
+      script_refused_behind name files asks told none readable None course ending is calls = absurd (script_or_none name asks (ap (option_and_then script_of) is))
+      script_refused_behind name files asks told none readable (Some (TraceStart plan)) course ending is calls =
           absurd (plan_or_none plan (ap (option_and_then plan_of) is) no_plan)
-      script_refused_behind name files asks told none readable (Some (DryRun plan script)) ending is ends =
+      script_refused_behind name files asks told none readable (Some (DryRun plan script)) course ending is calls =
           absurd (plan_or_none plan (ap (option_and_then plan_of) is) no_plan)
-      script_refused_behind name files asks told none readable (Some (Check plan)) ending is ends =
+      script_refused_behind name files asks told none readable (Some (Check plan)) course ending is calls =
           absurd (plan_or_none plan (ap (option_and_then plan_of) is) no_plan)
-      script_refused_behind name files asks told none readable (Some (Run plan script journal limit)) ending is ends =
+      script_refused_behind name files asks told none readable (Some (Run plan script journal limit)) course ending is calls =
           absurd (plan_or_none plan (ap (option_and_then plan_of) is) no_plan)
-      script_refused_behind name files asks told none readable (Some (Resume script journal limit)) ending is ends =
-          none_held (List Todo) (script_file (sites tree)) 4 before now files name (script_kind (sites tree)) told (λ threads. SessionEnds members before now old new)
-          ending (λ rose. readable (name, asks, rose))
-          (subst (λ n. After (script_file (sites tree)) before now n (λ threads. SessionEnds members before now old new) ending)
-          (one_script_asked script name (ap (option_and_then script_of) is) asks)
-          (taken_up (λ t. After (script_file (sites t)) before now script (λ threads. SessionEnds members before now old new)) ending ends)) none
-      script_refused_behind name files asks told none readable (Some (Trace journal)) ending is ends =
+      script_refused_behind name files asks told none readable (Some (Resume script journal limit)) course ending is calls =
+          without_script files told (sites tree) readable (TakenUp text first) _ script (ap (option_and_then script_of) is) course ending
+          (taken_up _ course (Some ending) calls) name asks none
+      script_refused_behind name files asks told none readable (Some (Trace journal)) course ending is calls =
           absurd (script_or_none name asks (ap (option_and_then script_of) is))
 
     -- that is refused
     module _ (why : Ending) (refuses : JournalRefuses members old why) where
-      never_taken_up : (More : Tree → Ending → Type 0) (ending : Ending) → JournalEnds members before now old new More ending → ending.status ≡ why.status
-      never_taken_up More ending (inl (rose, nine)) = absurd (steady rose)
-      never_taken_up More ending (inr (inl also)) = one_status members old bytes why ending content refuses also
-      never_taken_up More ending (inr (inr (text, first, tree, so, compiled, runs, more))) =
+      never_taken_up : (Next : List ℕ → List Entry → Tree → Course → Due → Type 0) (course : Course) (due : Due) → AfterJournal members old new Next course due
+          → WhereDue (λ ending. ending.status ≡ why.status) due
+      never_taken_up Next _ _ AfterJournal.no_memory = tt
+      never_taken_up Next _ _ (AfterJournal.disk_fails rose) = absurd (steady rose)
+      never_taken_up Next _ _ (AfterJournal.no_journal_there ending none) = one_status members old bytes why ending content refuses (inl none)
+      never_taken_up Next _ _ (AfterJournal.not_run text first ending so cannot) =
+          one_status members old bytes why ending content refuses (inr (text, first, so, cannot))
+      never_taken_up Next _ _ (AfterJournal.opened text first tree course due so compiled runs next) =
           absurd (never_refused members old bytes text first tree content (so bytes content) compiled why runs refuses)
 
-      journal_refused_by : (asked : Option Command) (ending : Ending) → command words ≡ asked → EndsBy asked ending → ending.status ≡ why.status
-      journal_refused_by None ending is ends = absurd (journal_or_none has_journal (ap (option_and_then journal_of) is))
-      journal_refused_by (Some (TraceStart plan)) ending is ends = absurd (plan_or_none plan (ap (option_and_then plan_of) is) no_plan)
-      journal_refused_by (Some (DryRun plan script)) ending is ends = absurd (plan_or_none plan (ap (option_and_then plan_of) is) no_plan)
-      journal_refused_by (Some (Check plan)) ending is ends = absurd (plan_or_none plan (ap (option_and_then plan_of) is) no_plan)
-      journal_refused_by (Some (Run plan script name limit)) ending is ends = absurd (plan_or_none plan (ap (option_and_then plan_of) is) no_plan)
-      journal_refused_by (Some (Resume script name limit)) ending is ends =
-          never_taken_up (λ t. After (script_file (sites t)) before now script (λ threads. SessionEnds members before now old new)) ending ends
-      journal_refused_by (Some (Trace name)) ending is ends = never_taken_up (λ t e. e.status ≡ 0) ending ends
+      journal_refused_by : (asked : Option Command) (course : Course) (ending : Ending) → command words ≡ asked → Calls asked course ending
+          → ending.status ≡ why.status
+      journal_refused_by None course ending is calls = absurd (journal_or_none has_journal (ap (option_and_then journal_of) is))
+      journal_refused_by (Some (TraceStart plan)) course ending is calls = absurd (plan_or_none plan (ap (option_and_then plan_of) is) no_plan)
+      journal_refused_by (Some (DryRun plan script)) course ending is calls = absurd (plan_or_none plan (ap (option_and_then plan_of) is) no_plan)
+      journal_refused_by (Some (Check plan)) course ending is calls = absurd (plan_or_none plan (ap (option_and_then plan_of) is) no_plan)
+      journal_refused_by (Some (Run plan script name limit)) course ending is calls = absurd (plan_or_none plan (ap (option_and_then plan_of) is) no_plan)
+      journal_refused_by (Some (Resume script name limit)) course ending is calls = never_taken_up _ course (Some ending) calls
+      journal_refused_by (Some (Trace name)) course ending is calls = never_taken_up _ course (Some ending) calls
 
   module _ (status : ℕ) (headline : Headline members words before now old new status) where
     journal_complete : (text : List ℕ) (first : List Entry) (tree : Tree) → option_and_then plan_of (command words) ≡ None → HasJournal words
@@ -281,12 +327,12 @@ module _ {D : Type 0} (members : Disk.Ghosts D) (words : List (List ℕ)) (befor
         → ((name : List ℕ) → HasScript words name
         → (files : Files) × (before.files ≡ Some files) × ((threads : List Todo) × Holds (script_file (sites tree)) files name threads))
         → IsSound members words old new (λ bytes. Stands bytes text first) → ¬ FailsToRead HasScript words before now → ¬ Faulted before now
-        → (status ≡ 10) ⊎ (status ≡ 0)
+        → (status ≡ 10) ⊎ OrStalled 0 status
     journal_complete text first tree no_plan has_journal compiled runs scripts journal readable sound =
         let ((bytes, content, stands), steady) = journal has_journal in
-        sound_status members words before now old new status 0 headline sound
-        (λ ending ends. taken_up_by no_plan has_journal bytes content steady text first tree stands compiled runs scripts readable
-        (command words) ending refl ends)
+        sound_status members words before now old new (OrStalled 0) status headline sound
+        (λ course ending calls. taken_up_by no_plan has_journal bytes content steady text first tree stands compiled runs scripts readable
+        (command words) course ending refl calls)
 
     script_behind : (name : List ℕ) (files : Files) (text : List ℕ) (first : List Entry) (tree : Tree) → option_and_then plan_of (command words) ≡ None
         → HasJournal words → HasScript words name → before.files ≡ Some files → IsCompiled text tree
@@ -295,31 +341,31 @@ module _ {D : Type 0} (members : Disk.Ghosts D) (words : List (List ℕ)) (befor
         → (status ≡ 10) ⊎ (status ≡ 4)
     script_behind name files text first tree no_plan has_journal asks told compiled runs none journal readable sound =
         let ((bytes, content, stands), steady) = journal has_journal in
-        sound_status members words before now old new status 4 headline sound
-        (λ ending ends. script_refused_behind no_plan has_journal bytes content steady text first tree stands compiled runs name files asks told none readable
-        (command words) ending refl ends)
+        sound_status members words before now old new (λ s. s ≡ 4) status headline sound
+        (λ course ending calls. script_refused_behind no_plan has_journal bytes content steady text first tree stands compiled runs name files asks told none
+        readable (command words) course ending refl calls)
 
     pub complete : IsComplete members words before now old new status
     complete = record {
       plan = λ plan files tree has told holds scripts journal readable script_readable sound.
-          sound_status members words before now old new status (status_behind (command words) tree) headline sound
-          (λ ending ends. complete_by files told plan has readable tree holds script_readable scripts journal (command words) ending refl ends);
+          sound_status members words before now old new (OrStalled (status_behind (command words) tree)) status headline sound
+          (λ course ending calls. complete_by files told plan has readable tree holds script_readable scripts journal (command words) course ending refl calls);
       journal = journal_complete;
     }
 
     pub refused : IsRefused members words before now old new status
     refused = record {
       plan = λ plan files has told none readable sound.
-          sound_status members words before now old new status 3 headline sound
-          (λ ending ends. plan_refused_by files told plan has readable none (command words) ending refl ends);
+          sound_status members words before now old new (λ s. s ≡ 3) status headline sound
+          (λ course ending calls. plan_refused_by files told plan has readable none (command words) course ending refl calls);
       script = λ plan name files tree has asks told holds none readable script_readable sound.
-          sound_status members words before now old new status 4 headline sound
-          (λ ending ends. script_refused_by files told plan has readable tree holds script_readable name asks none (command words) ending refl ends);
+          sound_status members words before now old new (λ s. s ≡ 4) status headline sound
+          (λ course ending calls. script_refused_by files told plan has readable tree holds script_readable name asks none (command words) course ending refl calls);
       exists = λ plan files tree has has_journal told holds scripts starts journal readable script_readable sound.
-          sound_status members words before now old new status 5 headline sound
-          (λ ending ends. exists_by files told plan has readable tree holds script_readable scripts has_journal starts journal (command words) ending refl ends);
+          sound_status members words before now old new (λ s. s ≡ 5) status headline sound
+          (λ course ending calls. exists_by files told plan has readable tree holds script_readable scripts has_journal starts journal (command words) course ending refl calls);
       journal = λ why no_plan has_journal refuses told steady sound.
-          sound_status members words before now old new status why.status headline sound
-          (λ ending ends. journal_refused_by no_plan has_journal told.0 told.1 steady why refuses (command words) ending refl ends);
+          sound_status members words before now old new (λ s. s ≡ why.status) status headline sound
+          (λ course ending calls. journal_refused_by no_plan has_journal told.0 told.1 steady why refuses (command words) course ending refl calls);
       script_behind_journal = script_behind;
     }

@@ -10,58 +10,29 @@ use Rattle.px_output.specs.View.{View, Faulted, EmitsPart, OnlyPrints, KeepsFile
 use Rattle.px_output.proofs.Printed.{emits_nothing, emitted_whole, emitted_part, piece_printed}
 use Rattle.px_script.specs.declared.todo.Todo.{Todo}
 use Rattle.px_words.specs.Words.{Command, TraceStart, DryRun, Check, Run, Resume, Trace, command}
+use Rattle.px_run.specs.declared.ending.End.{End}
 use Rattle.px_run.specs.declared.ending.Refusal.{Refusal}
 use Rattle.px_run.specs.declared.ending.Stop.{Stop}
 use Rattle.px_run.specs.declared.ending.Stop.TheVariants as stops
 use Rattle.px_run.specs.declared.finishing.Carried.{Carried}
 use Rattle.px_run.specs.Course.{Course, Untouched, TakenUp, Due, AfterFile}
-use Rattle.px_run.specs.Ending.{Ending, DryRunEnds, start_ending, nodes_ending}
-use Rattle.px_run.specs.File.{FileKind, Seen, Shows, After, with_text}
+use Rattle.px_run.specs.Ending.{Ending}
+use Rattle.px_run.specs.File.{FileKind, with_text}
 use Rattle.px_run.specs.Finishing.{Performed}
-use Rattle.px_run.specs.Headline.{TraceStartCalls, DryRunCalls, CheckCalls, IsDue, CommandCallsFor, Delivers, Headline}
-use Rattle.px_run.specs.Journaled.{AfterJournal, RunCalls, ResumeCalls}
+use Rattle.px_run.specs.Headline.{CommandCallsFor, Delivers, Headline}
+use Rattle.px_run.specs.Journaled.{AfterJournal}
 use Rattle.px_run.specs.Kinds.{plan_file, script_file}
-use Rattle.px_run.specs.Stops.{PerformsDue, ending_of}
-use Rattle.px_run.proofs.Performing.{shows_later, reads_kept}
+use Rattle.px_run.specs.Stops.{Performs, number_of, status_of, ending_of}
+use Rattle.px_run.proofs.SeenFiles.{after_later, reads_kept}
 
 -- ---- what is called for stays so while a refusal is printed
 
 module _ (before mid now : View) (only : OnlyPrints mid now) where
-  later : (limit : ℕ) (name : List ℕ) (seen : Seen) → Shows limit before mid name seen → Shows limit before now name seen
-  later limit name seen shows = shows_later limit before mid now name seen (reads_kept mid now only) shows
-
-  after_later : (A : Type 0) (kind : FileKind A) (name : List ℕ) (Next More : A → Ending → Type 0) (ending : Ending)
-      → ((part : A) → Next part ending → More part ending) → After kind before mid name Next ending → After kind before now name More ending
-  after_later A kind name Next More ending widen (seen, shows, inl refuses) = (seen, later kind.limit name seen shows, inl refuses)
-  after_later A kind name Next More ending widen (seen, shows, inr (part, spells, next)) =
-      (seen, later kind.limit name seen shows, inr (part, spells, widen part next))
-
-  after_file_later : (A : Type 0) (kind : FileKind A) (name : List ℕ) (so_far : Course) (Next More : A → Course → Due → Type 0) (course : Course) (due : Due)
+  later : (A : Type 0) (kind : FileKind A) (name : List ℕ) (so_far : Course) (Next More : A → Course → Due → Type 0) (course : Course) (due : Due)
       → ((part : A) → Next part course due → More part course due) → AfterFile kind before mid name so_far Next course due
       → AfterFile kind before now name so_far More course due
-  after_file_later A kind name so_far Next More _ _ widen AfterFile.no_memory = AfterFile.no_memory
-  after_file_later A kind name so_far Next More _ _ widen (AfterFile.refused seen ending shows refuses) =
-      AfterFile.refused seen ending (later kind.limit name seen shows) refuses
-  after_file_later A kind name so_far Next More _ _ widen (AfterFile.read seen part course due shows spells next) =
-      AfterFile.read seen part course due (later kind.limit name seen shows) spells (widen part next)
-
-  due_later : (Calls More : Ending → Type 0) (due : Due) → ((ending : Ending) → Calls ending → More ending) → IsDue Calls due → IsDue More due
-  due_later Calls More None widen none = tt
-  due_later Calls More (Some ending) widen calls = widen ending calls
-
-  trace_start_later : (plan : List ℕ) (ending : Ending) → TraceStartCalls plan before mid ending → TraceStartCalls plan before now ending
-  trace_start_later plan ending calls =
-      after_later Tree plan_file plan (λ tree e. e ≡ start_ending tree) (λ tree e. e ≡ start_ending tree) ending (λ tree is. is) calls
-
-  check_later : (plan : List ℕ) (ending : Ending) → CheckCalls plan before mid ending → CheckCalls plan before now ending
-  check_later plan ending calls =
-      after_later Tree plan_file plan (λ tree e. e ≡ nodes_ending tree) (λ tree e. e ≡ nodes_ending tree) ending (λ tree is. is) calls
-
-  dry_run_later : (plan script : List ℕ) (ending : Ending) → DryRunCalls plan script before mid ending → DryRunCalls plan script before now ending
-  dry_run_later plan script ending calls =
-      after_later Tree plan_file plan (λ tree. After (script_file (sites tree)) before mid script (DryRunEnds tree))
-      (λ tree. After (script_file (sites tree)) before now script (DryRunEnds tree)) ending
-      (λ tree next. after_later (List Todo) (script_file (sites tree)) script (DryRunEnds tree) (DryRunEnds tree) ending (λ threads ends. ends) next) calls
+  later A kind name so_far Next More course due widen after =
+      after_later A kind before mid now name so_far Next More course due (reads_kept mid now only) widen after
 
   module _ {D : Type 0} (members : Disk.Ghosts D) (old new : D) where
     after_journal_later : (Next More : List ℕ → List Entry → Tree → Course → Due → Type 0) (course : Course) (due : Due)
@@ -75,29 +46,24 @@ module _ (before mid now : View) (only : OnlyPrints mid now) where
     after_journal_later Next More _ _ widen (AfterJournal.opened text first tree course due stands compiled runs next) =
         AfterJournal.opened text first tree course due stands compiled runs (widen text first tree course due next)
 
-    run_later : (plan script : List ℕ) (limit : ℕ) (course : Course) (due : Due) → RunCalls members plan script limit before mid old new course due
-        → RunCalls members plan script limit before now old new course due
-    run_later plan script limit course due calls =
-        after_file_later (List ℕ × Tree) (with_text plan_file) plan Untouched _ _ course due
-        (λ source next. after_file_later (List Todo) (script_file (sites source.1)) script Untouched _ _ course due (λ threads ends. ends) next) calls
-
-    resume_later : (script : List ℕ) (limit : ℕ) (course : Course) (due : Due) → ResumeCalls members script limit before mid old new course due
-        → ResumeCalls members script limit before now old new course due
-    resume_later script limit course due calls =
-        after_journal_later _ _ course due
-        (λ text first tree c d next. after_file_later (List Todo) (script_file (sites tree)) script (TakenUp text first) _ _ c d (λ threads ends. ends) next) calls
-
     calls_later : (asked : Option Command) (course : Course) (due : Due) → CommandCallsFor members asked before mid old new course due
         → CommandCallsFor members asked before now old new course due
     calls_later None course due calls = calls
-    calls_later (Some (TraceStart plan)) course due (same, untouched, calls) =
-        (same, untouched, due_later (TraceStartCalls plan before mid) (TraceStartCalls plan before now) due (trace_start_later plan) calls)
-    calls_later (Some (DryRun plan script)) course due (same, untouched, calls) =
-        (same, untouched, due_later (DryRunCalls plan script before mid) (DryRunCalls plan script before now) due (dry_run_later plan script) calls)
-    calls_later (Some (Check plan)) course due (same, untouched, calls) =
-        (same, untouched, due_later (CheckCalls plan before mid) (CheckCalls plan before now) due (check_later plan) calls)
-    calls_later (Some (Run plan script journal limit)) course due calls = run_later plan script limit course due calls
-    calls_later (Some (Resume script journal limit)) course due calls = resume_later script limit course due calls
+    calls_later (Some (TraceStart plan)) course due (same, calls) =
+        (same, later Tree plan_file plan Untouched _ _ course due (λ tree ends. ends) calls)
+    calls_later (Some (DryRun plan script)) course due (same, calls) = (
+      same,
+      later Tree plan_file plan Untouched _ _ course due
+          (λ tree next. later (List Todo) (script_file (sites tree)) script Untouched _ _ course due (λ threads ends. ends) next) calls,
+    )
+    calls_later (Some (Check plan)) course due (same, calls) =
+        (same, later Tree plan_file plan Untouched _ _ course due (λ tree ends. ends) calls)
+    calls_later (Some (Run plan script journal limit)) course due calls =
+        later (List ℕ × Tree) (with_text plan_file) plan Untouched _ _ course due
+        (λ source next. later (List Todo) (script_file (sites source.1)) script Untouched _ _ course due (λ threads ends. ends) next) calls
+    calls_later (Some (Resume script journal limit)) course due calls =
+        after_journal_later _ _ course due
+        (λ text first tree c d next. later (List Todo) (script_file (sites tree)) script (TakenUp text first) _ _ c d (λ threads ends. ends) next) calls
     calls_later (Some (Trace journal)) course due calls = calls
 
 faulted_after : (before mid now : View) → KeepsFiles before mid → Faulted mid now → Faulted before now
@@ -116,10 +82,10 @@ delivers_after before mid now ending _ keeps same (Delivers.no_memory part) = De
 module _ {D : Type 0} (members : Disk.Ghosts D) (words : List (List ℕ)) (before mid : View) (old : D) (carried : Carried D)
     (performed : Performed members (command words) before mid old carried) where
   performed_by : (stop why : Stop) → carried.result ≡ Err stop → stop ≡ why
-      → PerformsDue before mid (CommandCallsFor members (command words) before mid old carried.disk performed.course) (Err why)
+      → Performs before mid (CommandCallsFor members (command words) before mid old carried.disk performed.course) (Err why)
   performed_by stop why stopped is =
-      subst (λ s. PerformsDue before mid (CommandCallsFor members (command words) before mid old carried.disk performed.course) (Err s)) is
-      (subst (PerformsDue before mid (CommandCallsFor members (command words) before mid old carried.disk performed.course)) stopped performed.performs)
+      subst (λ s. Performs before mid (CommandCallsFor members (command words) before mid old carried.disk performed.course) (Err s)) is
+      (subst (Performs before mid (CommandCallsFor members (command words) before mid old carried.disk performed.course)) stopped performed.performs)
 
   pub refusal_delivered : (refusal : Refusal) (now : View) (status : ℕ) (stop : Stop) → carried.result ≡ Err stop → stop ≡ stops.Refused refusal → KeepsFiles before mid
       → Delivers mid now (ending_of refusal) status → OnlyPrints mid now → Headline members words before now old carried.disk status
@@ -129,8 +95,8 @@ module _ {D : Type 0} (members : Disk.Ghosts D) (words : List (List ℕ)) (befor
       (calls_later before mid now only members old carried.disk (command words) performed.course (Some (ending_of refusal)) calls)
       performed.leaves (delivers_after before mid now (ending_of refusal) status keeps same delivers)
 
-  pub done_delivered : carried.result ≡ Ok tt → Headline members words before mid old carried.disk 0
-  done_delivered is =
+  pub done_delivered : (end : End) → carried.result ≡ Ok end → Headline members words before mid old carried.disk (number_of (status_of end))
+  done_delivered end is =
       let (ending, calls, status, emits) = rw is at performed.performs in
       subst (Headline members words before mid old carried.disk) status
       (Headline.delivered performed.course ending ending.status calls performed.leaves (Delivers.whole emits))

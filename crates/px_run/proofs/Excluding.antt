@@ -72,10 +72,10 @@ pub data RunsAway (tree : Tree) (first : List Entry) (ending : Ending) : Type 0 
 
 module _ {D : Type 0} (members : Disk.Ghosts D) (disk : D) (bytes text : List ℕ) (first : List Entry) (tree : Tree) (told : members.content disk ≡ Some bytes)
     (stands : Stands bytes text first) (compiled : IsCompiled text tree) where
-  same_text : (other : List ℕ) (others : List Entry) → ForSome (members.content disk) (λ b. Stands b other others) → other ≡ text
+  pub same_text : (other : List ℕ) (others : List Entry) → ForSome (members.content disk) (λ b. Stands b other others) → other ≡ text
   same_text other others so = one_meaning_text bytes other text others first (so bytes told) stands
 
-  same_first : (other : List ℕ) (others : List Entry) → ForSome (members.content disk) (λ b. Stands b other others) → others ≡ first
+  pub same_first : (other : List ℕ) (others : List Entry) → ForSome (members.content disk) (λ b. Stands b other others) → others ≡ first
   same_first other others so = one_meaning_history bytes other text others first (so bytes told) stands
 
   pub same_tree : (other : List ℕ) (others : List Entry) (found : Tree) → ForSome (members.content disk) (λ b. Stands b other others) → IsCompiled other found

@@ -1,5 +1,5 @@
 -- What every kind of files keeps, and what becomes of a file that a host tells.
-use Rattle.std.proofs.Common.{◌≡◌, ◌≢◌, ℕ, ◌<◌, inl, inr, List, Some, length, refl, arith, ap, subst, sym, ◌∙◌}
+use Rattle.std.proofs.Common.{◌≡◌, ◌≢◌, ℕ, ◌<◌, inl, inr, List, Some, None, length, refl, arith, ap, subst, sym, ◌∙◌}
 use Rattle.px_compile.specs.Compiled.{IsCompiled, IsRefused}
 use Rattle.px_compile.proofs.Refusals.{one_plan, no_refusal}
 use Rattle.px_core.specs.Plan.{Site, Tree}
@@ -10,8 +10,10 @@ use Rattle.px_script.specs.declared.todo.Todo.{Todo}
 use Rattle.px_syntax.specs.declared.fault.PlanFault.{PlanFault}
 use Rattle.px_syntax.specs.declared.fault.PlanFault.TheVariants.{NoMemory}
 use Rattle.px_run.specs.Ending.{Ending}
-use Rattle.px_run.specs.File.{FileKind, Content, Longer, Unreadable, After, Reads, Holds, HoldsNone}
+use Rattle.px_run.specs.Course.{Course, Due, AfterFile}
+use Rattle.px_run.specs.File.{FileKind, Seen, Content, Longer, Unreadable, Shows, Spells, Refuses, with_text, Holds, HoldsNone}
 use Rattle.px_run.specs.Kinds.{plan_file, script_file}
+use Rattle.px_run.proofs.SeenFiles.{WhereDue}
 
 -- refusals have one status, bytes spell one thing, and none that is refused
 pub record IsKind (A : Type 0) (kind : FileKind A) (status : ℕ) : Type 0 where
@@ -46,45 +48,75 @@ script_kind plan = record {
     none : (bytes : List ℕ) (a : List Todo) (number kind : ℕ) → script plan bytes ≡ Threads a → script plan bytes ≡ Fault number kind → ⊥
     none bytes a number kind s f = let both = sym s ∙ f in cc
 
+-- a file whose text is asked for too
+pub text_kind : (A : Type 0) (kind : FileKind A) (status : ℕ) → IsKind A kind status → IsKind (List ℕ × A) (with_text kind) status
+text_kind A kind status is_kind = record {
+  too_long = is_kind.too_long;
+  refused = is_kind.refused;
+  one = λ bytes a b s t. pair a b (s.0 ∙ sym t.0) (is_kind.one bytes a.1 b.1 s.1 t.1);
+  never = λ bytes a ending s r. is_kind.never bytes a.1 ending s.1 r;
+}
+  where
+    pair : (a b : List ℕ × A) → a.0 ≡ b.0 → a.1 ≡ b.1 → a ≡ b
+    pair (text, part) (other, another) same also = rw (same, also) refl
+
+pub holds_text : (A : Type 0) (kind : FileKind A) (files : Files) (name : List ℕ) (part : A) → (h : Holds kind files name part)
+    → Holds (with_text kind) files name (h.0, part)
+holds_text A kind files name part (bytes, here, short, spells) = (bytes, here, short, (refl, spells))
+
 module _ (A : Type 0) (kind : FileKind A) (status : ℕ) (before now : View) (files : Files) (name : List ℕ) (is_kind : IsKind A kind status)
     (told : before.files ≡ Some files) where
-  -- what was read of it, it holds
-  pub holds : (part : A) → Reads kind before now name part → Holds kind files name part
-  holds part (Content bytes, (within, shows), spells) = (bytes, shows files told, within, spells)
-  holds part (Longer, shows, spells) = absurd spells
-  holds part (Unreadable, shows, spells) = absurd spells
+  module _ (sound : ¬ (before.read_faults name < now.read_faults name)) where
+    -- a file of the kind isn't refused
+    not_refused : (part : A) (seen : Seen) (ending : Ending) → Holds kind files name part → Shows kind.limit before now name seen
+        → Refuses kind seen ending → ⊥
+    not_refused part Unreadable ending h shows refuses = sound shows
+    not_refused part Longer ending (bytes, here, short, spells) shows refuses =
+        let longer : kind.limit < length bytes = rw here at (shows files told) in omega arith
+    not_refused part (Content found) ending (bytes, here, short, spells) (within, shows) refuses =
+        let there = shows files told in
+        let same : found ≡ bytes = cc in
+        is_kind.never found part ending (subst (λ b. kind.Spells b part) (sym same) spells) refuses
 
-  module _ (Next : A → Ending → Type 0) (ending : Ending) (sound : ¬ (before.read_faults name < now.read_faults name))
-      (after : After kind before now name Next ending) where
-    -- what it holds is what is read, where no fetch of it fails
-    pub held : (part : A) → Holds kind files name part → Next part ending
-    held part h = by h after
-      where
-        by : Holds kind files name part → After kind before now name Next ending → Next part ending
-        by h (Unreadable, shows, ends) = absurd (sound shows)
-        by (bytes, here, short, spells) (Longer, shows, ends) =
-            let longer : kind.limit < length bytes = rw here at (shows files told) in absurd (omega arith)
-        by (bytes, here, short, spells) (Content found, (within, shows), ends) =
-            let there = shows files told in
-            let same : found ≡ bytes = cc in
-            elim ends [
-              | inl refuses ↦ absurd (is_kind.never found part ending (subst (λ b. kind.Spells b part) (sym same) spells) refuses)
-              | inr w ↦ subst (λ p. Next p ending) (is_kind.one found w.0 part w.1 (subst (λ b. kind.Spells b part) (sym same) spells)) w.2
-            ]
+    -- and spells one part
+    same_part : (part other : A) (seen : Seen) → Holds kind files name part → Shows kind.limit before now name seen → Spells kind seen other → other ≡ part
+    same_part part other Unreadable h shows spells = absurd spells
+    same_part part other Longer h shows spells = absurd spells
+    same_part part other (Content found) (bytes, here, short, spells) (within, shows) spelled =
+        let there = shows files told in
+        let same : found ≡ bytes = cc in
+        is_kind.one found other part spelled (subst (λ b. kind.Spells b part) (sym same) spells)
 
-    -- or it is refused, where it is none of its kind
-    pub none_held : HoldsNone kind files name → ending.status ≡ status
-    none_held h = by h after
-      where
-        by : HoldsNone kind files name → After kind before now name Next ending → ending.status ≡ status
-        by h (Unreadable, shows, ends) = absurd (sound shows)
-        by h (Longer, shows, inl is) = ap (λ e. e.status) is ∙ is_kind.too_long
-        by h (Longer, shows, inr none) = absurd none.1
-        by h (Content found, shows, inl refuses) = is_kind.refused found ending refuses
-        by (bytes, here, none) (Content found, (within, shows), inr spelled) =
-            let there = shows files told in
-            let same : found ≡ bytes = cc in
-            elim none [
-              | inl longer ↦ let more : kind.limit < length found = rw same longer in absurd (omega arith)
-              | inr refuses ↦ absurd (is_kind.never found spelled.0 refuses.0 spelled.1 (subst (λ b. kind.Refuses b refuses.0) (sym same) refuses.1))
-            ]
+    -- a file that is none of the kind is refused with its status
+    status_of_none : (seen : Seen) (ending : Ending) → Shows kind.limit before now name seen → Refuses kind seen ending → ending.status ≡ status
+    status_of_none Unreadable ending shows refuses = absurd (sound shows)
+    status_of_none Longer ending shows is = ap (λ e. e.status) is ∙ is_kind.too_long
+    status_of_none (Content found) ending shows refuses = is_kind.refused found ending refuses
+
+    -- and spells nothing
+    not_spelled : (other : A) (seen : Seen) → HoldsNone kind files name → Shows kind.limit before now name seen → Spells kind seen other → ⊥
+    not_spelled other Unreadable h shows spells = spells
+    not_spelled other Longer h shows spells = spells
+    not_spelled other (Content found) (bytes, here, none) (within, shows) spelled =
+        let there = shows files told in
+        let same : found ≡ bytes = cc in
+        elim none [
+          | inl longer ↦ let more : kind.limit < length found = rw same longer in omega arith
+          | inr refuses ↦ is_kind.never found other refuses.0 spelled (subst (λ b. kind.Refuses b refuses.0) (sym same) refuses.1)
+        ]
+
+    module _ (so_far : Course) (Next : A → Course → Due → Type 0) where
+      -- what a file of the kind holds is what goes on
+      pub held : (part : A) (course : Course) (due : Due) → Holds kind files name part → AfterFile kind before now name so_far Next course due
+          → WhereDue (λ ending. Next part course (Some ending)) due
+      held part _ _ h AfterFile.no_memory = tt
+      held part _ _ h (AfterFile.refused seen ending shows refuses) = absurd (not_refused part seen ending h shows refuses)
+      held part _ _ h (AfterFile.read seen other course None shows spells next) = tt
+      held part _ _ h (AfterFile.read seen other course (Some ending) shows spells next) =
+          subst (λ p. Next p course (Some ending)) (same_part part other seen h shows spells) next
+
+      pub none_held : (course : Course) (due : Due) → HoldsNone kind files name → AfterFile kind before now name so_far Next course due
+          → WhereDue (λ ending. ending.status ≡ status) due
+      none_held _ _ h AfterFile.no_memory = tt
+      none_held _ _ h (AfterFile.refused seen ending shows refuses) = status_of_none seen ending shows refuses
+      none_held _ _ h (AfterFile.read seen other course due shows spells next) = absurd (not_spelled other seen h shows spells)

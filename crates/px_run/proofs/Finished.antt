@@ -1,6 +1,7 @@
 -- The end of a session, from what its posts have come to and what was printed.
-use Rattle.std.proofs.Common.{◌≡◌, ◌≤◌, inl, inr, ℕ, List, [], ◌++◌, Some, Result, Ok, Err, IsErrOf, refl, sym, ◌∙◌, ap, subst, arith}
+use Rattle.std.proofs.Common.{◌≡◌, ◌≤◌, inr, ℕ, List, [], ◌++◌, Option, Some, None, IsSome, IfSome, Result, Ok, Err, refl, sym, ◌∙◌, ap, subst, arith}
 use Rattle.px_core.specs.Plan.{Site}
+use Rattle.px_crew.specs.Crew.{Ends}
 use Rattle.px_event.specs.declared.entry.Entry.{Entry}
 use Rattle.px_exec.proofs.Keeping.{told_of}
 use Rattle.px_exec.specs.Executive.{Executive, plan_of, IsTextOf, TellsBytes}
@@ -8,23 +9,27 @@ use Rattle.px_journal.specs.Layout.{Stands}
 use Rattle.px_output.specs.Printing.{Prints}
 use Rattle.px_output.specs.View.{View}
 use Rattle.px_output.specs.declared.printer.PrintFault.{PrintFault}
-use Rattle.px_output.specs.declared.printer.PrintFault.TheVariants as faults
-use Rattle.px_output.proofs.Printed.{emitted_whole, emitted_part}
 use Rattle.px_ports.specs.declared.disk.Disk
+use Rattle.px_script.specs.Follows.{Follows, AreStalled, IsNextPost}
+use Rattle.px_script.specs.declared.crew_end.CrewEnd.{CrewEnd}
+use Rattle.px_script.specs.declared.crew_end.CrewEnd.TheVariants as crew
+use Rattle.px_script.specs.declared.stall.Stall.{Stall}
+use Rattle.px_script.specs.declared.todo.Todo.{Todo}
 use Rattle.px_sem.specs.Log.{Log, accepted}
-use Rattle.px_sem.specs.Text.{text_of}
 use Rattle.px_sem.specs.declared.stepper.Stepper
-use Rattle.px_session.specs.Posted.{Posts, WasDue, EndsBy}
+use Rattle.px_session.specs.Posted.{Posts, WasDue}
 use Rattle.px_session.specs.Session.{Session}
-use Rattle.px_session.specs.declared.posting.PostStop.{PostStop}
-use Rattle.px_session.specs.declared.posting.PostStop.TheVariants as posting
 use Rattle.px_session.specs.declared.posting.Posted.{Posted}
 use Rattle.px_run.specs.Course.{Due}
-use Rattle.px_run.specs.Ending.{Ending, session_ending}
+use Rattle.px_run.specs.Ending.{Ending, session_ending, stalled_ending}
 use Rattle.px_run.specs.Finishing.{Finishes}
 use Rattle.px_run.specs.Journaled.{DueBehind}
-use Rattle.px_run.specs.Stops.{PerformsDue, stop_of, stop_of_posts}
+use Rattle.px_run.specs.Stops.{Performs, number_of, status_of, stop_of}
+use Rattle.px_run.specs.declared.ending.End.{End}
+use Rattle.px_run.specs.declared.ending.Refusal.TheVariants as refusals
 use Rattle.px_run.specs.declared.ending.Stop.{Stop}
+use Rattle.px_run.specs.declared.ending.Stop.TheVariants as stops
+use Rattle.px_run.proofs.Performing.{printed, broken_off}
 
 -- at the opening each image stands for the text and the history
 pub opening_stands : {S D : Type 0} (members : Disk.Ghosts D) (exec : Executive S D) (text : List ℕ) (session : Session) → session.text ≡ text
@@ -36,53 +41,62 @@ opening_stands members exec text session same_text same_first tells ready image 
     (subst (λ (h : List Entry). Stands image text h) (sym same_first)
     (subst (λ (bytes : List ℕ). Stands bytes text exec.opening.history) (sym (ready.settled told.0 told.1 image left)) (ready.stands told.0 told.1)))
 
--- the text that is printed of a log that goes on from a history
-pub prints_session : (mid new : View) (plan : List Site) (shown history first : List Entry) (shown_log log : Log) (r : Result Unit PrintFault)
+-- the text that is printed of a log that goes on from a history, by the history and the log that are shown
+pub prints_session : (Text : List Entry → Log → List ℕ) (mid new : View) (shown history first : List Entry) (shown_log log : Log) (r : Result Unit PrintFault)
     → shown ≡ history → shown_log ≡ log → history ≡ first ++ accepted log
-    → ((before : List Entry) → shown ≡ before ++ accepted shown_log → Prints mid [] new [] (text_of plan before shown_log) r)
-    → Prints mid [] new [] (text_of plan first log) r
-prints_session mid new plan shown history first shown_log log r entries_is log_is accepts prints =
-    subst (λ (l : Log). Prints mid [] new [] (text_of plan first l) r) log_is
+    → ((before : List Entry) → shown ≡ before ++ accepted shown_log → Prints mid [] new [] (Text before shown_log) r)
+    → Prints mid [] new [] (Text first log) r
+prints_session Text mid new shown history first shown_log log r entries_is log_is accepts prints =
+    subst (λ (l : Log). Prints mid [] new [] (Text first l) r) log_is
     (prints first (entries_is ∙ accepts ∙ ap (λ (l : Log). first ++ accepted l) (sym log_is)))
 
 -- what is due behind a session, since a disk with no more faults
-pub due_behind_since : {D : Type 0} (members : Disk.Ghosts D) (plan sites : List Site) (session : Session) (left : List Entry) (old opened new : D) (due : Due)
-    → plan ≡ sites → members.faults old ≤ members.faults opened → DueBehind members plan session left opened new due → DueBehind members sites session left old new due
-due_behind_since {D} members plan sites session left old opened new due same later behind = subst (λ (p : List Site). DueBehind members p session left old new due) same (by due behind)
-  where
-    by : (d : Due) → DueBehind members plan session left opened new d → DueBehind members plan session left old new d
-    by _ (DueBehind.whole none all) = DueBehind.whole none all
-    by _ (DueBehind.failed some rose) = DueBehind.failed some (omega (arith, later, rose))
-    by _ (DueBehind.no_memory none) = DueBehind.no_memory none
+pub due_behind_since : {D : Type 0} (members : Disk.Ghosts D) (plan : List Site) (left : List Todo) (session : Session) (old opened new : D) (due : Due)
+    → members.faults old ≤ members.faults opened → DueBehind members plan left session opened new due → DueBehind members plan left session old new due
+due_behind_since members plan left session old opened new _ later (DueBehind.whole none all) = DueBehind.whole none all
+due_behind_since members plan left session old opened new _ later (DueBehind.stalled stalls none stalled) = DueBehind.stalled stalls none stalled
+due_behind_since members plan left session old opened new _ later (DueBehind.failed some rose) = DueBehind.failed some (omega (arith, later, rose))
+due_behind_since members plan left session old opened new _ later (DueBehind.no_memory none) = DueBehind.no_memory none
 
--- a text of status 0 is printed, or breaks off
-pub due_printed : (old new : View) (Calls : Due → Type 0) (ending : Ending) → Calls (Some ending) → ending.status ≡ 0
-    → Prints {T = Unit} old [] new [] ending.text (Ok tt) → PerformsDue old new Calls (Ok tt)
-due_printed old new Calls ending is status leaves = (ending, is, status, emitted_whole old new ending.text leaves)
+-- ---- what the work of the threads has come to
 
-pub due_broken_off : (old new : View) (Calls : Due → Type 0) (ending : Ending) (fault : PrintFault) → Calls (Some ending)
-    → Prints {T = Unit} old [] new [] ending.text (Err fault) → PerformsDue old new Calls (Err (stop_of fault))
-due_broken_off old new Calls ending faults.SinkFailed is ((left, leaves), faulted) = (ending, is, emitted_part old new left ending.text leaves, faulted)
-due_broken_off old new Calls ending faults.NoMemory is (left, leaves) = inl (ending, is, emitted_part old new left ending.text leaves)
+module _ (plan : List Site) (first : List Entry) (log : Log) where
+  follows_of : (threads : List Todo) (failed : Option Entry) (end : CrewEnd) → Ends plan first log threads failed end → Follows plan first log threads
+  follows_of threads failed crew.Done (none, all) = record { each = λ k d within. (_, all.each k d within); only = all.only }
+  follows_of threads failed (crew.Stalled waits) (none, stalled) = stalled.follows
+  follows_of threads failed crew.Disk (entry, is, follows, next) = follows
+  follows_of threads failed crew.NoMemory (none, follows) = follows
 
-module _ {S D : Type 0} (runs : Stepper.Ghosts S) (members : Disk.Ghosts D) (plan : List Site) (text : List ℕ) (exec : Executive S D) (entries : List Entry)
-    (posted : Posted D) (p : Posts members runs exec entries posted) (is : IsTextOf members exec text) (nodes : plan_of runs exec ≡ plan) (before now : View) where
+  next_of : (threads : List Todo) (failed : Option Entry) (end : CrewEnd) → Ends plan first log threads failed end
+      → IfSome failed (IsNextPost plan first log threads)
+  next_of threads failed crew.Done (none, all) = rw none tt
+  next_of threads failed (crew.Stalled waits) (none, stalled) = rw none tt
+  next_of threads failed crew.Disk (entry, is, follows, next) = rw is next
+  next_of threads failed crew.NoMemory (none, follows) = rw none tt
+
+module _ {S D : Type 0} (runs : Stepper.Ghosts S) (members : Disk.Ghosts D) (plan : List Site) (text : List ℕ) (exec : Executive S D) (threads : List Todo)
+    (posted : Posted D) (p : Posts members runs exec threads posted) (is : IsTextOf members exec text) (nodes : plan_of runs exec ≡ plan) (before now : View) where
   abbrev session : Session
   session = record { text = text; first = exec.opening.history; log = posted.log.items; failed = p.failed }
 
   abbrev Calls : Due → Type 0
-  Calls = DueBehind members (plan_of runs exec) session (p.posts).left exec.opening.journal.disk posted.disk
+  Calls = DueBehind members (plan_of runs exec) threads session exec.opening.journal.disk posted.disk
 
-  finished : (result : Result Unit Stop) → PerformsDue before now Calls result
-      → Finishes members runs text exec entries before now (record { result = result; disk = posted.disk })
+  abbrev EndsBy : CrewEnd → Type 0
+  EndsBy = Ends (plan_of runs exec) exec.opening.history posted.log.items threads p.failed
+
+  finished : (result : Result End Stop) → Performs before now Calls result
+      → Finishes members runs text exec threads before now (record { result = result; disk = posted.disk })
   finished result performs = record {
     session = session;
-    left = (p.posts).left;
-    same_text = refl;
-    same_first = refl;
-    legal = p.legal;
-    due = subst (λ (h : List Entry). WasDue (plan_of runs exec) exec.opening.limit h p.failed) p.history p.due;
-    front = (p.posts).front;
+    is_session = record {
+      same_text = refl;
+      same_first = refl;
+      legal = p.legal;
+      follows = follows_of (plan_of runs exec) exec.opening.history posted.log.items threads p.failed posted.end p.ends;
+      due = subst (λ (h : List Entry). WasDue (plan_of runs exec) exec.opening.limit h p.failed) p.history p.due;
+      next = next_of (plan_of runs exec) exec.opening.history posted.log.items threads p.failed posted.end p.ends;
+    };
     performs = performs;
     leaves = λ tells. p.disk tells text is;
     bound = p.bound;
@@ -90,28 +104,36 @@ module _ {S D : Type 0} (runs : Stepper.Ghosts S) (members : Disk.Ghosts D) (pla
     faults = p.faults;
   }
 
-  due_whole : posted.end ≡ Ok tt → Calls (Some (session_ending plan exec.opening.history posted.log.items))
-  due_whole ok =
-      let ends = subst (λ (r : Result Unit PostStop). EndsBy r p.failed (p.posts).left) ok (p.posts).ends in
-      subst (λ (sites : List Site). Calls (Some (session_ending sites exec.opening.history posted.log.items))) nodes (DueBehind.whole (ends.0) (ends.1))
+  pub due_whole : posted.end ≡ crew.Done → Calls (Some (session_ending plan exec.opening.history posted.log.items))
+  due_whole done =
+      let ends = subst EndsBy done p.ends in
+      subst (λ (sites : List Site). Calls (Some (session_ending sites exec.opening.history posted.log.items))) nodes (DueBehind.whole ends.0 ends.1)
 
-  pub finished_whole : posted.end ≡ Ok tt → Prints {T = Unit} before [] now [] (text_of plan exec.opening.history posted.log.items) (Ok tt)
-      → Finishes members runs text exec entries before now (record { result = Ok tt; disk = posted.disk })
-  finished_whole ok prints = finished (Ok tt)
-      (due_printed before now Calls (session_ending plan exec.opening.history posted.log.items) (due_whole ok) refl prints)
+  pub due_stalled : (stalls : List Stall) → (none : p.failed ≡ None)
+      → AreStalled (plan_of runs exec) exec.opening.history posted.log.items threads stalls
+      → Calls (Some (stalled_ending plan exec.opening.history posted.log.items stalls))
+  due_stalled stalls none stalled =
+      subst (λ (sites : List Site). Calls (Some (stalled_ending sites exec.opening.history posted.log.items stalls))) nodes (DueBehind.stalled stalls none stalled)
 
-  pub finished_broken_off : posted.end ≡ Ok tt → (fault : PrintFault)
-      → Prints {T = Unit} before [] now [] (text_of plan exec.opening.history posted.log.items) (Err fault)
-      → Finishes members runs text exec entries before now (record { result = Err (stop_of fault); disk = posted.disk })
-  finished_broken_off ok fault prints = finished (Err (stop_of fault))
-      (due_broken_off before now Calls (session_ending plan exec.opening.history posted.log.items) fault (due_whole ok) prints)
+  pub finished_printed : (end : End) (ending : Ending) → Calls (Some ending) → ending.status ≡ number_of (status_of end)
+      → Prints {T = Unit} before [] now [] ending.text (Ok tt)
+      → Finishes members runs text exec threads before now (record { result = Ok end; disk = posted.disk })
+  finished_printed end ending due status prints = finished (Ok end) (printed before now Calls end ending due status prints)
 
-  pub finished_early : (stop : PostStop) → posted.end ≡ Err stop → now.emitted ≡ before.emitted
-      → Finishes members runs text exec entries before now (record { result = Err (stop_of_posts stop); disk = posted.disk })
-  finished_early posting.DiskFault fails same =
-      let ends = subst (λ (r : Result Unit PostStop). EndsBy r p.failed (p.posts).left) fails (p.posts).ends in
-      finished (Err (stop_of_posts posting.DiskFault))
-      (DueBehind.failed ends (p.rose (subst (λ (r : Result Unit PostStop). IsErrOf r posting.DiskFault) (sym fails) refl)), same)
-  finished_early posting.NoMemory fails same =
-      let ends = subst (λ (r : Result Unit PostStop). EndsBy r p.failed (p.posts).left) fails (p.posts).ends in
-      finished (Err (stop_of_posts posting.NoMemory)) (inr (DueBehind.no_memory ends, same))
+  pub finished_broken_off : (ending : Ending) (fault : PrintFault) → Calls (Some ending) → Prints {T = Unit} before [] now [] ending.text (Err fault)
+      → Finishes members runs text exec threads before now (record { result = Err (stop_of fault); disk = posted.disk })
+  finished_broken_off ending fault due prints =
+      finished (Err (stop_of fault)) (broken_off before now Calls ending fault (Err (stop_of fault)) due refl prints)
+
+  pub finished_failed : posted.end ≡ crew.Disk → now.emitted ≡ before.emitted
+      → Finishes members runs text exec threads before now (record { result = Err (stops.Refused refusals.DiskFault); disk = posted.disk })
+  finished_failed fails same =
+      let (entry, is, follows, next) = subst EndsBy fails p.ends in
+      let some : IsSome p.failed = rw is refl in
+      finished (Err (stops.Refused refusals.DiskFault)) (DueBehind.failed some (p.rose some), same)
+
+  pub finished_early : posted.end ≡ crew.NoMemory → now.emitted ≡ before.emitted
+      → Finishes members runs text exec threads before now (record { result = Err stops.NoMemory; disk = posted.disk })
+  finished_early runs_out same =
+      let ends = subst EndsBy runs_out p.ends in
+      finished (Err stops.NoMemory) (inr (DueBehind.no_memory ends.0, same))

@@ -2,12 +2,14 @@ pub mod Carrying
 pub mod Causing
 pub mod Completing
 pub mod Delivering
-pub mod Ends
 pub mod Excluding
 pub mod FileKinds
 pub mod Finished
+pub mod Once
 pub mod Performing
 pub mod Preparing
+pub mod SeenFiles
 pub mod Resumed
 pub mod Running
 pub mod Sending
+pub mod Starting

@@ -1,17 +1,10 @@
 -- The reading of a plan and its script, and the start of the plan, ahead of a new journal.
-use Rattle.std.proofs.Common.{◌≡◌, ◌≤◌, inr, ℕ, List, [], Option, Some, None, IsErrAnd, Result, Ok, Err, IfErr, IsTrue, length, refl, sym, ◌∙◌, ap, subst}
-use Rattle.std.specs.List.{list_all}
+use Rattle.std.proofs.Common.{◌≡◌, ◌≤◌, inr, ℕ, List, [], Option, Some, None, IsErrAnd, Result, Ok, Err, IfErr, length, refl, sym, ◌∙◌, ap, subst}
 use Rattle.px_core.specs.Fit.{IsFit}
 use Rattle.px_core.specs.Plan.{Site, Tree, tree_of, sites}
-use Rattle.px_event.specs.Fit.{is_fit_entry}
-use Rattle.px_event.specs.declared.entry.Entry.{Entry}
 use Rattle.px_output.specs.View.{View, OnlyReads, KeepsFiles}
 use Rattle.px_ports.specs.declared.disk.Disk
-use Rattle.px_script.proofs.Rests.{rest_whole}
 use Rattle.px_script.specs.Fit.{IsFitScript}
-use Rattle.px_script.specs.Order.{InFileOrder}
-use Rattle.px_script.specs.Rest.{rest}
-use Rattle.px_script.specs.declared.script.Script.{Script}
 use Rattle.px_script.specs.declared.todo.Todo.{Todo}
 use Rattle.px_sem.proofs.Logs.{run_on_none}
 use Rattle.px_sem.specs.Run.{run, started, settled_world}
@@ -21,10 +14,10 @@ use Rattle.px_sem.specs.declared.settling.StepFault.{StepFault}
 use Rattle.px_sem.specs.declared.settling.StepFault.TheVariants as steps
 use Rattle.px_sem.specs.declared.stepper.Stepper
 use Rattle.px_session.proofs.Leaving.{untouched_at_once}
-use Rattle.px_run.specs.Course.{Course, Untouched, Due, AfterFile}
+use Rattle.px_run.specs.Course.{Untouched, AfterFile}
 use Rattle.px_run.specs.Ending.{Ending, runaway_at_start}
-use Rattle.px_run.specs.File.{FileKind, Seen, Content, Longer, Unreadable, Refuses, Reads, with_text}
-use Rattle.px_run.specs.Finishing.{IsPrepared, IsNotPrepared, Carries, Runs, RunsPrepared}
+use Rattle.px_run.specs.File.{FileKind, Seen, Content, Longer, Unreadable, Refuses, with_text, Reads}
+use Rattle.px_run.specs.Finishing.{IsPrepared, IsNotPrepared, Runs, RunsPrepared}
 use Rattle.px_run.specs.Journaled.{NewCalls, RunCallsBy, RunCalls}
 use Rattle.px_run.specs.Kinds.{plan_file, script_file}
 use Rattle.px_run.specs.Stops.{StopsReading, stop_of_start, ending_of}
@@ -32,30 +25,9 @@ use Rattle.px_run.specs.declared.ending.Stop.{Stop}
 use Rattle.px_run.specs.declared.ending.Stop.TheVariants as stops
 use Rattle.px_run.specs.declared.finishing.Carried.{Carried}
 use Rattle.px_run.specs.declared.run.Prepared.{Prepared}
-use Rattle.px_run.proofs.Performing.{shows_later, shows_since, run_started}
-use Rattle.px_run.proofs.Running.{due_since}
-
--- ---- a file that was read, seen from further off
-
-reads_later : (A : Type 0) (kind : FileKind A) (old mid new : View) (name : List ℕ) (part : A)
-    → ((other : List ℕ) → mid.read_faults other ≤ new.read_faults other) → Reads kind old mid name part → Reads kind old new name part
-reads_later A kind old mid new name part later (seen, shows, spells) = (seen, shows_later kind.limit old mid new name seen later shows, spells)
-
-reads_since : (A : Type 0) (kind : FileKind A) (old mid new : View) (name : List ℕ) (part : A) → OnlyReads old mid
-    → Reads kind mid new name part → Reads kind old new name part
-reads_since A kind old mid new name part only (seen, shows, spells) = (seen, shows_since kind.limit old mid new name seen only shows, spells)
-
-after_reading : (A : Type 0) (kind : FileKind A) (old new : View) (name : List ℕ) (part : A) (so_far : Course) (Next : A → Course → Due → Type 0)
-    (course : Course) (due : Due) → Reads kind old new name part → Next part course due → AfterFile kind old new name so_far Next course due
-after_reading A kind old new name part so_far Next course due (seen, shows, spells) next = AfterFile.read seen part course due shows spells next
-
-after_more : (A : Type 0) (kind : FileKind A) (old new : View) (name : List ℕ) (so_far : Course) (Next More : A → Course → Due → Type 0)
-    → ((part : A) (course : Course) (due : Due) → Next part course due → More part course due)
-    → (course : Course) (due : Due) → AfterFile kind old new name so_far Next course due → AfterFile kind old new name so_far More course due
-after_more A kind old new name so_far Next More widen _ _ AfterFile.no_memory = AfterFile.no_memory
-after_more A kind old new name so_far Next More widen _ _ (AfterFile.refused seen ending shows refuses) = AfterFile.refused seen ending shows refuses
-after_more A kind old new name so_far Next More widen _ _ (AfterFile.read seen part course due shows spells next) =
-    AfterFile.read seen part course due shows spells (widen part course due next)
+use Rattle.px_run.proofs.Performing.{performs_since}
+use Rattle.px_run.proofs.SeenFiles.{shows_since, reads_later, reads_since, after_reading, after_since, reads_at_once}
+use Rattle.px_run.proofs.Starting.{run_started}
 
 -- ---- what stops the preparation
 
@@ -117,28 +89,17 @@ stopped_at_start old mid new plan script text tree threads fault r is source fir
 
 -- ---- a plan that has started
 
--- before the first entry the whole script is left
-order_at_first : (script : Script) (entries : List Entry) → IsFitScript script → InFileOrder script.threads entries
-    → InFileOrder (rest script.threads []) entries
-order_at_first script entries fit order =
-    subst (λ (threads : List Todo). InFileOrder threads entries) (sym (rest_whole script.threads fit.lines)) order
-
-pub prepared : {S : Type 0} (runs : Stepper.Ghosts S) (old mid new : View) (plan name : List ℕ) (script : Script) (ready : Prepared S)
+pub prepared : {S : Type 0} (runs : Stepper.Ghosts S) (old mid new : View) (plan name : List ℕ) (ready : Prepared S)
     → Reads (with_text plan_file) old mid plan (ready.text.items, tree_of ready.plan) → OnlyReads old mid → OnlyReads mid new
     → length ready.text.items ≤ 1048576 → IsFit (tree_of ready.plan)
-    → Reads (script_file (sites (tree_of ready.plan))) mid new name script.threads → IsFitScript script
-    → InFileOrder script.threads ready.entries.items → IsTrue (list_all is_fit_entry ready.entries.items)
+    → Reads (script_file (sites (tree_of ready.plan))) mid new name ready.script.threads → IsFitScript ready.script
     → (count : ℕ) × (started (sites (tree_of ready.plan)) ≡ Some ((runs.state ready.stepper).world, count))
     → runs.state ready.stepper ≡ settled_state (sites (tree_of ready.plan)) (runs.state ready.stepper).world
     → IsPrepared runs plan name old new ready
-prepared runs old mid new plan name script ready source first second short fit left fit_script order fit_entries start at_rest = record {
+prepared runs old mid new plan name ready source first second short fit read fit_script start at_rest = record {
   source = reads_later (List ℕ × Tree) (with_text plan_file) old mid new plan (ready.text.items, tree_of ready.plan) second.read_faults source;
-  left = record {
-    threads = script.threads;
-    read = reads_since (List Todo) (script_file (sites (tree_of ready.plan))) old mid new name script.threads first left;
-    order = order_at_first script ready.entries.items fit_script order;
-    fit = fit_entries;
-  };
+  script = reads_since (List Todo) (script_file (sites (tree_of ready.plan))) old mid new name ready.script.threads first read;
+  lines = fit_script;
   short = short;
   fit = fit;
   nodes = ap (λ s. s.nodes) at_rest;
@@ -160,16 +121,16 @@ module _ {D : Type 0} (members : Disk.Ghosts D) (plan script name : List ℕ) (l
   -- a plan that has started was run
   pub prepared_runs : {S : Type 0} (runs : Stepper.Ghosts S) (ready : Prepared S) (carried : Carried D) → OnlyReads old mid → KeepsFiles mid new
       → IsPrepared runs plan script old mid ready
-      → RunsPrepared members (sites (tree_of ready.plan)) ready.text.items name limit ready.entries.items mid new disk carried
+      → RunsPrepared members (sites (tree_of ready.plan)) ready.text.items name limit ready.script.threads mid new disk carried
       → Runs members plan script name limit old new disk carried
-  prepared_runs runs ready carried only keeps is_ready carries = record {
+  prepared_runs runs ready carried only keeps is_ready done = record {
     course = done.course;
-    performs = due_since old mid new (NewCalls members (sites tree) ready.text.items limit threads disk carried.disk done.course)
+    performs = performs_since old mid new (NewCalls members (sites tree) ready.text.items limit threads disk carried.disk done.course)
         (RunCalls members plan script limit old new disk carried.disk done.course) carried.result only
         (λ due calls. after_reading (List ℕ × Tree) (with_text plan_file) old new plan (ready.text.items, tree) Untouched _ done.course due
         (reads_later (List ℕ × Tree) (with_text plan_file) old mid new plan (ready.text.items, tree) keeps.read_faults is_ready.source)
         (after_reading (List Todo) (script_file (sites tree)) old new script threads Untouched _ done.course due
-        (reads_later (List Todo) (script_file (sites tree)) old mid new script threads keeps.read_faults is_ready.left.read)
+        (reads_later (List Todo) (script_file (sites tree)) old mid new script threads keeps.read_faults is_ready.script)
         (subst (RunCallsBy members (sites tree) ready.text.items limit threads disk carried.disk done.course due) (sym start.1) calls)))
         done.performs;
     leaves = done.leaves;
@@ -180,10 +141,7 @@ module _ {D : Type 0} (members : Disk.Ghosts D) (plan script name : List ℕ) (l
       tree = tree_of ready.plan
 
       threads : List Todo
-      threads = is_ready.left.threads
-
-      done : Carries members name (λ after. NewCalls members (sites tree) ready.text.items limit threads disk after) mid new disk carried
-      done = carries threads is_ready.left.order
+      threads = ready.script.threads
 
       start : (found : World × ℕ) × (started (sites tree) ≡ Some found)
       start = start_settles (sites tree) (runs.state ready.stepper).world
@@ -195,10 +153,10 @@ module _ {D : Type 0} (members : Disk.Ghosts D) (plan script name : List ℕ) (l
   not_prepared_runs (stops.Refused refusal) only unbound calls = record {
     course = Untouched;
     performs = (
-      after_more (List ℕ × Tree) (with_text plan_file) old mid plan Untouched _ _
-          (λ source. after_more (List Todo) (script_file (sites source.1)) old mid script Untouched _ _
-          (λ threads course due runs_away. subst (RunCallsBy members (sites source.1) source.0 limit threads disk disk course due) (sym runs_away.0) runs_away.1))
-          Untouched (Some (ending_of refusal)) calls,
+      after_since (List ℕ × Tree) (with_text plan_file) old old mid plan Untouched _ _ Untouched (Some (ending_of refusal)) (reads_at_once old)
+          (λ source next. after_since (List Todo) (script_file (sites source.1)) old old mid script Untouched _ _ Untouched (Some (ending_of refusal)) (reads_at_once old)
+          (λ threads runs_away. subst (RunCallsBy members (sites source.1) source.0 limit threads disk disk Untouched (Some (ending_of refusal))) (sym runs_away.0) runs_away.1)
+          next) calls,
       only.emitted,
     );
     leaves = λ tells. untouched_at_once members disk;

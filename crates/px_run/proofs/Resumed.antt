@@ -1,24 +1,25 @@
 -- A journal that is taken up: what a command has come to then.
-use Rattle.std.proofs.Common.{◌≡◌, ◌≢◌, ◌≤◌, inl, inr, ⊎_elim, ℕ, List, [], Some, None, Result, Ok, Err, length, refl, sym, ◌∙◌, ap, subst}
+use Rattle.std.proofs.Common.{◌≡◌, ◌≢◌, ◌≤◌, inl, inr, ⊎_elim, ℕ, List, [], Some, None, Result, Ok, Err, length, refl, sym, ◌∙◌, ap, subst, arith, append-nil}
+use Rattle.std.proofs.lemmas.List.{take_all}
 use Rattle.std.specs.Prelude.{is_some}
 use Rattle.std.specs.Option.{ForSome}
 use Rattle.px_core.specs.Plan.{Site, Tree, tree_of, sites}
 use Rattle.px_event.specs.declared.entry.Entry.{Entry}
-use Rattle.px_exec.specs.Executive.{plan_of, IsTextOf}
+use Rattle.px_exec.proofs.Keeping.{told_of}
+use Rattle.px_exec.specs.Executive.{plan_of, IsTextOf, TellsBytes}
 use Rattle.px_journal.specs.Crash.{LeavesOnly}
-use Rattle.px_journal.specs.Journal.{IsUntouched}
+use Rattle.px_journal.specs.Journal.{IsSettled, IsUntouched}
 use Rattle.px_journal.specs.Layout.{Stands}
 use Rattle.px_journal.proofs.Moments.{grows_on, grows_length, left_before_or_after}
 use Rattle.px_output.specs.View.{View, OnlyReads}
 use Rattle.px_ports.specs.declared.disk.Disk
 use Rattle.px_ports.specs.declared.moment.Moment.{Moment}
-use Rattle.px_script.specs.Order.{InFileOrder}
 use Rattle.px_script.specs.Rest.{rest}
-use Rattle.px_sem.specs.Log.{IsLegal}
+use Rattle.px_script.specs.declared.script.Script.{Script}
+use Rattle.px_script.specs.declared.todo.Todo.{Todo}
 use Rattle.px_sem.specs.declared.stepper.Stepper
 use Rattle.px_session.specs.Opened.{Reopens, IsNotReopened, IsReopenWhy}
-use Rattle.px_session.specs.Posted.{WasDue}
-use Rattle.px_session.specs.Session.{Session, history_of, IsFront, LeavesFronts}
+use Rattle.px_session.specs.Session.{Session, unposted, IsFront, LeavesFronts}
 use Rattle.px_session.specs.declared.fault.ReopenFault.{ReopenFault}
 use Rattle.px_session.specs.declared.fault.ReopenWhy.{ReopenWhy}
 use Rattle.px_session.specs.declared.fault.ReopenWhy.TheVariants as reopening
@@ -28,16 +29,72 @@ use Rattle.px_run.specs.Ending.{Ending, session_ending, runaway_at_start, no_jou
 use Rattle.px_run.specs.Finishing.{IsLeft, Carries, Finishes, Resumes, Traces}
 use Rattle.px_run.specs.Journaled.{IsSession, DueBehind, HasNoJournal, CannotRun, AfterJournal, ResumeCalls, TraceCalls}
 use Rattle.px_run.specs.Kinds.{script_file}
-use Rattle.px_run.specs.Stops.{PerformsDue, StopsReading, stop_of, stop_of_reopen, ending_of}
+use Rattle.px_run.specs.Stops.{Performs, StopsReading, stop_of, stop_of_reopen, ending_of}
+use Rattle.px_run.specs.declared.ending.End.{End}
+use Rattle.px_run.specs.declared.ending.End.TheVariants as ends
 use Rattle.px_run.specs.declared.ending.Stop.{Stop}
 use Rattle.px_run.specs.declared.ending.Stop.TheVariants as stops
 use Rattle.px_run.specs.declared.finishing.Carried.{Carried}
 use Rattle.px_output.specs.Printing.{Prints}
 use Rattle.px_output.specs.declared.printer.PrintFault.{PrintFault}
 use Rattle.px_session.proofs.Leaving.{one_history}
-use Rattle.px_run.proofs.Finished.{due_behind_since, opening_stands, due_printed, due_broken_off}
-use Rattle.px_run.proofs.Performing.{shows_later}
-use Rattle.px_run.proofs.Running.{due_since}
+use Rattle.px_run.proofs.Finished.{due_behind_since, opening_stands}
+use Rattle.px_run.proofs.Performing.{performs_since, printed, broken_off}
+use Rattle.px_run.proofs.SeenFiles.{shows_later}
+use Rattle.px_run.proofs.Running.{left_at_end}
+
+-- ---- what is left of a disk to which nothing was written
+
+-- each image since is one of the start, or stands for a front of the session's history
+pub fronts_since : {D : Type 0} (members : Disk.Ghosts D) (session : Session) (old opened new : D) → IsUntouched members old opened
+    → ((image : List ℕ) → members.images (members.moments opened) image → Stands image session.text session.first)
+    → LeavesOnly members.images (IsFront session) (members.moments opened) (members.moments new)
+    → LeavesFronts members (λ image. ⊥) session old new
+fronts_since members session old opened new untouched stands since = record {
+  each = record {
+    grows = grows_on (members.moments old) (members.moments opened) (members.moments new) ((untouched.unwritten).elapses).grows since.grows;
+    each = λ image left. ⊎_elim
+        (λ early. let from = ((untouched.unwritten).elapses).each image early in inl (subst (members.images (members.moments old)) (sym (from.2)) (from.1)))
+        (λ late. inr (inr (since.each image late)))
+        (left_before_or_after members.images (members.moments opened) (members.moments new) (length (members.moments old)) image since.grows left);
+  };
+  opened = (
+    length (members.moments opened),
+    grows_length (members.moments old) (members.moments opened) ((untouched.unwritten).elapses).grows,
+    grows_length (members.moments opened) (members.moments new) since.grows,
+    λ image left. stands image (subst (λ (ms : List Moment). members.images ms image) since.grows left),
+    since.each,
+  );
+}
+
+-- bytes that stand for a text and a history are a front of it
+front_unposted : (text : List ℕ) (first : List Entry) (bytes : List ℕ) → Stands bytes text first → IsFront (unposted text first) bytes
+front_unposted text first bytes stands = record {
+  more = [];
+  rest = [];
+  front = refl;
+  stands = subst (λ (h : List Entry). Stands bytes text h) (sym (append-nil first)) stands;
+}
+
+-- a journal of this text and history was read, and no more
+left_taken_up : {D : Type 0} (members : Disk.Ghosts D) (text : List ℕ) (first : List Entry) (old new : D) → IsUntouched members old new
+    → TellsBytes members old → IsSettled members new → ForSome (members.content new) (λ told. Stands told text first)
+    → Leaves members old new (TakenUp text first)
+left_taken_up members text first old new untouched tells settled stands = (
+  untouched,
+  one_history members new text first settled stands,
+  fronts_since members (unposted text first) old new new untouched stands_now
+      (record {
+        grows = take_all (length (members.moments new)) (members.moments new) (omega arith);
+        each = λ image since. front_unposted text first image (stands_now image (left_at_end members.images (members.moments new) image since));
+      }),
+)
+  where
+    told : (bytes : List ℕ) × (members.content new ≡ Some bytes)
+    told = told_of (members.content new) (ap is_some untouched.content ∙ tells)
+
+    stands_now : (image : List ℕ) → members.images (members.moments new) image → Stands image text first
+    stands_now image left = subst (λ (b : List ℕ). Stands b text first) (sym (settled told.0 told.1 image left)) (stands told.0 told.1)
 
 -- ---- a journal that is not taken up
 
@@ -52,27 +109,25 @@ module _ {D : Type 0} (members : Disk.Ghosts D) (journal : List ℕ) (Next : D �
       still : fault.why ≢ reopening.DiskFault → IsUntouched members old fault.disk
       still other = record { content = refused.same other; unwritten = refused.unwritten }
 
-      refused_as : (why : ReopenWhy) → fault.why ≡ why → why ≢ reopening.DiskFault → PerformsDue view view (Calls fault.disk Settled) (Err (stop_of_reopen why))
+      refused_as : (why : ReopenWhy) → fault.why ≡ why → why ≢ reopening.DiskFault → Performs view view (Calls fault.disk Settled) (Err (stop_of_reopen why))
           → Carries members journal Calls view view old (record { result = Err (stop_of_reopen fault.why); disk = fault.disk })
       refused_as why is other performs = record {
         course = Settled;
-        performs = subst (λ (w : ReopenWhy). PerformsDue view view (Calls fault.disk Settled) (Err (stop_of_reopen w))) (sym is) performs;
+        performs = subst (λ (w : ReopenWhy). Performs view view (Calls fault.disk Settled) (Err (stop_of_reopen w))) (sym is) performs;
         leaves = λ tells. (still (λ e. other (sym is ∙ e)), refused.settled (λ e. other (sym is ∙ e)));
         bound = refused.bound;
       }
 
       -- the journal was read, and its plan or its history can't be run
       not_run_as : (why : ReopenWhy) → fault.why ≡ why → why ≢ reopening.DiskFault → (text : List ℕ) (first : List Entry)
-          → ForSome (members.content old) (λ told. Stands told text first) → PerformsDue view view (Calls fault.disk (TakenUp text first)) (Err (stop_of_reopen why))
+          → ForSome (members.content old) (λ told. Stands told text first) → Performs view view (Calls fault.disk (TakenUp text first)) (Err (stop_of_reopen why))
           → Carries members journal Calls view view old (record { result = Err (stop_of_reopen fault.why); disk = fault.disk })
       not_run_as why is other text first stands performs = record {
         course = TakenUp text first;
-        performs = subst (λ (w : ReopenWhy). PerformsDue view view (Calls fault.disk (TakenUp text first)) (Err (stop_of_reopen w))) (sym is) performs;
-        leaves = λ tells. (
-          still (λ e. other (sym is ∙ e)),
-          one_history members fault.disk text first (refused.settled (λ e. other (sym is ∙ e)))
-              (λ told here. stands told (sym (refused.same (λ e. other (sym is ∙ e))) ∙ here)),
-        );
+        performs = subst (λ (w : ReopenWhy). Performs view view (Calls fault.disk (TakenUp text first)) (Err (stop_of_reopen w))) (sym is) performs;
+        leaves = λ tells.
+            left_taken_up members text first old fault.disk (still (λ e. other (sym is ∙ e))) tells (refused.settled (λ e. other (sym is ∙ e)))
+            (λ told here. stands told (sym (refused.same (λ e. other (sym is ∙ e))) ∙ here));
         bound = refused.bound;
       }
 
@@ -97,42 +152,13 @@ module _ {D : Type 0} (members : Disk.Ghosts D) (journal : List ℕ) (Next : D �
       by reopening.NoMemory is cause = refused_as reopening.NoMemory is (λ e. cc) (inr (AfterJournal.no_memory, refl))
       by reopening.DiskFault is cause = record {
         course = Unread;
-        performs = subst (λ (w : ReopenWhy). PerformsDue view view (Calls fault.disk Unread) (Err (stop_of_reopen w))) (sym is)
+        performs = subst (λ (w : ReopenWhy). Performs view view (Calls fault.disk Unread) (Err (stop_of_reopen w))) (sym is)
             (AfterJournal.disk_fails (subst (IsReopenWhy members old fault.disk) is cause), refl);
         leaves = λ tells. refused.unwritten;
         bound = refused.bound;
       }
 
 -- ---- a journal that is taken up
-
--- what an opening leaves of the disk
-left_taken_up : {S D : Type 0} (members : Disk.Ghosts D) (runs : Stepper.Ghosts S) (journal : List ℕ) (limit : ℕ) (old : D) (reopened : Reopened S D)
-    → (r : Reopens members runs journal limit old reopened)
-    → Leaves members old reopened.exec.opening.journal.disk (TakenUp r.text reopened.exec.opening.history)
-left_taken_up members runs journal limit old reopened r =
-    (r.untouched, one_history members reopened.exec.opening.journal.disk r.text reopened.exec.opening.history (r.ready).settled (r.ready).stands)
-
--- each image since is one of the start, or stands for a front of the session's history
-pub fronts_since : {D : Type 0} (members : Disk.Ghosts D) (session : Session) (old opened new : D) → IsUntouched members old opened
-    → ((image : List ℕ) → members.images (members.moments opened) image → Stands image session.text session.first)
-    → LeavesOnly members.images (IsFront session) (members.moments opened) (members.moments new)
-    → LeavesFronts members (λ image. ⊥) session old new
-fronts_since members session old opened new untouched stands since = record {
-  each = record {
-    grows = grows_on (members.moments old) (members.moments opened) (members.moments new) ((untouched.unwritten).elapses).grows since.grows;
-    each = λ image left. ⊎_elim
-        (λ early. let from = ((untouched.unwritten).elapses).each image early in inl (subst (members.images (members.moments old)) (sym (from.2)) (from.1)))
-        (λ late. inr (inr (since.each image late)))
-        (left_before_or_after members.images (members.moments opened) (members.moments new) (length (members.moments old)) image since.grows left);
-  };
-  opened = (
-    length (members.moments opened),
-    grows_length (members.moments old) (members.moments opened) ((untouched.unwritten).elapses).grows,
-    grows_length (members.moments opened) (members.moments new) since.grows,
-    λ image left. stands image (subst (λ (ms : List Moment). members.images ms image) since.grows left),
-    since.each,
-  );
-}
 
 module _ {S D : Type 0} (runs : Stepper.Ghosts S) (members : Disk.Ghosts D) (script journal : List ℕ) (limit : ℕ) (old : D) (reopened : Reopened S D)
     (r : Reopens members runs journal limit old reopened) (before mid now : View) (only : OnlyReads before mid) where
@@ -148,12 +174,13 @@ module _ {S D : Type 0} (runs : Stepper.Ghosts S) (members : Disk.Ghosts D) (scr
   resume_refused stop disk here stopped = record {
     course = taken_up;
     performs = by stop stopped;
-    leaves = λ tells. subst (λ (d : D). Leaves members old d taken_up) (sym here) (left_taken_up members runs journal limit old reopened r);
+    leaves = λ tells. subst (λ (d : D). Leaves members old d taken_up) (sym here)
+        (left_taken_up members r.text reopened.exec.opening.history old reopened.exec.opening.journal.disk r.untouched tells (r.ready).settled (r.ready).stands);
     bound = inl (ap members.bound_to here ∙ r.bound);
   }
     where
       by : (s : Stop) → StopsReading (script_file (sites tree)) before mid script s
-          → PerformsDue before mid (ResumeCalls members script limit before mid old disk taken_up) (Err s)
+          → Performs before mid (ResumeCalls members script limit before mid old disk taken_up) (Err s)
       by (stops.Refused refusal) (seen, shows, refuses) = (
         AfterJournal.opened r.text reopened.exec.opening.history tree taken_up (Some (ending_of refusal)) r.stands r.compiled r.settles
             (AfterFile.refused seen (ending_of refusal) shows refuses),
@@ -164,41 +191,37 @@ module _ {S D : Type 0} (runs : Stepper.Ghosts S) (members : Disk.Ghosts D) (scr
           inr (AfterJournal.opened r.text reopened.exec.opening.history tree taken_up None r.stands r.compiled r.settles AfterFile.no_memory, only.emitted)
 
   -- it is read, and a session goes on with what is left of it
-  pub resume_finished : (history : List Entry) (entries : List Entry) (carried : Carried D) → history ≡ reopened.exec.opening.history
-      → IsLeft (sites tree) script history before mid entries
+  pub resume_finished : (history : List Entry) (script_left : Script) (carried : Carried D) → history ≡ reopened.exec.opening.history
+      → IsLeft (sites tree) script history before mid script_left
       → ((other : List ℕ) → mid.read_faults other ≤ now.read_faults other)
-      → ((text : List ℕ) → IsTextOf members reopened.exec text → Finishes members runs text reopened.exec entries mid now carried)
+      → ((text : List ℕ) → IsTextOf members reopened.exec text → Finishes members runs text reopened.exec script_left.threads mid now carried)
       → Resumes members script journal limit before now old carried
-  resume_finished history entries carried same left later finishes = record {
+  resume_finished history script_left carried same left later finishes = record {
     course = GoneOn f.session;
-    performs = due_since before mid now _ (ResumeCalls members script limit before now old carried.disk (GoneOn f.session)) carried.result only goes_on f.performs;
+    performs = performs_since before mid now _ (ResumeCalls members script limit before now old carried.disk (GoneOn f.session)) carried.result only goes_on f.performs;
     leaves = λ tells.
         let told = ap is_some (r.untouched).content ∙ tells in
         let l = f.leaves told in (
           l.now,
           fronts_since members f.session old reopened.exec.opening.journal.disk carried.disk r.untouched
-              (opening_stands members reopened.exec r.text f.session f.same_text f.same_first told r.ready) l.since,
+              (opening_stands members reopened.exec r.text f.session (f.is_session).same_text (f.is_session).same_first told r.ready) l.since,
         );
     bound = inl (f.bound ∙ r.bound);
   }
     where
-      f : Finishes members runs r.text reopened.exec entries mid now carried
+      f : Finishes members runs r.text reopened.exec script_left.threads mid now carried
       f = finishes r.text r.ready
 
-      is_session : IsSession (sites tree) r.text reopened.exec.opening.history limit left.threads f.session f.left
-      is_session = record {
-        same_text = f.same_text;
-        same_first = f.same_first;
-        legal = subst (λ (n : ℕ). IsLegal (sites tree) reopened.exec.opening.history n (f.session).log) (r.opening).most
-            (subst (λ (p : List Site). IsLegal p reopened.exec.opening.history reopened.exec.opening.limit (f.session).log) r.nodes f.legal);
-        due = subst (λ (n : ℕ). WasDue (sites tree) n (history_of f.session) (f.session).failed) (r.opening).most
-            (subst (λ (p : List Site). WasDue p reopened.exec.opening.limit (history_of f.session) (f.session).failed) r.nodes f.due);
-        entries = entries;
-        order = subst (λ (h : List Entry). InFileOrder (rest left.threads h) entries) same left.order;
-        front = f.front;
-      }
+      threads_left : script_left.threads ≡ rest left.threads reopened.exec.opening.history
+      threads_left = left.behind ∙ ap (rest left.threads) same
 
-      goes_on : (due : Due) → DueBehind members (plan_of runs reopened.exec) f.session f.left reopened.exec.opening.journal.disk carried.disk due
+      is_session : IsSession (sites tree) r.text reopened.exec.opening.history limit (rest left.threads reopened.exec.opening.history) f.session
+      is_session =
+          subst (λ (t : List Todo). IsSession (sites tree) r.text reopened.exec.opening.history limit t f.session) threads_left
+          (subst (λ (n : ℕ). IsSession (sites tree) r.text reopened.exec.opening.history n script_left.threads f.session) (r.opening).most
+          (subst (λ (p : List Site). IsSession p r.text reopened.exec.opening.history reopened.exec.opening.limit script_left.threads f.session) r.nodes f.is_session))
+
+      goes_on : (due : Due) → DueBehind members (plan_of runs reopened.exec) script_left.threads f.session reopened.exec.opening.journal.disk carried.disk due
           → ResumeCalls members script limit before now old carried.disk (GoneOn f.session) due
       goes_on due behind =
           let (seen, shows, spells) = left.read in
@@ -207,9 +230,10 @@ module _ {S D : Type 0} (runs : Stepper.Ghosts S) (members : Disk.Ghosts D) (scr
             f.session,
             refl,
             (
-              f.left,
               is_session,
-              due_behind_since members (plan_of runs reopened.exec) (sites tree) f.session f.left old reopened.exec.opening.journal.disk carried.disk due r.nodes r.faults behind,
+              subst (λ (t : List Todo). DueBehind members (sites tree) t f.session old carried.disk due) threads_left
+                  (subst (λ (p : List Site). DueBehind members p script_left.threads f.session old carried.disk due) r.nodes
+                  (due_behind_since members (plan_of runs reopened.exec) script_left.threads f.session old reopened.exec.opening.journal.disk carried.disk due r.faults behind)),
             ),
           ))
 
@@ -225,18 +249,20 @@ module _ {S D : Type 0} (runs : Stepper.Ghosts S) (members : Disk.Ghosts D) (jou
   due_trace : TraceCalls members old disk traced_course (Some traced_ending)
   due_trace = AfterJournal.opened r.text reopened.exec.opening.history (tree_of reopened.plan) traced_course (Some traced_ending) r.stands r.compiled r.settles (refl, refl)
 
-  traced : (result : Result Unit Stop) → PerformsDue before now (TraceCalls members old disk traced_course) result
+  traced : (result : Result End Stop) → Performs before now (TraceCalls members old disk traced_course) result
       → Traces members journal before now old (record { result = result; disk = disk })
   traced result performs = record {
     course = traced_course;
     performs = performs;
-    leaves = λ tells. subst (λ (d : D). Leaves members old d traced_course) (sym here) (left_taken_up members runs journal limit old reopened r);
+    leaves = λ tells. subst (λ (d : D). Leaves members old d traced_course) (sym here)
+        (left_taken_up members r.text reopened.exec.opening.history old reopened.exec.opening.journal.disk r.untouched tells (r.ready).settled (r.ready).stands);
     bound = inl (ap members.bound_to here ∙ r.bound);
   }
 
-  pub trace_printed : Prints {T = Unit} before [] now [] traced_ending.text (Ok tt) → Traces members journal before now old (record { result = Ok tt; disk = disk })
-  trace_printed prints = traced (Ok tt) (due_printed before now (TraceCalls members old disk traced_course) traced_ending due_trace refl prints)
+  pub trace_printed : Prints {T = Unit} before [] now [] traced_ending.text (Ok tt) → Traces members journal before now old (record { result = Ok ends.Done; disk = disk })
+  trace_printed prints = traced (Ok ends.Done) (printed before now (TraceCalls members old disk traced_course) ends.Done traced_ending due_trace refl prints)
 
   pub trace_broken_off : (fault : PrintFault) → Prints {T = Unit} before [] now [] traced_ending.text (Err fault)
       → Traces members journal before now old (record { result = Err (stop_of fault); disk = disk })
-  trace_broken_off fault prints = traced (Err (stop_of fault)) (due_broken_off before now (TraceCalls members old disk traced_course) traced_ending fault due_trace prints)
+  trace_broken_off fault prints =
+      traced (Err (stop_of fault)) (broken_off before now (TraceCalls members old disk traced_course) traced_ending fault (Err (stop_of fault)) due_trace refl prints)

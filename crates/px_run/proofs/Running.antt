@@ -1,5 +1,5 @@
 -- A session over a new journal, from the making of the journal and the end of the session.
-use Rattle.std.proofs.Common.{◌≡◌, ◌⊎◌, inl, inr, ⊎_elim, ℕ, List, [], Some, None, IsSome, Result, Ok, Err, length, take, refl, sym, ◌∙◌, ap, subst, arith, IsTrue}
+use Rattle.std.proofs.Common.{◌≡◌, ◌⊎◌, inl, inr, ⊎_elim, ℕ, List, [], Some, None, IsSome, Err, length, take, refl, sym, ◌∙◌, ap, subst, arith, IsTrue}
 use Rattle.std.proofs.lemmas.List.{take_all}
 use Rattle.px_core.specs.Plan.{Site}
 use Rattle.px_event.specs.declared.entry.Entry.{Entry}
@@ -10,57 +10,39 @@ use Rattle.px_journal.specs.Crash.{OldOrNew, LeavesOnly}
 use Rattle.px_journal.specs.Layout.{is_nothing, Stands}
 use Rattle.px_journal.specs.declared.fault.CreateWhy.{CreateWhy}
 use Rattle.px_journal.specs.declared.fault.CreateWhy.TheVariants as creating
-use Rattle.px_output.specs.View.{View, OnlyReads}
+use Rattle.px_output.specs.View.{View}
 use Rattle.px_ports.specs.Moment.{Images, LeftSince}
 use Rattle.px_ports.specs.declared.disk.Disk
 use Rattle.px_ports.specs.declared.moment.Moment.{Moment}
-use Rattle.px_script.specs.Order.{InFileOrder}
+use Rattle.px_script.specs.Follows.{Follows}
 use Rattle.px_script.specs.Rest.{rest}
 use Rattle.px_script.specs.declared.todo.Todo.{Todo}
-use Rattle.px_sem.specs.Log.{IsLegal}
 use Rattle.px_sem.specs.Run.{run}
 use Rattle.px_sem.specs.declared.stepper.Stepper
 use Rattle.px_session.specs.Opened.{LeavesNew, Creates, IsCreateWhy, IsNotCreated}
-use Rattle.px_session.specs.Posted.{WasDue}
-use Rattle.px_session.specs.Session.{Session, unposted, history_of, longest_of, IsEnd, IsFront, HasOneHistory, LeavesFronts}
+use Rattle.px_session.specs.Session.{Session, unposted, longest_of, IsEnd, IsFront, HasOneHistory, LeavesFronts}
 use Rattle.px_run.specs.Course.{Untouched, HalfMade, Made, Due}
 use Rattle.px_run.specs.Finishing.{Carries, Finishes}
 use Rattle.px_run.specs.Journaled.{IsSession, DueBehind, NewCalls}
-use Rattle.px_run.specs.Stops.{PerformsDue, stop_of_create, ending_of}
+use Rattle.px_run.specs.Stops.{stop_of_create}
 use Rattle.px_run.specs.declared.ending.Stop.{Stop}
-use Rattle.px_run.specs.declared.ending.Stop.TheVariants as stops
 use Rattle.px_run.specs.declared.finishing.Carried.{Carried}
 use Rattle.px_run.proofs.Finished.{due_behind_since, opening_stands}
-use Rattle.px_run.proofs.Performing.{faulted_since}
-
--- ---- what is due, seen from further off
-
--- what is performed behind reads that touched nothing else
-pub due_since : (old mid new : View) (Calls More : Due → Type 0) (r : Result Unit Stop) → OnlyReads old mid
-    → ((due : Due) → Calls due → More due) → PerformsDue mid new Calls r → PerformsDue old new More r
-due_since old mid new Calls More (Ok done) only widen (ending, is, ends, emits) =
-    (ending, widen (Some ending) is, ends, rw (← only.emitted) emits)
-due_since old mid new Calls More (Err (stops.Refused refusal)) only widen (is, same) =
-    (widen (Some (ending_of refusal)) is, same ∙ only.emitted)
-due_since old mid new Calls More (Err stops.SinkFailed) only widen (ending, is, part, fault) =
-    (ending, widen (Some ending) is, rw (← only.emitted) part, faulted_since old mid new only fault)
-due_since old mid new Calls More (Err stops.NoMemory) only widen (inl (ending, is, part)) =
-    inl (ending, widen (Some ending) is, rw (← only.emitted) part)
-due_since old mid new Calls More (Err stops.NoMemory) only widen (inr (none, same)) = inr (widen None none, same ∙ only.emitted)
-
-reads_at_once : (now : View) → OnlyReads now now
-reads_at_once now = record { files = refl; emitted = refl; read_faults = λ name. omega arith; write_faults = refl; idle = refl }
-
-pub due_more : (old new : View) (Calls More : Due → Type 0) (r : Result Unit Stop) → ((due : Due) → Calls due → More due)
-    → PerformsDue old new Calls r → PerformsDue old new More r
-due_more old new Calls More r widen performs = due_since old old new Calls More r (reads_at_once old) widen performs
+use Rattle.px_run.proofs.Performing.{performs_more}
 
 -- ---- what a crash may leave
 
 -- what a crash at the last moment may leave
-left_at_end : (images : Images) (moments : List Moment) (image : List ℕ) → LeftSince images moments (length moments) image
+pub left_at_end : (images : Images) (moments : List Moment) (image : List ℕ) → LeftSince images moments (length moments) image
     → images moments image
 left_at_end images moments image since = subst (λ (ms : List Moment). images ms image) (take_all (since.0) moments (since.1)) (since.3)
+
+-- an empty log follows whatever threads
+nothing_followed : (plan : List Site) (first : List Entry) (threads : List Todo) → Follows plan first [] threads
+nothing_followed plan first threads = record {
+  each = λ k d within. (0, record { walks = omega arith; entries = refl });
+  only = λ k d within. absurd (omega (arith, within));
+}
 
 -- bytes that stand for the text and no event are a front of each session over a new journal
 front_of_none : (session : Session) (text bytes : List ℕ) → session.text ≡ text → session.first ≡ [] → Stands bytes text []
@@ -125,17 +107,16 @@ module _ {D : Type 0} (members : Disk.Ghosts D) where
 
   -- ---- the two ends of a call
 
-  module _ (plan : List Site) (text name : List ℕ) (limit : ℕ) (entries : List Entry) (before now : View) (old : D) (threads : List Todo)
-      (order : InFileOrder (rest threads []) entries) where
+  module _ (plan : List Site) (text name : List ℕ) (limit : ℕ) (threads : List Todo) (before now : View) (old : D) (all_left : rest threads [] ≡ threads) where
     -- a journal was made, and a session over it has ended
     pub made_runs : {S : Type 0} (runs : Stepper.Ghosts S) (stepper : S) (exec : Executive S D) (carried : Carried D) → (runs.state stepper).nodes ≡ plan
-        → Creates members name text stepper limit old exec → Finishes members runs text exec entries before now carried
+        → Creates members name text stepper limit old exec → Finishes members runs text exec threads before now carried
         → Carries members name (λ new. NewCalls members plan text limit threads old new) before now old carried
     made_runs {S} runs stepper exec carried nodes made finished = record {
       course = Made finished.session;
-      performs = due_more before now (DueBehind members (plan_of runs exec) finished.session finished.left exec.opening.journal.disk carried.disk)
+      performs = performs_more before now (DueBehind members (plan_of runs exec) threads finished.session exec.opening.journal.disk carried.disk)
           (NewCalls members plan text limit threads old carried.disk (Made finished.session)) carried.result
-          (λ due behind. NewCalls.made finished.session due made.was_nothing (finished.left, session, behind_here due behind)) finished.performs;
+          (λ due behind. NewCalls.made finished.session due made.was_nothing (session, behind_here due behind)) finished.performs;
       leaves = λ tells. ((finished.leaves (made.tells ∙ tells)).now, fronts tells);
       bound = inl (finished.bound ∙ made.bound);
     }
@@ -143,35 +124,26 @@ module _ {D : Type 0} (members : Disk.Ghosts D) where
         plan_is : plan_of runs exec ≡ plan
         plan_is = ap (λ (s : S). (runs.state s).nodes) made.runs ∙ nodes
 
-        same_first : finished.session.first ≡ []
-        same_first = finished.same_first ∙ made.opening.first
+        session : IsSession plan text [] limit (rest threads []) finished.session
+        session =
+            subst (λ (t : List Todo). IsSession plan text [] limit t finished.session) (sym all_left)
+            (subst (λ (p : List Site). IsSession p text [] limit threads finished.session) plan_is
+            (subst (λ (h : List Entry). IsSession (plan_of runs exec) text h limit threads finished.session) made.opening.first
+            (subst (λ (l : ℕ). IsSession (plan_of runs exec) text exec.opening.history l threads finished.session) made.opening.most finished.is_session)))
 
-        session : IsSession plan text [] limit threads finished.session finished.left
-        session = record {
-          same_text = finished.same_text;
-          same_first = same_first;
-          legal = subst (λ (p : List Site). IsLegal p [] limit finished.session.log) plan_is
-              (subst (λ (h : List Entry). IsLegal (plan_of runs exec) h limit finished.session.log) made.opening.first
-              (subst (λ (l : ℕ). IsLegal (plan_of runs exec) exec.opening.history l finished.session.log) made.opening.most finished.legal));
-          due = subst (λ (p : List Site). WasDue p limit (history_of finished.session) finished.session.failed) plan_is
-              (subst (λ (l : ℕ). WasDue (plan_of runs exec) l (history_of finished.session) finished.session.failed) made.opening.most finished.due);
-          entries = entries;
-          order = order;
-          front = finished.front;
-        }
-
-        behind_here : (due : Due) → DueBehind members (plan_of runs exec) finished.session finished.left exec.opening.journal.disk carried.disk due
-            → DueBehind members plan finished.session finished.left old carried.disk due
+        behind_here : (due : Due) → DueBehind members (plan_of runs exec) threads finished.session exec.opening.journal.disk carried.disk due
+            → DueBehind members plan (rest threads []) finished.session old carried.disk due
         behind_here due behind =
-            due_behind_since members (plan_of runs exec) plan finished.session finished.left old exec.opening.journal.disk carried.disk due
-            plan_is made.faults behind
+            subst (λ (t : List Todo). DueBehind members plan t finished.session old carried.disk due) (sym all_left)
+            (subst (λ (p : List Site). DueBehind members p threads finished.session old carried.disk due) plan_is
+            (due_behind_since members (plan_of runs exec) threads finished.session old exec.opening.journal.disk carried.disk due made.faults behind))
 
         fronts : TellsBytes members old → LeavesFronts members (λ image. IsTrue (is_nothing image)) finished.session old carried.disk
         fronts tells =
             let leaves = finished.leaves (made.tells ∙ tells) in
-            fronts_behind finished.session text old exec.opening.journal.disk carried.disk finished.same_text same_first tells made.leaves
+            fronts_behind finished.session text old exec.opening.journal.disk carried.disk session.same_text session.same_first tells made.leaves
             leaves.since.grows
-            (opening_stands members exec text finished.session finished.same_text finished.same_first (made.tells ∙ tells) made.stands) leaves.since.each
+            (opening_stands members exec text finished.session session.same_text finished.is_session.same_first (made.tells ∙ tells) made.stands) leaves.since.each
 
     -- none was made, or memory ran out right behind the making
     not_made : (why : CreateWhy) (new : D) → IsSome (run plan []) → IsCreateWhy members text old new why → IsNotCreated members name text old (record { disk = new; why = why })
@@ -196,20 +168,19 @@ module _ {D : Type 0} (members : Disk.Ghosts D) where
     }
     not_made creating.NoMemory new starts (inr (nothing, history)) fault = record {
       course = Made (unposted text []);
-      performs = inr (NewCalls.made (unposted text []) None nothing (entries, session, DueBehind.no_memory refl), refl);
+      performs = inr (NewCalls.made (unposted text []) None nothing (session, DueBehind.no_memory refl), refl);
       leaves = λ tells. (history, fronts_of_none text old new tells (fault.tells ∙ tells) fault.leaves history);
       bound = fault.bound;
     }
       where
-        session : IsSession plan text [] limit threads (unposted text []) entries
+        session : IsSession plan text [] limit (rest threads []) (unposted text [])
         session = record {
           same_text = refl;
           same_first = refl;
           legal = record { runs = starts; answers = tt };
+          follows = nothing_followed plan [] (rest threads []);
           due = tt;
-          entries = entries;
-          order = order;
-          front = refl;
+          next = tt;
         }
 
     pub not_made_runs : (why : CreateWhy) (new : D) (stop : Stop) → IsSome (run plan []) → stop ≡ stop_of_create why

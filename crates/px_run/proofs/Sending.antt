@@ -1,7 +1,17 @@
 -- The stepper that the program runs may go to another thread: one lemma a type, from its parts.
 use Rattle.std.proofs.Crossing.{crosses}
-use denote.Param.Send.{IsSend, sendable}
+use denote.RattleType.{RattleType}
+use denote.Struct.Declared.{shape}
+use denote.Param.Send.{IsSend, sendable, plain_send, view_send, recorded_send, struct_send}
 use denote.Param.SendFields.{as_row_send, declared_send, variants_send}
+use Rattle.std.specs.contracts.option.Option as option
+use Rattle.std.specs.contracts.vec.Vec as vec
+use Rattle.std.specs.contracts.alloc.Global as global
+use Rattle.std.specs.contracts.impls.GlobalAllocator.TheImpl as allocates
+use Rattle.std.proofs.option.Option.TheSendSync as options
+use Rattle.std.proofs.vec.Vec.TheSendSync as vecs
+use Rattle.std.proofs.alloc.Global.TheSendSync as globals
+use Rattle.std.below.std_heap.proofs.GlobalAllocator.TheSendSync as frees
 use Rattle.indexmap.proofs.set.IndexSet.TheSendSync as sets
 use Rattle.px_value.proofs.text.Text.TheSendSync as texts
 use Rattle.px_value.proofs.value.Value.TheSendSync as values
@@ -17,9 +27,13 @@ use Rattle.px_core.specs.contracts.body.Target as targets
 use Rattle.px_core.specs.contracts.body.Pair as pairs
 use Rattle.px_core.specs.contracts.body.Body as bodies
 use Rattle.px_sem.proofs.moves.Move.TheSendSync as moves
-use Rattle.px_cells.proofs.marked.Marked.TheSendSync as marked
+use Rattle.px_cells.proofs.news.News.TheSendSync as news
+use Rattle.px_cells.specs.contracts.marked.Marked as marked
+use Rattle.px_cells.specs.contracts.marked.Marked.TheInside as marked_inside
 use Rattle.px_lookup.proofs.reports.Reports.TheSendSync as reports
-use Rattle.px_command.proofs.actions.Actions.TheSendSync as actions
+use Rattle.px_command.specs.contracts.actions.Actions as actions
+use Rattle.px_command.specs.contracts.actions.Actions.TheInside as actions_inside
+use Rattle.px_flat.proofs.act.Act.TheSendSync as acts
 use Rattle.px_flat.proofs.row.Extent.TheSendSync as extents
 use Rattle.px_flat.proofs.slots.Slots.TheSendSync as slots
 use Rattle.px_flat.proofs.numbered.NumberedExpr.TheLaws.TheKnot.{send-NumberedExpr}
@@ -119,16 +133,41 @@ flat_send : IsSend flat.the_row
 flat_send =
     declared_send flat.the_type (search (sendable, crosses, as_row_send, tables_send, numbered_node_send) depth 20)
 
+vec_send : (T : RattleType) → IsSend T → IsSend (vec.the_row T global.the_row allocates.ghosts)
+vec_send T sent = vecs.the_send T global.the_row allocates.ghosts sent globals.the_send frees.the_frees
+
+marked_send : (T : RattleType) → IsSend T → IsSend (marked.the_row T)
+marked_send T sent =
+    view_send (marked_inside.the_row T) _ _ _ _ (recorded_send (marked_inside.the_field T).row _ _ (marked_inside.the_type T).to_one
+    (struct_send (shape (marked_inside.the_type T)) (
+      vec_send T sent,
+      (
+        vec_send (option.the_row T) (options.the_send T sent),
+        (
+          search (sendable, crosses) depth 24,
+          (
+            plain_send _ _ _ _ _,
+            (search (sendable, crosses) depth 24, (search (sendable, crosses, news.the_send) depth 24, tt)),
+          ),
+        ),
+      ),
+    )))
+
+actions_send : IsSend actions.the_row
+actions_send =
+    view_send actions_inside.the_row _ _ _ _ (recorded_send actions_inside.the_field.row _ _ actions_inside.the_type.to_one
+    (struct_send (shape actions_inside.the_type) (search (sendable, crosses, marked_send, acts.the_send) depth 24)))
+
 parts_send : IsSend parts.the_row
 parts_send =
     declared_send parts.the_type (
       search flat_send,
       (
-        search (sendable, crosses, marked.the_send, values.the_send) depth 24,
+        search (sendable, crosses, marked_send, values.the_send) depth 24,
         (
           search (sendable, reports.the_send),
           (
-            search (sendable, actions.the_send),
+            search (sendable, actions_send),
             (search (sendable, crosses, moves.the_send) depth 12, tt),
           ),
         ),

@@ -1,19 +1,22 @@
 -- The causes of answers: what each status tells, when the program carries its command out, and when it refuses its files.
-use Rattle.std.specs.Prelude.{◌≡◌, ◌⊎◌, ◌<◌, ℕ, true, false, List, Option, Some, None, IsSome, IsTrue, IsFalse, if◌then◌else◌}
+use Rattle.std.specs.Prelude.{◌≡◌, ◌⊎◌, ◌<◌, ℕ, true, false, List, [], Option, Some, None, IsSome, IsTrue, IsFalse, if◌then◌else◌}
 use Rattle.std.specs.Option.{option_map, option_and_then, ForSome}
 use Rattle.px_compile.specs.Compiled.{IsCompiled}
 use Rattle.px_event.specs.declared.entry.Entry.{Entry}
 use Rattle.px_journal.specs.Layout.{is_nothing, Stands}
 use Rattle.px_output.specs.View.{View, Faulted}
-use Rattle.px_ports.specs.Host.{Files, Rose}
+use Rattle.px_ports.specs.Host.{Files, Emits, Rose}
 use Rattle.px_ports.specs.declared.disk.Disk
-use Rattle.px_core.specs.Plan.{Tree, sites}
-use Rattle.px_sem.specs.Log.{events_of}
+use Rattle.px_core.specs.Plan.{Site, Tree, sites}
+use Rattle.px_sem.specs.Log.{Log, IsLegal, events_of}
 use Rattle.px_sem.specs.World.{World}
 use Rattle.px_sem.specs.Run.{run, started}
+use Rattle.px_script.specs.Follows.{AreStalled}
+use Rattle.px_script.specs.Rest.{rest}
+use Rattle.px_script.specs.declared.stall.Stall.{Stall}
 use Rattle.px_script.specs.declared.todo.Todo.{Todo}
-use Rattle.px_words.specs.Words.{Command, plan_of, script_of, journal_of, runs_plan, command}
-use Rattle.px_run.specs.Ending.{Ending, nodes_ending, start_ending}
+use Rattle.px_words.specs.Words.{Command, Run, Resume, plan_of, script_of, journal_of, runs_plan, command}
+use Rattle.px_run.specs.Ending.{Ending, nodes_ending, start_ending, stalled_ending}
 use Rattle.px_run.specs.File.{FileKind, Reads, IsRefusedAs, Holds, HoldsNone}
 use Rattle.px_run.specs.Journaled.{JournalRefuses}
 use Rattle.px_run.specs.Kinds.{plan_file, script_file}
@@ -58,6 +61,16 @@ abbrev pub FailsToRead : (List (List ℕ) → List ℕ → Type 0) → List (Lis
 FailsToRead Has words old new =
     (name : List ℕ) × Has words name × (old.read_faults name < new.read_faults name)
 
+-- the script in a file is read, and a legal log of what it has left behind a history stalls
+pub record StallsBehind (before now : View) (script : List ℕ) (plan : List Site) (limit : ℕ) (first : List Entry) : Type 0 where
+  pub threads : List Todo
+  pub read : Reads (script_file plan) before now script threads
+  pub log : Log
+  pub legal : IsLegal plan first limit log
+  pub stalls : List Stall
+  pub stalled : AreStalled plan first log (rest threads first) stalls
+  pub text : Emits before.emitted now.emitted (stalled_ending plan first log stalls).text
+
 module _ {D : Type 0} (members : Disk.Ghosts D) where
   -- the command has a journal and no plan, and the disk stands for the text of a plan and for a history, which are such
   abbrev pub TakesUp : List (List ℕ) → D → (Tree → List Entry → Type 0) → Type 0
@@ -71,8 +84,20 @@ module _ {D : Type 0} (members : Disk.Ghosts D) where
       ⊎ ((option_and_then plan_of (command words) ≡ None) × HasJournal words
       × (ending : Ending) × JournalRefuses members disk ending × (ending.status ≡ 5))
 
+  -- a legal log of what the command's script has left, behind the history that it begins with, stalls at some waits
+  pub data StallsOver (words : List (List ℕ)) (before now : View) (old : D) : Type 0 where
+    of_new :
+        (plan script journal : List ℕ) (limit : ℕ) (tree : Tree) → command words ≡ Some (Run plan script journal limit)
+        → Reads plan_file before now plan tree → StallsBehind before now script (sites tree) limit []
+        → StallsOver words before now old
+    of_taken_up :
+        (script journal : List ℕ) (limit : ℕ) (text : List ℕ) (first : List Entry) (tree : Tree)
+        → command words ≡ Some (Resume script journal limit) → ForSome (members.content old) (λ told. Stands told text first)
+        → IsCompiled text tree → StallsBehind before now script (sites tree) limit first
+        → StallsOver words before now old
+
   -- THE TABLE OF STATUSES: each with its cause. What comes behind a plan, a script or a journal comes only where that was
-  -- read.
+  -- read, but for a fault of the disk.
   pub data Cause (words : List (List ℕ)) (before now : View) (old new : D) : ℕ → Type 0 where
     done : Starts words before now (λ start. IsSome start) → Cause words before now old new 0
     taken_up :
@@ -96,6 +121,8 @@ module _ {D : Type 0} (members : Disk.Ghosts D) where
     sink_fault : Faulted before now → Cause words before now old new 8
     disk_fault : HasJournal words → Rose (members.faults old) (members.faults new) → Cause words before now old new 9
     no_memory : Cause words before now old new 10
+    -- lines of a script are left, and each thread that has some stands at a wait that isn't met
+    stalled : StallsOver words before now old → Cause words before now old new 11
 
 -- the status of a command whose plan and script are read: that of the plan's start, where the plan is run
 abbrev pub status_behind : Option Command → Tree → ℕ
@@ -108,8 +135,8 @@ module _ {D : Type 0} (members : Disk.Ghosts D) where
   IsSound words old new IsSuch = HasJournal words
       → ((bytes : List ℕ) × (members.content old ≡ Some bytes) × IsSuch bytes) × ¬ Rose (members.faults old) (members.faults new)
 
-  -- Files that can be read, a disk that fits, and no fault: the command is carried out, or its start is a runaway, or memory
-  -- is wanting.
+  -- Files that can be read, a disk that fits, and no fault: the command is carried out, or its start is a runaway, or its script
+  -- stalls, which has its cause above, or memory is wanting.
   pub record IsComplete (words : List (List ℕ)) (before now : View) (old new : D) (status : ℕ) : Type 0 where
     -- a plan of a file
     pub plan :
@@ -118,7 +145,7 @@ module _ {D : Type 0} (members : Disk.Ghosts D) where
         → ((name : List ℕ) → HasScript words name → (threads : List Todo) × Holds (script_file (sites tree)) files name threads)
         → IsSound words old new (λ bytes. IsTrue (is_nothing bytes))
         → ¬ FailsToRead HasPlan words before now → ¬ FailsToRead HasScript words before now → ¬ Faulted before now
-        → (status ≡ 10) ⊎ (status ≡ status_behind (command words) tree)
+        → (status ≡ 10) ⊎ ((status ≡ status_behind (command words) tree) ⊎ (status ≡ 11))
     -- a journal that is taken up
     pub journal :
         (text : List ℕ) (first : List Entry) (tree : Tree) → option_and_then plan_of (command words) ≡ None → HasJournal words
@@ -127,7 +154,7 @@ module _ {D : Type 0} (members : Disk.Ghosts D) where
         → (files : Files) × (before.files ≡ Some files) × ((threads : List Todo) × Holds (script_file (sites tree)) files name threads))
         → IsSound words old new (λ bytes. Stands bytes text first)
         → ¬ FailsToRead HasScript words before now → ¬ Faulted before now
-        → (status ≡ 10) ⊎ (status ≡ 0)
+        → (status ≡ 10) ⊎ ((status ≡ 0) ⊎ (status ≡ 11))
 
   -- A plan or a journal that is refused, or a script behind one that is not, and no fault: the command is refused so, or
   -- memory is wanting.

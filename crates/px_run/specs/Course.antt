@@ -25,11 +25,11 @@ pub data Course : Type 0 where
   Unread : Course
   -- the journal of this text was to be made, and a call of the disk failed on the way; one that stood there was not touched
   HalfMade : (text : List ℕ) → Course
-  -- a journal was made, and lines were posted
+  -- a journal was made, and a session ran over it
   Made : Session → Course
   -- a journal of this text and history was taken up, and nothing was written
   TakenUp : (text : List ℕ) (history : List Entry) → Course
-  -- a journal was taken up, and lines were posted
+  -- a journal was taken up, and a session ran over it
   GoneOn : Session → Course
 
 module _ {D : Type 0} (members : Disk.Ghosts D) where
@@ -42,7 +42,9 @@ module _ {D : Type 0} (members : Disk.Ghosts D) where
       LeavesNew members text old new × ForSome (members.content old) (λ told. IsFalse (is_nothing told) → IsUntouched members old new)
   Leaves old new (Made session) =
       HasOneHistory members session new × LeavesFronts members (λ image. IsTrue (is_nothing image)) session old new
-  Leaves old new (TakenUp text history) = IsUntouched members old new × HasOneHistory members (unposted text history) new
+  Leaves old new (TakenUp text history) =
+      IsUntouched members old new × HasOneHistory members (unposted text history) new
+      × LeavesFronts members (λ image. ⊥) (unposted text history) old new
   Leaves old new (GoneOn session) = HasOneHistory members session new × LeavesFronts members (λ image. ⊥) session old new
 
 -- a call of this course ends so

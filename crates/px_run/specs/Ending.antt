@@ -1,15 +1,14 @@
 -- How a command ends: its status, and all of its text.
-use Rattle.std.specs.Prelude.{◌≡◌, ℕ, List, [], ◌++◌, map, Option, Some, None, codes, decimal}
+use Rattle.std.specs.Prelude.{ℕ, List, [], ◌++◌, Option, Some, None, codes, decimal}
 use Rattle.px_core.specs.Plan.{Site, Tree, sites, count_of}
 use Rattle.px_event.specs.declared.entry.Entry.{Entry}
 use Rattle.px_sem.specs.World.{World}
-use Rattle.px_sem.specs.Log.{Log, IsLegal}
+use Rattle.px_sem.specs.Log.{Log}
 use Rattle.px_sem.specs.Run.{started}
 use Rattle.px_sem.specs.Text.{line, text_of}
-use Rattle.px_script.specs.declared.todo.Todo.{Todo}
-use Rattle.px_script.specs.Order.{InFileOrder}
+use Rattle.px_script.specs.declared.stall.Stall.{Stall}
+use Rattle.px_output.specs.Stalls.{stall_lines}
 use Rattle.px_syntax.specs.declared.fault.PlanFault.{PlanFault}
-use Rattle.px_words.specs.Limit.{event_limit}
 use Rattle.px_run.specs.PlanRefusal.{plan_reason}
 
 -- a status and a text
@@ -93,17 +92,6 @@ of_start plan (Some settled) = log_ending plan []
 abbrev pub start_ending : Tree → Ending
 start_ending tree = of_start (sites tree) (started (sites tree))
 
--- a log of all posts of a script by rising line number, each answered as it is to be
-pub record IsDryRun (plan : List Site) (threads : List Todo) (log : Log) : Type 0 where
-  pub order : InFileOrder threads (map (λ logged. logged.entry) log)
-  pub legal : IsLegal plan [] event_limit log
-
--- how `dry-run` ends over a plan and a script, by what the start settles into: by the text of such a log, or as a start
--- that does not settle
-abbrev pub DryRunEndsBy : List Site → List Todo → Ending → Option (World × ℕ) → Type 0
-DryRunEndsBy plan threads ending None = ending ≡ runaway_at_start
-DryRunEndsBy plan threads ending (Some settled) =
-    (log : Log) × IsDryRun plan threads log × (ending ≡ log_ending plan log)
-
-abbrev pub DryRunEnds : Tree → List Todo → Ending → Type 0
-DryRunEnds tree threads ending = DryRunEndsBy (sites tree) threads ending (started (sites tree))
+-- the text of a log behind which threads stand at these waits
+abbrev pub stalled_ending : List Site → List Entry → Log → List Stall → Ending
+stalled_ending plan first log stalls = record { status = 11; text = text_of plan first log ++ stall_lines stalls }

@@ -53,12 +53,6 @@ Refuses kind Unreadable ending = ending ≡ read_fault
 abbrev pub Reads : {A : Type 0} → FileKind A → View → View → List ℕ → A → Type 0
 Reads kind old new name part = (seen : Seen) × Shows kind.limit old new name seen × Spells kind seen part
 
--- the file of this name is refused so, or it is read and what it spells goes on so
-abbrev pub After : {A : Type 0} → FileKind A → View → View → List ℕ → (A → Ending → Type 0) → Ending → Type 0
-After {A} kind old new name Next ending =
-    (seen : Seen) × Shows kind.limit old new name seen
-    × (Refuses kind seen ending ⊎ ((part : A) × Spells kind seen part × Next part ending))
-
 -- the file of this name is longer than its kind allows, or its bytes spell nothing
 abbrev pub IsRefusedAs : {A : Type 0} → FileKind A → View → View → List ℕ → Type 0
 IsRefusedAs kind old new name =

@@ -1,46 +1,45 @@
 -- What the commands with a journal have come to, part by part.
-use Rattle.std.specs.Prelude.{◌≡◌, ◌≤◌, ℕ, List, [], ◌++◌, Option, Some, None, IsTrue, length, take}
-use Rattle.std.specs.List.{list_all}
+use Rattle.std.specs.Prelude.{◌≡◌, ◌≤◌, ℕ, List, [], Option, Some, None, length, take}
 use Rattle.px_core.specs.Fit.{IsFit}
 use Rattle.px_core.specs.Plan.{Site, tree_of, sites}
-use Rattle.px_event.specs.Fit.{is_fit_entry}
 use Rattle.px_event.specs.declared.entry.Entry.{Entry}
 use Rattle.px_exec.specs.Executive.{Executive, plan_of, TellsBytes}
 use Rattle.px_output.specs.View.{View}
 use Rattle.px_ports.specs.declared.disk.Disk
-use Rattle.px_script.specs.Order.{InFileOrder}
+use Rattle.px_script.specs.Fit.{IsFitScript}
 use Rattle.px_script.specs.Rest.{rest}
+use Rattle.px_script.specs.declared.script.Script.{Script}
 use Rattle.px_script.specs.declared.todo.Todo.{Todo}
-use Rattle.px_sem.specs.Log.{IsLegal}
 use Rattle.px_sem.specs.Run.{run, started}
 use Rattle.px_sem.specs.Stepper.{Pending}
 use Rattle.px_sem.specs.declared.stepper.Stepper
-use Rattle.px_session.specs.Posted.{entries_of, WasDue, LeavesSession}
-use Rattle.px_session.specs.Session.{Session, history_of, unsure, IsBoundAtMost}
+use Rattle.px_session.specs.Posted.{LeavesSession}
+use Rattle.px_session.specs.Session.{Session, IsBoundAtMost}
 use Rattle.px_run.specs.Course.{Course, Untouched, Due, EndsIn, AfterFile, Leaves}
 use Rattle.px_run.specs.Ending.{runaway_at_start}
 use Rattle.px_run.specs.File.{Reads, with_text}
 use Rattle.px_words.specs.Words.{Command}
 use Rattle.px_run.specs.Headline.{CommandCallsFor, IsBoundFor}
-use Rattle.px_run.specs.Journaled.{DueBehind, NewCalls, RunCalls, ResumeCalls, TraceCalls}
+use Rattle.px_run.specs.Journaled.{IsSession, DueBehind, NewCalls, RunCalls, ResumeCalls, TraceCalls}
 use Rattle.px_run.specs.Kinds.{plan_file, script_file}
-use Rattle.px_run.specs.Stops.{PerformsDue, ending_of}
+use Rattle.px_run.specs.Stops.{Performs, ending_of}
 use Rattle.px_run.specs.declared.ending.Stop.{Stop}
 use Rattle.px_run.specs.declared.ending.Stop.TheVariants as stops
 use Rattle.px_run.specs.declared.finishing.Carried.{Carried}
 use Rattle.px_run.specs.declared.run.Prepared.{Prepared}
 
--- what is left of the script in a file behind a history, by rising line number
-pub record IsLeft (plan : List Site) (name : List ℕ) (history : List Entry) (before now : View) (entries : List Entry) : Type 0 where
+-- what the script in a file has left behind a history
+pub record IsLeft (plan : List Site) (name : List ℕ) (history : List Entry) (before now : View) (left : Script) : Type 0 where
   pub threads : List Todo
   pub read : Reads (script_file plan) before now name threads
-  pub order : InFileOrder (rest threads history) entries
-  pub fit : IsTrue (list_all is_fit_entry entries)
+  pub behind : left.threads ≡ rest threads history
+  pub fit : IsFitScript left
 
 -- plan and script are read, and the plan has started
-pub record IsPrepared {S : Type 0} (runs : Stepper.Ghosts S) (plan script : List ℕ) (before now : View) (prepared : Prepared S) : Type 0 where
+pub record IsPrepared {S : Type 0} (runs : Stepper.Ghosts S) (plan name : List ℕ) (before now : View) (prepared : Prepared S) : Type 0 where
   pub source : Reads (with_text plan_file) before now plan (prepared.text.items, tree_of prepared.plan)
-  pub left : IsLeft (sites (tree_of prepared.plan)) script [] before now prepared.entries.items
+  pub script : Reads (script_file (sites (tree_of prepared.plan))) before now name prepared.script.threads
+  pub lines : IsFitScript prepared.script
   pub short : length prepared.text.items ≤ 1048576
   pub fit : IsFit (tree_of prepared.plan)
   pub nodes : (runs.state prepared.stepper).nodes ≡ sites (tree_of prepared.plan)
@@ -61,22 +60,16 @@ module _ {D : Type 0} (members : Disk.Ghosts D) where
   -- A COMMAND WITH A JOURNAL has a course and performs what is due then; it leaves of the disk what that course does.
   pub record Carries (name : List ℕ) (Calls : D → Course → Due → Type 0) (before now : View) (old : D) (carried : Carried D) : Type 0 where
     pub course : Course
-    pub performs : PerformsDue before now (Calls carried.disk course) carried.result
+    pub performs : Performs before now (Calls carried.disk course) carried.result
     pub leaves : TellsBytes members old → Leaves members old carried.disk course
     pub bound : IsBoundAtMost members name carried.disk
 
-  -- the end of a session over this text: its log is legal and of a front of the entries, and what is due behind it is
-  -- performed
-  pub record Finishes {S : Type 0} (runs : Stepper.Ghosts S) (text : List ℕ) (exec : Executive S D) (entries : List Entry) (before now : View)
+  -- THE END OF A SESSION over this text, with these threads left: what is due behind it is performed
+  pub record Finishes {S : Type 0} (runs : Stepper.Ghosts S) (text : List ℕ) (exec : Executive S D) (left : List Todo) (before now : View)
       (carried : Carried D) : Type 0 where
     pub session : Session
-    pub left : List Entry
-    pub same_text : session.text ≡ text
-    pub same_first : session.first ≡ exec.opening.history
-    pub legal : IsLegal (plan_of runs exec) exec.opening.history exec.opening.limit session.log
-    pub due : WasDue (plan_of runs exec) exec.opening.limit (history_of session) session.failed
-    pub front : entries ≡ entries_of session.log ++ (unsure session.failed ++ left)
-    pub performs : PerformsDue before now (DueBehind members (plan_of runs exec) session left exec.opening.journal.disk carried.disk) carried.result
+    pub is_session : IsSession (plan_of runs exec) text exec.opening.history exec.opening.limit left session
+    pub performs : Performs before now (DueBehind members (plan_of runs exec) left session exec.opening.journal.disk carried.disk) carried.result
     pub leaves : TellsBytes members exec.opening.journal.disk → LeavesSession members session exec.opening.journal.disk carried.disk
     pub bound : members.bound_to carried.disk ≡ members.bound_to exec.opening.journal.disk
     pub grows : take (length (members.moments exec.opening.journal.disk)) (members.moments carried.disk) ≡ members.moments exec.opening.journal.disk
@@ -88,11 +81,10 @@ module _ {D : Type 0} (members : Disk.Ghosts D) where
   Runs plan script journal limit before now old carried =
       Carries journal (λ new. RunCalls members plan script limit before now old new) before now old carried
 
-  -- the same of a plan that has started, behind a script that has these entries
-  abbrev pub RunsPrepared : List Site → List ℕ → List ℕ → ℕ → List Entry → View → View → D → Carried D → Type 0
-  RunsPrepared plan text journal limit entries before now old carried =
-      (threads : List Todo) → InFileOrder (rest threads []) entries
-      → Carries journal (λ new. NewCalls members plan text limit threads old new) before now old carried
+  -- the same of a plan that has started, behind a script that was read
+  abbrev pub RunsPrepared : List Site → List ℕ → List ℕ → ℕ → List Todo → View → View → D → Carried D → Type 0
+  RunsPrepared plan text journal limit threads before now old carried =
+      Carries journal (λ new. NewCalls members plan text limit threads old new) before now old carried
 
   abbrev pub Resumes : List ℕ → List ℕ → ℕ → View → View → D → Carried D → Type 0
   Resumes script journal limit before now old carried =
@@ -104,6 +96,6 @@ module _ {D : Type 0} (members : Disk.Ghosts D) where
   -- whatever the command
   pub record Performed (asked : Option Command) (before now : View) (old : D) (carried : Carried D) : Type 0 where
     pub course : Course
-    pub performs : PerformsDue before now (CommandCallsFor members asked before now old carried.disk course) carried.result
+    pub performs : Performs before now (CommandCallsFor members asked before now old carried.disk course) carried.result
     pub leaves : TellsBytes members old → Leaves members old carried.disk course
     pub bound : IsBoundFor members asked carried.disk

@@ -1,48 +1,54 @@
 -- THE HEADLINE: what a call of the program emits, which status it answers, and what it leaves of the disk.
-use Rattle.std.specs.Prelude.{◌≡◌, ◌⊎◌, ℕ, List, Option, Some, None}
-use Rattle.px_core.specs.Plan.{sites}
+use Rattle.std.specs.Prelude.{◌≡◌, ◌⊎◌, ℕ, List, [], Option, Some, None}
+use Rattle.px_core.specs.Plan.{Site, sites}
 use Rattle.px_exec.specs.Executive.{TellsBytes}
 use Rattle.px_output.specs.View.{View, Faulted, EmitsPart}
 use Rattle.px_ports.specs.Host.{Emits}
 use Rattle.px_ports.specs.declared.disk.Disk
+use Rattle.px_script.specs.Order.{InFileOrder}
+use Rattle.px_script.specs.declared.todo.Todo.{Todo}
+use Rattle.px_sem.specs.Log.{Log, IsLegal, posted_in}
+use Rattle.px_sem.specs.Run.{started}
+use Rattle.px_words.specs.Limit.{event_limit}
 use Rattle.px_words.specs.Words.{Command, TraceStart, DryRun, Check, Run, Resume, Trace, command, journal_of}
-use Rattle.px_run.specs.Course.{Course, Untouched, Due, Leaves}
-use Rattle.px_run.specs.Ending.{Ending, usage, nodes_ending, start_ending, DryRunEnds}
-use Rattle.px_run.specs.File.{After}
+use Rattle.px_run.specs.Course.{Course, Untouched, Due, EndsIn, AfterFile, Leaves}
+use Rattle.px_run.specs.Ending.{Ending, usage, nodes_ending, start_ending, log_ending, runaway_at_start}
 use Rattle.px_run.specs.Journaled.{RunCalls, ResumeCalls, TraceCalls}
 use Rattle.px_run.specs.Kinds.{plan_file, script_file}
 
 -- ---- commands without a journal: the first refusal decides
 
-abbrev pub TraceStartCalls : List ℕ → View → View → Ending → Type 0
-TraceStartCalls plan before now ending = After plan_file before now plan (λ tree ending. ending ≡ start_ending tree) ending
+-- all posts of a script by rising line number, waits passed over, with the answer that each gets from the start on
+pub record IsDryRun (plan : List Site) (threads : List Todo) (log : Log) : Type 0 where
+  pub order : InFileOrder threads (posted_in log)
+  pub legal : IsLegal plan [] event_limit log
 
-abbrev pub DryRunCalls : List ℕ → List ℕ → View → View → Ending → Type 0
-DryRunCalls plan script before now ending =
-    After plan_file before now plan (λ tree. After (script_file (sites tree)) before now script (DryRunEnds tree)) ending
+-- what a dry run of a script calls for: the text of its log, where the start settles
+pub data DryRunOf (plan : List Site) (threads : List Todo) : Course → Due → Type 0 where
+  runaway : started plan ≡ None → DryRunOf plan threads Untouched (Some runaway_at_start)
+  whole : (log : Log) → IsDryRun plan threads log → DryRunOf plan threads Untouched (Some (log_ending plan log))
+  no_memory : DryRunOf plan threads Untouched None
 
-abbrev pub CheckCalls : List ℕ → View → View → Ending → Type 0
-CheckCalls plan before now ending = After plan_file before now plan (λ tree ending. ending ≡ nodes_ending tree) ending
+abbrev pub TraceStartCalls : List ℕ → View → View → Course → Due → Type 0
+TraceStartCalls plan before now = AfterFile plan_file before now plan Untouched (λ tree. EndsIn Untouched (start_ending tree))
 
--- such an ending is due, or none, for want of memory
-abbrev pub IsDue : (Ending → Type 0) → Due → Type 0
-IsDue Calls None = Unit {0}
-IsDue Calls (Some ending) = Calls ending
+abbrev pub DryRunCalls : List ℕ → List ℕ → View → View → Course → Due → Type 0
+DryRunCalls plan script before now =
+    AfterFile plan_file before now plan Untouched (λ tree.
+    AfterFile (script_file (sites tree)) before now script Untouched (DryRunOf (sites tree)))
+
+abbrev pub CheckCalls : List ℕ → View → View → Course → Due → Type 0
+CheckCalls plan before now = AfterFile plan_file before now plan Untouched (λ tree. EndsIn Untouched (nodes_ending tree))
 
 module _ {D : Type 0} (members : Disk.Ghosts D) where
-  -- no call of the disk is made
-  abbrev pub Plainly : D → D → (Ending → Type 0) → Course → Due → Type 0
-  Plainly old new Calls course due = (new ≡ old) × (course ≡ Untouched) × IsDue Calls due
-
-  -- what a command and its files call for, with what becomes of the journal
+  -- WHAT A COMMAND AND ITS FILES CALL FOR, with what becomes of the journal. The first four make no call of the disk.
   abbrev pub CommandCallsFor : Option Command → View → View → D → D → Course → Due → Type 0
-  CommandCallsFor None before now old new course due = Plainly old new (λ ending. ending ≡ usage) course due
+  CommandCallsFor None before now old new course due = (new ≡ old) × EndsIn Untouched usage course due
   CommandCallsFor (Some (TraceStart plan)) before now old new course due =
-      Plainly old new (TraceStartCalls plan before now) course due
+      (new ≡ old) × TraceStartCalls plan before now course due
   CommandCallsFor (Some (DryRun plan script)) before now old new course due =
-      Plainly old new (DryRunCalls plan script before now) course due
-  CommandCallsFor (Some (Check plan)) before now old new course due =
-      Plainly old new (CheckCalls plan before now) course due
+      (new ≡ old) × DryRunCalls plan script before now course due
+  CommandCallsFor (Some (Check plan)) before now old new course due = (new ≡ old) × CheckCalls plan before now course due
   CommandCallsFor (Some (Run plan script journal limit)) before now old new course due =
       RunCalls members plan script limit before now old new course due
   CommandCallsFor (Some (Resume script journal limit)) before now old new course due =

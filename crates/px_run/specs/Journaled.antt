@@ -1,5 +1,5 @@
 -- WHAT THE COMMANDS WITH A JOURNAL CALL FOR.
-use Rattle.std.specs.Prelude.{◌≡◌, ◌≢◌, ◌⊎◌, ℕ, List, [], ◌++◌, Option, Some, None, IsSome, IsTrue, IsFalse}
+use Rattle.std.specs.Prelude.{◌≡◌, ◌≢◌, ◌⊎◌, ℕ, List, [], Option, Some, None, IsSome, IfSome, IsTrue, IsFalse}
 use Rattle.std.specs.Option.{ForSome}
 use Rattle.px_compile.specs.Compiled.{IsCompiled, IsRefused}
 use Rattle.px_core.specs.Plan.{Site, Tree, sites}
@@ -9,34 +9,33 @@ use Rattle.px_journal.specs.Damage.{Damaged}
 use Rattle.px_journal.specs.Layout.{is_nothing, Stands}
 use Rattle.px_ports.specs.Host.{Rose}
 use Rattle.px_ports.specs.declared.disk.Disk
-use Rattle.px_script.specs.Order.{InFileOrder}
+use Rattle.px_script.specs.Follows.{Follows, GoesThroughAll, AreStalled, IsNextPost}
 use Rattle.px_script.specs.Rest.{rest}
+use Rattle.px_script.specs.declared.stall.Stall.{Stall}
 use Rattle.px_script.specs.declared.todo.Todo.{Todo}
 use Rattle.px_sem.specs.Log.{IsLegal, events_of}
 use Rattle.px_sem.specs.Run.{run, started}
 use Rattle.px_sem.specs.World.{World}
-use Rattle.px_session.specs.Posted.{entries_of, WasDue}
-use Rattle.px_session.specs.Session.{Session, history_of, unsure}
+use Rattle.px_session.specs.Posted.{WasDue}
+use Rattle.px_session.specs.Session.{Session, history_of}
 use Rattle.px_syntax.specs.declared.fault.PlanFault.{PlanFault}
 use Rattle.px_syntax.specs.declared.fault.PlanFault.TheVariants.{NoMemory as PlanOutOfMemory}
 use Rattle.px_output.specs.View.{View}
 use Rattle.px_run.specs.Course.{Course, Untouched, Settled, Unread, HalfMade, Made, TakenUp, GoneOn, Due, EndsIn, AfterFile}
-use Rattle.px_run.specs.Ending.{Ending, session_ending, runaway_at_start, disk_fault, journal_exists, no_journal, journal_damaged, journal_plan, journal_runaway}
+use Rattle.px_run.specs.Ending.{Ending, session_ending, stalled_ending, runaway_at_start, disk_fault, journal_exists, no_journal, journal_damaged, journal_plan, journal_runaway}
 use Rattle.px_run.specs.File.{with_text}
 use Rattle.px_run.specs.Kinds.{plan_file, script_file}
 
--- A SESSION OF A SCRIPT over a text and the history at its opening: its log is legal, and is of a front of what the script
--- has left behind that history, by rising line number, each once. Behind the log comes the entry whose append failed, where
--- one did, which was to be accepted, and then those that were not posted.
-pub record IsSession (plan : List Site) (text : List ℕ) (first : List Entry) (limit : ℕ) (threads : List Todo)
-    (session : Session) (left : List Entry) : Type 0 where
+-- A SESSION OF A SCRIPT over a text and the history at its opening, behind which the script has these threads left: its log
+-- is legal, and follows them. An entry whose append failed was to be accepted, and is the next post of one of them.
+pub record IsSession (plan : List Site) (text : List ℕ) (first : List Entry) (limit : ℕ) (left : List Todo)
+    (session : Session) : Type 0 where
   pub same_text : session.text ≡ text
   pub same_first : session.first ≡ first
   pub legal : IsLegal plan first limit session.log
+  pub follows : Follows plan first session.log left
   pub due : WasDue plan limit (history_of session) session.failed
-  pub entries : List Entry
-  pub order : InFileOrder (rest threads first) entries
-  pub front : entries ≡ entries_of session.log ++ (unsure session.failed ++ left)
+  pub next : IfSome session.failed (IsNextPost plan first session.log left)
 
 -- why the plan and the history of a journal can't be run
 pub data CannotRun (text : List ℕ) (first : List Entry) : Ending → Type 0 where
@@ -48,15 +47,23 @@ pub data CannotRun (text : List ℕ) (first : List Entry) : Ending → Type 0 wh
       → CannotRun text first (journal_runaway at)
 
 module _ {D : Type 0} (members : Disk.Ghosts D) where
-  -- what is due behind a session: its text where all is posted, a fault where an append failed
-  pub data DueBehind (plan : List Site) (session : Session) (left : List Entry) (old new : D) : Due → Type 0 where
-    whole : session.failed ≡ None → left ≡ [] → DueBehind plan session left old new (Some (session_ending plan session.first session.log))
-    failed : IsSome session.failed → Rose (members.faults old) (members.faults new) → DueBehind plan session left old new (Some disk_fault)
-    no_memory : session.failed ≡ None → DueBehind plan session left old new None
+  -- WHAT IS DUE BEHIND A SESSION: its text where all lines are passed; its text and the stalls where the threads stand at
+  -- waits; a fault where an append failed
+  pub data DueBehind (plan : List Site) (left : List Todo) (session : Session) (old new : D) : Due → Type 0 where
+    whole :
+        session.failed ≡ None → GoesThroughAll plan session.first session.log left
+        → DueBehind plan left session old new (Some (session_ending plan session.first session.log))
+    stalled :
+        (stalls : List Stall) → session.failed ≡ None → AreStalled plan session.first session.log left stalls
+        → DueBehind plan left session old new (Some (stalled_ending plan session.first session.log stalls))
+    failed :
+        IsSome session.failed → Rose (members.faults old) (members.faults new)
+        → DueBehind plan left session old new (Some disk_fault)
+    no_memory : session.failed ≡ None → DueBehind plan left session old new None
 
   abbrev pub SessionCalls : List Site → List ℕ → List Entry → ℕ → List Todo → D → D → Session → Due → Type 0
-  SessionCalls plan text first limit threads old new session due =
-      (left : List Entry) × IsSession plan text first limit threads session left × DueBehind plan session left old new due
+  SessionCalls plan text first limit left old new session due =
+      IsSession plan text first limit left session × DueBehind plan left session old new due
 
   -- ---- `run`
 
@@ -69,7 +76,7 @@ module _ {D : Type 0} (members : Disk.Ghosts D) where
         Rose (members.faults old) (members.faults new) → NewCalls plan text limit threads old new (HalfMade text) (Some disk_fault)
     made :
         (session : Session) (due : Due) → ForSome (members.content old) (λ told. IsTrue (is_nothing told))
-        → SessionCalls plan text [] limit threads old new session due
+        → SessionCalls plan text [] limit (rest threads []) old new session due
         → NewCalls plan text limit threads old new (Made session) due
     no_memory : NewCalls plan text limit threads old new Untouched None
 
@@ -124,7 +131,7 @@ module _ {D : Type 0} (members : Disk.Ghosts D) where
       AfterJournal old new (λ text first tree.
       AfterFile (script_file (sites tree)) before now script (TakenUp text first) (λ threads course due.
       (session : Session) × (course ≡ GoneOn session)
-      × SessionCalls (sites tree) text first limit threads old new session due))
+      × SessionCalls (sites tree) text first limit (rest threads first) old new session due))
       course due
 
   -- the journal is read, and its history is printed

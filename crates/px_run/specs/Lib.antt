@@ -8,3 +8,4 @@ pub mod Journaled
 pub mod Headline
 pub mod Finishing
 pub mod Causes
+pub mod OverStops

@@ -5,8 +5,6 @@ use Rattle.px_journal.specs.declared.fault.CreateWhy.{CreateWhy}
 use Rattle.px_journal.specs.declared.fault.CreateWhy.TheVariants as creating
 use Rattle.px_session.specs.declared.fault.ReopenWhy.{ReopenWhy}
 use Rattle.px_session.specs.declared.fault.ReopenWhy.TheVariants as reopening
-use Rattle.px_session.specs.declared.posting.PostStop.{PostStop}
-use Rattle.px_session.specs.declared.posting.PostStop.TheVariants as posting
 use Rattle.px_sem.specs.declared.settling.StepFault.{StepFault}
 use Rattle.px_sem.specs.declared.settling.StepFault.TheVariants as steps
 use Rattle.px_syntax.specs.declared.fault.PlanFault.{PlanFault}
@@ -15,6 +13,8 @@ use Rattle.px_run.specs.declared.ending.Status.{Status}
 use Rattle.px_run.specs.declared.ending.Status.TheVariants as statuses
 use Rattle.px_run.specs.declared.ending.Refusal.{Refusal}
 use Rattle.px_run.specs.declared.ending.Refusal.TheVariants as refusals
+use Rattle.px_run.specs.declared.ending.End.{End}
+use Rattle.px_run.specs.declared.ending.End.TheVariants as ends
 use Rattle.px_run.specs.declared.ending.Stop.{Stop}
 use Rattle.px_run.specs.declared.ending.Stop.TheVariants as stops
 use Rattle.px_output.specs.declared.printer.PrintFault.{PrintFault}
@@ -35,6 +35,12 @@ number_of statuses.ReadFault = 7
 number_of statuses.SinkFault = 8
 number_of statuses.DiskFault = 9
 number_of statuses.NoMemory = 10
+number_of statuses.Stalled = 11
+
+-- a command that is not refused is carried out to its end, or its threads are stalled
+abbrev pub status_of : End → Status
+status_of ends.Done = statuses.Done
+status_of ends.Stalled = statuses.Stalled
 
 abbrev pub ending_of : Refusal → Ending
 ending_of refusals.Usage = usage
@@ -77,10 +83,6 @@ stop_of_reopen (reopening.Runaway at) = stops.Refused (refusals.JournalRunaway a
 stop_of_reopen reopening.DiskFault = stops.Refused refusals.DiskFault
 stop_of_reopen reopening.NoMemory = stops.NoMemory
 
-abbrev pub stop_of_posts : PostStop → Stop
-stop_of_posts posting.DiskFault = stops.Refused refusals.DiskFault
-stop_of_posts posting.NoMemory = stops.NoMemory
-
 -- what stops a fetch: the file has more bytes than the limit, or it can't be read
 abbrev pub StopsFetching : ℕ → View → View → List ℕ → Refusal → Stop → Type 0
 StopsFetching limit old new name too_long (stops.Refused refusal) =
@@ -96,22 +98,13 @@ StopsReading kind old new name (stops.Refused refusal) =
 StopsReading kind old new name stops.SinkFailed = ⊥
 StopsReading kind old new name stops.NoMemory = Unit {0}
 
--- What a command has done by the ending that is called for. A refusal is still to be printed.
-abbrev pub Performs : View → View → (Ending → Type 0) → Result Unit Stop → Type 0
-Performs old new calls (Ok done) =
-    (ending : Ending) × calls ending × (ending.status ≡ 0) × Emits old.emitted new.emitted ending.text
-Performs old new calls (Err (stops.Refused refusal)) = calls (ending_of refusal) × (new.emitted ≡ old.emitted)
-Performs old new calls (Err stops.SinkFailed) =
-    (ending : Ending) × calls ending × EmitsPart old new ending.text × Faulted old new
-Performs old new calls (Err stops.NoMemory) =
-    ((ending : Ending) × calls ending × EmitsPart old new ending.text) ⊎ (new.emitted ≡ old.emitted)
-
--- the same of a command with a journal: memory may run out before an ending is due
-abbrev pub PerformsDue : View → View → (Due → Type 0) → Result Unit Stop → Type 0
-PerformsDue old new Calls (Ok done) =
-    (ending : Ending) × Calls (Some ending) × (ending.status ≡ 0) × Emits old.emitted new.emitted ending.text
-PerformsDue old new Calls (Err (stops.Refused refusal)) = Calls (Some (ending_of refusal)) × (new.emitted ≡ old.emitted)
-PerformsDue old new Calls (Err stops.SinkFailed) =
+-- WHAT A COMMAND HAS DONE by what is due: it has printed all of the text, under its status; or is refused, which is still to
+-- be printed; or has printed a front, or nothing where memory ran out before an ending was due
+abbrev pub Performs : View → View → (Due → Type 0) → Result End Stop → Type 0
+Performs old new Calls (Ok end) =
+    (ending : Ending) × Calls (Some ending) × (ending.status ≡ number_of (status_of end)) × Emits old.emitted new.emitted ending.text
+Performs old new Calls (Err (stops.Refused refusal)) = Calls (Some (ending_of refusal)) × (new.emitted ≡ old.emitted)
+Performs old new Calls (Err stops.SinkFailed) =
     (ending : Ending) × Calls (Some ending) × EmitsPart old new ending.text × Faulted old new
-PerformsDue old new Calls (Err stops.NoMemory) =
+Performs old new Calls (Err stops.NoMemory) =
     ((ending : Ending) × Calls (Some ending) × EmitsPart old new ending.text) ⊎ (Calls None × (new.emitted ≡ old.emitted))

@@ -1,15 +1,14 @@
-// The command `dry-run`: reads a plan and a script, posts all lines in their order, and prints the text of the log.
+// The command `dry-run`: reads a plan and a script, posts what its lines post, by rising number, and prints the text of the log.
 ghost use Rattle.std.specs.Prelude.{Some};
 ghost use Rattle.px_core.specs.Fit.{IsFit};
 ghost use Rattle.px_core.specs.Plan.{tree_of, sites};
-ghost use Rattle.px_run.specs.Ending.{DryRunEnds};
-ghost use Rattle.px_run.specs.File.{After};
-ghost use Rattle.px_run.specs.Headline.{DryRunCalls};
+ghost use Rattle.px_run.specs.Course.{AfterFile, Untouched};
+ghost use Rattle.px_run.specs.Headline.{DryRunCalls, DryRunOf};
 ghost use Rattle.px_run.specs.Kinds.{script_file};
 ghost use Rattle.px_run.specs.Stops.{Performs};
 ghost use Rattle.px_output.specs.View.{view, KeepsFiles};
 
-use crate::ending::Stop;
+use crate::ending::{End, Stop};
 use crate::reading::{fetch_plan, fetch_script};
 use px_core::Plan;
 use px_output::print_log;
@@ -25,13 +24,16 @@ pub fn dry_run<H: Host, S: Stepper>(
     plan: &str,
     script: &str,
     host: &mut H,
-) -> Result<(), Stop>
+) -> Result<End, Stop>
     ensures performs { Performs (view H.Host host.old) (view H.Host host.new)
-        (DryRunCalls plan.now script.now (view H.Host host.old) (view H.Host host.new)) result }
+        (DryRunCalls plan.now script.now (view H.Host host.old) (view H.Host host.new) Untouched) result }
     ensures keeps { KeepsFiles (view H.Host host.old) (view H.Host host.new) }
 {
     let plan = fetch_plan(alloc, plan, host)?;
-    dry_run_plan::<H, S>(alloc, &plan, script, host)
+    let ended = dry_run_plan::<H, S>(alloc, &plan, script, host);
+    // By name: the proof then has one call to follow, and not each shape that a plan may have.
+    drop(plan);
+    ended
 }
 
 fn dry_run_plan<H: Host, S: Stepper>(
@@ -39,10 +41,11 @@ fn dry_run_plan<H: Host, S: Stepper>(
     plan: &Plan,
     script: &str,
     host: &mut H,
-) -> Result<(), Stop>
+) -> Result<End, Stop>
     requires fit { IsFit (tree_of plan.now) }
     ensures performs { Performs (view H.Host host.old) (view H.Host host.new)
-        (After (script_file (sites (tree_of plan.now))) (view H.Host host.old) (view H.Host host.new) script.now (DryRunEnds (tree_of plan.now)))
+        (AfterFile (script_file (sites (tree_of plan.now))) (view H.Host host.old) (view H.Host host.new) script.now Untouched
+        (DryRunOf (sites (tree_of plan.now))) Untouched)
         result }
     ensures keeps { KeepsFiles (view H.Host host.old) (view H.Host host.new) }
 {
@@ -50,5 +53,5 @@ fn dry_run_plan<H: Host, S: Stepper>(
     let mut stepper = start::<S>(alloc, plan)?;
     let session = post_each(&mut stepper, alloc, EVENT_LIMIT, entries)?;
     print_log::<H, S>(alloc, plan, &session.history, &session.log, host)?;
-    Ok(())
+    Ok(End::Done)
 }

@@ -8,7 +8,7 @@ use crate::plan_refusal::plan_refusal;
 use px_journal::CreateWhy;
 use px_output::PrintFault;
 use px_sem::StepFault;
-use px_session::{PostStop, ReopenWhy};
+use px_session::ReopenWhy;
 use px_syntax::PlanFault;
 use px_value::NoMemory;
 use std::alloc::Global;
@@ -36,6 +36,31 @@ pub enum Status {
     DiskFault = 9,
     /// Memory ran out.
     NoMemory = 10,
+    /// Lines are left, and each thread that has some stands at a wait that isn't met.
+    Stalled = 11,
+}
+
+/// How a command ends that is not refused: all of its text is printed.
+#[derive(Clone, Copy, Debug, PartialEq, Eq)]
+pub enum End {
+    /// It was carried out to its end.
+    Done,
+    /// Its script is stalled.
+    Stalled,
+}
+
+impl End {
+    ghost use Rattle.px_run.specs.Stops.{status_of};
+
+    /// The status of the end.
+    pub fn status(self) -> Status
+        ensures { result ≡ status_of self }
+    {
+        match self {
+            End::Done => Status::Done,
+            End::Stalled => Status::Stalled,
+        }
+    }
 }
 
 /// Why a command is not carried out.
@@ -155,19 +180,6 @@ impl From<ReopenWhy> for Stop {
             ReopenWhy::Runaway { at } => Stop::Refused(Refusal::JournalRunaway { at }),
             ReopenWhy::DiskFault => Stop::Refused(Refusal::DiskFault),
             ReopenWhy::NoMemory => Stop::NoMemory,
-        }
-    }
-}
-
-impl From<PostStop> for Stop {
-    ghost use Rattle.px_run.specs.Stops.{stop_of_posts};
-
-    ghost from_gives = { λ fault stop. stop ≡ stop_of_posts fault };
-
-    fn from(fault: PostStop) -> Self {
-        match fault {
-            PostStop::DiskFault => Stop::Refused(Refusal::DiskFault),
-            PostStop::NoMemory => Stop::NoMemory,
         }
     }
 }

@@ -11,6 +11,7 @@ mod check;
 mod dry_run;
 mod ending;
 mod finishing;
+pub mod laws;
 mod plan_refusal;
 mod reading;
 mod resume;

@@ -1,4 +1,5 @@
-// The command `resume`: takes a journal up, posts what a script has left behind its history, and prints the text of the log.
+// The command `resume`: takes a journal up, lets a script's threads post what they have left behind its history, and prints
+// the text of the log.
 ghost use Rattle.std.specs.Prelude.{◌≡◌, ◌≤◌, None, IfOk, IfErr};
 ghost use Rattle.px_core.specs.Fit.{IsFit};
 ghost use Rattle.px_core.specs.Plan.{tree_of, sites};
@@ -13,20 +14,21 @@ use crate::reading::fetch_script;
 use px_core::Plan;
 use px_event::Entry;
 use px_ports::{Disk, Host};
-use px_script::rest;
+use px_script::{Pace, Script, rest};
 use px_sem::Stepper;
 use px_session::{ReopenFault, Reopened, reopen};
 use std::alloc::Global;
 
 /// Goes on with the journal of this name on the disk: posts what the script in the file has left behind the journal's
 /// history, which may grow to `limit` events, from 1 to 100,000, and prints the text of the whole.
-pub fn resume<H: Host, D: Disk, S: Stepper>(
+pub fn resume<H: Host, D: Disk, S: Stepper, P: Pace>(
     alloc: Global,
     script: &str,
     journal: &str,
     limit: u32,
     host: &mut H,
     disk: D,
+    pace: &P,
 ) -> Carried<D>
     requires unbound { D.bound_to disk ≡ None }
     requires least { 1 ≤ limit }
@@ -43,8 +45,8 @@ pub fn resume<H: Host, D: Disk, S: Stepper>(
             };
         }
     };
-    match entries_left(alloc, script, &plan, exec.history(), host) {
-        Ok(entries) => finish(alloc, &plan, exec, &entries, host),
+    match script_left(alloc, script, &plan, exec.history(), host) {
+        Ok(left) => finish(alloc, &plan, exec, &left, host, pace),
         Err(stop) => Carried {
             result: Err(stop),
             disk: exec.into_parts().journal.into_disk(),
@@ -53,21 +55,20 @@ pub fn resume<H: Host, D: Disk, S: Stepper>(
 }
 
 /// What the script in a file has left behind a history.
-fn entries_left<H: Host>(
+fn script_left<H: Host>(
     alloc: Global,
     script: &str,
     plan: &Plan,
     history: &[Entry],
     host: &mut H,
-) -> Result<Vec<Entry>, Stop>
+) -> Result<Script, Stop>
     requires { IsFit (tree_of plan.now) }
-    ensures ok { IfOk result (λ entries. IsLeft (sites (tree_of plan.now)) script.now history.now
-        (view H.Host host.old) (view H.Host host.new) entries.items) }
+    ensures ok { IfOk result (λ left. IsLeft (sites (tree_of plan.now)) script.now history.now
+        (view H.Host host.old) (view H.Host host.new) left) }
     ensures err { IfErr result
         (StopsReading (script_file (sites (tree_of plan.now))) (view H.Host host.old) (view H.Host host.new) script.now) }
     ensures only { OnlyReads (view H.Host host.old) (view H.Host host.new) }
 {
     let script = fetch_script(alloc, script, plan, host)?;
-    let entries = rest(alloc, script, history)?.into_entries(alloc)?;
-    Ok(entries)
+    Ok(rest(alloc, script, history)?)
 }

@@ -1,10 +1,10 @@
-// The command `run`: reads a plan and a script, makes a journal, posts the script's lines, and prints the text of the log.
-ghost use Rattle.std.specs.Prelude.{◌≡◌, ◌≤◌, None, [], Some, length, IfOk, IfErr, IsTrue};
-ghost use Rattle.std.specs.List.{list_all};
+// The command `run`: reads a plan and a script, makes a journal, lets the script's threads post, and prints the text of the
+// log.
+ghost use Rattle.std.specs.Prelude.{◌≡◌, ◌≤◌, None, [], Some, length, IfOk, IfErr};
 ghost use Rattle.px_core.specs.Fit.{IsFit};
 ghost use Rattle.px_core.specs.Plan.{tree_of, sites};
-ghost use Rattle.px_event.specs.Fit.{is_fit_entry};
 ghost use Rattle.px_output.specs.View.{view, KeepsFiles, OnlyReads};
+ghost use Rattle.px_script.specs.Fit.{IsFitScript};
 ghost use Rattle.px_sem.specs.Run.{run};
 ghost use Rattle.px_sem.specs.Stepper.{Pending};
 ghost use Rattle.px_run.specs.Finishing.{IsPrepared, IsNotPrepared, Runs, RunsPrepared};
@@ -13,25 +13,25 @@ use crate::ending::Stop;
 use crate::finishing::{Carried, finish};
 use crate::reading::{Source, fetch_script, fetch_source};
 use px_core::Plan;
-use px_event::Entry;
 use px_journal::CreateFault;
 use px_ports::{Disk, Host};
+use px_script::{Pace, Script};
 use px_sem::{Stepper, start};
 use px_session::create;
 use std::alloc::Global;
 
-/// What is to run: a plan with its text, what the script posts, and a stepper that has settled the start.
+/// What is to run: a plan with its text, the script, and a stepper that has settled the start.
 #[derive(Drop)]
 struct Prepared<S: Stepper> {
     text: Vec<u8>,
     plan: Plan,
-    entries: Vec<Entry>,
+    script: Script,
     stepper: S,
 }
 
 /// Runs the plan in one file by the script in another, with a journal of this name on the disk, whose history may grow to
 /// `limit` events, from 1 to 100,000. The disk isn't touched before plan and script are read and the plan has started.
-pub fn run<H: Host, D: Disk, S: Stepper>(
+pub fn run<H: Host, D: Disk, S: Stepper, P: Pace>(
     alloc: Global,
     plan: &str,
     script: &str,
@@ -39,6 +39,7 @@ pub fn run<H: Host, D: Disk, S: Stepper>(
     limit: u32,
     host: &mut H,
     disk: D,
+    pace: &P,
 ) -> Carried<D>
     requires unbound { D.bound_to disk ≡ None }
     requires least { 1 ≤ limit }
@@ -47,7 +48,7 @@ pub fn run<H: Host, D: Disk, S: Stepper>(
     ensures keeps { KeepsFiles (view H.Host host.old) (view H.Host host.new) }
 {
     match prepare::<H, S>(alloc, plan, script, host) {
-        Ok(prepared) => run_prepared(alloc, prepared, journal, limit, host, disk),
+        Ok(prepared) => run_prepared(alloc, prepared, journal, limit, host, disk, pace),
         Err(stop) => Carried {
             result: Err(stop),
             disk,
@@ -67,47 +68,48 @@ fn prepare<H: Host, S: Stepper>(
     ensures only { OnlyReads (view H.Host host.old) (view H.Host host.new) }
 {
     let Source { text, plan } = fetch_source(alloc, plan, host)?;
-    let entries = fetch_script(alloc, script, &plan, host)?.into_entries(alloc)?;
+    let script = fetch_script(alloc, script, &plan, host)?;
     let stepper = start(alloc, &plan)?;
     Ok(Prepared {
         text,
         plan,
-        entries,
+        script,
         stepper,
     })
 }
 
-/// Makes the journal, posts the entries, and prints the text of the log.
-fn run_prepared<H: Host, D: Disk, S: Stepper>(
+/// Makes the journal, lets the script's threads post, and prints the text of the log.
+fn run_prepared<H: Host, D: Disk, S: Stepper, P: Pace>(
     alloc: Global,
     prepared: Prepared<S>,
     journal: &str,
     limit: u32,
     host: &mut H,
     disk: D,
+    pace: &P,
 ) -> Carried<D>
     requires unbound { D.bound_to disk ≡ None }
     requires least { 1 ≤ limit }
     requires most { limit ≤ 100000 }
     requires short { length prepared.text.items ≤ 1048576 }
     requires fit { IsFit (tree_of prepared.plan) }
-    requires events { IsTrue (list_all is_fit_entry prepared.entries.items) }
+    requires lines { IsFitScript prepared.script }
     requires nodes { (S.state prepared.stepper).nodes ≡ sites (tree_of prepared.plan) }
     requires nothing { (S.state prepared.stepper).pending ≡ Pending.Nothing }
     requires started { run (S.state prepared.stepper).nodes [] ≡ Some (S.state prepared.stepper).world }
 
-    ensures runs { RunsPrepared D.Disk (sites (tree_of prepared.plan)) prepared.text.items journal.now limit prepared.entries.items
+    ensures runs { RunsPrepared D.Disk (sites (tree_of prepared.plan)) prepared.text.items journal.now limit prepared.script.threads
         (view H.Host host.old) (view H.Host host.new) disk result }
     ensures keeps { KeepsFiles (view H.Host host.old) (view H.Host host.new) }
 {
     let Prepared {
         text,
         plan,
-        entries,
+        script,
         stepper,
     } = prepared;
     match create(alloc, disk, journal, &text, stepper, limit) {
-        Ok(exec) => finish(alloc, &plan, exec, &entries, host),
+        Ok(exec) => finish(alloc, &plan, exec, &script, host, pace),
         Err(CreateFault { disk, why }) => Carried {
             result: Err(why.into()),
             disk,

@@ -19,6 +19,7 @@ use crate::trace_start::trace_start;
 use px_naive::Naive;
 use px_output::emit_all;
 use px_ports::{Disk, Host};
+use px_script::Pace;
 use px_sem::Stepper;
 use px_words::Command;
 use std::alloc::Global;
@@ -48,7 +49,14 @@ pub struct Done<D> {
 /// | 8 | the sink failed, or took nothing |
 /// | 9 | a call of the disk failed |
 /// | 10 | memory ran out |
-pub fn plexil<H: Host, D: Disk>(alloc: Global, words: &[String], host: &mut H, disk: D) -> Done<D>
+/// | 11 | lines of the script are left, and each thread that has some stands at a wait that isn't met |
+pub fn plexil<H: Host, D: Disk, P: Pace>(
+    alloc: Global,
+    words: &[String],
+    host: &mut H,
+    disk: D,
+    pace: &P,
+) -> Done<D>
     requires unbound { D.bound_to disk ≡ None }
 
     // What was emitted is the text that the words and the files call for, or a front of it, and what became of the journal.
@@ -65,16 +73,17 @@ pub fn plexil<H: Host, D: Disk>(alloc: Global, words: &[String], host: &mut H, d
     ensures refused { IsRefused D.Disk (map string_bytes words.now)
         (view H.Host host.old) (view H.Host host.new) disk result.disk result.status }
 {
-    plexil_with::<H, D, Naive>(alloc, words, host, disk)
+    plexil_with::<H, D, Naive, P>(alloc, words, host, disk, pace)
 }
 
 // The same over any stepper. What each status tells follows from the headline alone, so it is shown here, apart from the
 // body.
-fn plexil_with<H: Host, D: Disk, S: Stepper>(
+fn plexil_with<H: Host, D: Disk, S: Stepper, P: Pace>(
     alloc: Global,
     words: &[String],
     host: &mut H,
     disk: D,
+    pace: &P,
 ) -> Done<D>
     requires unbound { D.bound_to disk ≡ None }
     ensures headline { Headline D.Disk (map string_bytes words.now)
@@ -88,14 +97,15 @@ fn plexil_with<H: Host, D: Disk, S: Stepper>(
     ensures refused { IsRefused D.Disk (map string_bytes words.now)
         (view H.Host host.old) (view H.Host host.new) disk result.disk result.status }
 {
-    ended::<H, D, S>(alloc, words, host, disk)
+    ended::<H, D, S, P>(alloc, words, host, disk, pace)
 }
 
-fn ended<H: Host, D: Disk, S: Stepper>(
+fn ended<H: Host, D: Disk, S: Stepper, P: Pace>(
     alloc: Global,
     words: &[String],
     host: &mut H,
     disk: D,
+    pace: &P,
 ) -> Done<D>
     requires unbound { D.bound_to disk ≡ None }
     ensures headline { Headline D.Disk (map string_bytes words.now)
@@ -103,9 +113,9 @@ fn ended<H: Host, D: Disk, S: Stepper>(
     ensures files { H.files host.new ≡ H.files host.old }
     ensures bound { IsBoundFor D.Disk (command (map string_bytes words.now)) result.disk }
 {
-    let Carried { result, disk } = carry_out::<H, D, S>(alloc, words, host, disk);
+    let Carried { result, disk } = carry_out::<H, D, S, P>(alloc, words, host, disk, pace);
     let status = match result {
-        Ok(()) => Status::Done,
+        Ok(end) => end.status(),
         Err(Stop::Refused(refusal)) => refuse(alloc, refusal, host),
         Err(Stop::SinkFailed) => Status::SinkFault,
         Err(Stop::NoMemory) => Status::NoMemory,
@@ -116,11 +126,12 @@ fn ended<H: Host, D: Disk, S: Stepper>(
     }
 }
 
-fn carry_out<H: Host, D: Disk, S: Stepper>(
+fn carry_out<H: Host, D: Disk, S: Stepper, P: Pace>(
     alloc: Global,
     words: &[String],
     host: &mut H,
     disk: D,
+    pace: &P,
 ) -> Carried<D>
     requires unbound { D.bound_to disk ≡ None }
     ensures performs { Performed D.Disk (command (map string_bytes words.now))
@@ -140,7 +151,7 @@ fn carry_out<H: Host, D: Disk, S: Stepper>(
                 limit,
             },
         ) => {
-            return run::<H, D, S>(alloc, plan, script, journal, limit, host, disk);
+            return run::<H, D, S, P>(alloc, plan, script, journal, limit, host, disk, pace);
         }
         Some(
             Command::Resume {
@@ -149,7 +160,7 @@ fn carry_out<H: Host, D: Disk, S: Stepper>(
                 limit,
             },
         ) => {
-            return resume::<H, D, S>(alloc, script, journal, limit, host, disk);
+            return resume::<H, D, S, P>(alloc, script, journal, limit, host, disk, pace);
         }
         Some(Command::Trace { journal }) => return trace::<H, D, S>(alloc, journal, host, disk),
     };

@@ -3,7 +3,7 @@ ghost use Rattle.std.specs.Prelude.{◌≡◌, None};
 ghost use Rattle.px_output.specs.View.{view, KeepsFiles};
 ghost use Rattle.px_run.specs.Finishing.{Traces};
 
-use crate::ending::Stop;
+use crate::ending::End;
 use crate::finishing::Carried;
 use px_exec::Parts;
 use px_output::print_log;
@@ -41,7 +41,7 @@ pub fn trace<H: Host, D: Disk, S: Stepper>(
     let disk = journal.into_disk();
     match print_log::<H, S>(alloc, &plan, &history, &[], host) {
         Ok(()) => Carried {
-            result: Ok(()),
+            result: Ok(End::Done),
             disk,
         },
         Err(fault) => Carried {

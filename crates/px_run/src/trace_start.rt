@@ -1,10 +1,11 @@
 // The command `trace-start`: reads a plan, and prints the run of its start.
 ghost use Rattle.std.specs.Prelude.{Some};
+ghost use Rattle.px_run.specs.Course.{Untouched};
 ghost use Rattle.px_run.specs.Headline.{TraceStartCalls};
 ghost use Rattle.px_run.specs.Stops.{Performs};
 ghost use Rattle.px_output.specs.View.{view, KeepsFiles};
 
-use crate::ending::Stop;
+use crate::ending::{End, Stop};
 use crate::reading::fetch_plan;
 use px_output::print_log;
 use px_ports::Host;
@@ -13,13 +14,17 @@ use std::alloc::Global;
 
 /// Prints the trace of the start of the plan in this file. A start that does not settle is refused
 /// before any text.
-pub fn trace_start<H: Host, S: Stepper>(alloc: Global, plan: &str, host: &mut H) -> Result<(), Stop>
+pub fn trace_start<H: Host, S: Stepper>(
+    alloc: Global,
+    plan: &str,
+    host: &mut H,
+) -> Result<End, Stop>
     ensures performs { Performs (view H.Host host.old) (view H.Host host.new)
-        (TraceStartCalls plan.now (view H.Host host.old) (view H.Host host.new)) result }
+        (TraceStartCalls plan.now (view H.Host host.old) (view H.Host host.new) Untouched) result }
     ensures keeps { KeepsFiles (view H.Host host.old) (view H.Host host.new) }
 {
     let plan = fetch_plan(alloc, plan, host)?;
     start::<S>(alloc, &plan)?;
     print_log::<H, S>(alloc, &plan, &[], &[], host)?;
-    Ok(())
+    Ok(End::Done)
 }

@@ -1,11 +1,11 @@
 -- What the posts of a session have come to, by what the executive keeps.
-use Rattle.std.proofs.Common.{◌≡◌, ◌≤◌, ◌<◌, ◌+◌, ◌^◌, inl, inr, ⊎_elim, ℕ, List, [], ◌∷◌, ◌++◌, Option, Some, None, IsSome, Result, Ok, Err, OnOk, IsErrOf, length, take, refl, sym, ◌∙◌, ap, subst, arith, append-nil, IsTrue}
-use Rattle.std.proofs.lemmas.List.{length-map}
+use Rattle.std.proofs.Common.{◌≡◌, ◌≤◌, ◌<◌, ◌^◌, inl, inr, ⊎_elim, ℕ, List, [], ◌∷◌, ◌++◌, Option, Some, None, IsSome, length, take, refl, sym, ◌∙◌, ap, subst, arith, append-nil, IsTrue}
 use Rattle.std.specs.List.{list_all}
 use Rattle.std.specs.Option.{option_map, ForSome}
+use Rattle.px_crew.specs.Crew.{Ends}
+use Rattle.px_crew.specs.Executive.{failed_entry}
 use Rattle.px_event.specs.Fit.{is_fit_entry}
 use Rattle.px_event.specs.declared.entry.Entry.{Entry}
-use Rattle.px_event.specs.declared.reply.Reply.TheVariants.{Accepted}
 use Rattle.px_exec.proofs.Growing.{some_run}
 use Rattle.px_exec.specs.Executive.{Opening, Executive, Keeps, KeepsDisk, IsOpen, IsClosed, IsTextOf, TellsBytes, StandsWithin, plan_of, world_of}
 use Rattle.px_exec.specs.declared.failed.Failed.{Failed}
@@ -14,14 +14,13 @@ use Rattle.px_journal.specs.Journal.{IsReady}
 use Rattle.px_journal.specs.Layout.{Stands}
 use Rattle.px_ports.specs.Host.{Rose}
 use Rattle.px_ports.specs.declared.disk.Disk
-use Rattle.px_sem.specs.Log.{Log, IsLegal, accepted, answer, events_of}
+use Rattle.px_script.specs.declared.todo.Todo.{Todo}
+use Rattle.px_sem.specs.Log.{Log, IsLegal, accepted, events_of}
 use Rattle.px_sem.specs.Run.{run}
 use Rattle.px_sem.specs.declared.stepper.Stepper
-use Rattle.px_session.specs.Posted.{failed_entry, WasDue, IsDueNow, FailedWasDue, EndsBy, PostsFront, LeavesSession, Posts}
+use Rattle.px_session.specs.Posted.{WasDue, LeavesSession, Posts}
 use Rattle.px_session.specs.Session.{Session, longest_of, unsure, IsEnd}
 use Rattle.px_session.specs.declared.posting.Posted.{Posted}
-use Rattle.px_session.specs.declared.posting.PostStop.{PostStop}
-use Rattle.px_session.specs.declared.posting.PostStop.TheVariants as stops
 
 -- the session of an executive, over a text
 abbrev pub session_of : {S D : Type 0} → List ℕ → Executive S D → Session
@@ -114,31 +113,36 @@ module _ {S D : Type 0} (runs : Stepper.Ghosts S) (members : Disk.Ghosts D) (exe
       by None unfailed = unfailed
       by (Some failed) closed = let some = ap (option_map (λ (f : Failed). f.entry)) closed in absurd (cc)
 
-on_ok : (P : Type 0) (r : Result Unit PostStop) → (r ≡ Ok tt → P) → OnOk r P
-on_ok P (Ok done) holds = holds refl
-on_ok P (Err stop) holds = tt
+  -- the entry of a failed append was to be accepted
+  pub due_where : WasDue (plan_of runs exec) exec.opening.limit exec.history (failed_entry exec)
+  due_where = by exec.failed keeps.disk
+    where
+      by : (f : Option Failed) → KeepsDisk runs members exec f
+          → WasDue (plan_of runs exec) exec.opening.limit exec.history (option_map (λ (f : Failed). f.entry) f)
+      by None kept = tt
+      by (Some failed) closed = closed.due
 
 -- WHAT POSTS HAVE COME TO, by what is left of the executive.
 pub closes : {S D : Type 0} (runs : Stepper.Ghosts S) (members : Disk.Ghosts D) (was after : Executive S D) → ReadsAreLeft members → Keeps runs members after
-    → after.opening ≡ was.opening → (entries : List Entry) (posted : Posted D) → PostsFront entries after.log (failed_entry after) posted.end → FailedWasDue runs after
-    → posted.disk ≡ after.journal.disk → posted.history.items ≡ after.history → posted.log.items ≡ after.log → Posts members runs was entries posted
-closes {S} {D} runs members was after law keeps same entries posted front due disk_is history_is log_is = record {
+    → after.opening ≡ was.opening → (threads : List Todo) (posted : Posted D)
+    → Ends (plan_of runs after) after.opening.history after.log threads (failed_entry after) posted.end
+    → posted.disk ≡ after.journal.disk → posted.history.items ≡ after.history → posted.log.items ≡ after.log → Posts members runs was threads posted
+closes {S} {D} runs members was after law keeps same threads posted ends disk_is history_is log_is = record {
   failed = failed_entry after;
-  posts = subst (λ (l : Log). PostsFront entries l (failed_entry after) posted.end) (sym log_is) front;
+  ends = subst (λ (o : Opening S D). Ends (runs.state o.stepper).nodes o.history posted.log.items threads (failed_entry after) posted.end) same
+      (subst (λ (l : Log). Ends (plan_of runs after) after.opening.history l threads (failed_entry after) posted.end) (sym log_is) ends);
   legal = subst (λ (o : Opening S D). IsLegal (runs.state o.stepper).nodes o.history o.limit posted.log.items) same
       (subst (λ (l : Log). IsLegal (plan_of runs after) after.opening.history after.opening.limit l) (sym log_is) keeps.legal);
   history = history_is ∙ keeps.grown ∙ ap (λ (o : Opening S D). o.history ++ accepted after.log) same
       ∙ ap (λ (l : Log). was.opening.history ++ accepted l) (sym log_is);
   due = subst (λ (o : Opening S D). WasDue (runs.state o.stepper).nodes o.limit posted.history.items (failed_entry after)) same
       (subst (λ (h : List Entry). WasDue (plan_of runs after) after.opening.limit h (failed_entry after)) (sym history_is)
-      (was_due (failed_entry after) due));
+      (due_where runs members after keeps));
   runs_on = subst (λ (o : Opening S D). IsSome (run (runs.state o.stepper).nodes (events_of posted.history.items))) same
       (subst (λ (h : List Entry). IsSome (run (plan_of runs after) (events_of h))) (sym history_is)
       (some_run (plan_of runs after) (events_of after.history) (world_of runs after) keeps.runs_to));
-  fit = on_ok (IsTrue (list_all is_fit_entry posted.history.items)) posted.end
-      (λ ok. subst (λ (h : List Entry). IsTrue (list_all is_fit_entry h)) (sym history_is) (ready ok).fit);
-  few = on_ok (length posted.history.items < 2 ^ 32) posted.end
-      (λ ok. let few = (ready ok).few in omega (arith, few, ap length history_is));
+  fit = λ none. subst (λ (h : List Entry). IsTrue (list_all is_fit_entry h)) (sym history_is) (ready none).fit;
+  few = λ none. let few = (ready none).few in omega (arith, few, ap length history_is);
   disk = λ tells text is.
       let told = subst (λ (o : Opening S D). TellsBytes members o.journal.disk) (sym same) tells in
       let left = leaves_session runs members after keeps law told text (subst (λ (o : Opening S D). IsReady members o.journal text o.history) (sym same) is) in
@@ -153,32 +157,8 @@ closes {S} {D} runs members was after law keeps same entries posted front due di
   rose = λ fails.
       subst (λ (o : Opening S D). Rose (members.faults o.journal.disk) (members.faults posted.disk)) same
       (subst (λ (d : D). Rose (members.faults after.opening.journal.disk) (members.faults d)) (sym disk_is)
-      (rose_where runs members after keeps (some_failed posted.end front.ends fails)));
+      (rose_where runs members after keeps fails));
 }
   where
-    was_due : (f : Option Entry) → IsDueNow runs after f → WasDue (plan_of runs after) after.opening.limit after.history f
-    was_due None due = tt
-    was_due (Some entry) due = record {
-      runs = some_run (plan_of runs after) (events_of after.history) (world_of runs after) keeps.runs_to;
-      answers = (
-        (
-          world_of runs after,
-          keeps.runs_to,
-          sym (subst (λ (n : ℕ). answer (plan_of runs after) after.opening.limit n (world_of runs after) entry.event ≡ Accepted (length after.history + 1))
-              (sym (length-map after.history (λ (e : Entry). e.event))) due),
-        ),
-        tt,
-      );
-    }
-
-    none_where : (r : Result Unit PostStop) → r ≡ Ok tt → (left : List Entry) → EndsBy r (failed_entry after) left → failed_entry after ≡ None
-    none_where (Ok done) is left ends = ends.0
-    none_where (Err stop) is left ends = absurd (cc)
-
-    ready : posted.end ≡ Ok tt → IsReady members after.journal (keeps.text.0) after.history
-    ready ok = ready_now runs members after keeps (unfailed_where runs members after keeps (none_where posted.end ok front.left front.ends))
-
-    some_failed : (r : Result Unit PostStop) → EndsBy r (failed_entry after) front.left → IsErrOf r stops.DiskFault → IsSome (failed_entry after)
-    some_failed (Ok done) ends fails = absurd (cc)
-    some_failed (Err stops.DiskFault) ends fails = ends
-    some_failed (Err stops.NoMemory) ends fails = absurd (cc)
+    ready : failed_entry after ≡ None → IsReady members after.journal (keeps.text.0) after.history
+    ready none = ready_now runs members after keeps (unfailed_where runs members after keeps none)

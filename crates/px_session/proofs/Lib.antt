@@ -1,5 +1,4 @@
 pub mod Leaving
 pub mod Closing
-pub mod Entering
 pub mod Making
 pub mod Taking

@@ -1,5 +1,5 @@
 -- A session that goes on, from the calls that take its journal up.
-use Rattle.std.proofs.Common.{◌≡◌, ◌≢◌, ◌≤◌, inl, ℕ, List, None, IsSome, Result, Ok, Err, IfOk, IfErr, IsErrAnd, refl, sym, ◌∙◌, ap, subst, arith, IsTrue, IsFalse}
+use Rattle.std.proofs.Common.{◌≡◌, ◌≢◌, ◌≤◌, inl, ℕ, List, None, IsSome, Result, Ok, Err, IfOk, IfErr, refl, sym, ◌∙◌, ap, subst, arith, IsTrue, IsFalse}
 use Rattle.std.specs.Option.{ForSome}
 use Rattle.px_compile.specs.Compiled.{IsCompiled}
 use Rattle.px_core.specs.Fit.{IsFit}
@@ -18,16 +18,14 @@ use Rattle.px_ports.specs.Disk.{StaysAttached}
 use Rattle.px_ports.specs.Host.{Rose}
 use Rattle.px_ports.specs.declared.disk.Disk
 use Rattle.px_sem.specs.Log.{events_of}
-use Rattle.px_sem.specs.Run.{run, started}
-use Rattle.px_sem.specs.declared.settling.StepFault.{StepFault}
-use Rattle.px_sem.specs.declared.settling.StepFault.TheVariants as steps
+use Rattle.px_sem.specs.Run.{run}
 use Rattle.px_sem.specs.declared.stepper.Stepper
 use Rattle.px_journal.specs.declared.journal.Journal.{Journal}
 use Rattle.px_session.specs.Attached.{IsAttached, IsNotAttached}
 use Rattle.px_session.specs.Opened.{IsRunWhy, IsReopenWhy, IsNotReopened, IsOpening, Reopens}
 use Rattle.px_session.specs.declared.reopening.Reopened.{Reopened}
 use Rattle.px_session.proofs.Leaving.{untouched_on, unwritten_on}
-use Rattle.px_session.specs.Whys.{of_recover, of_start, of_open}
+use Rattle.px_session.specs.Whys.{of_recover, of_open}
 use Rattle.px_session.specs.declared.fault.ReopenFault.{ReopenFault}
 use Rattle.px_session.specs.declared.fault.ReopenWhy.{ReopenWhy}
 use Rattle.px_session.specs.declared.fault.ReopenWhy.TheVariants as reopening
@@ -132,13 +130,6 @@ module _ {D : Type 0} (members : Disk.Ghosts D) (name : List ℕ) (old mid : D) 
       where
         disk_is : reopened.exec.opening.journal.disk ≡ new
         disk_is = ap (λ (j : Journal D). j.disk) opening.opened ∙ here
-
--- the plan's start runs away, or memory runs out
-pub not_started : {T : Type 0} (text : List ℕ) (history : List Entry) (tree : Tree) (fault : StepFault) (r : Result T ReopenWhy) → IsErrAnd r (λ why. why ≡ of_start fault)
-    → IsCompiled text tree → (fault ≡ steps.Runaway → started (sites tree) ≡ None) → IfErr r (IsRunWhy text history)
-not_started text history tree fault (Ok done) is compiled away = absurd is
-not_started text history tree steps.Runaway (Err why) is compiled away = subst (IsRunWhy text history) (sym is) (tree, compiled, away refl)
-not_started text history tree steps.NoMemory (Err why) is compiled away = subst (IsRunWhy text history) (sym is) tt
 
 -- an event of the history runs away, or memory runs out
 pub not_opened : (text : List ℕ) (history : List Entry) (tree : Tree) (nodes : List Site) (why : OpenWhy) (shown : ReopenWhy) → shown ≡ of_open why

@@ -1,16 +1,10 @@
 -- What the answers of the crates below mean for a session.
-use Rattle.std.specs.Prelude.{Result, Ok, Err}
 use Rattle.px_exec.specs.declared.fault.OpenWhy.{OpenWhy}
 use Rattle.px_exec.specs.declared.fault.OpenWhy.TheVariants as opening
-use Rattle.px_exec.specs.declared.fault.PostFault.{PostFault}
-use Rattle.px_exec.specs.declared.fault.PostFault.TheVariants as posts
-use Rattle.px_exec.specs.declared.receipt.Receipt.{Receipt}
 use Rattle.px_journal.specs.declared.fault.RecoverWhy.{RecoverWhy}
 use Rattle.px_journal.specs.declared.fault.RecoverWhy.TheVariants as recovering
 use Rattle.px_sem.specs.declared.settling.StepFault.{StepFault}
 use Rattle.px_sem.specs.declared.settling.StepFault.TheVariants as steps
-use Rattle.px_session.specs.declared.posting.PostStop.{PostStop}
-use Rattle.px_session.specs.declared.posting.PostStop.TheVariants as stops
 use Rattle.px_session.specs.declared.fault.ReopenWhy.{ReopenWhy}
 use Rattle.px_session.specs.declared.fault.ReopenWhy.TheVariants as reopening
 use Rattle.px_syntax.specs.declared.fault.PlanFault.{PlanFault}
@@ -33,13 +27,3 @@ of_start steps.NoMemory = reopening.NoMemory
 abbrev pub of_open : OpenWhy → ReopenWhy
 of_open (opening.Runaway at) = reopening.Runaway at
 of_open opening.NoMemory = reopening.NoMemory
-
--- whether posts go on behind an answer
-abbrev pub end_of : Result Receipt PostFault → Result Unit PostStop
-end_of (Ok receipt) = Ok tt
-end_of (Err posts.PlanFinished) = Ok tt
-end_of (Err (posts.Full limit)) = Ok tt
-end_of (Err posts.Runaway) = Ok tt
-end_of (Err (posts.Closed count)) = Err stops.DiskFault
-end_of (Err posts.DiskFault) = Err stops.DiskFault
-end_of (Err posts.NoMemory) = Err stops.NoMemory

@@ -1,9 +1,9 @@
 //! Sessions over a journal: what `run`, `resume` and `trace` do with the disk.
 //!
 //! `create` makes a journal and `reopen` takes one up, each on a disk that is bound to the journal's name; both give an
-//! executive that has run the history. `post_rest` posts what a script has left, and hands the disk back. No host is asked
-//! here, and nothing printed. `specs/Session.antt` says what a session leaves of the disk at every moment,
-//! `specs/Opened.antt` what opens one, and `specs/Posted.antt` what its posts come to.
+//! executive that has run the history. `post_rest` lets the threads of a script post what they have left, and hands the
+//! disk back. No host is asked here, and nothing printed. `specs/Session.antt` says what a session leaves of the disk at
+//! every moment, `specs/Opened.antt` what opens one, and `specs/Posted.antt` what its posts come to.
 #![tactic(auto)]
 
 mod attaching;
@@ -14,5 +14,5 @@ mod reopening;
 
 pub use creating::create;
 pub use fault::{ReopenFault, ReopenWhy};
-pub use posting::{PostStop, Posted, post_rest};
+pub use posting::{Posted, post_rest};
 pub use reopening::{Reopened, reopen};

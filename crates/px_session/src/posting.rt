@@ -1,24 +1,15 @@
-// The posts of a session: the entries that a script has left, one after another.
-ghost use Rattle.std.specs.Prelude.{◌≡◌, None, [], IsTrue};
-ghost use Rattle.std.specs.List.{list_all};
-ghost use Rattle.px_event.specs.Fit.{is_fit_entry};
-ghost use Rattle.px_session.specs.Posted.{failed_entry, FailedWasDue, Posts, PostsFront};
-ghost use Rattle.px_session.specs.Whys.{end_of};
+// The posts of a session: what a script has left is worked off, and the executive closed.
+ghost use Rattle.std.specs.Prelude.{◌≡◌, None, []};
+ghost use Rattle.px_script.specs.Fit.{IsFitScript};
+ghost use Rattle.px_session.specs.Posted.{Posts};
 
+use px_crew::work_in_turn;
 use px_event::Entry;
-use px_exec::{Exec, Parts, PostFault, Receipt};
+use px_exec::{Exec, Parts};
 use px_ports::Disk;
+use px_script::{CrewEnd, Pace, Script};
 use px_sem::{LogEntry, Stepper};
 use std::alloc::Global;
-
-/// Why not all entries were posted.
-#[derive(Clone, Copy, Debug, PartialEq, Eq)]
-pub enum PostStop {
-    /// A call of the disk failed. A crash leaves the history with the event or without it.
-    DiskFault,
-    /// Memory ran out before one of them.
-    NoMemory,
-}
 
 /// What the posts of a session have come to.
 #[derive(Drop)]
@@ -29,24 +20,25 @@ pub struct Posted<D> {
     pub history: Vec<Entry>,
     /// The posts of the session that were answered over the history, with their replies.
     pub log: Vec<LogEntry>,
-    /// Whether all entries were posted.
-    pub end: Result<(), PostStop>,
+    /// How the script's threads ended.
+    pub end: CrewEnd,
 }
 
-/// Posts entries to an executive that no post has reached, one after another, and closes it. Each that is answered over the
-/// history is logged, those that are refused too; the first failure of the disk is the end.
-pub fn post_rest<S: Stepper, D: Disk>(
+/// Lets the threads of a script post to an executive that no post has reached, and closes it. Each post that is answered
+/// over the history is logged, those that are refused too; the first failure of the disk is the end.
+pub fn post_rest<S: Stepper, D: Disk, P: Pace>(
     alloc: Global,
     exec: Exec<S, D>,
-    entries: &[Entry],
+    script: &Script,
+    pace: &P,
 ) -> Posted<D>
-    requires fit { IsTrue (list_all is_fit_entry entries.now) }
+    requires fit { IsFitScript script.now }
     requires open { exec.failed ≡ None }
     requires fresh { exec.log ≡ [] }
-    ensures { Posts D.Disk S.Stepper exec entries.now result }
+    ensures { Posts D.Disk S.Stepper exec script.now.threads result }
 {
     let mut exec = exec;
-    let end = post_all(alloc, &mut exec, entries);
+    let end = work_in_turn(&mut exec, alloc, script, pace);
     exec.keeps();
     let Parts {
         journal,
@@ -58,36 +50,5 @@ pub fn post_rest<S: Stepper, D: Disk>(
         history,
         log,
         end,
-    }
-}
-
-/// Posts entries one after another.
-fn post_all<S: Stepper, D: Disk>(
-    alloc: Global,
-    exec: &mut Exec<S, D>,
-    entries: &[Entry],
-) -> Result<(), PostStop>
-    requires fit { IsTrue (list_all is_fit_entry entries.now) }
-    requires open { exec.old.failed ≡ None }
-    requires fresh { exec.old.log ≡ [] }
-    ensures posts { PostsFront entries.now exec.new.log (failed_entry exec.new) result }
-    ensures due { FailedWasDue S.Stepper exec.new }
-    ensures opening { exec.new.opening ≡ exec.old.opening }
-{
-    for entry in entries {
-        end_of(exec.post(alloc, entry.thread, entry.line, &entry.event))?;
-    }
-    Ok(())
-}
-
-/// Whether posts go on behind such an answer: it is a reply over the history.
-fn end_of(answer: Result<Receipt, PostFault>) -> Result<(), PostStop>
-    ensures { result ≡ end_of answer }
-{
-    match answer {
-        Ok(_) => Ok(()),
-        Err(PostFault::PlanFinished | PostFault::Full { .. } | PostFault::Runaway) => Ok(()),
-        Err(PostFault::Closed { .. } | PostFault::DiskFault) => Err(PostStop::DiskFault),
-        Err(PostFault::NoMemory) => Err(PostStop::NoMemory),
     }
 }

@@ -120,6 +120,12 @@ fn start_text<S: Stepper>(alloc: Global, text: &[u8]) -> Result<(Plan, S), Reope
     ensures why { (history : List Logged) → IfErr result (IsRunWhy text.now history) }
 {
     let plan = compile(alloc, text)?;
-    let stepper = start(alloc, &plan)?;
-    Ok((plan, stepper))
+    match start(alloc, &plan) {
+        Ok(stepper) => Ok((plan, stepper)),
+        Err(fault) => {
+            // By name: the proof then has one call to follow, and not each shape that a plan may have.
+            drop(plan);
+            Err(fault.into())
+        }
+    }
 }

@@ -1,19 +1,33 @@
-use Rattle.std.proofs.Common.{◌≡◌, Ok, Err, refl, ◌∙◌}
+use Rattle.std.proofs.Common.{Ok, Err, refl, ◌∙◌}
 use Rattle.px_core.specs.Plan.{Tree, tree_of}
+use Rattle.px_run.specs.Course.{Untouched, EndsIn, AfterFile}
 use Rattle.px_run.specs.Ending.{nodes_ending}
+use Rattle.px_run.specs.Headline.{CheckCalls}
 use Rattle.px_run.specs.Kinds.{plan_file}
 use Rattle.px_output.specs.View.{view}
-use Rattle.px_run.proofs.Performing.{printed_behind, broken_off_behind}
+use Rattle.px_run.specs.declared.ending.End.TheVariants as ends
+use Rattle.px_run.proofs.Performing.{reading_stopped, memory_stopped, printed_behind, broken_off_behind}
 use Rattle.px_output.proofs.Printed.{text_printed}
 use Rattle.px_run.proofs.check.check.Goals as goal
+
+pub returns-in_err-plan-clause-performs : goal.returns-in_err-plan-clause-performs
+returns-in_err-plan-clause-performs g c =
+    reading_stopped Tree plan_file (view g.H.Host c.args.host.now) (view g.H.Host c.fetch_plan.new.host) c.args.plan.now Untouched _ c.in_err-plan.field-0.0
+    c.from_residual.result c.from_residual.ensures.1 c.in_err-plan.ensures.err c.in_err-plan.ensures.only
+
+pub returns-in_err-text-clause-performs : goal.returns-in_err-text-clause-performs
+returns-in_err-text-clause-performs g c =
+    memory_stopped (view g.H.Host c.args.host.now) (view g.H.Host c.fetch_plan.new.host)
+    (CheckCalls c.args.plan.now (view g.H.Host c.args.host.now) (view g.H.Host c.fetch_plan.new.host) Untouched) c.from_residual-in_err-text.result
+    c.from_residual-in_err-text.ensures.1 AfterFile.no_memory c.in_ok-plan.ensures.only
 
 pub returns-in_err-emit_all-clause-performs : goal.returns-in_err-emit_all-clause-performs
 returns-in_err-emit_all-clause-performs g c =
     let tree = tree_of c.in_ok-plan.plan in
     let mid = view g.H.Host c.fetch_plan.new.host in
     let new = view g.H.Host c.emit_all.new.host in
-    broken_off_behind Tree plan_file (view g.H.Host c.args.host.now) mid new c.args.plan.now tree (λ tree ending. ending ≡ nodes_ending tree)
-    (nodes_ending tree) c.in_err-emit_all.field-0.0 _ c.in_ok-plan.ensures.ok c.in_ok-plan.ensures.only c.in_err-emit_all.ensures.only refl
+    broken_off_behind Tree plan_file (view g.H.Host c.args.host.now) mid new c.args.plan.now tree Untouched (λ tree. EndsIn Untouched (nodes_ending tree))
+    Untouched (nodes_ending tree) c.in_err-emit_all.field-0.0 _ c.in_ok-plan.ensures.ok c.in_ok-plan.ensures.only c.in_err-emit_all.ensures.only (refl, refl)
     c.from_residual-in_err-emit_all.ensures.1
     (text_printed {T = Unit} mid new c.as_bytes.result.now (nodes_ending tree).text (Err c.in_err-emit_all.field-0.0)
     (c.as_bytes.ensures.value ∙ c.in_ok-text.ensures) c.in_err-emit_all.ensures.prints)
@@ -23,7 +37,7 @@ returns-clause-performs g c =
     let tree = tree_of c.in_ok-plan.plan in
     let mid = view g.H.Host c.fetch_plan.new.host in
     let new = view g.H.Host c.emit_all.new.host in
-    printed_behind Tree plan_file (view g.H.Host c.args.host.now) mid new c.args.plan.now tree (λ tree ending. ending ≡ nodes_ending tree)
-    (nodes_ending tree) c.in_ok-plan.ensures.ok c.in_ok-plan.ensures.only c.in_ok-emit_all.ensures.only refl refl
+    printed_behind Tree plan_file (view g.H.Host c.args.host.now) mid new c.args.plan.now tree Untouched (λ tree. EndsIn Untouched (nodes_ending tree))
+    Untouched ends.Done (nodes_ending tree) c.in_ok-plan.ensures.ok c.in_ok-plan.ensures.only c.in_ok-emit_all.ensures.only (refl, refl) refl
     (text_printed {T = Unit} mid new c.as_bytes.result.now (nodes_ending tree).text (Ok tt)
     (c.as_bytes.ensures.value ∙ c.in_ok-text.ensures) c.in_ok-emit_all.ensures.prints)

@@ -1,12 +1,44 @@
-use Rattle.std.proofs.Common.{Ok, Err, List, refl}
+use Rattle.std.proofs.Common.{Ok, Err, List, refl, ap}
 use Rattle.px_core.specs.Plan.{tree_of, sites}
 use Rattle.px_sem.proofs.Logs.{fit_accepted}
 use Rattle.px_script.specs.declared.todo.Todo.{Todo}
-use Rattle.px_run.specs.Ending.{DryRunEnds, log_ending}
+use Rattle.px_run.specs.Course.{Untouched, AfterFile}
+use Rattle.px_run.specs.Ending.{log_ending}
+use Rattle.px_run.specs.Headline.{DryRunOf}
 use Rattle.px_run.specs.Kinds.{script_file}
 use Rattle.px_output.specs.View.{view}
-use Rattle.px_run.proofs.Performing.{run_started, posted_all, prints_log, printed_behind, broken_off_behind}
+use Rattle.px_run.specs.declared.ending.End.TheVariants as ends
+use Rattle.px_run.proofs.Performing.{reading_stopped, memory_stopped, start_stopped_behind, printed_behind, broken_off_behind}
+use Rattle.px_run.proofs.Starting.{run_started, posted_all, prints_log}
 use Rattle.px_run.proofs.dry_run.dry_run_plan.Goals as goal
+
+pub returns-in_err-fetch_script-clause-performs : goal.returns-in_err-fetch_script-clause-performs
+returns-in_err-fetch_script-clause-performs g c =
+    reading_stopped (List Todo) (script_file (sites (tree_of c.args.plan.now))) (view g.H.Host c.args.host.now) (view g.H.Host c.fetch_script.new.host)
+    c.args.script.now Untouched _ c.in_err-fetch_script.field-0.0 c.from_residual.result c.from_residual.ensures.1 c.in_err-fetch_script.ensures.err
+    c.in_err-fetch_script.ensures.only
+
+pub returns-in_err-entries-clause-performs : goal.returns-in_err-entries-clause-performs
+returns-in_err-entries-clause-performs g c =
+    memory_stopped (view g.H.Host c.args.host.now) (view g.H.Host c.fetch_script.new.host)
+    (AfterFile (script_file (sites (tree_of c.args.plan.now))) (view g.H.Host c.args.host.now) (view g.H.Host c.fetch_script.new.host) c.args.script.now Untouched
+    (DryRunOf (sites (tree_of c.args.plan.now))) Untouched) c.from_residual-in_err-entries.result
+    c.from_residual-in_err-entries.ensures.1 AfterFile.no_memory c.in_ok-fetch_script.ensures.only
+
+pub returns-in_err-stepper-clause-performs : goal.returns-in_err-stepper-clause-performs
+returns-in_err-stepper-clause-performs g c =
+    let tree = tree_of c.args.plan.now in
+    start_stopped_behind (List Todo) (script_file (sites tree)) (view g.H.Host c.args.host.now) (view g.H.Host c.fetch_script.new.host) c.args.script.now
+    c.in_ok-fetch_script.field-0.threads Untouched (DryRunOf (sites tree)) c.in_err-stepper.field-0.0 c.from_residual-in_err-stepper.result
+    c.in_ok-fetch_script.ensures.ok c.in_ok-fetch_script.ensures.only c.from_residual-in_err-stepper.ensures.1
+    (λ is. DryRunOf.runaway (c.in_err-stepper.ensures.runaway (ap Err is)))
+
+pub returns-in_err-session-clause-performs : goal.returns-in_err-session-clause-performs
+returns-in_err-session-clause-performs g c =
+    memory_stopped (view g.H.Host c.args.host.now) (view g.H.Host c.fetch_script.new.host)
+    (AfterFile (script_file (sites (tree_of c.args.plan.now))) (view g.H.Host c.args.host.now) (view g.H.Host c.fetch_script.new.host) c.args.script.now Untouched
+    (DryRunOf (sites (tree_of c.args.plan.now))) Untouched) c.from_residual-in_err-session.result
+    c.from_residual-in_err-session.ensures.1 AfterFile.no_memory c.in_ok-fetch_script.ensures.only
 
 pub post_each-requires-clause-started : goal.post_each-requires-clause-started
 post_each-requires-clause-started g c = λ _ _.
@@ -24,12 +56,12 @@ returns-in_err-print_log-clause-performs g c =
     let mid = view g.H.Host c.fetch_script.new.host in
     let new = view g.H.Host c.print_log.new.host in
     let threads = c.in_ok-fetch_script.field-0.threads in
-    let ends = posted_all tree threads (g.S.Stepper.state c.in_ok-stepper.stepper) session.log.items
+    let due = posted_all tree threads (g.S.Stepper.state c.in_ok-stepper.stepper) session.log.items
     c.in_ok-entries.entries.items c.in_ok-stepper.ensures.settled c.in_ok-stepper.ensures.rest c.in_ok-entries.ensures.order
     c.in_ok-session.ensures.each c.in_ok-session.ensures.legal in
-    broken_off_behind (List Todo) (script_file (sites tree)) (view g.H.Host c.args.host.now) mid new c.args.script.now threads (DryRunEnds tree)
-    (log_ending (sites tree) session.log.items) c.in_err-print_log.field-0.0 _ c.in_ok-fetch_script.ensures.ok c.in_ok-fetch_script.ensures.only
-    c.in_err-print_log.ensures.only ends c.from_residual-in_err-print_log.ensures.1
+    broken_off_behind (List Todo) (script_file (sites tree)) (view g.H.Host c.args.host.now) mid new c.args.script.now threads Untouched
+    (DryRunOf (sites tree)) Untouched (log_ending (sites tree) session.log.items) c.in_err-print_log.field-0.0 _ c.in_ok-fetch_script.ensures.ok c.in_ok-fetch_script.ensures.only
+    c.in_err-print_log.ensures.only due c.from_residual-in_err-print_log.ensures.1
     (prints_log mid new (sites tree) c.deref.result.now session.history.items c.deref-2.result.now session.log.items (Err c.in_err-print_log.field-0.0)
     c.deref.ensures.value c.deref-2.ensures.value c.in_ok-session.ensures.history c.in_err-print_log.ensures.prints)
 
@@ -40,10 +72,10 @@ returns-clause-performs g c =
     let mid = view g.H.Host c.fetch_script.new.host in
     let new = view g.H.Host c.print_log.new.host in
     let threads = c.in_ok-fetch_script.field-0.threads in
-    let ends = posted_all tree threads (g.S.Stepper.state c.in_ok-stepper.stepper) session.log.items
+    let due = posted_all tree threads (g.S.Stepper.state c.in_ok-stepper.stepper) session.log.items
     c.in_ok-entries.entries.items c.in_ok-stepper.ensures.settled c.in_ok-stepper.ensures.rest c.in_ok-entries.ensures.order
     c.in_ok-session.ensures.each c.in_ok-session.ensures.legal in
-    printed_behind (List Todo) (script_file (sites tree)) (view g.H.Host c.args.host.now) mid new c.args.script.now threads (DryRunEnds tree)
-    (log_ending (sites tree) session.log.items) c.in_ok-fetch_script.ensures.ok c.in_ok-fetch_script.ensures.only c.in_ok-print_log.ensures.only ends refl
+    printed_behind (List Todo) (script_file (sites tree)) (view g.H.Host c.args.host.now) mid new c.args.script.now threads Untouched
+    (DryRunOf (sites tree)) Untouched ends.Done (log_ending (sites tree) session.log.items) c.in_ok-fetch_script.ensures.ok c.in_ok-fetch_script.ensures.only c.in_ok-print_log.ensures.only due refl
     (prints_log mid new (sites tree) c.deref.result.now session.history.items c.deref-2.result.now session.log.items (Ok tt)
     c.deref.ensures.value c.deref-2.ensures.value c.in_ok-session.ensures.history c.in_ok-print_log.ensures.prints)

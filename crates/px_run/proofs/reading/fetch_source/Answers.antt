@@ -1,7 +1,7 @@
 use Rattle.std.proofs.Common.{refl, sym}
 use Rattle.px_output.specs.View.{view}
 use Rattle.px_run.specs.File.{Content}
-use Rattle.px_run.proofs.Performing.{plan_refused}
+use Rattle.px_run.proofs.SeenFiles.{plan_refused}
 use Rattle.px_run.proofs.reading.fetch_source.Goals as goal
 
 pub returns-in_err-plan-clause-err : goal.returns-in_err-plan-clause-err

@@ -9,28 +9,28 @@ returns-in_err-text-clause-err g c =
     stopped_at_plan (view g.H.Host c.args.host.now) (view g.H.Host c.fetch_source.new.host) c.args.plan.now c.args.script.now
     c.in_err-text.field-0.0 c.from_residual.result c.from_residual.ensures.1 c.in_err-text.ensures.err
 
-pub returns-in_err-fetch_script-clause-err : goal.returns-in_err-fetch_script-clause-err
-returns-in_err-fetch_script-clause-err g c =
+pub returns-in_err-script-clause-err : goal.returns-in_err-script-clause-err
+returns-in_err-script-clause-err g c =
     let source = c.in_ok-text.field-0 in
     stopped_at_script (view g.H.Host c.args.host.now) (view g.H.Host c.fetch_source.new.host) (view g.H.Host c.fetch_script.new.host)
-    c.args.plan.now c.args.script.now source.text.items (tree_of source.plan) c.in_err-fetch_script.field-0.0 c.from_residual-in_err-fetch_script.result
-    c.from_residual-in_err-fetch_script.ensures.1 c.in_ok-text.ensures.ok c.in_ok-text.ensures.only c.in_err-fetch_script.ensures.only
-    c.in_err-fetch_script.ensures.err
+    c.args.plan.now c.args.script.now source.text.items (tree_of source.plan) c.in_err-script.field-0.0 c.from_residual-in_err-script.result
+    c.from_residual-in_err-script.ensures.1 c.in_ok-text.ensures.ok c.in_ok-text.ensures.only c.in_err-script.ensures.only
+    c.in_err-script.ensures.err
 
 pub returns-in_err-stepper-clause-err : goal.returns-in_err-stepper-clause-err
 returns-in_err-stepper-clause-err g c =
     let source = c.in_ok-text.field-0 in
     stopped_at_start (view g.H.Host c.args.host.now) (view g.H.Host c.fetch_source.new.host) (view g.H.Host c.fetch_script.new.host)
-    c.args.plan.now c.args.script.now source.text.items (tree_of source.plan) c.in_ok-fetch_script.field-0.threads c.in_err-stepper.field-0.0
+    c.args.plan.now c.args.script.now source.text.items (tree_of source.plan) c.in_ok-script.script.threads c.in_err-stepper.field-0.0
     c.from_residual-in_err-stepper.result c.from_residual-in_err-stepper.ensures.1 c.in_ok-text.ensures.ok c.in_ok-text.ensures.only
-    c.in_ok-fetch_script.ensures.only c.in_ok-fetch_script.ensures.ok (λ is. c.in_err-stepper.ensures.runaway (ap Err is))
+    c.in_ok-script.ensures.only c.in_ok-script.ensures.ok (λ is. c.in_err-stepper.ensures.runaway (ap Err is))
 
 pub returns-clause-ok : goal.returns-clause-ok
 returns-clause-ok g c =
     let source = c.in_ok-text.field-0 in
     prepared g.S.Stepper (view g.H.Host c.args.host.now) (view g.H.Host c.fetch_source.new.host) (view g.H.Host c.fetch_script.new.host)
-    c.args.plan.now c.args.script.now c.in_ok-fetch_script.field-0
-    (record { text = source.text; plan = source.plan; entries = c.in_ok-entries.entries; stepper = c.in_ok-stepper.stepper })
-    c.in_ok-text.ensures.ok c.in_ok-text.ensures.only c.in_ok-fetch_script.ensures.only c.in_ok-text.ensures.short c.in_ok-text.ensures.fit
-    c.in_ok-fetch_script.ensures.ok c.in_ok-fetch_script.ensures.fit c.in_ok-entries.ensures.order c.in_ok-entries.ensures.fit
+    c.args.plan.now c.args.script.now
+    (record { text = source.text; plan = source.plan; script = c.in_ok-script.script; stepper = c.in_ok-stepper.stepper })
+    c.in_ok-text.ensures.ok c.in_ok-text.ensures.only c.in_ok-script.ensures.only c.in_ok-text.ensures.short c.in_ok-text.ensures.fit
+    c.in_ok-script.ensures.ok c.in_ok-script.ensures.fit
     c.in_ok-stepper.ensures.settled c.in_ok-stepper.ensures.rest

@@ -16,7 +16,7 @@ returns-clause-headline g c =
     let performed = c.carry_out-result.ensures.performs in
     let delivers : Headline g.D.Disk words before (view g.H.Host c.match-result.host) c.args.disk carried.disk (number_of c.match-result.status) =
     elim c.match-result.branch [
-      | in-Ok w ↦ rw (w.host-is, w.status-is) (done_delivered g.D.Disk words before mid c.args.disk carried performed w.in-Ok.is)
+      | in-Ok w ↦ rw (w.host-is, w.status-is, w.status-status.ensures) (done_delivered g.D.Disk words before mid c.args.disk carried performed w.in-Ok.end w.in-Ok.is)
       | in-Err-Refused w ↦ rw (w.host-is, w.status-is) (refusal_delivered g.D.Disk words before mid c.args.disk carried performed w.in-Err-Refused.refusal
           (view g.H.Host w.refuse-status.new.host) (number_of w.refuse-status.result) _ w.in-Err-Refused.is (rw w.in-Err-Refused.is at w.in-Err-Refused.field-0-is)
           c.carry_out-result.ensures.keeps w.refuse-status.ensures.delivers w.refuse-status.ensures.only)
