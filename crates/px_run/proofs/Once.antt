@@ -1,13 +1,13 @@
 -- A script's lines are posted at most once, whatever stops there were.
-use Rattle.std.proofs.Common.{◌≡◌, inl, inr, ⊎_elim, ℕ, List, [], ◌∷◌, ◌++◌, Option, Some, None, IfSome, IsTrue, length, refl, sym, arith, ap, subst, append-nil}
-use Rattle.std.specs.Option.{option_and_then, ForSome}
+use Rattle.std.proofs.Common.{◌≡◌, inl, inr, ⊎_elim, ℕ, List, [], ◌++◌, Option, Some, None, IfSome, IsTrue, length, refl, sym, arith, ap, subst, append-nil}
+use Rattle.std.specs.Option.{option_and_then}
 use Rattle.px_core.specs.Plan.{Site, Tree, sites}
 use Rattle.px_event.specs.declared.entry.Entry.{Entry}
 use Rattle.px_exec.proofs.Keeping.{told_of}
 use Rattle.px_exec.specs.Executive.{TellsBytes}
 use Rattle.px_journal.proofs.Meaning.{one_meaning_history}
 use Rattle.px_journal.specs.Journal.{IsUnwritten}
-use Rattle.px_journal.specs.Layout.{is_nothing, Stands}
+use Rattle.px_journal.specs.Layout.{is_nothing}
 use Rattle.px_output.specs.View.{View}
 use Rattle.px_ports.specs.Moment.{LeftSince}
 use Rattle.px_ports.specs.declared.disk.Disk
@@ -33,7 +33,7 @@ use Rattle.px_run.specs.File.{FileKind, Reads, with_text}
 use Rattle.px_run.specs.Headline.{CommandCallsFor, Headline}
 use Rattle.px_run.specs.Journaled.{IsSession, StandsFor, NewCalls, RunCalls, RunCallsBy, AfterJournal, ResumeCalls, TraceCalls}
 use Rattle.px_run.specs.Kinds.{plan_file, script_file}
-use Rattle.px_run.specs.OverStops.{IsSoundImage, ReadsOnly, AreSoundNow, AreSoundSince}
+use Rattle.px_run.specs.OverStops.{IsSoundImage, ReadsOnly, AreSoundNow, AreSoundSince, AfterCalls}
 
 -- ---- the histories of a session
 
@@ -192,3 +192,11 @@ module _ {D : Type 0} (members : Disk.Ghosts D) (read_left : ReadsAreLeft member
     pub once : (status : ℕ) → Headline members words before now old new status → AreSound
     once _ (Headline.delivered course ending status calls leaves delivers) = calls_sound (command words) course (Some ending) refl calls (leaves tells)
     once _ (Headline.nothing_emitted course calls leaves same) = calls_sound (command words) course None refl calls (leaves tells)
+
+-- ---- calls one after another
+
+pub once_after : {D : Type 0} (members : Disk.Ghosts D) → ReadsAreLeft members → (script : Script) → IsFitScript script → (disk : D)
+    → AfterCalls members script.threads disk → AreSoundNow members script.threads disk
+once_after members read_left script fit _ (AfterCalls.none disk nothing) image is = inl (nothing image is)
+once_after members read_left script fit _ (AfterCalls.one_more words before now old new next status earlier tells only headline left) image is =
+    once members read_left script fit old new tells (once_after members read_left script fit old earlier) words before now only status headline image (left image is)

@@ -2,6 +2,7 @@
 use Rattle.std.specs.Prelude.{◌≡◌, ◌⊎◌, ℕ, List, length, IsTrue}
 use Rattle.px_core.specs.Plan.{Site}
 use Rattle.px_event.specs.declared.entry.Entry.{Entry}
+use Rattle.px_exec.specs.Executive.{TellsBytes}
 use Rattle.px_journal.specs.Layout.{is_nothing, Stands}
 use Rattle.px_output.specs.View.{View}
 use Rattle.px_ports.specs.Moment.{LeftSince}
@@ -10,6 +11,7 @@ use Rattle.px_script.specs.Sound.{IsSoundFor}
 use Rattle.px_script.specs.declared.todo.Todo.{Todo}
 use Rattle.px_run.specs.Causes.{HasScript}
 use Rattle.px_run.specs.File.{Reads}
+use Rattle.px_run.specs.Headline.{Headline}
 use Rattle.px_run.specs.Kinds.{script_file}
 
 -- an image is nothing, or it stands for a text and a history that is sound for the script
@@ -34,3 +36,16 @@ module _ {D : Type 0} (members : Disk.Ghosts D) where
   AreSoundSince threads old new =
       (image : List ℕ) → LeftSince members.images (members.moments new) (length (members.moments old)) image
       → IsSoundImage threads image
+
+  -- CALLS OVER ONE DISK, one after another, with one script: at first each image is nothing, and each call begins on a disk
+  -- whose images the one before has left, at its end or where it was stopped
+  pub data AfterCalls (threads : List Todo) : D → Type 0 where
+    none :
+        (disk : D) → ((image : List ℕ) → members.images (members.moments disk) image → IsTrue (is_nothing image))
+        → AfterCalls threads disk
+    one_more :
+        (words : List (List ℕ)) (before now : View) (old new next : D) (status : ℕ) → AfterCalls threads old
+        → TellsBytes members old → ReadsOnly words before now threads → Headline members words before now old new status
+        → ((image : List ℕ) → members.images (members.moments next) image
+        → LeftSince members.images (members.moments new) (length (members.moments old)) image)
+        → AfterCalls threads next

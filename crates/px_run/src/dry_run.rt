@@ -1,4 +1,4 @@
-// The command `dry-run`: reads a plan and a script, posts what its lines post, by rising number, and prints the text of the log.
+// The command `dry-run`: reads a plan and a script, posts its lines by rising number, and prints the text of the log.
 ghost use Rattle.std.specs.Prelude.{Some};
 ghost use Rattle.px_core.specs.Fit.{IsFit};
 ghost use Rattle.px_core.specs.Plan.{tree_of, sites};

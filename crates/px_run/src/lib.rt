@@ -4,7 +4,8 @@
 //! and `trace` have a journal, and `finishing` is the end that the first two share. `reading` reads the files; `ending` has the
 //! statuses and the texts of refusals, `plan_refusal` those of plans.
 //! `specs/Headline.antt` says what a call emits, which status it answers and what it leaves of the disk, `specs/Journaled.antt`
-//! what the commands with a journal call for, and `specs/Causes.antt` what each status tells.
+//! what the commands with a journal call for, and `specs/Causes.antt` what each status tells. `laws` has what the headline
+//! means over stops.
 #![tactic(auto)]
 
 mod check;

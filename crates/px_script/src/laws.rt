@@ -37,9 +37,9 @@ pub fn once_over_stops()
     ensures ahead { (threads : List Todo) (history : List Entry) → All (IsAhead history) (rest threads history) }
 {}
 
-/// No line twice, over one session: a history is sound for a script if its entries are posts of it, each at most once. The empty history is sound for a script, and so is each front of a sound one. A history
-/// that is sound for a fit script stays sound as a log that follows what it leaves of the script goes on behind it, and with
-/// the next post of a thread behind that.
+/// No line twice, over one session: a history is sound for a script if its entries are posts of it, each at most once. The
+/// empty history is sound, and so is each front of a sound one. A history that is sound for a fit script stays so as a log
+/// that follows what it leaves of the script goes on behind it, and with the next post of a thread behind that.
 pub fn soundness()
     ensures empty { (threads : List Todo) → IsSoundFor threads [] }
     ensures front { (threads : List Todo) (history more : List Entry) → IsSoundFor threads (history ++ more) → IsSoundFor threads history }
