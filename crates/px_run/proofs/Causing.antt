@@ -6,7 +6,7 @@ use Rattle.px_core.specs.Plan.{Site, Tree, sites}
 use Rattle.px_event.specs.declared.entry.Entry.{Entry}
 use Rattle.px_journal.specs.Layout.{Stands}
 use Rattle.px_output.specs.View.{View}
-use Rattle.px_ports.specs.Host.{Emits}
+use Rattle.px_ports.specs.Host.{Emits, Rose}
 use Rattle.px_ports.specs.declared.disk.Disk
 use Rattle.px_script.specs.Follows.{AreStalled}
 use Rattle.px_script.specs.Rest.{rest}
@@ -93,12 +93,12 @@ module _ {D : Type 0} (members : Disk.Ghosts D) (words : List (List ℕ)) (befor
 
   -- behind a session: its script is carried out or stalls, or the disk fails
   session_caused : (plan : List Site) (text : List ℕ) (first : List Entry) (limit : ℕ) (script : List ℕ) (threads : List Todo) (session : Session) (due : Due)
-      → HasJournal words → Cause members words before now old new 0
+      → (Rose (members.faults old) (members.faults new) → Cause members words before now old new 9) → Cause members words before now old new 0
       → (StallsBehind before now script plan limit first → StallsOver members words before now old)
       → Reads (script_file plan) before now script threads → IsSession plan text first limit (rest threads first) session
       → DueBehind members plan (rest threads first) session old new due → AreCaused due
-  session_caused plan text first limit script threads session _ journal carried_out stalls reads so (DueBehind.whole none all) = λ emits. carried_out
-  session_caused plan text first limit script threads session _ journal carried_out stalls reads so (DueBehind.stalled waits none stalled) =
+  session_caused plan text first limit script threads session _ fails carried_out stalls reads so (DueBehind.whole none all) = λ emits. carried_out
+  session_caused plan text first limit script threads session _ fails carried_out stalls reads so (DueBehind.stalled waits none stalled) =
       λ emits. Cause.stalled (stalls (record {
         threads = threads;
         read = reads;
@@ -108,9 +108,8 @@ module _ {D : Type 0} (members : Disk.Ghosts D) (words : List (List ℕ)) (befor
         stalled = subst (λ (h : List Entry). AreStalled plan h session.log (rest threads first) waits) so.same_first stalled;
         text = subst (λ (h : List Entry). Emits before.emitted now.emitted (stalled_ending plan h session.log waits).text) so.same_first emits;
       }))
-  session_caused plan text first limit script threads session _ journal carried_out stalls reads so (DueBehind.failed some rose) =
-      λ emits. Cause.disk_fault journal rose
-  session_caused plan text first limit script threads session _ journal carried_out stalls reads so (DueBehind.no_memory none) = tt
+  session_caused plan text first limit script threads session _ fails carried_out stalls reads so (DueBehind.failed some rose) = λ emits. fails rose
+  session_caused plan text first limit script threads session _ fails carried_out stalls reads so (DueBehind.no_memory none) = tt
 
   -- ---- a plan that is to be run
 
@@ -119,20 +118,23 @@ module _ {D : Type 0} (members : Disk.Ghosts D) (words : List (List ℕ)) (befor
         → IsSuch (started (sites tree)) → Starts words before now IsSuch
     started_so tree IsSuch reads scripts such = (runs, (plan, tree, has, reads, (scripts, such)))
 
-    start_caused : (tree : Tree) (found : Option (World × ℕ)) → Reads plan_file before now plan tree → ReadsScript words before now tree
+    -- the start, without a journal
+    start_caused : (tree : Tree) (found : Option (World × ℕ)) → option_and_then journal_of (command words) ≡ None → Reads plan_file before now plan tree → ReadsScript words before now tree
         → started (sites tree) ≡ found → Cause members words before now old new (of_start (sites tree) found).status
-    start_caused tree None reads scripts is = Cause.runaway (started_so tree (λ found. found ≡ None) reads scripts is)
-    start_caused tree (Some settled) reads scripts is = Cause.done (started_so tree (λ found. IsSome found) reads scripts (rw is refl))
+    start_caused tree None no_journal reads scripts is = Cause.runaway (started_so tree (λ found. found ≡ None) reads scripts is)
+    start_caused tree (Some settled) no_journal reads scripts is =
+        Cause.done (started_so tree (λ found. IsSome found) reads scripts (rw is refl)) (λ (name, has). absurd (let both = sym no_journal ∙ has in cc))
 
-    trace_start_caused : (course : Course) (due : Due) → option_and_then script_of (command words) ≡ None → TraceStartCalls plan before now course due
+    trace_start_caused : (course : Course) (due : Due) → option_and_then script_of (command words) ≡ None
+        → option_and_then journal_of (command words) ≡ None → TraceStartCalls plan before now course due
         → AreCaused due
-    trace_start_caused course due none after =
+    trace_start_caused course due none no_journal after =
         after_plan plan (λ tree. EndsIn Untouched (start_ending tree)) course due has
         (λ tree reads ends. ended tree due reads ends.1) after
       where
         ended : (tree : Tree) (d : Due) → Reads plan_file before now plan tree → d ≡ Some (start_ending tree) → AreCaused d
         ended tree d reads is =
-            rw is (caused_as (start_ending tree) (start_ending tree).status refl (start_caused tree (started (sites tree)) reads (no_script tree none) refl))
+            rw is (caused_as (start_ending tree) (start_ending tree).status refl (start_caused tree (started (sites tree)) no_journal reads (no_script tree none) refl))
 
     -- a script behind the plan
     behind_plan : (tree : Tree) (script : List ℕ) (Next : List Todo → Course → Due → Type 0) (course : Course) (due : Due) → HasScript words script
@@ -143,11 +145,12 @@ module _ {D : Type 0} (members : Disk.Ghosts D) (words : List (List ℕ)) (befor
         after_operand (List Todo) (script_file (sites tree)) 4 HasScript script Untouched Next course due (script_kind (sites tree)) asks
         (λ r. Cause.script_refused (inl (plan, tree, has, reads, r))) (λ fails. Cause.read_fault (inr (inl (plan, tree, has, reads, fails)))) behind after
 
-    dry_run_caused : (script : List ℕ) (course : Course) (due : Due) → HasScript words script → DryRunCalls plan script before now course due → AreCaused due
-    dry_run_caused script course due asks after =
+    dry_run_caused : (script : List ℕ) (course : Course) (due : Due) → HasScript words script → option_and_then journal_of (command words) ≡ None
+        → DryRunCalls plan script before now course due → AreCaused due
+    dry_run_caused script course due asks no_journal after =
         after_plan plan (λ tree. AfterFile (script_file (sites tree)) before now script Untouched (DryRunOf (sites tree))) course due has
         (λ tree reads next. behind_plan tree script (DryRunOf (sites tree)) course due asks reads
-        (λ threads read dry. ended tree due (start_caused tree (started (sites tree)) reads (reads_script tree script threads asks read) refl)
+        (λ threads read dry. ended tree due (start_caused tree (started (sites tree)) no_journal reads (reads_script tree script threads asks read) refl)
         (dry_run_status tree threads course due dry)) next) after
       where
         ended : (tree : Tree) (d : Due) → Cause members words before now old new (start_ending tree).status
@@ -163,10 +166,10 @@ module _ {D : Type 0} (members : Disk.Ghosts D) (words : List (List ℕ)) (befor
     new_caused tree text limit script journal threads _ _ asked reads read starts has_journal (NewCalls.exists told) =
         λ emits. Cause.journal_refused (inl (starts, has_journal, told))
     new_caused tree text limit script journal threads _ _ asked reads read starts has_journal (NewCalls.half_made rose) =
-        λ emits. Cause.disk_fault has_journal rose
+        λ emits. Cause.disk_fault has_journal (inr starts) rose
     new_caused tree text limit script journal threads _ _ asked reads read starts has_journal (NewCalls.made session due nothing (so, behind)) =
-        session_caused (sites tree) text [] limit script threads session due has_journal (Cause.done starts)
-        (λ stalls. StallsOver.of_new plan script journal limit tree asked reads stalls) read so behind
+        session_caused (sites tree) text [] limit script threads session due (Cause.disk_fault has_journal (inr starts)) (Cause.done starts (λ has. nothing))
+        (λ stalls. StallsOver.of_new plan script journal limit tree asked reads nothing stalls) read so behind
     new_caused tree text limit script journal threads _ _ asked reads read starts has_journal NewCalls.no_memory = tt
 
     run_caused : (tree : Tree) (text : List ℕ) (limit : ℕ) (script journal : List ℕ) (threads : List Todo) (course : Course) (due : Due)
@@ -226,7 +229,7 @@ module _ {D : Type 0} (members : Disk.Ghosts D) (words : List (List ℕ)) (befor
         → IsSome (run (sites tree) (events_of first)) → Next text first tree course due → AreCaused due)
         → AfterJournal members old new Next course due → AreCaused due
     after_journal Next _ _ behind AfterJournal.no_memory = tt
-    after_journal Next _ _ behind (AfterJournal.disk_fails rose) = λ emits. Cause.disk_fault journal rose
+    after_journal Next _ _ behind (AfterJournal.disk_fails rose) = λ emits. Cause.disk_fault journal (inl no_plan) rose
     after_journal Next _ _ behind (AfterJournal.no_journal_there ending none) = no_journal_caused ending none
     after_journal Next _ _ behind (AfterJournal.not_run text first ending told cannot) = not_run_caused text first ending told cannot
     after_journal Next _ _ behind (AfterJournal.opened text first tree course due told compiled runs next) = behind text first tree told compiled runs next
@@ -249,7 +252,7 @@ module _ {D : Type 0} (members : Disk.Ghosts D) (words : List (List ℕ)) (befor
         (script_kind (sites tree)) asks
         (λ r. Cause.script_refused (inr (taken_up text first tree (λ t h. OperandIsRefused (script_file (sites t)) HasScript words before now) told compiled r)))
         (λ fails. Cause.read_fault (inr (inr (taken_up text first tree (λ t h. FailsToRead HasScript words before now) told compiled fails))))
-        (λ threads read (session, is, (so, behind)). session_caused (sites tree) text first limit script threads session due journal
+        (λ threads read (session, is, (so, behind)). session_caused (sites tree) text first limit script threads session due (Cause.disk_fault journal (inl no_plan))
         (done_by text first tree told compiled runs (reads_script tree script threads asks read))
         (λ stalls. StallsOver.of_taken_up script name limit text first tree asked told compiled stalls) read so behind) after) calls
 
@@ -259,9 +262,11 @@ module _ {D : Type 0} (members : Disk.Ghosts D) (words : List (List ℕ)) (befor
       → AreCaused due
   caused_by None course due none (same, (untouched, is)) = rw is (λ emits. Cause.no_command none)
   caused_by (Some (TraceStart plan)) course due asks (same, calls) =
-      trace_start_caused plan (ap (option_map runs_plan) asks) (ap (option_and_then plan_of) asks) course due (ap (option_and_then script_of) asks) calls
+      trace_start_caused plan (ap (option_map runs_plan) asks) (ap (option_and_then plan_of) asks) course due (ap (option_and_then script_of) asks)
+      (ap (option_and_then journal_of) asks) calls
   caused_by (Some (DryRun plan script)) course due asks (same, calls) =
-      dry_run_caused plan (ap (option_map runs_plan) asks) (ap (option_and_then plan_of) asks) script course due (ap (option_and_then script_of) asks) calls
+      dry_run_caused plan (ap (option_map runs_plan) asks) (ap (option_and_then plan_of) asks) script course due (ap (option_and_then script_of) asks)
+      (ap (option_and_then journal_of) asks) calls
   caused_by (Some (Check plan)) course due asks (same, calls) =
       after_plan plan (λ tree. EndsIn Untouched (nodes_ending tree)) course due (ap (option_and_then plan_of) asks)
       (λ tree reads ends. checked tree due reads ends.1) calls

@@ -1,6 +1,6 @@
 -- From the headline to completeness, and to refusals.
 use Rattle.std.proofs.Common.{◌≡◌, ℕ, ◌⊎◌, inl, inr, List, [], Option, Some, None, IsSome, IsTrue, IsFalse, refl, ap, subst, sym, ◌∙◌}
-use Rattle.std.specs.Option.{option_and_then}
+use Rattle.std.specs.Option.{option_map, option_and_then}
 use Rattle.px_compile.specs.Compiled.{IsCompiled}
 use Rattle.px_core.specs.Plan.{Site, Tree, sites}
 use Rattle.px_event.specs.declared.entry.Entry.{Entry}
@@ -15,8 +15,8 @@ use Rattle.px_sem.specs.Log.{events_of}
 use Rattle.px_sem.specs.Run.{run, started}
 use Rattle.px_sem.specs.World.{World}
 use Rattle.px_session.specs.Session.{Session}
-use Rattle.px_words.specs.Words.{Command, TraceStart, DryRun, Check, Run, Resume, Trace, plan_of, script_of, journal_of, command}
-use Rattle.px_run.specs.Causes.{HasPlan, HasScript, HasJournal, FailsToRead, status_behind, IsSound, IsComplete, IsRefused}
+use Rattle.px_words.specs.Words.{Command, TraceStart, DryRun, Check, Run, Resume, Trace, plan_of, script_of, journal_of, runs_plan, command}
+use Rattle.px_run.specs.Causes.{HasPlan, HasScript, HasJournal, Runs, FailsToRead, status_behind, IsSound, IsComplete, IsRefused}
 use Rattle.px_run.specs.Course.{Course, Untouched, TakenUp, Due, EndsIn, AfterFile}
 use Rattle.px_run.specs.Ending.{Ending, of_start, start_ending, nodes_ending, session_ending, runaway_at_start}
 use Rattle.px_run.specs.File.{FileKind, with_text, Holds, HoldsNone}
@@ -218,6 +218,30 @@ module _ {D : Type 0} (members : Disk.Ghosts D) (words : List (List ℕ)) (befor
             complete_by (Some (Resume script name limit)) course ending is calls = absurd (plan_or_none plan has (ap (option_and_then plan_of) is))
             complete_by (Some (Trace name)) course ending is calls = absurd (plan_or_none plan has (ap (option_and_then plan_of) is))
 
+          -- a start that doesn't settle
+          runs_away_by : Runs words → started (sites tree) ≡ None → (asked : Option Command) (course : Course) (ending : Ending) → command words ≡ asked
+              → Calls asked course ending → ending.status ≡ 6
+          runs_away_by runs none None course ending is calls = absurd (plan_or_none plan has (ap (option_and_then plan_of) is))
+          runs_away_by runs none (Some (TraceStart other)) course ending is (same, calls) =
+              ending_is course Untouched ending (start_ending tree)
+              (behind_plan Tree plan_file plan_kind _ other (ap (option_and_then plan_of) is) course ending calls tree holds)
+              ∙ ap (λ found. (of_start (sites tree) found).status) none
+          runs_away_by runs none (Some (DryRun other script)) course ending is (same, calls) =
+              let asks : HasScript words script = ap (option_and_then script_of) is in
+              dry_run_status tree (scripts script asks).0 course (Some ending)
+              (behind_script (sites tree) script_readable Untouched _ script asks course ending
+              (behind_plan Tree plan_file plan_kind _ other (ap (option_and_then plan_of) is) course ending calls tree holds)
+              (scripts script asks).0 (scripts script asks).1)
+              ∙ ap (λ found. (of_start (sites tree) found).status) none
+          runs_away_by runs none (Some (Check other)) course ending is calls = absurd (let both = sym runs ∙ ap (option_map runs_plan) is in cc)
+          runs_away_by runs none (Some (Run other script name limit)) course ending is calls =
+              let asks : HasScript words script = ap (option_and_then script_of) is in
+              ending_is course Untouched ending runaway_at_start
+              (subst (λ found. RunCallsBy members (sites tree) holds.0 limit (scripts script asks).0 old new course (Some ending) found) none
+              (run_behind other script name limit course ending (ap (option_and_then plan_of) is) asks calls))
+          runs_away_by runs none (Some (Resume script name limit)) course ending is calls = absurd (plan_or_none plan has (ap (option_and_then plan_of) is))
+          runs_away_by runs none (Some (Trace name)) course ending is calls = absurd (plan_or_none plan has (ap (option_and_then plan_of) is))
+
           module _ (has_journal : HasJournal words) (starts : IsSome (started (sites tree)))
               (journal : IsSound members words old new (λ bytes. IsFalse (is_nothing bytes))) where
             -- the start of a plan behind a journal that doesn't fail
@@ -361,6 +385,9 @@ module _ {D : Type 0} (members : Disk.Ghosts D) (words : List (List ℕ)) (befor
       script = λ plan name files tree has asks told holds none readable script_readable sound.
           sound_status members words before now old new (λ s. s ≡ 4) status headline sound
           (λ course ending calls. script_refused_by files told plan has readable tree holds script_readable name asks none (command words) course ending refl calls);
+      runaway = λ plan files tree has runs told holds scripts none readable script_readable sound.
+          sound_status members words before now old new (λ s. s ≡ 6) status headline sound
+          (λ course ending calls. runs_away_by files told plan has readable tree holds script_readable scripts runs none (command words) course ending refl calls);
       exists = λ plan files tree has has_journal told holds scripts starts journal readable script_readable sound.
           sound_status members words before now old new (λ s. s ≡ 5) status headline sound
           (λ course ending calls. exists_by files told plan has readable tree holds script_readable scripts has_journal starts journal (command words) course ending refl calls);

@@ -84,11 +84,15 @@ module _ {D : Type 0} (members : Disk.Ghosts D) where
       ⊎ ((option_and_then plan_of (command words) ≡ None) × HasJournal words
       × (ending : Ending) × JournalRefuses members disk ending × (ending.status ≡ 5))
 
+  -- the disk is nothing
+  abbrev pub IsNothing : D → Type 0
+  IsNothing disk = ForSome (members.content disk) (λ told. IsTrue (is_nothing told))
+
   -- a legal log of what the command's script has left, behind the history that it begins with, stalls at some waits
   pub data StallsOver (words : List (List ℕ)) (before now : View) (old : D) : Type 0 where
     of_new :
         (plan script journal : List ℕ) (limit : ℕ) (tree : Tree) → command words ≡ Some (Run plan script journal limit)
-        → Reads plan_file before now plan tree → StallsBehind before now script (sites tree) limit []
+        → Reads plan_file before now plan tree → IsNothing old → StallsBehind before now script (sites tree) limit []
         → StallsOver words before now old
     of_taken_up :
         (script journal : List ℕ) (limit : ℕ) (text : List ℕ) (first : List Entry) (tree : Tree)
@@ -97,9 +101,9 @@ module _ {D : Type 0} (members : Disk.Ghosts D) where
         → StallsOver words before now old
 
   -- THE TABLE OF STATUSES: each with its cause. What comes behind a plan, a script or a journal comes only where that was
-  -- read, but for a fault of the disk.
+  -- read.
   pub data Cause (words : List (List ℕ)) (before now : View) (old new : D) : ℕ → Type 0 where
-    done : Starts words before now (λ start. IsSome start) → Cause words before now old new 0
+    done : Starts words before now (λ start. IsSome start) → (HasJournal words → IsNothing old) → Cause words before now old new 0
     taken_up :
         TakesUp words old (λ tree first. ReadsScript words before now tree × IsSome (run (sites tree) (events_of first)))
         → Cause words before now old new 0
@@ -119,7 +123,9 @@ module _ {D : Type 0} (members : Disk.Ghosts D) where
         ⊎ TakesUp words old (λ tree first. FailsToRead HasScript words before now))
         → Cause words before now old new 7
     sink_fault : Faulted before now → Cause words before now old new 8
-    disk_fault : HasJournal words → Rose (members.faults old) (members.faults new) → Cause words before now old new 9
+    disk_fault :
+        HasJournal words → (option_and_then plan_of (command words) ≡ None) ⊎ Starts words before now (λ start. IsSome start)
+        → Rose (members.faults old) (members.faults new) → Cause words before now old new 9
     no_memory : Cause words before now old new 10
     -- lines of a script are left, and each thread that has some stands at a wait that isn't met
     stalled : StallsOver words before now old → Cause words before now old new 11
@@ -167,6 +173,14 @@ module _ {D : Type 0} (members : Disk.Ghosts D) where
         → before.files ≡ Some files → Holds plan_file files plan tree → HoldsNone (script_file (sites tree)) files name
         → ¬ FailsToRead HasPlan words before now → ¬ FailsToRead HasScript words before now → ¬ Faulted before now
         → (status ≡ 10) ⊎ (status ≡ 4)
+    -- a plan that is to be run, whose start doesn't settle
+    pub runaway :
+        (plan : List ℕ) (files : Files) (tree : Tree) → HasPlan words plan → Runs words → before.files ≡ Some files
+        → Holds plan_file files plan tree
+        → ((name : List ℕ) → HasScript words name → (threads : List Todo) × Holds (script_file (sites tree)) files name threads)
+        → started (sites tree) ≡ None
+        → ¬ FailsToRead HasPlan words before now → ¬ FailsToRead HasScript words before now → ¬ Faulted before now
+        → (status ≡ 10) ⊎ (status ≡ 6)
     -- a journal that stands where one was to be made
     pub exists :
         (plan : List ℕ) (files : Files) (tree : Tree) → HasPlan words plan → HasJournal words → before.files ≡ Some files
