@@ -1,0 +1,5 @@
+pub mod Asking
+pub mod Hearing
+pub mod Keeping
+pub mod Preorder
+pub mod Told
