@@ -1,4 +1,5 @@
 pub mod Marking
 pub mod Flagging
+pub mod Kept
 pub mod Noting
 pub mod Writing

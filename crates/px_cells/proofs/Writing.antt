@@ -1,5 +1,6 @@
 -- What a write does to what cells hold.
-use Rattle.std.proofs.Common.{◌≡◌, ℕ, ◌<◌, Bool, true, false, List, [], ◌∷◌, ◌++◌, length, set, get_or, Option, Some, None, is_some, IsSome, IsNone, refl, sym, ◌∙◌, if◌then◌else◌}
+use Rattle.std.proofs.Common.{◌≡◌, ℕ, ◌+◌, ◌<◌, Bool, true, false, List, [], ◌∷◌, ◌++◌, length, set, take, get_or, Option, Some, None, is_some, IsSome, IsNone, refl, sym, ◌∙◌, if◌then◌else◌}
+use Rattle.std.proofs.lemmas.List.{take_more, take_more_set}
 use Rattle.px_cells.specs.Marked.{Contents, written, with_mark}
 use Rattle.px_cells.specs.Marks.{at_mark, AreNoted, NoneKept}
 use Rattle.px_cells.proofs.Marking.{at_mark-none, at_mark-again, at_mark-first}
@@ -68,3 +69,10 @@ module _ {T : Type 0} where
       → (held is_marked olds values changed).marked ≡ Some (at_mark olds values)
   marked_is true olds values changed some = refl
   marked_is false olds values changed some = absurd (cc)
+
+  -- a value is written behind those that are as wanted already
+  pub front_more : (values wanted : List T) (at : ℕ) (value d : T) → at < length values → at < length wanted
+      → take at values ≡ take at wanted → get_or wanted at d ≡ value
+      → take (at + 1) (set values at value) ≡ take (at + 1) wanted
+  front_more values wanted at value d written is_there same is =
+      take_more_set values at value written ∙ (λ i. same i ++ sym is i ∷ []) ∙ sym (take_more wanted at d is_there)

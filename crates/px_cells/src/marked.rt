@@ -127,6 +127,18 @@ impl<T: Drop> Marked<T> {
         }
     }
 
+    /// Writes a value where no mark stands, and takes no memory.
+    pub fn overwrite(&mut self, at: u32, value: T)
+        requires within { at < length self.old.contents.values }
+        requires unmarked { IsNone self.old.contents.marked }
+        ensures contents { self.new.contents ≡ written self.old.contents at value }
+        ensures news { TellsNews self.old self.new (with_number self.old.news at) }
+        ensures room { self.old.room ≤ self.new.room }
+    {
+        self.news.note(at);
+        self.values[at as usize] = value;
+    }
+
     /// How many values there are.
     pub fn count(&self) -> u32
         ensures { result ≡ length self.now.contents.values }

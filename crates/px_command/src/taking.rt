@@ -99,7 +99,7 @@ fn aborted(act: &Act) -> Act
 impl Actions {
     /// Takes an event: what is told of a command or of an update that is at work (PLEXIL reference manual, "Commands"
     /// and "Updates"). Where it doesn't count, where the plan doesn't have the node, and where it is a report it
-    /// changes nothing.
+    /// changes nothing. What was last seen stays.
     pub fn take(
         &mut self,
         alloc: Global,
@@ -112,6 +112,8 @@ impl Actions {
             cells.old.contents self.old.contents cells.new.contents self.new.contents) }
         ensures err_acts { OnErr result (self.new.contents ≡ self.old.contents) }
         ensures err_cells { OnErr result (cells.new.contents ≡ cells.old.contents) }
+        ensures seen_acts { self.new.seen ≡ self.old.seen }
+        ensures seen_cells { cells.new.seen ≡ cells.old.seen }
     {
         let Some(node) = told_of(flat, event) else {
             return Ok(());
@@ -139,6 +141,7 @@ impl Actions {
             (events.Handle (site_in (plan_of flat.now) node).path handle)
             cells.old.contents self.now.contents cells.new.contents self.now.contents) }
         ensures err { OnErr result (cells.new.contents ≡ cells.old.contents) }
+        ensures seen { cells.new.seen ≡ cells.old.seen }
     {
         if handle_counts(state_of(flat, cells, node), self.of(node)) {
             cells.set(alloc, flat.handle_cell(node), Value::Handle(handle))?;
@@ -160,6 +163,7 @@ impl Actions {
             (events.Return (site_in (plan_of flat.now) node).path value.now)
             cells.old.contents self.now.contents cells.new.contents self.now.contents) }
         ensures err { OnErr result (cells.new.contents ≡ cells.old.contents) }
+        ensures seen { cells.new.seen ≡ cells.old.seen }
     {
         if return_counts(state_of(flat, cells, node)) {
             if let Some((cell, kind)) = result_slot(&flat.node(node).body, self.of(node)) {
@@ -183,6 +187,7 @@ impl Actions {
             (events.AbortDone (site_in (plan_of flat.now) node).path)
             cells.now.contents self.old.contents cells.now.contents self.new.contents) }
         ensures err { OnErr result (self.new.contents ≡ self.old.contents) }
+        ensures seen { self.new.seen ≡ self.old.seen }
     {
         let act = self.of(node);
         if abort_done_counts(state_of(flat, cells, node), act) {
@@ -207,6 +212,8 @@ impl Actions {
             cells.old.contents self.old.contents cells.new.contents self.new.contents) }
         ensures err_acts { OnErr result (self.new.contents ≡ self.old.contents) }
         ensures err_cells { OnErr result (cells.new.contents ≡ cells.old.contents) }
+        ensures seen_acts { self.new.seen ≡ self.old.seen }
+        ensures seen_cells { cells.new.seen ≡ cells.old.seen }
     {
         if acknowledgement_counts(state_of(flat, cells, node), &flat.node(node).body) {
             self.reserve(alloc, 1)?;

@@ -158,4 +158,13 @@ impl Reports {
         self.changes.clear();
         self.is_marked = false;
     }
+
+    /// Forgets all reports, and ends a mark. It takes no memory.
+    pub fn clear(&mut self)
+        ensures { self.new ≡ unmarked [] }
+    {
+        self.values.clear();
+        self.changes.clear();
+        self.is_marked = false;
+    }
 }

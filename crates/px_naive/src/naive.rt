@@ -58,6 +58,11 @@ impl Stepper for Naive {
         })
     }
 
+    fn rewind(&mut self) {
+        self.parts.rewind();
+        self.begun = Begun::Start;
+    }
+
     fn begin(&mut self, alloc: Global, event: &Event) -> Result<(), NoMemory> {
         self.parts.mark();
         if let Err(fault) = self.parts.take(alloc, event) {

@@ -52,7 +52,7 @@ cell_at_rest (suc nodes) (suc node) which within some =
     ∙ get_or-append-add at_rest (all_at_rest nodes) (5 * node + which) values.Unknown
     ∙ cell_at_rest nodes node which (omega arith) some
 
-held_at_rest : (plan : List Site) (node which : ℕ) → node < length plan → which < 5
+pub held_at_rest : (plan : List Site) (node which : ℕ) → node < length plan → which < 5
     → held (first_cells plan) (node_cell plan node + which) ≡ get_or at_rest which values.Unknown
 held_at_rest plan node which within some =
     let many : length (replicate (variable_cells plan) values.Unknown) ≡ variable_cells plan =

@@ -1,4 +1,5 @@
 pub mod Beginning
 pub mod Found
 pub mod Integers
+pub mod Refreshing
 pub mod Scalars

@@ -2,3 +2,4 @@ pub mod Parts
 pub mod Fresh
 pub mod Marks
 pub mod Readings
+pub mod Seen

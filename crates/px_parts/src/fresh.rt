@@ -8,6 +8,7 @@ ghost use Rattle.px_flat.specs.Flat.{plan_of};
 ghost use Rattle.px_parts.specs.Fresh.{at_rest, first_cells};
 ghost use Rattle.px_parts.specs.Marks.{AreUnmarked};
 ghost use Rattle.px_parts.specs.Parts.{AreStanding, plan_in, world_in};
+ghost use Rattle.px_parts.specs.Seen.{AreAllSeen};
 
 use crate::parts::Parts;
 use px_cells::Cells;
@@ -52,13 +53,14 @@ fn push_node(cells: &mut Vec<Value>) -> Result<(), NoMemory>
 }
 
 impl Parts {
-    /// The parts of a plan of which no node has begun. Nothing was reported, and no mark stands.
+    /// The parts of a plan of which no node has begun. Nothing was reported, no mark stands, and all is seen.
     pub fn fresh(alloc: Global, plan: &Plan) -> Result<Parts, NoMemory>
         requires { IsFit (tree_of plan.now) }
         ensures plan { IfOk result (λ parts. plan_in parts ≡ sites (tree_of plan.now)) }
         ensures world { IfOk result (λ parts. world_in parts ≡ initial_world (plan_in parts)) }
         ensures stand { IfOk result AreStanding }
         ensures unmarked { IfOk result AreUnmarked }
+        ensures seen { IfOk result AreAllSeen }
         ensures moves { IfOk result (λ parts. parts.moves.items ≡ []) }
     {
         let flat = flatten(alloc, plan)?;

@@ -11,6 +11,7 @@ use Rattle.px_sem.specs.declared.standing.Standing.{Standing}
 use Rattle.px_sem.specs.declared.standing.Standing.TheVariants.{Running, Finished}
 use Rattle.px_sem.specs.World.{World, standing_of}
 use Rattle.px_sem.specs.Run.{run, posted}
+use Rattle.px_sem.specs.Stepper.{State, settled_state}
 
 -- a log: entries with their replies
 abbrev pub Log : Type 0
@@ -81,3 +82,7 @@ pub record IsLegal (plan : List Site) (history : List Entry) (limit : ℕ) (log 
 abbrev pub WouldBeAccepted : List Site → ℕ → List Entry → Entry → Type 0
 WouldBeAccepted plan limit history entry =
     IsLegal plan history limit (record { entry = entry; reply = replies.Accepted (length history + 1) } ∷ [])
+
+-- what runs the plan is settled, in the world that the run over the history is
+abbrev pub HasRun : List Site → List Entry → State → Type 0
+HasRun plan history now = (run plan (events_of history) ≡ Some now.world) × (now ≡ settled_state plan now.world)

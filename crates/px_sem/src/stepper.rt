@@ -17,7 +17,7 @@ use px_value::{Name, NoMemory, NodeState, Path};
 use std::alloc::Global;
 
 /// A world of a plan that goes on by micro steps, and takes an event wherever it is quiet.
-pub trait Stepper: Sized + Send + Drop {
+pub trait Stepper: Sized + Drop {
     /// The plan that it stands for, the world, and what is begun in it.
     ghost state: { Self → State };
 
@@ -29,6 +29,12 @@ pub trait Stepper: Sized + Send + Drop {
         requires fit { IsFit (tree_of plan.now) }
         ensures fresh { IfOk result (λ s. state s ≡ fresh (sites (tree_of plan.now))) }
         ensures moves { IfOk result (λ s. last_moves s ≡ []) };
+
+    /// Goes back to the world before the start; event 0, which is the start, is begun. It takes no memory.
+    fn rewind(&mut self)
+        requires nothing { (state self.old).pending ≡ Pending.Nothing }
+        ensures fresh { state self.new ≡ fresh (state self.old).nodes }
+        ensures moves { last_moves self.new ≡ [] };
 
     /// Takes an event, which is begun then. After `NoMemory` all is as before. The moves stay.
     fn begin(&mut self, alloc: Global, event: &Event) -> Result<(), NoMemory>

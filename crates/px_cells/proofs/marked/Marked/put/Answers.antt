@@ -1,31 +1,11 @@
-use Rattle.std.proofs.Common.{◌≡◌, ℕ, ◌<◌, ◌^◌, ◌∷◌, ◌++◌, [], length, get_or, set, Some, None, is_some, true, false, not, arith, rules, sym, ap, ◌∙◌, subst}
+use Rattle.std.proofs.Common.{◌≡◌, ◌<◌, ◌∷◌, ◌++◌, [], length, get_or, set, Some, None, is_some, true, false, not, arith, rules, sym, ap, ◌∙◌}
 use Rattle.std.proofs.lemmas.List.{length-set, get_or_read}
-use Rattle.std.specs.Vec.{with_item}
-use Rattle.px_cells.specs.declared.marked.Marked.TheInside.{Inside}
-use Rattle.px_cells.specs.Keeping.{IsKept}
 use Rattle.px_cells.specs.Marked.{Contents, MarkedData, written}
-use Rattle.px_cells.specs.News.{NewsData, noting, with_number}
-use Rattle.px_cells.proofs.Flagging.{seen-write}
+use Rattle.px_cells.proofs.Kept.{kept_write}
 use Rattle.px_cells.proofs.Noting.{noted_first, once_first}
 use Rattle.px_cells.proofs.Writing.{held, first_write, later_write, free_write}
 use Rattle.px_cells.proofs.marked.Marked.put.Goals as goal
 use Rattle.px_cells.proofs.marked.Marked.put.Goals.{else-self-via-then-self+else-is_none, else-self-via-else-self}
-
--- a value is written, and no old one is kept
-kept-write : {T : Type 0} (m : Inside T) (at : ℕ) (value : T) (news : NewsData) → IsKept m
-    → news ≡ noting m.news (with_number m.news.numbers at) → IsKept (record m { values = with_item m.values at value; news = news })
-kept-write m at value news kept noted =
-    let many = length-set m.values.items at value in
-    record {
-      sized = kept.sized ∙ sym many;
-      small = subst (λ n. n < 2 ^ 32) (sym many) kept.small;
-      noted = kept.noted;
-      once = kept.once;
-      unmarked = kept.unmarked;
-      counted = ap (λ (news : NewsData). news.count) noted ∙ kept.counted ∙ sym many;
-      as_seen = rw (ap (λ (news : NewsData). news.numbers) noted)
-          (seen-write m.values.items m.seen.value.items m.news.numbers at value kept.as_seen);
-    }
 
 pub invariant_of-self : goal.invariant_of-self
 invariant_of-self g c =
@@ -36,7 +16,7 @@ invariant_of-self g c =
     let pushed : c.push.new.self.items ≡ changed ++ c.args.at ∷ [] = search rules in
     let many : length c.args.self.now.contents.values ≡ length values = ap (λ (m : MarkedData g.row.T.Denot). length m.contents.values) (sym c.self.view_is) in
     let within : c.args.at < length olds = omega (arith, many, c.self.invariant.sized, c.requires.within) in
-    let free = kept-write c.self.inside c.args.at c.replace-old.new.dest c.note.new.self c.self.invariant c.note.ensures in
+    let free = kept_write c.self.inside c.args.at c.replace-old.new.dest c.note.new.self c.self.invariant c.note.ensures in
     record {
       sized = length-set olds c.args.at (Some c.replace-old.result) ∙ free.sized;
       small = free.small;
@@ -49,11 +29,11 @@ invariant_of-self g c =
 
 pub invariant_of-self-else-is_none : goal.invariant_of-self-else-is_none
 invariant_of-self-else-is_none g c =
-    kept-write c.self.inside c.args.at c.replace-old.new.dest c.note.new.self c.self.invariant c.note.ensures
+    kept_write c.self.inside c.args.at c.replace-old.new.dest c.note.new.self c.self.invariant c.note.ensures
 
 pub invariant_of-self-else-self : goal.invariant_of-self-else-self
 invariant_of-self-else-self g c =
-    kept-write c.self.inside c.args.at c.replace-old.new.dest c.note.new.self c.self.invariant c.note.ensures
+    kept_write c.self.inside c.args.at c.replace-old.new.dest c.note.new.self c.self.invariant c.note.ensures
 
 pub returns-then-is_none-clause-contents : goal.returns-then-is_none-clause-contents
 returns-then-is_none-clause-contents g c =

@@ -17,7 +17,7 @@ pub returns-clause-world : goal.returns-clause-world
 returns-clause-world c =
     let plan = plan_of c.in_ok-flat.flat in
     (λ i. world_of plan ((ap (λ contents. contents.values) c.in_ok-new-2.ensures.contents ∙ c.in_ok-values.ensures) i)
-    (c.new-4.ensures i).reports ((c.in_ok-new.ensures i).values))
+    (c.new-4.ensures i).reports ((c.in_ok-new.ensures.contents i).values))
     ∙ world_at_rest plan
 
 pub returns-clause-stand : goal.returns-clause-stand
@@ -25,5 +25,5 @@ returns-clause-stand c =
     let plan = plan_of c.in_ok-flat.flat in
     subst (λ (cells : List Value). IsParts plan cells c.in_ok-new.field-0.contents.values)
     (sym (ap (λ contents. contents.values) c.in_ok-new-2.ensures.contents ∙ c.in_ok-values.ensures))
-    (subst (IsParts plan (first_cells plan)) (sym (ap (λ contents. contents.values) c.in_ok-new.ensures))
+    (subst (IsParts plan (first_cells plan)) (sym (ap (λ contents. contents.values) c.in_ok-new.ensures.contents))
     (parts_at_rest plan))
