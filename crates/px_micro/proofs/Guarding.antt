@@ -1,18 +1,22 @@
 -- The guards of a node by what is seen of it are those that the semantics asks.
 use Rattle.std.proofs.Common.{◌≡◌, ℕ, ◌<◌, Bool, List, length, refl, ap, sym, ◌∙◌}
+use Rattle.px_value.specs.declared.enums.NodeState.{NodeState}
 use Rattle.px_core.specs.declared.node.Kind.{Kind}
 use Rattle.px_core.specs.declared.node.Kind.TheVariants as kinds
 use Rattle.px_core.specs.Plan.{Site}
 use Rattle.px_sem.specs.declared.guards.Guards.{Guards}
-use Rattle.px_sem.specs.Guards.{guards, is_ready, each_child, is_at_rest}
+use Rattle.px_sem.specs.Guards.{is_ready, each_child, is_at_rest}
 use Rattle.px_sem.specs.World.{World, NodeRecord, record_at, parent_state}
+use Rattle.px_flat.specs.Numbered.{ConditionsNumbered, numbered_conditions}
 use Rattle.px_flat.specs.Row.{site_in}
 use Rattle.px_parts.specs.declared.parts.Parts.{Parts}
+use Rattle.px_tables.specs.Reading.{read_by}
+use Rattle.px_micro.specs.declared.asked.Asked.{Asked}
 use Rattle.px_micro.specs.Above.{asked_of}
-use Rattle.px_micro.specs.Guarded.{guards_in, ready_in}
-use Rattle.px_parts.specs.Parts.{plan_in, world_in, record_of}
-use Rattle.px_micro.specs.Truths.{truths_in}
-use Rattle.px_micro.proofs.Seeing.{record_is}
+use Rattle.px_micro.specs.Guarded.{guards_at, guards_in, ready_in}
+use Rattle.px_parts.specs.Parts.{AreStanding, plan_in, world_in, record_of, value_in}
+use Rattle.px_micro.specs.Truths.{Truths, truths_in}
+use Rattle.px_micro.proofs.Seeing.{record_is, truths_by, truths_are}
 
 -- whether a node is ready, by its kind
 ready_is : (plan : List Site) (now : World) (site : Site)
@@ -36,7 +40,7 @@ seen plan now site r node =
 
 pub guards_are : (parts : Parts) (node : ℕ) → node < length (plan_in parts)
     → seen (plan_in parts) (world_in parts) (site_in (plan_in parts) node) (record_of parts node) node
-    ≡ guards (plan_in parts) (world_in parts) (site_in (plan_in parts) node)
+    ≡ guards_at parts node
 guards_are parts node here =
     let plan : List Site = plan_in parts in
     let now : World = world_in parts in
@@ -44,3 +48,18 @@ guards_are parts node here =
     ap (λ (r : NodeRecord). seen plan now site r node) (sym (record_is parts node here))
     ∙ ap (λ (ready : Bool). record (seen plan now site (record_at now site.path) node) { ready = ready })
     (sym (ready_is plan now site))
+
+-- what is read of a node, by what is asked of it and by its numbered conditions
+abbrev looked : Parts → ℕ → Asked → Truths → Guards
+looked parts node asked truths =
+    guards_in (site_in (plan_in parts) node).head.kind (record_of parts node)
+    (parent_state (world_in parts) (site_in (plan_in parts) node)) asked
+    (each_child is_at_rest (plan_in parts) (world_in parts) (site_in (plan_in parts) node).path) truths
+
+pub reads_are : (parts : Parts) (node : ℕ) (state : NodeState) (asked : Asked) (conditions : ConditionsNumbered)
+    → AreStanding parts → node < length (plan_in parts) → asked ≡ asked_of (plan_in parts) (world_in parts) node
+    → conditions ≡ numbered_conditions (plan_in parts) (site_in (plan_in parts) node).head.conditions
+    → read_by state (looked parts node asked (truths_by (value_in parts) conditions)) ≡ read_by state (guards_at parts node)
+reads_are parts node state asked conditions stand here asked_is are =
+    ap (read_by state) ((λ i. looked parts node (asked_is i) (truths_are parts node conditions stand here are i))
+    ∙ guards_are parts node here)

@@ -14,10 +14,9 @@ use Rattle.px_flat.proofs.Tables.{flat_sound}
 use Rattle.px_flat.proofs.Worlds.{record_at-world_of}
 use Rattle.px_parts.specs.declared.parts.Parts.{Parts}
 use Rattle.px_micro.specs.declared.asked.Asked.{Asked}
-use Rattle.px_micro.specs.declared.truths.Truths.{Truths}
 use Rattle.px_micro.specs.Above.{asked_by, asked_of, asked_below, asks_at, asks_in, asked_too}
 use Rattle.px_parts.specs.Parts.{plan_in, world_in, record_of, value_in, AreStanding}
-use Rattle.px_micro.specs.Truths.{truths_in}
+use Rattle.px_micro.specs.Truths.{Truths, truths_in}
 use Rattle.px_micro.proofs.Ancestors.{IsTop, IsUnder}
 
 -- the record of a node

@@ -1,13 +1,16 @@
 //! One micro step over a list of candidate nodes: who goes, who loses, and what those that go do, all at once.
 //!
 //! The modules are in the order of the data. `records` is what the parts say of a command or an update.
-//! `truths`, `asked` and `children` look in at a node's conditions, up at its ancestors and down at its children; `sight` has
-//! the guards from them and where each candidate goes. `wanting` drops the losers of conflicts. `effects` is what a move
-//! does, `starting` and `failing` say it by the body of a node, and `doing` by the kind of the move too, which is from
-//! `kinds`. `turns` gathers what those that go do, in the world before the step, and `moving` does it, which takes no
-//! memory. `step` is the list of these phases.
+//! `truths`, `asked` and `children` look in at a node's conditions, up at its ancestors and down at its children; `guarded`
+//! has the guards from them, those alone that the rows of the node's state read, and `sight` where each candidate goes.
+//! `wanting` drops the losers of conflicts. `effects` is what a move does, `starting` and `failing` say it by the body of a
+//! node, and `doing` by the kind of the move too, which is from `kinds`. `turns` gathers what those that go do, in the world
+//! before the step, and `moving` does it, which takes no memory. `step` is the list of these phases.
 //!
-//! `specs/Candidates.antt` says which nodes a step has to be given, and `specs/Stepping.antt` what it leaves.
+//! A step has two halves: `going` says who goes, and `act` what all that go do, however they were found. `micro` is both.
+//!
+//! `specs/Candidates.antt` says which nodes a step has to be given, `specs/Going.antt` which of them go, and
+//! `specs/Stepping.antt` what it leaves.
 #![tactic(auto)]
 
 mod asked;
@@ -15,6 +18,7 @@ mod children;
 mod doing;
 mod effects;
 mod failing;
+mod guarded;
 mod kinds;
 mod moving;
 mod places;
@@ -27,4 +31,6 @@ mod truths;
 mod turns;
 mod wanting;
 
-pub use step::micro;
+pub use sight::Going;
+pub use step::{act, micro};
+pub use wanting::going;

@@ -1,10 +1,11 @@
 // Does what was gathered. There is room for all of it, so nothing here takes memory or fails.
-ghost use Rattle.std.specs.Prelude.{◌≡◌, ◌+◌, ◌*◌, ◌<◌, ◌≤◌, fold, length, map};
+ghost use Rattle.std.specs.Prelude.{◌≡◌, ◌+◌, ◌*◌, ◌<◌, ◌≤◌, fold, length, map, set};
 ghost use Rattle.std.specs.List.{All};
 ghost use Rattle.px_sem.specs.Expressions.{failure_value, outcome_value};
 ghost use Rattle.px_sem.specs.Step.{micro, moves};
 ghost use Rattle.px_flat.specs.Flat.{plan_of};
 ghost use Rattle.px_flat.specs.Layout.{all_cells};
+ghost use Rattle.px_flat.specs.Numbered.{held};
 ghost use Rattle.px_micro.specs.Going.{AreAllGoing};
 ghost use Rattle.px_micro.specs.Moving.{with_act, with_said, with_turn, with_turn_act, put_value, put_write};
 ghost use Rattle.px_parts.specs.Parts.{AreStanding, AreOfOnePlan, plan_in, world_in};
@@ -36,6 +37,20 @@ fn failure_value(failure: Option<Failure>) -> Value
     }
 }
 
+// Puts a value where its cell holds another one. What stays as it is costs no room in the undo log, and is no news.
+fn put(cells: &mut Cells, at: u32, value: Value)
+    requires within { at < length cells.old.contents.values }
+    requires room { 0 < cells.old.room }
+    ensures values { cells.new.contents.values ≡ set cells.old.contents.values at value }
+    ensures marked { cells.new.contents.marked ≡ cells.old.contents.marked }
+    ensures same { held cells.old.contents.values at ≡ value → cells.new ≡ cells.old }
+    ensures room { cells.old.room ≤ cells.new.room + 1 }
+{
+    if *cells.get(at) != value {
+        cells.put(at, value);
+    }
+}
+
 // What the nodes that go write.
 fn write(cells: &mut Cells, writes: Vec<CellWrite>)
     requires within { All (λ write. write.cell < length cells.old.contents.values) writes.items }
@@ -45,7 +60,7 @@ fn write(cells: &mut Cells, writes: Vec<CellWrite>)
     ensures room { cells.old.room ≤ cells.new.room + length writes.items }
 {
     for CellWrite { cell, value, .. } in writes {
-        cells.put(cell, value);
+        put(cells, cell, value);
     }
 }
 
@@ -58,7 +73,7 @@ fn begin(cells: &mut Cells, initial: Vec<CellValue>)
     ensures room { cells.old.room ≤ cells.new.room + length initial.items }
 {
     for CellValue { cell, value } in initial {
-        cells.put(cell, value);
+        put(cells, cell, value);
     }
 }
 
@@ -80,8 +95,12 @@ fn set_out(flat: &Flat, cells: &mut Cells, actions: &mut Actions, node: u32, und
         UnderWay::Kept => {}
         UnderWay::Begun(act) => {
             actions.put(node, act);
-            cells.put(flat.handle_cell(node), Value::Unknown);
-            cells.put(flat.acknowledgement_cell(node), Value::Boolean(false));
+            put(cells, flat.handle_cell(node), Value::Unknown);
+            put(
+                cells,
+                flat.acknowledgement_cell(node),
+                Value::Boolean(false),
+            );
         }
         UnderWay::Aborting { index } => actions.put(
             node,
@@ -109,9 +128,17 @@ fn arrive(flat: &Flat, cells: &mut Cells, actions: &mut Actions, turn: Turn)
 {
     let Turn { going, under_way } = turn;
     let (node, arrival) = (going.node, going.arrival);
-    cells.put(flat.state_cell(node), Value::State(arrival.to));
-    cells.put(flat.outcome_cell(node), outcome_value(arrival.outcome));
-    cells.put(flat.failure_cell(node), failure_value(arrival.failure));
+    put(cells, flat.state_cell(node), Value::State(arrival.to));
+    put(
+        cells,
+        flat.outcome_cell(node),
+        outcome_value(arrival.outcome),
+    );
+    put(
+        cells,
+        flat.failure_cell(node),
+        failure_value(arrival.failure),
+    );
     set_out(flat, cells, actions, node, under_way);
 }
 

@@ -87,7 +87,9 @@ fn staying(alloc: Global, wanted: &[Going], losers: &[u32]) -> Result<Vec<Going>
     Ok(kept)
 }
 
-/// The candidates that go, with where they go.
+/// All nodes that go, in preorder, with where they go: the candidates that have a destination, less the losers of
+/// conflicts over a variable. The candidates rise, and each node that has a destination is among them. The world is quiet
+/// exactly where none goes.
 pub fn going(alloc: Global, parts: &Parts, candidates: &[u32]) -> Result<Vec<Going>, NoMemory>
     requires stand { AreStanding parts.now }
     requires candidates { AreCandidates (plan_in parts.now) (world_in parts.now) candidates.now }

@@ -1,1 +1,2 @@
 pub mod FirstRows
+pub mod Readings

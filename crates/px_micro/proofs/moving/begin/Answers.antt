@@ -2,7 +2,6 @@ use Rattle.std.proofs.Common.{◌≡◌, ◌<◌, ◌∷◌, fold, length, All, 
 use Rattle.std.specs.Vec.Iter.{into_iter_items}
 use Rattle.std.proofs.lemmas.List.{length-set}
 use Rattle.std.proofs.lemmas.List.Elements.{All-tail}
-use Rattle.px_cells.specs.Cells.{Contents}
 use Rattle.px_micro.specs.declared.turns.CellValue.{CellValue}
 use Rattle.px_micro.specs.Moving.{put_value}
 use Rattle.px_micro.proofs.moving.begin.Goals as goal
@@ -14,9 +13,8 @@ loop-cell-preserved c =
     let one = c.in-Some.field-0 in
     let left = into_iter_items c.next.new.self in
     let steps : into_iter_items at.cell-iterator ≡ one ∷ left = c.in-Some.ensures.steps.0 in
-    let put : c.put.new.self.contents.values ≡ put_value old one =
-    ap (λ (contents : Contents). contents.values) c.put.ensures.contents in
-    let sized : length c.put.new.self.contents.values ≡ length old = ap length put ∙ length-set old one.cell one.value in
+    let put : c.put.new.cells.contents.values ≡ put_value old one = c.put.ensures.values in
+    let sized : length c.put.new.cells.contents.values ≡ length old = ap length put ∙ length-set old one.cell one.value in
     let within : All (λ (one : CellValue). one.cell < length old) left =
     All-tail (λ (one : CellValue). one.cell < length old) one left
     (subst (All (λ (one : CellValue). one.cell < length old)) steps at.invariant.within) in
@@ -27,5 +25,5 @@ loop-cell-preserved c =
       room = omega (arith, at.invariant.room, c.put.ensures.room, ap length steps);
       left = omega (arith, at.invariant.left, c.put.ensures.room, ap length steps);
       values = ap (λ values. fold put_value values left) put ∙ sym (ap (fold put_value old) steps) ∙ at.invariant.values;
-      marked = ap (λ (contents : Contents). contents.marked) c.put.ensures.contents ∙ at.invariant.marked;
+      marked = c.put.ensures.marked ∙ at.invariant.marked;
     }

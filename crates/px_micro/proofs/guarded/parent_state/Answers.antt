@@ -3,7 +3,7 @@ use Rattle.px_parts.specs.Parts.{record_of}
 use Rattle.px_micro.proofs.Ancestors.{placed}
 use Rattle.px_micro.proofs.Chains.{has_parent}
 use Rattle.px_micro.proofs.Seeing.{parent_is, parent_at_top}
-use Rattle.px_micro.proofs.sight.parent_state.Goals as goal
+use Rattle.px_micro.proofs.guarded.parent_state.Goals as goal
 
 pub returns-in-Some : goal.returns-in-Some
 returns-in-Some c =
