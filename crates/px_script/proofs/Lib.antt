@@ -22,3 +22,4 @@ pub mod OwnPosts
 pub mod Walks
 pub mod Thins
 pub mod Sounds
+pub mod TellingKinds

@@ -2,6 +2,7 @@ pub mod Equality
 pub mod Fault
 pub mod Fit
 pub mod Follows
+pub mod Kinds
 pub mod LineEquality
 pub mod NodeLine
 pub mod Order
@@ -12,6 +13,7 @@ pub mod Script
 pub mod SetLine
 pub mod Setting
 pub mod Sound
+pub mod Telling
 pub mod Text
 pub mod ThreadLine
 pub mod Threads

@@ -2,7 +2,7 @@
 //!
 //! `script`, `todo` and `line` are the parts of a script, with `Todos` and `Lines` the lists of them. `read` reads a
 //! script from bytes, with `threads` for the lines of each thread so far, and `parsed_line` one line: `set_line`,
-//! `node_line`, `wait_line` and `thread_line` have the kinds of lines, `place` finds the VALUEs, `value` reads them, and
+//! `node_line` with `kinds`, `wait_line` and `thread_line` have the kinds of lines, `place` finds the VALUEs, `value` reads them, and
 //! `text` cuts lines and words. `order` turns a script into its posts, in file order, `left` is what a history leaves of
 //! a script, and `stall` says what stops a thread.
 //!
@@ -13,6 +13,7 @@
 
 mod crew_end;
 mod fault;
+mod kinds;
 pub mod laws;
 mod left;
 mod line;

@@ -1,16 +1,16 @@
 // What a line of a script says.
 ghost use Rattle.std.specs.Prelude.{◌≡◌, IfOk};
-ghost use Rattle.px_flat.specs.Flat.{plan_of};
+ghost use Rattle.px_script.specs.Kinds.{plan_of};
 ghost use Rattle.px_script.specs.ParsedLine.{said, is_silent, parsed_line};
 
 use crate::fault::FaultKind;
+use crate::kinds::Kinds;
 use crate::node_line::{abort_line, ack_line, handle_line, return_line};
 use crate::set_line::set_line;
 use crate::text::{content, is_word, split_word};
 use crate::thread_line::thread_line;
 use crate::wait_line::wait_line;
 use px_event::{Cond, Event};
-use px_flat::Flat;
 use px_value::NoMemory;
 use std::alloc::Global;
 use std::str;
@@ -30,8 +30,8 @@ pub(crate) enum ParsedLine {
 }
 
 /// Reads one line.
-pub(crate) fn read_line(alloc: Global, flat: &Flat, line: &[u8]) -> Result<ParsedLine, NoMemory>
-    ensures { IfOk result (λ says. says ≡ parsed_line (plan_of flat.now) line.now) }
+pub(crate) fn read_line(alloc: Global, kinds: &Kinds, line: &[u8]) -> Result<ParsedLine, NoMemory>
+    ensures { IfOk result (λ says. says ≡ parsed_line (plan_of kinds.now) line.now) }
 {
     let bytes = content(line);
     if is_silent(bytes) {
@@ -40,7 +40,7 @@ pub(crate) fn read_line(alloc: Global, flat: &Flat, line: &[u8]) -> Result<Parse
     let Ok(text) = str::from_utf8(bytes) else {
         return Ok(ParsedLine::Faulty(FaultKind::BadLine));
     };
-    match said(alloc, flat, text)? {
+    match said(alloc, kinds, text)? {
         Some(says) => Ok(says),
         None => Ok(ParsedLine::Faulty(FaultKind::BadLine)),
     }
@@ -54,22 +54,22 @@ fn is_silent(text: &[u8]) -> bool
 }
 
 /// What a text says by its first word; None exactly where it has none of the shapes of a line.
-fn said(alloc: Global, flat: &Flat, text: &str) -> Result<Option<ParsedLine>, NoMemory>
-    ensures { IfOk result (λ says. says ≡ said (plan_of flat.now) text.now) }
+fn said(alloc: Global, kinds: &Kinds, text: &str) -> Result<Option<ParsedLine>, NoMemory>
+    ensures { IfOk result (λ says. says ≡ said (plan_of kinds.now) text.now) }
 {
     let (word, behind) = split_word(text);
     if is_word(word, "set") {
         set_line(alloc, behind)
     } else if is_word(word, "handle") {
-        handle_line(alloc, flat, behind)
+        handle_line(alloc, kinds, behind)
     } else if is_word(word, "return") {
-        return_line(alloc, flat, behind)
+        return_line(alloc, kinds, behind)
     } else if is_word(word, "abort") {
-        abort_line(alloc, flat, behind)
+        abort_line(alloc, kinds, behind)
     } else if is_word(word, "ack") {
-        ack_line(alloc, flat, behind)
+        ack_line(alloc, kinds, behind)
     } else if is_word(word, "wait") {
-        wait_line(alloc, flat, behind)
+        wait_line(alloc, kinds, behind)
     } else if is_word(word, "thread") {
         Ok(thread_line(behind))
     } else {

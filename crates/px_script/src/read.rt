@@ -2,7 +2,7 @@
 ghost use Rattle.std.specs.Prelude.{◌≡◌, ◌<◌, ◌≤◌, length, IsTrue, IfOk, IfErr, OnOk};
 ghost use Rattle.px_core.specs.Fit.{IsFit};
 ghost use Rattle.px_core.specs.Plan.{tree_of, sites};
-ghost use Rattle.px_flat.specs.Flat.{plan_of};
+ghost use Rattle.px_script.specs.Kinds.{plan_of};
 ghost use Rattle.px_script.specs.Fit.{IsFitScript};
 ghost use Rattle.px_script.specs.Fault.{number_of};
 ghost use Rattle.px_script.specs.Script.{Threads, Fault, script, IsFaultOf};
@@ -12,6 +12,7 @@ ghost use Rattle.px_script.specs.declared.fault.FaultKind.TheVariants.{TooManyLi
 ghost use Rattle.px_script.specs.declared.fault.ScriptFault.TheVariants.{NoMemory as OutOfMemory};
 
 use crate::fault::{FaultKind, ScriptFault};
+use crate::kinds::Kinds;
 use crate::line::{Line, What};
 use crate::parsed_line::{ParsedLine, read_line};
 use crate::script::Script;
@@ -19,7 +20,6 @@ use crate::text::split_line;
 use crate::threads::ThreadLines;
 use crate::todo::Todo;
 use px_core::Plan;
-use px_flat::{Flat, flatten};
 use std::alloc::Global;
 
 /// The most bytes that a script has.
@@ -54,18 +54,18 @@ pub fn read_script(alloc: Global, bytes: &[u8], plan: &Plan) -> Result<Script, S
     ensures fit { IfOk result (λ read. IsFitScript read) }
     ensures fault { IfErr result (IsFaultOf (script (sites (tree_of plan.now)) bytes.now)) }
 {
-    let flat = flatten(alloc, plan)?;
-    let threads = read_lines(alloc, &flat, bytes)?;
+    let kinds = Kinds::of(alloc, plan)?;
+    let threads = read_lines(alloc, &kinds, bytes)?;
     Ok(Script {
         threads: threads.into(),
     })
 }
 
 /// The threads that the lines spell.
-fn read_lines(alloc: Global, flat: &Flat, bytes: &[u8]) -> Result<Vec<Todo>, ScriptFault>
+fn read_lines(alloc: Global, kinds: &Kinds, bytes: &[u8]) -> Result<Vec<Todo>, ScriptFault>
     requires { length bytes.now ≤ SCRIPT_LIMIT }
-    ensures ok { IfOk result (λ threads. script (plan_of flat.now) bytes.now ≡ Threads threads.items) }
-    ensures fault { IfErr result (IsFaultOf (script (plan_of flat.now) bytes.now)) }
+    ensures ok { IfOk result (λ threads. script (plan_of kinds.now) bytes.now ≡ Threads threads.items) }
+    ensures fault { IfErr result (IsFaultOf (script (plan_of kinds.now) bytes.now)) }
 {
     let mut lines = ThreadLines::new(alloc);
     let mut thread = FIRST_THREAD;
@@ -74,7 +74,7 @@ fn read_lines(alloc: Global, flat: &Flat, bytes: &[u8]) -> Result<Vec<Todo>, Scr
     while let Some(text) = left {
         let (line, behind) = split_line(text);
         number += 1;
-        match read_line(alloc, flat, line)? {
+        match read_line(alloc, kinds, line)? {
             ParsedLine::Nothing => {}
             ParsedLine::Posts(event) => add_line(&mut lines, thread, number, What::Post(event))?,
             ParsedLine::Waits(cond) => add_line(&mut lines, thread, number, What::Wait(cond))?,

@@ -1,15 +1,15 @@
 // Lines that wait.
 ghost use Rattle.std.specs.Prelude.{◌≡◌, IfOk};
-ghost use Rattle.px_flat.specs.Flat.{plan_of};
+ghost use Rattle.px_script.specs.Kinds.{plan_of};
 ghost use Rattle.px_script.specs.WaitLine.{state_of, state_wait, events_wait, wait_line};
 
 use crate::fault::FaultKind;
+use crate::kinds::Kinds;
 use crate::node_line::node_at;
 use crate::parsed_line::ParsedLine;
 use crate::text::{is_word, split_word};
 use crate::thread_line::are_digits;
 use px_event::Cond;
-use px_flat::Flat;
 use px_value::{NoMemory, NodeState};
 use std::alloc::Global;
 
@@ -30,14 +30,14 @@ const STATES: [NodeState; 7] = [
 /// the shape.
 pub(crate) fn wait_line(
     alloc: Global,
-    flat: &Flat,
+    kinds: &Kinds,
     text: &str,
 ) -> Result<Option<ParsedLine>, NoMemory>
-    ensures { IfOk result (λ says. says ≡ wait_line (plan_of flat.now) text.now) }
+    ensures { IfOk result (λ says. says ≡ wait_line (plan_of kinds.now) text.now) }
 {
     let (word, behind) = split_word(text);
     if is_word(word, "state") {
-        state_wait(alloc, flat, behind)
+        state_wait(alloc, kinds, behind)
     } else if is_word(word, "events") {
         Ok(events_wait(behind))
     } else {
@@ -46,14 +46,14 @@ pub(crate) fn wait_line(
 }
 
 /// What a wait for `PATH STATE` says.
-fn state_wait(alloc: Global, flat: &Flat, text: &str) -> Result<Option<ParsedLine>, NoMemory>
-    ensures { IfOk result (λ says. says ≡ state_wait (plan_of flat.now) text.now) }
+fn state_wait(alloc: Global, kinds: &Kinds, text: &str) -> Result<Option<ParsedLine>, NoMemory>
+    ensures { IfOk result (λ says. says ≡ state_wait (plan_of kinds.now) text.now) }
 {
     let (path, word) = split_word(text);
     let Some(state) = state_of(word) else {
         return Ok(None);
     };
-    Ok(Some(match node_at(alloc, flat, path)? {
+    Ok(Some(match node_at(alloc, kinds, path)? {
         Some((node, _)) => ParsedLine::Waits(Cond::State { node, state }),
         None => ParsedLine::Faulty(FaultKind::BadNode),
     }))

@@ -1,7 +1,7 @@
 use Rattle.std.proofs.Common.{◌≡◌, IfErr, ◌+◌, ◌∷◌, length, List, ℕ, subst, rules, sym, ap, ◌∙◌, refl, arith}
 use Rattle.std.specs.Option.{option_copied}
 use Rattle.px_core.specs.Plan.{Site}
-use Rattle.px_flat.specs.Flat.{plan_of}
+use Rattle.px_script.specs.Kinds.{plan_of}
 use Rattle.px_script.specs.ParsedLine.{parsed_line}
 use Rattle.px_script.specs.Script.{script, IsFaultOf}
 use Rattle.px_script.specs.Text.{lines_of, lines_left}
@@ -13,14 +13,14 @@ use Rattle.px_script.proofs.read.read_lines.Goals as goal
 
 pub loop-left-init : goal.loop-left-init
 loop-left-init c = record {
-  reads = script_reads _ _ c.new-lines.ensures (all_fit (plan_of c.args.flat.now) (lines_of c.args.bytes.now));
+  reads = script_reads _ _ c.new-lines.ensures (all_fit (plan_of c.args.kinds.now) (lines_of c.args.bytes.now));
   named = refl;
   counted = omega (arith, few_lines c.args.bytes.now);
 }
 
 pub loop-left-preserved : goal.loop-left-preserved
 loop-left-preserved c =
-    let plan : List Site = plan_of c.args.flat.now in
+    let plan : List Site = plan_of c.args.kinds.now in
     let line : List ℕ = c.split_line.result.0.now in
     let rest : List (List ℕ) = lines_left (option_copied c.split_line.result.1) in
     let cut : lines_left (option_copied c.loop-left.left) ≡ line ∷ rest
@@ -34,7 +34,7 @@ loop-left-preserved c =
 
 pub returns-in_err-add_line-in-Posts-clause-fault : goal.returns-in_err-add_line-in-Posts-clause-fault
 returns-in_err-add_line-in-Posts-clause-fault c =
-    let plan : List Site = plan_of c.args.flat.now in
+    let plan : List Site = plan_of c.args.kinds.now in
     let line : List ℕ = c.split_line.result.0.now in
     let rest : List (List ℕ) = lines_left (option_copied c.split_line.result.1) in
     let cut : lines_left (option_copied c.loop-left.left) ≡ line ∷ rest
@@ -47,7 +47,7 @@ returns-in_err-add_line-in-Posts-clause-fault c =
 
 pub returns-in_err-add_line-in-Waits-clause-fault : goal.returns-in_err-add_line-in-Waits-clause-fault
 returns-in_err-add_line-in-Waits-clause-fault c =
-    let plan : List Site = plan_of c.args.flat.now in
+    let plan : List Site = plan_of c.args.kinds.now in
     let line : List ℕ = c.split_line.result.0.now in
     let rest : List (List ℕ) = lines_left (option_copied c.split_line.result.1) in
     let cut : lines_left (option_copied c.loop-left.left) ≡ line ∷ rest

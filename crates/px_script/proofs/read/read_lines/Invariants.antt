@@ -1,6 +1,6 @@
 use Rattle.std.proofs.Common.{◌≡◌, ◌+◌, ◌≤◌, true, length, map}
 use Rattle.std.specs.Option.{option_copied}
-use Rattle.px_flat.specs.Flat.{plan_of}
+use Rattle.px_script.specs.Kinds.{plan_of}
 use Rattle.px_script.specs.Text.{lines_left}
 use Rattle.px_script.specs.ParsedLine.{parsed_line}
 use Rattle.px_script.specs.Script.{script}
@@ -12,7 +12,7 @@ use Rattle.px_script.proofs.read.read_lines.Given as goal
 -- added
 abbrev pub invariant-loop-left : goal.invariant-loop-left
 invariant-loop-left l = record {
-  reads : read_on l.lines.lines l.thread (l.number + 1) (map (parsed_line (plan_of l.flat)) (lines_left (option_copied l.left))) ≡ script (plan_of l.flat) l.bytes;
+  reads : read_on l.lines.lines l.thread (l.number + 1) (map (parsed_line (plan_of l.kinds)) (lines_left (option_copied l.left))) ≡ script (plan_of l.kinds) l.bytes;
   named : is_thread l.thread ≡ true;
   counted : l.number + length (lines_left (option_copied l.left)) ≤ 16777217;
 }

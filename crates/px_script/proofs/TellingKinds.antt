@@ -1,0 +1,182 @@
+-- The kinds of nodes that are told one after another.
+use Rattle.std.proofs.Common.{◌≡◌, ℕ, zero, suc, ◌<◌, ◌++◌, Bool, true, false, List, [], ◌∷◌, length, get_or, refl, ap, sym, ◌∙◌, arith, append-nil, append_assoc, inl, inr, Option, Some, None, is_some, if◌then◌else◌}
+use Rattle.std.specs.Cmp.Lexicographic.{same_text}
+use Rattle.std.specs.List.{find, list_all}
+use Rattle.std.specs.Map.{lookup}
+use Rattle.std.specs.Option.{option_map}
+use Rattle.std.proofs.lemmas.Bool.{and_parts, cases_Bool}
+use Rattle.std.proofs.lemmas.List.{map-append}
+use Rattle.std.proofs.lemmas.List.Folds.{list_all-append, list_all-map}
+use Rattle.px_value.specs.Path.{below}
+use Rattle.px_core.specs.declared.node.CoreNode.{CoreNode}
+use Rattle.px_core.specs.declared.node.Kind.{Kind}
+use Rattle.px_core.specs.Fit.{has_short_path}
+use Rattle.px_core.specs.Plan.{Tree, NoNode, Branch, Site, sites_under, sites, tree_of_node, is_same}
+use Rattle.px_flat.specs.Laying.{trees, below_it}
+use Rattle.px_flat.proofs.Trees.{node_head, node_tree, sites_of_root}
+use Rattle.px_script.specs.Telling.{TellKinds, all_kinds, kinds_under, has_short}
+
+abbrev Told : Type 0
+Told = List (List ℕ × Kind)
+
+-- a node below a path, and those below it
+abbrev path_of : List ℕ → CoreNode → List ℕ
+path_of parent node = below parent (node_head node).name
+
+abbrev own : List ℕ → CoreNode → List ℕ × Kind
+own parent node = (path_of parent node, (node_head node).kind)
+
+abbrev inner : List ℕ → CoreNode → Told
+inner parent node = kinds_under (path_of parent node) (below_it node)
+
+-- ---- nodes side by side
+
+more_kinds : (parent : List ℕ) (nodes more : List CoreNode)
+    → kinds_under parent (trees (nodes ++ more)) ≡ kinds_under parent (trees nodes) ++ kinds_under parent (trees more)
+more_kinds parent [] more = refl
+more_kinds parent (node ∷ nodes) more =
+    ap (kinds_under parent) (node_tree node (trees (nodes ++ more)))
+    ∙ ap (λ rest. own parent node ∷ (inner parent node ++ rest)) (more_kinds parent nodes more)
+    ∙ ap (λ all. own parent node ∷ all) (sym (append_assoc (inner parent node) (kinds_under parent (trees nodes)) (kinds_under parent (trees more))))
+    ∙ ap (λ tree. kinds_under parent tree ++ kinds_under parent (trees more)) (sym (node_tree node (trees nodes)))
+
+one_kind : (parent : List ℕ) (node : CoreNode) → kinds_under parent (trees (node ∷ [])) ≡ own parent node ∷ inner parent node
+one_kind parent node =
+    ap (kinds_under parent) (node_tree node NoNode) ∙ ap (λ all. own parent node ∷ all) (append-nil (inner parent node))
+
+-- whatever stands above the parent
+pub kinds_of_sites : (parent : List ℕ) (above : List (List ℕ)) (tree : Tree)
+    → all_kinds (sites_under (parent ∷ above) tree) ≡ kinds_under parent tree
+kinds_of_sites parent above NoNode = refl
+kinds_of_sites parent above (Branch head children rest) =
+    let path = below parent head.name in
+    ap (λ all. (path, head.kind) ∷ all)
+    (map-append (λ site. (site.path, site.head.kind)) (sites_under (path ∷ parent ∷ above) children) (sites_under (parent ∷ above) rest)
+    ∙ (λ i. kinds_of_sites path (parent ∷ above) children i ++ kinds_of_sites parent above rest i))
+
+pub short_kinds : (parent : List ℕ) (above : List (List ℕ)) (tree : Tree)
+    → list_all has_short_path (sites_under (parent ∷ above) tree) ≡ true → list_all has_short (kinds_under parent tree) ≡ true
+short_kinds parent above tree short =
+    ap (list_all has_short) (sym (kinds_of_sites parent above tree))
+    ∙ list_all-map has_short (λ (site : Site). (site.path, site.head.kind)) (sites_under (parent ∷ above) tree) ∙ short
+
+-- the next child can be told, and what is below it
+pub record IsShortChild (parent : List ℕ) (node : CoreNode) : Type 0 where
+  pub own : has_short (own parent node) ≡ true
+  pub inner : list_all has_short (inner parent node) ≡ true
+
+short_parts : (parent : List ℕ) (node : CoreNode) (nodes : List CoreNode) → list_all has_short (kinds_under parent (trees (node ∷ nodes))) ≡ true
+    → IsShortChild parent node × (list_all has_short (kinds_under parent (trees nodes)) ≡ true)
+short_parts parent node nodes short =
+    let parts = and_parts (has_short (own parent node)) (list_all has_short (inner parent node ++ kinds_under parent (trees nodes)))
+    (sym (ap (λ tree. list_all has_short (kinds_under parent tree)) (node_tree node (trees nodes))) ∙ short) in
+    let rest = and_parts (list_all has_short (inner parent node)) (list_all has_short (kinds_under parent (trees nodes)))
+    (sym (list_all-append has_short (inner parent node) (kinds_under parent (trees nodes))) ∙ parts.1) in
+    (record { own = parts.0; inner = rest.0 }, rest.1)
+
+pub short_child : (parent : List ℕ) (nodes : List CoreNode) (i : ℕ) (d : CoreNode) → i < length nodes
+    → list_all has_short (kinds_under parent (trees nodes)) ≡ true → IsShortChild parent (get_or nodes i d)
+short_child parent [] i d within short = absurd (omega arith)
+short_child parent (node ∷ nodes) zero d within short = (short_parts parent node nodes short).0
+short_child parent (node ∷ nodes) (suc i) d within short =
+    short_child parent nodes i d (omega arith) (short_parts parent node nodes short).1
+
+-- ---- what entries tell
+
+-- what is told of a path first, or behind that
+abbrev first_of : Option Kind → Option Kind → Option Kind
+first_of None later = later
+first_of (Some kind) later = Some kind
+
+told_of_both : (path : List ℕ) (front behind : Told)
+    → lookup (is_same path) (front ++ behind) ≡ first_of (lookup (is_same path) front) (lookup (is_same path) behind)
+told_of_both path [] behind = refl
+told_of_both path (told ∷ front) behind = by (is_same path told.0) (told_of_both path front behind)
+  where
+    by : (here : Bool) → lookup (is_same path) (front ++ behind) ≡ first_of (lookup (is_same path) front) (lookup (is_same path) behind)
+        → (if here then Some told.1 else lookup (is_same path) (front ++ behind))
+        ≡ first_of (if here then Some told.1 else lookup (is_same path) front) (lookup (is_same path) behind)
+    by true rest = refl
+    by false rest = rest
+
+-- entries that tell the same tell the same with more behind them
+both_tell : (entries kinds behind : Told) → TellKinds entries kinds → TellKinds (entries ++ behind) (kinds ++ behind)
+both_tell entries kinds behind same path =
+    told_of_both path entries behind ∙ ap (λ told. first_of told (lookup (is_same path) behind)) (same path)
+    ∙ sym (told_of_both path kinds behind)
+
+-- nothing is told of a path
+pub not_told : (entries : Told) (path : List ℕ) → is_some (lookup (is_same path) entries) ≡ false → lookup (is_same path) entries ≡ None
+not_told entries path none = by (lookup (is_same path) entries) none
+  where
+    by : (told : Option Kind) → is_some told ≡ false → told ≡ None
+    by None none = refl
+    by (Some kind) none = absurd (cc)
+
+-- a path of which something is told already
+pub told_already : (entries : Told) (path : List ℕ) (kind : Kind) → is_some (lookup (is_same path) entries) ≡ true
+    → TellKinds entries (entries ++ (path, kind) ∷ [])
+told_already entries path kind there other = by (lookup (is_same other) entries) refl
+  where
+    none_else : (other : List ℕ) → lookup (is_same other) entries ≡ None → is_same other path ≡ false
+    none_else other none = elim (cases_Bool (is_same other path)) [
+      | inl is ↦ absurd (cc (sym there ∙ ap (λ p. is_some (lookup (is_same p) entries)) (sym (same_text other path (sym is)))
+          ∙ ap is_some none))
+      | inr isnt ↦ isnt
+    ]
+
+    by : (told : Option Kind) → lookup (is_same other) entries ≡ told
+        → lookup (is_same other) entries ≡ lookup (is_same other) (entries ++ (path, kind) ∷ [])
+    by None is = is ∙ sym (told_of_both other entries ((path, kind) ∷ []) ∙ ap (λ told. first_of told (lookup (is_same other) ((path, kind) ∷ []))) is
+        ∙ ap (λ here. if here then Some kind else None) (none_else other is))
+    by (Some first) is = is ∙ sym (told_of_both other entries ((path, kind) ∷ []) ∙ ap (λ told. first_of told (lookup (is_same other) ((path, kind) ∷ []))) is)
+
+-- one child more is told, and what is below it
+pub told_next : (parent : List ℕ) (old before own_told now : Told) (done : List CoreNode) (node : CoreNode)
+    → TellKinds before (old ++ kinds_under parent (trees done)) → TellKinds own_told (before ++ own parent node ∷ [])
+    → TellKinds now (own_told ++ inner parent node) → TellKinds now (old ++ kinds_under parent (trees (done ++ node ∷ [])))
+told_next parent old before own_told now done node front mine below path =
+    below path
+    ∙ both_tell own_told (before ++ own parent node ∷ []) (inner parent node) mine path
+    ∙ ap (lookup (is_same path)) (append_assoc before (own parent node ∷ []) (inner parent node))
+    ∙ both_tell before (old ++ kinds_under parent (trees done)) (own parent node ∷ inner parent node) front path
+    ∙ ap (lookup (is_same path)) (append_assoc old (kinds_under parent (trees done)) (own parent node ∷ inner parent node)
+    ∙ ap (λ more. old ++ more) (sym (more_kinds parent done (node ∷ []) ∙ ap (λ more. kinds_under parent (trees done) ++ more) (one_kind parent node))))
+
+-- the root is told, and then what is below it
+pub root_told : (root : CoreNode) (before own_told now : Told) (path copy : List ℕ) → length before ≡ 0
+    → path ≡ (node_head root).name → copy ≡ path → TellKinds own_told (before ++ (copy, (node_head root).kind) ∷ [])
+    → TellKinds now (own_told ++ kinds_under path (below_it root)) → TellKinds now (all_kinds (sites (tree_of_node root)))
+root_told root before own_told now path copy none here same mine below other =
+    below other
+    ∙ both_tell own_told (before ++ (copy, kind) ∷ []) (kinds_under path (below_it root)) mine other
+    ∙ ap (lookup (is_same other)) (ap (λ before. (before ++ (copy, kind) ∷ []) ++ kinds_under path (below_it root)) (empty before none)
+    ∙ ap (λ copy. (copy, kind) ∷ kinds_under path (below_it root)) (same ∙ here)
+    ∙ ap (λ path. (name, kind) ∷ kinds_under path (below_it root)) here
+    ∙ sym (ap all_kinds (sites_of_root root) ∙ ap (λ all. (name, kind) ∷ all) (kinds_of_sites name [] (below_it root))))
+  where
+    name : List ℕ
+    name = (node_head root).name
+
+    kind : Kind
+    kind = (node_head root).kind
+
+    empty : (entries : Told) → length entries ≡ 0 → entries ≡ []
+    empty [] none = refl
+    empty (told ∷ entries) none = absurd (omega arith)
+
+-- ---- what is found
+
+pub kind_found : (plan : List Site) (path : List ℕ)
+    → lookup (is_same path) (all_kinds plan) ≡ option_map (λ site. site.head.kind) (find (λ site. is_same path site.path) plan)
+kind_found [] path = refl
+kind_found (site ∷ plan) path = by (is_same path site.path) (kind_found plan path)
+  where
+    kind_of : Site → Kind
+    kind_of site = site.head.kind
+
+    by : (here : Bool) → lookup (is_same path) (all_kinds plan) ≡ option_map kind_of (find (λ site. is_same path site.path) plan)
+        → (if here then Some site.head.kind else lookup (is_same path) (all_kinds plan))
+        ≡ option_map kind_of (if here then Some site else find (λ site. is_same path site.path) plan)
+    by true rest = refl
+    by false rest = rest
