@@ -1,4 +1,5 @@
 pub mod Moments
+pub mod Going
 pub mod Torn
 pub mod Fronts
 pub mod Meaning

@@ -52,13 +52,11 @@ module _ (images : Images) where
   puts at bytes old mid new before then now (Ok unit) writes syncs = record {
     written = syncs.bytes ∙ writes.written;
     settled = λ told is image left. syncs.settled told (sym syncs.bytes ∙ is) image left;
-    tells = syncs.tells ∙ writes.tells;
     elapses = elapses_on (Torn at (length bytes)) before then now writes.elapses syncs.elapses;
   }
   puts at bytes old mid new before then now (Err fault) writes syncs = record {
     written = tt;
     settled = tt;
-    tells = syncs.tells ∙ writes.tells;
     elapses = elapses_on (Torn at (length bytes)) before then now writes.elapses syncs.elapses;
   }
 

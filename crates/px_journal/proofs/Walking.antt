@@ -6,50 +6,42 @@ use Rattle.std.specs.List.{list_all}
 use Rattle.std.specs.Option.{ForSome}
 use Rattle.px_event.specs.Fit.{is_fit_entry}
 use Rattle.px_event.specs.declared.entry.Entry.{Entry}
-use Rattle.px_ports.specs.Disk.{OnlyReads, StaysAttached}
 use Rattle.px_ports.specs.declared.disk.Disk
 use Rattle.px_journal.specs.Damage.{Damaged, DamagedRecord, IsBroken}
 use Rattle.px_journal.specs.Damage.Damaged.{record_is}
+use Rattle.px_journal.specs.Goes.{Reads}
 use Rattle.px_journal.specs.Layout.{is_closed, is_open, next_gate, record_bytes, Front, Opens, Stands}
 use Rattle.px_journal.proofs.Fronts.{Front-push, fits-push, next_gate-push}
 use Rattle.px_journal.proofs.Histories.{length-heading}
-use Rattle.px_journal.proofs.Moments.{reads_none, reads_on}
+use Rattle.px_journal.proofs.Going.{rises_none, reads_then}
+use Rattle.px_journal.proofs.Moments.{reads_none}
 
--- behind this history stands the gate at this place, and nothing was written
+-- behind this history stands the gate at this place, nothing was written, and no call has failed
 pub record HasRead {D : Type 0} (members : Disk.Ghosts D) (old now : D) (plan : List ℕ) (size : ℕ) (history : List Entry) (gate : ℕ) : Type 0 where
   pub place : gate ≡ next_gate plan history
   pub within : gate < size
   pub fit : IsTrue (list_all is_fit_entry history)
   pub few : length history ≤ 100000
   pub front : ForSome (members.content old) (λ told. Front told plan history)
-  pub reads : OnlyReads members.images (members.content old) (members.content now) (members.moments old) (members.moments now)
-  pub unwritten : members.writes now ≡ members.writes old
-  pub stays : StaysAttached (members.bound_to old) (members.bound_to now) (members.is_attached old) (members.is_attached now)
-  pub later : members.faults old ≤ members.faults now
+  pub reads : Reads members ⊥ old now
 
 module _ {D : Type 0} (members : Disk.Ghosts D) (old now : D) (plan : List ℕ) (size : ℕ) (history : List Entry) (gate : ℕ)
     (read : HasRead members old now plan size history gate) where
   -- what is told now was told before
   now_told : (told : List ℕ) → members.content old ≡ Some told → members.content now ≡ Some told
-  now_told told is = read.reads.bytes ∙ is
+  now_told told is = read.reads.only.bytes ∙ is
 
   pub read_next : (new : D) (entry : Entry) (next : ℕ) → IsTrue (is_fit_entry entry) → next ≡ gate + 1 + length (record_bytes entry) → next < size → length history < 100000
       → ForSome (members.content now) (λ told. Opens (record_bytes entry) (drop gate told))
-      → OnlyReads members.images (members.content now) (members.content new) (members.moments now) (members.moments new)
-      → members.writes new ≡ members.writes now
-      → StaysAttached (members.bound_to now) (members.bound_to new) (members.is_attached now) (members.is_attached new)
-      → members.faults now ≤ members.faults new → HasRead members old new plan size (history ++ entry ∷ []) next
-  read_next new entry next fit next_is within few opens reads unwritten stays later = record {
+      → Reads members ⊥ now new → HasRead members old new plan size (history ++ entry ∷ []) next
+  read_next new entry next fit next_is within few opens reads = record {
     place = omega (arith, next_is, read.place, next_gate-push plan history entry);
     within = within;
     fit = fits-push history entry read.fit fit;
     few = omega (arith, few, length-append history (entry ∷ []));
     front = λ told is. Front-push told plan history entry (read.front told is) fit
         (subst (λ (n : ℕ). Opens (record_bytes entry) (drop n told)) read.place (opens told (now_told told is)));
-    reads = reads_on members.images _ _ _ _ _ _ read.reads reads;
-    unwritten = unwritten ∙ read.unwritten;
-    stays = record { bound = stays.bound ∙ read.stays.bound; attached = stays.attached ∙ read.stays.attached };
-    later = omega (arith, read.later, later);
+    reads = reads_then members read.reads (λ failed. failed) reads;
   }
 
   pub read_stands : ForSome (members.content now) (λ told. IsTrue (is_closed (drop gate told))) → ForSome (members.content old) (λ told. Stands told plan history)
@@ -80,10 +72,12 @@ read_nothing members disk plan size within front =
       fit = refl;
       few = omega arith;
       front = front;
-      reads = reads_none members.images (members.content disk) (members.moments disk);
-      unwritten = refl;
-      stays = record { bound = refl; attached = refl };
-      later = omega arith;
+      reads = record {
+        only = reads_none members.images (members.content disk) (members.moments disk);
+        unwritten = refl;
+        stays = record { bound = refl; attached = refl };
+        faults = rises_none (members.faults disk) (λ failed. failed);
+      };
     }
 
 pub full_history : (n : ℕ) → IsTrue (n == 100000) → n ≡ 100000

@@ -1,5 +1,5 @@
 -- What a crash at a moment of a call may leave of a journal.
-use Rattle.std.specs.Prelude.{◌≡◌, ◌≤◌, ◌⊎◌, ℕ, List, [], ◌∷◌, ◌++◌, length, take, Result, OnOk, IsTrue, is_some}
+use Rattle.std.specs.Prelude.{◌≡◌, ◌≤◌, ◌⊎◌, ℕ, List, [], ◌∷◌, ◌++◌, length, take, Result, OnOk, IsTrue}
 use Rattle.std.specs.Option.{option_map, ForSome}
 use Rattle.px_event.specs.declared.entry.Entry.{Entry}
 use Rattle.px_ports.specs.Disk.{Told}
@@ -14,7 +14,6 @@ pub record Puts (images : Images) (at : ℕ) (bytes : List ℕ) (old new : Told)
     (result : Result Unit DiskFault) : Type 0 where
   pub written : OnOk result (new ≡ option_map (overwritten at bytes) old)
   pub settled : OnOk result (ForSome new (λ told. (image : List ℕ) → images now image → image ≡ told))
-  pub tells : is_some new ≡ is_some old
   pub elapses : Elapses images (Torn at (length bytes)) before now
 
 -- the bytes are nothing, or they stand for some text and history

@@ -3,14 +3,14 @@
 // The record goes behind the closed gate of the last place, with the next gate closed, and is synced before its gate is
 // opened by a write of its own. So a torn write of the record stands behind a closed gate, and whatever a torn write
 // leaves of the gate means closed or open over a record that is whole.
-ghost use Rattle.std.specs.Prelude.{◌≡◌, ◌≤◌, ◌<◌, ◌+◌, ◌-◌, ◌^◌, ◌++◌, [], ◌∷◌, ℕ, List, length, take, drop, IsTrue, OnOk, is_some, vec_capacity, vec_len};
+ghost use Rattle.std.specs.Prelude.{◌≡◌, ◌≤◌, ◌<◌, ◌+◌, ◌-◌, ◌^◌, ◌++◌, [], ◌∷◌, ℕ, List, length, drop, IsTrue, IsErr, OnOk, OnErr, vec_capacity, vec_len};
 ghost use Rattle.std.specs.Option.{ForSome};
 ghost use Rattle.byteorder.specs.Endian.{big_bytes};
 ghost use Rattle.px_event.specs.Fit.{is_fit_entry};
 ghost use Rattle.px_event.specs.declared.entry.Entry.{Entry as AnyEntry};
-ghost use Rattle.px_ports.specs.Disk.{CountsFaults, StaysAttached};
 ghost use Rattle.px_journal.specs.Layout.{record_bytes};
-ghost use Rattle.px_journal.specs.Crash.{WithOrWithout, LeavesOnly, KeepsHistories};
+ghost use Rattle.px_journal.specs.Crash.{WithOrWithout, KeepsHistories};
+ghost use Rattle.px_journal.specs.Goes.{LeavesAtMost, Goes};
 ghost use Rattle.px_journal.specs.Journal.{IsReady};
 
 use crate::journal::Journal;
@@ -24,7 +24,7 @@ impl<D: Disk> Journal<D> {
     /// Adds an entry. It takes no memory.
     ///
     /// After `Ok` the entry is kept: each image from then on has it. After a `DiskFault` a crash leaves the history
-    /// with the entry or without it, and the journal has to be recovered anew.
+    /// with the entry or without it, and the journal, which counts its records as before, has to be recovered anew.
     pub fn append(&mut self, entry: &Entry) -> Result<(), DiskFault>
         requires fit { IsTrue (is_fit_entry entry.now) }
         requires room { self.old.count < 100000 }
@@ -34,16 +34,14 @@ impl<D: Disk> Journal<D> {
             → IsReady D.Disk self.new text (history ++ entry.now ∷ [])) }
 
         ensures whole_or_not { (text : List ℕ) (history : List AnyEntry) → IsReady D.Disk self.old text history
-            → ForSome (D.content self.old.disk) (λ _. LeavesOnly D.images (WithOrWithout text history entry.now)
-            (D.moments self.old.disk) (D.moments self.new.disk)) }
-        ensures grows { take (length (D.moments self.old.disk)) (D.moments self.new.disk) ≡ D.moments self.old.disk }
+            → LeavesAtMost D.Disk (WithOrWithout text history entry.now) self.old.disk self.new.disk }
         ensures keeps { ForSome (D.content self.old.disk)
             (λ _. KeepsHistories D.images (D.moments self.old.disk) (D.moments self.new.disk)) }
 
-        ensures tells { is_some (D.content self.new.disk) ≡ is_some (D.content self.old.disk) }
-        ensures stays { StaysAttached (D.bound_to self.old.disk) (D.bound_to self.new.disk)
-            (D.is_attached self.old.disk) (D.is_attached self.new.disk) }
-        ensures cause { CountsFaults (D.faults self.old.disk) (D.faults self.new.disk) result }
+        ensures goes { Goes D.Disk (IsErr result) self.old.disk self.new.disk }
+
+        ensures gate_err { OnErr result (self.new.gate ≡ self.old.gate) }
+        ensures count_err { OnErr result (self.new.count ≡ self.old.count) }
     {
         fill(&mut self.buffer, entry);
         put(&mut self.disk, self.gate + 1, &self.buffer)?;

@@ -2,11 +2,10 @@
 //
 // All is written behind a closed master gate and synced before that gate is opened by a write of its own. So until then
 // a crash leaves nothing, and then nothing or the whole.
-ghost use Rattle.std.specs.Prelude.{◌≡◌, ◌≤◌, ◌++◌, [], ◌∷◌, ◌⊎◌, ℕ, List, length, take, IsTrue, IsFalse, IfOk, OnOk, IsErrOf, is_some, vec_capacity};
+ghost use Rattle.std.specs.Prelude.{◌≡◌, ◌≤◌, ◌++◌, [], ◌∷◌, ◌⊎◌, ℕ, List, length, IsTrue, IsFalse, IfOk, IsErr, OnOk, IsErrOf, vec_capacity};
 ghost use Rattle.std.specs.Option.{ForSome};
-ghost use Rattle.px_ports.specs.Disk.{CountsFaults, StaysAttached};
-ghost use Rattle.px_ports.specs.Host.{Rose};
-ghost use Rattle.px_journal.specs.Crash.{OldOrNew, LeavesOnly};
+ghost use Rattle.px_journal.specs.Crash.{OldOrNew};
+ghost use Rattle.px_journal.specs.Goes.{LeavesAtMost, Goes};
 ghost use Rattle.px_journal.specs.Journal.{IsReady, IsSettled, IsUntouched, IsRefused, disk_after};
 ghost use Rattle.px_journal.specs.Layout.{heading, is_closed, is_nothing, Stands};
 ghost use Rattle.px_journal.specs.declared.fault.CreateWhy.TheVariants as whys;
@@ -24,7 +23,7 @@ impl<D: Disk> Journal<D> {
     /// Makes the journal of a plan's text, with the empty history, on an attached disk. A file of fewer than 13 bytes,
     /// or one whose first byte is 0, is overwritten.
     ///
-    /// `Exists` comes exactly where the file has at least 13 bytes and its first isn't 0, `DiskFault` only where a call
+    /// `Exists` comes exactly where the file has at least 13 bytes and its first isn't 0, `DiskFault` just where a call
     /// of the disk failed, and `NoMemory` before the first call.
     pub fn create(alloc: Global, disk: D, plan_text: &[u8]) -> Result<Journal<D>, CreateFault<D>>
         requires attached { IsTrue (D.is_attached disk) }
@@ -37,15 +36,10 @@ impl<D: Disk> Journal<D> {
         ensures untouched { ForSome (D.content disk) (λ told. IsFalse (is_nothing told)
             → IsUntouched D.Disk disk (disk_after result)) }
         ensures no_memory { IsRefused result whys.NoMemory → disk_after result ≡ disk }
-        ensures cause { IsRefused result whys.DiskFault → Rose (D.faults disk) (D.faults (disk_after result)) }
-        ensures later { D.faults disk ≤ D.faults (disk_after result) }
 
-        ensures old_or_new { ForSome (D.content disk) (λ _. LeavesOnly D.images
-            (OldOrNew (D.images (D.moments disk)) plan_text.now) (D.moments disk) (D.moments (disk_after result))) }
-        ensures grows { take (length (D.moments disk)) (D.moments (disk_after result)) ≡ D.moments disk }
-        ensures tells { is_some (D.content (disk_after result)) ≡ is_some (D.content disk) }
-        ensures stays { StaysAttached (D.bound_to disk) (D.bound_to (disk_after result))
-            (D.is_attached disk) (D.is_attached (disk_after result)) }
+        ensures old_or_new { LeavesAtMost D.Disk (OldOrNew (D.images (D.moments disk)) plan_text.now)
+            disk (disk_after result) }
+        ensures goes { Goes D.Disk (IsRefused result whys.DiskFault) disk (disk_after result) }
     {
         let mut disk = disk;
         match write_new(alloc, &mut disk, plan_text) {
@@ -74,15 +68,9 @@ fn write_new<D: Disk>(alloc: Global, disk: &mut D, plan_text: &[u8]) -> Result<V
     ensures untouched { ForSome (D.content disk.old) (λ told. IsFalse (is_nothing told)
         → IsUntouched D.Disk disk.old disk.new) }
     ensures no_memory { IsErrOf result whys.NoMemory → disk.new ≡ disk.old }
-    ensures cause { IsErrOf result whys.DiskFault → Rose (D.faults disk.old) (D.faults disk.new) }
-    ensures later { D.faults disk.old ≤ D.faults disk.new }
 
-    ensures old_or_new { ForSome (D.content disk.old) (λ _. LeavesOnly D.images
-        (OldOrNew (D.images (D.moments disk.old)) plan_text.now) (D.moments disk.old) (D.moments disk.new)) }
-    ensures grows { take (length (D.moments disk.old)) (D.moments disk.new) ≡ D.moments disk.old }
-    ensures tells { is_some (D.content disk.new) ≡ is_some (D.content disk.old) }
-    ensures stays { StaysAttached (D.bound_to disk.old) (D.bound_to disk.new)
-        (D.is_attached disk.old) (D.is_attached disk.new) }
+    ensures old_or_new { LeavesAtMost D.Disk (OldOrNew (D.images (D.moments disk.old)) plan_text.now) disk.old disk.new }
+    ensures goes { Goes D.Disk (IsErrOf result whys.DiskFault) disk.old disk.new }
 {
     let buffer = Vec::with_capacity(alloc, BUFFER_ROOM)?;
     let content = behind_master_gate(alloc, plan_text)?;
@@ -118,16 +106,10 @@ fn close_master_gate<D: Disk>(disk: &mut D) -> Result<(), CreateWhy>
     ensures untouched { ForSome (D.content disk.old) (λ told. IsFalse (is_nothing told)
         → IsUntouched D.Disk disk.old disk.new) }
     ensures memory { IsErrOf result whys.NoMemory → ⊥ }
-    ensures cause { IsErrOf result whys.DiskFault → Rose (D.faults disk.old) (D.faults disk.new) }
-    ensures later { D.faults disk.old ≤ D.faults disk.new }
 
-    ensures old_or_nothing { ForSome (D.content disk.old) (λ _. LeavesOnly D.images
-        (λ image. D.images (D.moments disk.old) image ⊎ IsTrue (is_nothing image))
-        (D.moments disk.old) (D.moments disk.new)) }
-    ensures grows { take (length (D.moments disk.old)) (D.moments disk.new) ≡ D.moments disk.old }
-    ensures tells { is_some (D.content disk.new) ≡ is_some (D.content disk.old) }
-    ensures stays { StaysAttached (D.bound_to disk.old) (D.bound_to disk.new)
-        (D.is_attached disk.old) (D.is_attached disk.new) }
+    ensures old_or_nothing { LeavesAtMost D.Disk
+        (λ image. D.images (D.moments disk.old) image ⊎ IsTrue (is_nothing image)) disk.old disk.new }
+    ensures goes { Goes D.Disk (IsErrOf result whys.DiskFault) disk.old disk.new }
 {
     if disk.len()? < TEXT_PLACE {
         put(disk, 0, &[CLOSED])?;
@@ -152,13 +134,8 @@ fn open_behind<D: Disk>(disk: &mut D, content: &[u8]) -> Result<(), DiskFault>
     ensures stands { (text : List ℕ) → length text ≤ 1048576 → content.now ≡ heading text ++ 0 ∷ []
         → OnOk result (ForSome (D.content disk.new) (λ told. Stands told text [])) }
     ensures nothing_or_new { (text : List ℕ) → length text ≤ 1048576 → content.now ≡ heading text ++ 0 ∷ []
-        → ForSome (D.content disk.old) (λ _. LeavesOnly D.images
-        (λ image. IsTrue (is_nothing image) ⊎ Stands image text []) (D.moments disk.old) (D.moments disk.new)) }
-    ensures grows { take (length (D.moments disk.old)) (D.moments disk.new) ≡ D.moments disk.old }
-    ensures tells { is_some (D.content disk.new) ≡ is_some (D.content disk.old) }
-    ensures stays { StaysAttached (D.bound_to disk.old) (D.bound_to disk.new)
-        (D.is_attached disk.old) (D.is_attached disk.new) }
-    ensures cause { CountsFaults (D.faults disk.old) (D.faults disk.new) result }
+        → LeavesAtMost D.Disk (λ image. IsTrue (is_nothing image) ⊎ Stands image text []) disk.old disk.new }
+    ensures goes { Goes D.Disk (IsErr result) disk.old disk.new }
 {
     put(disk, 1, content)?;
     put(disk, 0, &[OPEN])

@@ -2,9 +2,8 @@
 ghost use Rattle.std.specs.Prelude.{◌≡◌, ◌≢◌, ◌≤◌, ◌<◌, ◌+◌, ℕ, length, take, drop, slice_index, slice_range, IsTrue, IfOk, IsErrOf, MatchOption};
 ghost use Rattle.std.specs.Option.{ForSome};
 ghost use Rattle.byteorder.specs.Endian.{big_bytes, big_number};
-ghost use Rattle.px_ports.specs.Disk.{OnlyReads, StaysAttached};
-ghost use Rattle.px_ports.specs.Host.{Rose};
 ghost use Rattle.px_journal.specs.Damage.{Damaged};
+ghost use Rattle.px_journal.specs.Goes.{Reads};
 ghost use Rattle.px_journal.specs.Layout.{is_closed, is_open, magic};
 ghost use Rattle.px_journal.specs.declared.fault.RecoverWhy.TheVariants as whys;
 
@@ -28,14 +27,8 @@ pub(crate) fn read_length<D: Disk>(disk: &mut D, size: u64) -> Result<u32, Recov
         → ForSome (D.content disk.old) (λ told. IsTrue (is_closed told)) }
     ensures damaged { (at : ℕ) → IsErrOf result (whys.Damaged at)
         → ForSome (D.content disk.old) (λ told. IsTrue (is_open told) × Damaged told at) }
-    ensures cause { IsErrOf result whys.DiskFault → Rose (D.faults disk.old) (D.faults disk.new) }
-    ensures later { D.faults disk.old ≤ D.faults disk.new }
 
-    ensures reads { OnlyReads D.images (D.content disk.old) (D.content disk.new)
-        (D.moments disk.old) (D.moments disk.new) }
-    ensures unwritten { D.writes disk.new ≡ D.writes disk.old }
-    ensures stays { StaysAttached (D.bound_to disk.old) (D.bound_to disk.new)
-        (D.is_attached disk.old) (D.is_attached disk.new) }
+    ensures reads { Reads D.Disk (IsErrOf result whys.DiskFault) disk.old disk.new }
 {
     let mut heading = [0; 13];
     disk.read_at(0, &mut heading)?;
@@ -91,14 +84,8 @@ pub(crate) fn read_text<D: Disk>(
         (λ told. text.items ≡ slice_range told 13 (13 + count))) }
     ensures no_journal { IsErrOf result whys.NoJournal → ⊥ }
     ensures damaged { (at : ℕ) → IsErrOf result (whys.Damaged at) → ⊥ }
-    ensures cause { IsErrOf result whys.DiskFault → Rose (D.faults disk.old) (D.faults disk.new) }
-    ensures later { D.faults disk.old ≤ D.faults disk.new }
 
-    ensures reads { OnlyReads D.images (D.content disk.old) (D.content disk.new)
-        (D.moments disk.old) (D.moments disk.new) }
-    ensures unwritten { D.writes disk.new ≡ D.writes disk.old }
-    ensures stays { StaysAttached (D.bound_to disk.old) (D.bound_to disk.new)
-        (D.is_attached disk.old) (D.is_attached disk.new) }
+    ensures reads { Reads D.Disk (IsErrOf result whys.DiskFault) disk.old disk.new }
 {
     let mut text = vec![in alloc; 0; count as usize]?;
     disk.read_at(TEXT_PLACE, &mut text)?;

@@ -3,9 +3,8 @@ ghost use Rattle.std.specs.Prelude.{◌≡◌, ◌≤◌, ◌<◌, [], ℕ, leng
 ghost use Rattle.std.specs.List.{list_all};
 ghost use Rattle.std.specs.Option.{ForSome};
 ghost use Rattle.px_event.specs.Fit.{is_fit_entry};
-ghost use Rattle.px_ports.specs.Disk.{OnlyReads, StaysAttached};
-ghost use Rattle.px_ports.specs.Host.{Rose};
 ghost use Rattle.px_journal.specs.Damage.{Damaged};
+ghost use Rattle.px_journal.specs.Goes.{Reads};
 ghost use Rattle.px_journal.specs.Layout.{next_gate, Front, Stands};
 ghost use Rattle.px_journal.specs.declared.fault.RecoverWhy.TheVariants as whys;
 
@@ -39,14 +38,8 @@ pub(crate) fn read_history<D: Disk>(
     ensures no_journal { IsErrOf result whys.NoJournal → ⊥ }
     ensures damaged { (at : ℕ) → IsErrOf result (whys.Damaged at)
         → ForSome (D.content disk.old) (λ told. Damaged told at) }
-    ensures cause { IsErrOf result whys.DiskFault → Rose (D.faults disk.old) (D.faults disk.new) }
-    ensures later { D.faults disk.old ≤ D.faults disk.new }
 
-    ensures reads { OnlyReads D.images (D.content disk.old) (D.content disk.new)
-        (D.moments disk.old) (D.moments disk.new) }
-    ensures unwritten { D.writes disk.new ≡ D.writes disk.old }
-    ensures stays { StaysAttached (D.bound_to disk.old) (D.bound_to disk.new)
-        (D.is_attached disk.old) (D.is_attached disk.new) }
+    ensures reads { Reads D.Disk (IsErrOf result whys.DiskFault) disk.old disk.new }
 {
     let mut gate = TEXT_PLACE + plan.len() as u64;
     let mut history = Vec::new(alloc);

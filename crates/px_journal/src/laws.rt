@@ -18,6 +18,11 @@ pub fn never_both()
         → Damaged bytes at → ⊥ }
 {}
 
+/// Bytes are damaged at one place at most.
+pub fn one_place()
+    ensures { (bytes : List ℕ) (at other : ℕ) → Damaged bytes at → Damaged bytes other → at ≡ other }
+{}
+
 /// Bytes that aren't nothing stand for a text and a history, or are damaged at some place.
 pub fn either_or()
     ensures { (bytes : List ℕ) → ((i : ℕ) → slice_index bytes i < 256) → IsFalse (is_nothing bytes)

@@ -2,9 +2,8 @@
 ghost use Rattle.std.specs.Prelude.{◌≡◌, ◌≤◌, ◌<◌, ◌+◌, ◌⊎◌, ◌∷◌, ℕ, min, length, take, drop, IsTrue, IsFalse, IfOk, IfSome, IfNone, IsErrOf, OnOk};
 ghost use Rattle.std.specs.Option.{ForSome};
 ghost use Rattle.px_event.specs.Fit.{is_fit_entry};
-ghost use Rattle.px_ports.specs.Disk.{OnlyReads, StaysAttached};
-ghost use Rattle.px_ports.specs.Host.{Rose};
 ghost use Rattle.px_journal.specs.Damage.{body_length, body, IsBroken, IsNoEntry};
+ghost use Rattle.px_journal.specs.Goes.{Reads};
 ghost use Rattle.px_journal.specs.Layout.{is_closed, is_open, record_bytes, Opens};
 ghost use Rattle.px_journal.specs.Window.{Shows};
 ghost use Rattle.px_journal.specs.declared.fault.RecoverWhy.TheVariants as whys;
@@ -99,14 +98,8 @@ pub(crate) fn next_record<D: Disk>(
     ensures damaged { (at : ℕ) → IsErrOf result (whys.Damaged at) → ForSome (D.content disk.old)
         (λ told. IsTrue (is_open (drop gate told))
         × (((at ≡ gate) × IsTrue is_full) ⊎ (IsFalse is_full × IsBroken told gate at))) }
-    ensures cause { IsErrOf result whys.DiskFault → Rose (D.faults disk.old) (D.faults disk.new) }
-    ensures later { D.faults disk.old ≤ D.faults disk.new }
 
-    ensures reads { OnlyReads D.images (D.content disk.old) (D.content disk.new)
-        (D.moments disk.old) (D.moments disk.new) }
-    ensures unwritten { D.writes disk.new ≡ D.writes disk.old }
-    ensures stays { StaysAttached (D.bound_to disk.old) (D.bound_to disk.new)
-        (D.is_attached disk.old) (D.is_attached disk.new) }
+    ensures reads { Reads D.Disk (IsErrOf result whys.DiskFault) disk.old disk.new }
 {
     window.reach(disk, gate, size)?;
     let front = window.from(gate);

@@ -6,9 +6,8 @@ ghost use Rattle.std.specs.Prelude.{◌≡◌, ◌≤◌, ℕ, length, IsTrue, I
 ghost use Rattle.std.specs.List.{list_all};
 ghost use Rattle.std.specs.Option.{ForSome};
 ghost use Rattle.px_event.specs.Fit.{is_fit_entry};
-ghost use Rattle.px_ports.specs.Disk.{OnlyReads, StaysAttached};
-ghost use Rattle.px_ports.specs.Host.{Rose};
 ghost use Rattle.px_journal.specs.Damage.{Damaged};
+ghost use Rattle.px_journal.specs.Goes.{Goes, Reads};
 ghost use Rattle.px_journal.specs.Journal.{IsReady, IsSettled, IsUnwritten, IsNotRecovered, IsWhole, disk_recovered};
 ghost use Rattle.px_journal.specs.Layout.{is_nothing, next_gate, Stands};
 ghost use Rattle.px_journal.specs.declared.fault.RecoverWhy.TheVariants as whys;
@@ -36,7 +35,7 @@ impl<D: Disk> Journal<D> {
     ///
     /// `NoJournal` comes exactly where the file has fewer than 13 bytes or its first is 0, and `Damaged` exactly where
     /// its first isn't 0 and the layout is broken, at the first place that is; an image that a journal's calls left is
-    /// never damaged. `DiskFault` comes only where a call of the disk failed. Behind every other answer a crash leaves
+    /// never damaged. `DiskFault` comes just where a call of the disk failed. Behind every other answer a crash leaves
     /// just what a read gives.
     pub fn recover(alloc: Global, disk: D) -> Result<Recovered<D>, RecoverFault<D>>
         requires { IsTrue (D.is_attached disk) }
@@ -51,16 +50,11 @@ impl<D: Disk> Journal<D> {
             → ForSome (D.content disk) (λ told. IsFalse (is_nothing told) × Damaged told at) }
         ensures never_whole { (at : ℕ) → IsNotRecovered result (whys.Damaged at)
             → ForSome (D.content disk) (λ _. IsWhole D.Disk disk → ⊥) }
-        ensures cause { IsNotRecovered result whys.DiskFault
-            → Rose (D.faults disk) (D.faults (disk_recovered result)) }
-        ensures later { D.faults disk ≤ D.faults (disk_recovered result) }
 
         ensures writes_nothing { IsUnwritten D.Disk disk (disk_recovered result) }
         ensures same { ¬ IsNotRecovered result whys.DiskFault → D.content (disk_recovered result) ≡ D.content disk }
         ensures settled { ¬ IsNotRecovered result whys.DiskFault → IsSettled D.Disk (disk_recovered result) }
-        ensures tells { is_some (D.content (disk_recovered result)) ≡ is_some (D.content disk) }
-        ensures stays { StaysAttached (D.bound_to disk) (D.bound_to (disk_recovered result))
-            (D.is_attached disk) (D.is_attached (disk_recovered result)) }
+        ensures goes { Goes D.Disk (IsNotRecovered result whys.DiskFault) disk (disk_recovered result) }
     {
         let mut disk = disk;
         match read_journal(alloc, &mut disk) {
@@ -92,18 +86,14 @@ fn read_journal<D: Disk>(alloc: Global, disk: &mut D) -> Result<Read, RecoverWhy
         (λ told. Stands told read.plan.items read.history.items)) }
     ensures same { ¬ IsErrOf result whys.DiskFault → D.content disk.new ≡ D.content disk.old }
     ensures settled { ¬ IsErrOf result whys.DiskFault → IsSettled D.Disk disk.new }
-    ensures tells { is_some (D.content disk.new) ≡ is_some (D.content disk.old) }
 
     ensures no_journal { IsErrOf result whys.NoJournal
         → ForSome (D.content disk.old) (λ told. IsTrue (is_nothing told)) }
     ensures damaged { (at : ℕ) → IsErrOf result (whys.Damaged at)
         → ForSome (D.content disk.old) (λ told. IsFalse (is_nothing told) × Damaged told at) }
-    ensures cause { IsErrOf result whys.DiskFault → Rose (D.faults disk.old) (D.faults disk.new) }
-    ensures later { D.faults disk.old ≤ D.faults disk.new }
 
     ensures writes_nothing { IsUnwritten D.Disk disk.old disk.new }
-    ensures stays { StaysAttached (D.bound_to disk.old) (D.bound_to disk.new)
-        (D.is_attached disk.old) (D.is_attached disk.new) }
+    ensures goes { Goes D.Disk (IsErrOf result whys.DiskFault) disk.old disk.new }
 {
     disk.sync()?;
     let buffer = Vec::with_capacity(alloc, BUFFER_ROOM)?;
@@ -134,14 +124,8 @@ fn read_stable<D: Disk>(
         → ForSome (D.content disk.old) (λ told. IsTrue (is_nothing told)) }
     ensures damaged { (at : ℕ) → IsErrOf result (whys.Damaged at)
         → ForSome (D.content disk.old) (λ told. IsFalse (is_nothing told) × Damaged told at) }
-    ensures cause { IsErrOf result whys.DiskFault → Rose (D.faults disk.old) (D.faults disk.new) }
-    ensures later { D.faults disk.old ≤ D.faults disk.new }
 
-    ensures reads { OnlyReads D.images (D.content disk.old) (D.content disk.new)
-        (D.moments disk.old) (D.moments disk.new) }
-    ensures unwritten { D.writes disk.new ≡ D.writes disk.old }
-    ensures stays { StaysAttached (D.bound_to disk.old) (D.bound_to disk.new)
-        (D.is_attached disk.old) (D.is_attached disk.new) }
+    ensures reads { Reads D.Disk (IsErrOf result whys.DiskFault) disk.old disk.new }
 {
     let size = disk.len()?;
     if size < TEXT_PLACE {

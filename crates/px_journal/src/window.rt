@@ -1,7 +1,7 @@
 // A part of a file that was read, so that many short records take one call of the disk.
-ghost use Rattle.std.specs.Prelude.{◌≡◌, ◌≤◌, ◌<◌, ◌+◌, ◌-◌, [], min, length, take, drop, slice_range, IsTrue, IfOk, OnOk};
+ghost use Rattle.std.specs.Prelude.{◌≡◌, ◌≤◌, ◌<◌, ◌+◌, ◌-◌, [], min, length, take, drop, slice_range, IsTrue, IfOk, IsErr, OnOk};
 ghost use Rattle.std.specs.Option.{ForSome};
-ghost use Rattle.px_ports.specs.Disk.{CountsFaults, OnlyReads, StaysAttached};
+ghost use Rattle.px_journal.specs.Goes.{Reads};
 ghost use Rattle.px_journal.specs.Window.{Shows};
 
 use crate::record::RECORD_SPAN;
@@ -64,12 +64,9 @@ impl Window {
         ensures reaches { OnOk result (self.new.place ≤ gate) }
         ensures covers { OnOk result (gate + min (size - gate) 9320 ≤ self.new.place + length self.new.bytes) }
 
-        ensures reads { OnlyReads D.images (D.content disk.old) (D.content disk.new)
-            (D.moments disk.old) (D.moments disk.new) }
-        ensures unwritten { D.writes disk.new ≡ D.writes disk.old }
-        ensures stays { StaysAttached (D.bound_to disk.old) (D.bound_to disk.new)
-            (D.is_attached disk.old) (D.is_attached disk.new) }
-        ensures cause { CountsFaults (D.faults disk.old) (D.faults disk.new) result }
+        ensures once { self.old.place ≤ gate → gate + min (size - gate) 9320 ≤ self.old.place + length self.old.bytes
+            → (disk.new ≡ disk.old) × (self.new ≡ self.old) }
+        ensures reads { Reads D.Disk (IsErr result) disk.old disk.new }
     {
         let wanted = min(size - gate, RECORD_SPAN);
         if self.place <= gate && gate + wanted <= self.place + self.filled as u64 {
@@ -105,12 +102,7 @@ fn read_front<D: Disk>(
 
     ensures front { OnOk result (ForSome (D.content disk.old)
         (λ told. take count buffer.new ≡ slice_range told place (place + count))) }
-    ensures reads { OnlyReads D.images (D.content disk.old) (D.content disk.new)
-        (D.moments disk.old) (D.moments disk.new) }
-    ensures unwritten { D.writes disk.new ≡ D.writes disk.old }
-    ensures stays { StaysAttached (D.bound_to disk.old) (D.bound_to disk.new)
-        (D.is_attached disk.old) (D.is_attached disk.new) }
-    ensures cause { CountsFaults (D.faults disk.old) (D.faults disk.new) result }
+    ensures reads { Reads D.Disk (IsErr result) disk.old disk.new }
 {
     disk.read_at(place, &mut buffer[..count])
 }

@@ -1,6 +1,6 @@
 use Rattle.std.proofs.Common.{◌≡◌, [], ◌∷◌, Err, length, sym, ◌∙◌, ap, arith, length-append}
 use Rattle.px_journal.specs.declared.fault.RecoverWhy.TheVariants as whys
-use Rattle.px_journal.proofs.Moments.{reads_on}
+use Rattle.px_journal.proofs.Going.{handed_to, handed_from, other_fault, reads_then, reads_told}
 use Rattle.px_journal.proofs.Walking.{read_next, read_damaged, read_nothing, err_is, full_history, room_in_history}
 use Rattle.px_journal.proofs.Windows.{shows_nothing}
 use Rattle.px_journal.proofs.history.read_history.Goals as goal
@@ -13,13 +13,19 @@ loop-window-init g c = (
 )
 
 pub returns-in_err-entry-clause-reads : goal.returns-in_err-entry-clause-reads
-returns-in_err-entry-clause-reads g c = reads_on g.D.Disk.images _ _ _ _ _ _ (c.loop-window.invariant.0).reads c.next_record.ensures.reads
+returns-in_err-entry-clause-reads g c =
+    reads_told g.D.Disk (reads_then g.D.Disk (c.loop-window.invariant.0).reads (λ failed. failed) c.in_err-entry.ensures.reads)
+    (handed_to c.from_residual-in_err-entry.ensures.1) (handed_from c.from_residual-in_err-entry.ensures.1)
 
 pub returns-in_err-push-in-Some-clause-reads : goal.returns-in_err-push-in-Some-clause-reads
-returns-in_err-push-in-Some-clause-reads g c = reads_on g.D.Disk.images _ _ _ _ _ _ (c.loop-window.invariant.0).reads c.next_record.ensures.reads
+returns-in_err-push-in-Some-clause-reads g c =
+    reads_told g.D.Disk (reads_then g.D.Disk (c.loop-window.invariant.0).reads (λ failed. failed) c.in_ok-entry.ensures.reads)
+    (λ failed. absurd (cc)) (λ failed. absurd (other_fault c.from_residual-in_err-push-in-Some.ensures.1 (λ same. absurd (cc)) failed))
 
 pub returns-in-None-clause-reads : goal.returns-in-None-clause-reads
-returns-in-None-clause-reads g c = reads_on g.D.Disk.images _ _ _ _ _ _ (c.loop-window.invariant.0).reads c.next_record.ensures.reads
+returns-in-None-clause-reads g c =
+    reads_told g.D.Disk (reads_then g.D.Disk (c.loop-window.invariant.0).reads (λ failed. failed) c.in_ok-entry.ensures.reads)
+    (λ failed. absurd (cc)) (λ failed. absurd (cc))
 
 pub returns-in_err-entry-clause-damaged : goal.returns-in_err-entry-clause-damaged
 returns-in_err-entry-clause-damaged g c = λ at refused.
@@ -45,5 +51,6 @@ loop-window-preserved g c =
     let opens = rw c.in-Some.is at c.in_ok-entry.ensures.opens in
     let next = read_next g.D.Disk c.args.disk.now _ c.args.plan.now c.args.size c.loop-window.history.items c.loop-window.gate read
     c.next_record.new.disk c.in-Some.entry c.in-Some.next (found.0) (found.2) (found.3)
-    (omega (arith, count, room_in_history _ (omega (arith, count, read.few)) (found.1))) opens c.next_record.ensures.reads c.next_record.ensures.unwritten c.next_record.ensures.stays c.next_record.ensures.later in
-    (rw c.in_ok-push-in-Some.ensures.items next, λ told is. c.in_ok-entry.ensures.shows told (read.reads.bytes ∙ is), c.in_ok-entry.ensures.inside)
+    (omega (arith, count, room_in_history _ (omega (arith, count, read.few)) (found.1))) opens
+    (reads_told g.D.Disk c.in_ok-entry.ensures.reads (λ failed. absurd (cc)) (λ failed. absurd failed)) in
+    (rw c.in_ok-push-in-Some.ensures.items next, λ told is. c.in_ok-entry.ensures.shows told (read.reads.only.bytes ∙ is), c.in_ok-entry.ensures.inside)

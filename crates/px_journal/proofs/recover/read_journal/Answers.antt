@@ -12,18 +12,18 @@ returns-in_err-plan-clause-damaged g c = λ at refused told is.
 
 pub returns-in_err-plan-clause-writes_nothing : goal.returns-in_err-plan-clause-writes_nothing
 returns-in_err-plan-clause-writes_nothing g c = record {
-  writes = c.read_stable.ensures.unwritten ∙ c.sync.ensures.unwritten;
-  elapses = elapses_on g.D.Disk.images Stays _ _ _ c.sync.ensures.syncs.elapses c.read_stable.ensures.reads.elapses;
+  writes = c.read_stable.ensures.reads.unwritten ∙ c.sync.ensures.unwritten;
+  elapses = elapses_on g.D.Disk.images Stays _ _ _ c.sync.ensures.syncs.elapses c.read_stable.ensures.reads.only.elapses;
 }
 
 pub returns-clause-writes_nothing : goal.returns-clause-writes_nothing
 returns-clause-writes_nothing g c = record {
-  writes = c.read_stable.ensures.unwritten ∙ c.sync.ensures.unwritten;
-  elapses = elapses_on g.D.Disk.images Stays _ _ _ c.sync.ensures.syncs.elapses c.read_stable.ensures.reads.elapses;
+  writes = c.read_stable.ensures.reads.unwritten ∙ c.sync.ensures.unwritten;
+  elapses = elapses_on g.D.Disk.images Stays _ _ _ c.sync.ensures.syncs.elapses c.read_stable.ensures.reads.only.elapses;
 }
 
 pub returns-in_err-plan-clause-settled : goal.returns-in_err-plan-clause-settled
-returns-in_err-plan-clause-settled g c = λ other. settled_on g.D.Disk.images _ _ _ _ _ _ c.in_ok-sync.ensures.syncs c.read_stable.ensures.reads
+returns-in_err-plan-clause-settled g c = λ other. settled_on g.D.Disk.images _ _ _ _ _ _ c.in_ok-sync.ensures.syncs c.read_stable.ensures.reads.only
 
 pub returns-clause-settled : goal.returns-clause-settled
-returns-clause-settled g c = λ other. settled_on g.D.Disk.images _ _ _ _ _ _ c.in_ok-sync.ensures.syncs c.read_stable.ensures.reads
+returns-clause-settled g c = λ other. settled_on g.D.Disk.images _ _ _ _ _ _ c.in_ok-sync.ensures.syncs c.read_stable.ensures.reads.only

@@ -1,7 +1,7 @@
 use Rattle.std.proofs.Common.{Err, ◌∙◌, ap, arith}
 use Rattle.px_journal.specs.declared.fault.RecoverWhy.TheVariants as whys
 use Rattle.px_journal.proofs.Creating.{not_nothing}
-use Rattle.px_journal.proofs.Moments.{reads_on}
+use Rattle.px_journal.proofs.Going.{handed_to, handed_from, reads_by_call, reads_then, reads_told}
 use Rattle.px_journal.proofs.Undamaged.{open_not_closed}
 use Rattle.px_journal.proofs.Walking.{err_is}
 use Rattle.px_journal.proofs.recover.read_stable.Goals as goal
@@ -17,24 +17,33 @@ returns-in_err-history-clause-damaged g c = λ at refused told is.
     let why = err_is c.from_residual-in_err-history.result (whys.Damaged at) c.in_err-history.field-0.0 c.from_residual-in_err-history.ensures.1 refused in
     let opened = c.in_ok-count.ensures.opens told (c.len.ensures.reads.bytes ∙ is) in (
       not_nothing told (omega (arith, c.in_ok-size.ensures.length told is, c.if-size-lt-TEXT_PLACE.false)) (open_not_closed told (opened.0)),
-      c.in_err-history.ensures.damaged at (ap Err why) told (c.read_text.ensures.reads.bytes ∙ c.read_length.ensures.reads.bytes ∙ c.len.ensures.reads.bytes ∙ is),
+      c.in_err-history.ensures.damaged at (ap Err why) told (c.read_text.ensures.reads.only.bytes ∙ c.read_length.ensures.reads.only.bytes ∙ c.len.ensures.reads.bytes ∙ is),
     )
 
 pub returns-in_err-count-clause-reads : goal.returns-in_err-count-clause-reads
-returns-in_err-count-clause-reads g c = reads_on g.D.Disk.images _ _ _ _ _ _ c.len.ensures.reads c.read_length.ensures.reads
+returns-in_err-count-clause-reads g c =
+    let size = c.in_ok-size.ensures in
+    reads_told g.D.Disk (reads_then g.D.Disk (reads_by_call g.D.Disk _ size.reads size.unwritten size.stays size.cause) (λ failed. failed) c.in_err-count.ensures.reads)
+    (handed_to c.from_residual-in_err-count.ensures.1) (handed_from c.from_residual-in_err-count.ensures.1)
 
 pub returns-in_err-plan-clause-reads : goal.returns-in_err-plan-clause-reads
 returns-in_err-plan-clause-reads g c =
-    reads_on g.D.Disk.images _ _ _ _ _ _ (reads_on g.D.Disk.images _ _ _ _ _ _ c.len.ensures.reads c.read_length.ensures.reads) c.read_text.ensures.reads
+    let size = c.in_ok-size.ensures in
+    let counted = reads_then g.D.Disk (reads_by_call g.D.Disk _ size.reads size.unwritten size.stays size.cause) (λ failed. failed) c.in_ok-count.ensures.reads in
+    reads_told g.D.Disk (reads_then g.D.Disk counted (λ failed. absurd (cc)) c.in_err-plan.ensures.reads)
+    (handed_to c.from_residual-in_err-plan.ensures.1) (handed_from c.from_residual-in_err-plan.ensures.1)
 
 pub returns-in_err-history-clause-reads : goal.returns-in_err-history-clause-reads
 returns-in_err-history-clause-reads g c =
-    reads_on g.D.Disk.images _ _ _ _ _ _
-    (reads_on g.D.Disk.images _ _ _ _ _ _ (reads_on g.D.Disk.images _ _ _ _ _ _ c.len.ensures.reads c.read_length.ensures.reads) c.read_text.ensures.reads)
-    c.read_history.ensures.reads
+    let size = c.in_ok-size.ensures in
+    let counted = reads_then g.D.Disk (reads_by_call g.D.Disk _ size.reads size.unwritten size.stays size.cause) (λ failed. failed) c.in_ok-count.ensures.reads in
+    let read = reads_then g.D.Disk counted (λ failed. absurd (cc)) c.in_ok-plan.ensures.reads in
+    reads_told g.D.Disk (reads_then g.D.Disk read (λ failed. absurd (cc)) c.in_err-history.ensures.reads)
+    (handed_to c.from_residual-in_err-history.ensures.1) (handed_from c.from_residual-in_err-history.ensures.1)
 
 pub returns-clause-reads : goal.returns-clause-reads
 returns-clause-reads g c =
-    reads_on g.D.Disk.images _ _ _ _ _ _
-    (reads_on g.D.Disk.images _ _ _ _ _ _ (reads_on g.D.Disk.images _ _ _ _ _ _ c.len.ensures.reads c.read_length.ensures.reads) c.read_text.ensures.reads)
-    c.read_history.ensures.reads
+    let size = c.in_ok-size.ensures in
+    let counted = reads_then g.D.Disk (reads_by_call g.D.Disk _ size.reads size.unwritten size.stays size.cause) (λ failed. failed) c.in_ok-count.ensures.reads in
+    let read = reads_then g.D.Disk counted (λ failed. absurd (cc)) c.in_ok-plan.ensures.reads in
+    reads_told g.D.Disk (reads_then g.D.Disk read (λ failed. absurd (cc)) c.in_ok-history.ensures.reads) (λ failed. absurd (cc)) (λ failed. absurd (cc))

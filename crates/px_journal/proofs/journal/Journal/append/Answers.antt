@@ -96,6 +96,6 @@ returns-clause-kept g c = λ text history ready.
       text_fits = ready.text_fits;
       fit = fits-push history c.args.entry.now ready.fit c.requires.fit;
       few = omega (arith, ready.count, c.requires.room, length-append history (c.args.entry.now ∷ []));
-      attached = c.put-2.ensures.stays.attached ∙ c.put.ensures.stays.attached ∙ ready.attached;
+      attached = c.put-2.ensures.goes.stays.attached ∙ c.put.ensures.goes.stays.attached ∙ ready.attached;
       room = omega (arith, ready.room, c.fill.ensures.capacity);
     }

@@ -1,0 +1,115 @@
+-- From one call of a disk to the next: what it keeps over both, and how its faults are counted.
+use Rattle.std.proofs.Common.{◌≡◌, ◌≢◌, ◌≤◌, ℕ, Bool, List, length, Option, refl, ◌∙◌, ap, arith}
+use Rattle.std.proofs.lemmas.List.{take_all}
+use Rattle.std.specs.Prelude.{Result, Ok, Err, IsErrAnd, is_some}
+use Rattle.px_ports.specs.Disk.{CountsFaults, OnlyReads, StaysAttached}
+use Rattle.px_ports.specs.Host.{Rose}
+use Rattle.px_ports.specs.declared.disk.Disk
+use Rattle.px_journal.specs.Goes.{RisesWhere, Goes, Reads}
+use Rattle.px_journal.proofs.Moments.{grows_on, reads_on}
+
+-- ---- counts
+
+-- where a count rose, it rose since an earlier moment too
+pub rose_on : (first before now : ℕ) → first ≤ before → Rose before now → Rose first now
+rose_on first before now later rose = omega (arith, rose)
+
+pub rises_none : {F : Type 0} (count : ℕ) → ¬ F → RisesWhere F count count
+rises_none count unfailed = record { later = omega arith; rose = λ failed. absurd (unfailed failed); kept = λ right. refl }
+
+pub rises_then : {F G : Type 0} {first before now : ℕ} → RisesWhere F first before → ¬ F → RisesWhere G before now → RisesWhere G first now
+rises_then {F} {G} {first} {before} {now} early unfailed late = record {
+  later = omega (arith, early.later, late.later);
+  rose = λ failed. rose_on first before now early.later (late.rose failed);
+  kept = λ right. late.kept right ∙ early.kept unfailed;
+}
+
+-- an error that `?` hands on is the call's
+pub handed_to : {T U E : Type 0} {result : Result U E} {came why : E} → IsErrAnd result (λ given. given ≡ came) → ◌≡◌ {A = Result T E} (Err came) (Err why) → result ≡ Err why
+handed_to {result = Ok value} handed same = absurd handed
+handed_to {result = Err given} handed same = cc
+
+pub handed_from : {T U E : Type 0} {result : Result U E} {came why : E} → IsErrAnd result (λ given. given ≡ came) → result ≡ Err why → ◌≡◌ {A = Result T E} (Err came) (Err why)
+handed_from {result = Ok value} handed same = absurd handed
+handed_from {result = Err given} handed same = cc
+
+pub other_fault : {U E : Type 0} {result : Result U E} {came why : E} → IsErrAnd result (λ given. given ≡ came) → came ≢ why → result ≡ Err why → ⊥
+other_fault {result = Ok value} handed other same = absurd handed
+other_fault {result = Err given} handed other same = other cc
+
+-- the same failure, told in other words
+pub rises_told : {F G : Type 0} {before now : ℕ} → RisesWhere F before now → (F → G) → (G → F) → RisesWhere G before now
+rises_told counts to from = record {
+  later = counts.later;
+  rose = λ failed. counts.rose (from failed);
+  kept = λ right. counts.kept (λ failed. right (to failed));
+}
+
+pub stays_on : {first before now : Option (List ℕ)} {first_attached before_attached now_attached : Bool} → StaysAttached first before first_attached before_attached
+    → StaysAttached before now before_attached now_attached → StaysAttached first now first_attached now_attached
+stays_on early late = record { bound = late.bound ∙ early.bound; attached = late.attached ∙ early.attached }
+
+-- ---- disks
+
+module _ {D : Type 0} (members : Disk.Ghosts D) where
+  -- a call of a disk that only reads, and didn't fail
+  pub reads_by_call : {T : Type 0} {old new : D} (value : T)
+      → OnlyReads members.images (members.content old) (members.content new) (members.moments old) (members.moments new)
+      → members.writes new ≡ members.writes old
+      → StaysAttached (members.bound_to old) (members.bound_to new) (members.is_attached old) (members.is_attached new)
+      → CountsFaults (members.faults old) (members.faults new) (Ok value) → Reads members ⊥ old new
+  reads_by_call value only unwritten stays counts = record {
+    only = only;
+    unwritten = unwritten;
+    stays = stays;
+    faults = record { later = counts.later; rose = λ failed. absurd failed; kept = λ right. counts.kept };
+  }
+
+  pub reads_then : {F G : Type 0} {old mid new : D} → Reads members F old mid → ¬ F → Reads members G mid new → Reads members G old new
+  reads_then early unfailed late = record {
+    only = reads_on members.images _ _ _ _ _ _ early.only late.only;
+    unwritten = late.unwritten ∙ early.unwritten;
+    stays = stays_on early.stays late.stays;
+    faults = rises_then early.faults unfailed late.faults;
+  }
+
+  pub reads_told : {F G : Type 0} {old new : D} → Reads members F old new → (F → G) → (G → F) → Reads members G old new
+  reads_told reads to from = record {
+    only = reads.only;
+    unwritten = reads.unwritten;
+    stays = reads.stays;
+    faults = rises_told reads.faults to from;
+  }
+
+  -- a call that only reads, as a call that may write
+  pub goes_by_reads : {F : Type 0} {old new : D} → Reads members F old new → Goes members F old new
+  goes_by_reads reads = record {
+    tells = ap is_some reads.only.bytes;
+    grows = reads.only.elapses.grows;
+    stays = reads.stays;
+    faults = reads.faults;
+  }
+
+  pub goes_none : {F : Type 0} (disk : D) → ¬ F → Goes members F disk disk
+  goes_none disk unfailed = record {
+    tells = refl;
+    grows = take_all (length (members.moments disk)) (members.moments disk) (omega arith);
+    stays = record { bound = refl; attached = refl };
+    faults = rises_none (members.faults disk) unfailed;
+  }
+
+  pub goes_then : {F G : Type 0} {old mid new : D} → Goes members F old mid → ¬ F → Goes members G mid new → Goes members G old new
+  goes_then early unfailed late = record {
+    tells = late.tells ∙ early.tells;
+    grows = grows_on _ _ _ early.grows late.grows;
+    stays = stays_on early.stays late.stays;
+    faults = rises_then early.faults unfailed late.faults;
+  }
+
+  pub goes_told : {F G : Type 0} {old new : D} → Goes members F old new → (F → G) → (G → F) → Goes members G old new
+  goes_told goes to from = record {
+    tells = goes.tells;
+    grows = goes.grows;
+    stays = goes.stays;
+    faults = rises_told goes.faults to from;
+  }
