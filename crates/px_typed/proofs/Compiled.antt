@@ -28,10 +28,12 @@ module _ (bytes : List ℕ) (plan : Tree) (compiled : IsCompiled bytes plan) whe
   identifiers =
       labels_named bytes compiled.spelled.tokens compiled.tree compiled.spelled.split.split compiled.spelled.spelled.spelled
 
+  fit : IsFit (core compiled.tree)
+  fit = core_fit compiled.tree compiled.faultless identifiers compiled.within
+
   pub distinct : AreDistinct (sites plan)
   distinct =
       let tree = compiled.tree in
-      let fit : IsFit (core tree) = core_fit tree compiled.faultless identifiers compiled.within in
       let few : block_nodes tree.root ≤ 4096 = omega (arith, fit.count, core_count tree) in
       let names = names_at bytes compiled.spelled.tokens compiled.spelled.split.split in
       subst (λ whole. AreDistinct (sites whole)) (sym compiled.expanded)
@@ -41,7 +43,7 @@ module _ (bytes : List ℕ) (plan : Tree) (compiled : IsCompiled bytes plan) whe
   pub initials : All InitialsSuit (sites plan)
   initials =
       subst (λ whole. All InitialsSuit (sites whole)) (sym compiled.expanded)
-      (initials_suit (core compiled.tree) (core_typed compiled.tree compiled.faultless identifiers compiled.within))
+      (initials_suit (core compiled.tree) (core_typed compiled.tree compiled.faultless identifiers compiled.within) fit.arrays)
 
   pub typed : (history : List Event) → ForSome (run (sites plan) history) (IsTyped (sites plan))
   typed history = run_typed (sites plan) history distinct initials

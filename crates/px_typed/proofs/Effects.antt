@@ -138,7 +138,7 @@ assigned_kept : (plan : List Site) (world : World) (target : TargetData) (right 
 assigned_kept plan world target right None cells = tt
 assigned_kept plan world target right (Some place) cells = λ variable is.
     read_anywhere (Suits variable.kind) (cells_at plan world target.owner target.name) (cell_of place) values.Unknown
-    (cells variable is) (unknown_suits variable.kind)
+    (cells variable is).suit (unknown_suits variable.kind)
 
 back_kept : (plan : List Site) (target : TargetData) (right : Term) (under_way : Action)
     → KeptSuits plan (Assign target right) under_way

@@ -1,6 +1,6 @@
--- An event keeps the types of cells and of kept values.
+-- An event keeps the cells of variables, and the types of cells and of kept values.
 use Rattle.std.proofs.Common.{◌≡◌, ℕ, Bool, true, false, List, map, Option, Some, None, refl, ap, sym, ◌∙◌, subst, if◌then◌else◌}
-use Rattle.std.specs.List.{All, zip}
+use Rattle.std.specs.List.{zip}
 use Rattle.std.specs.Option.{ForSome, option_map}
 use Rattle.std.specs.Cmp.Lexicographic.{bytes_decides}
 use Rattle.px_value.specs.declared.enums.Handle.{Handle}
@@ -12,7 +12,7 @@ use Rattle.px_sem.specs.World.{World, NodeRecord, Action, NoAction, Assigned, Co
 use Rattle.px_sem.specs.Conflicts.{target_of}
 use Rattle.px_sem.specs.Effects.{Write, write_at, written}
 use Rattle.px_sem.specs.Events.{with_record, with_action, with_write, with_handle, with_abort_done, result_place, returned, body_at, action_at, counts, changed, take}
-use Rattle.px_typed.specs.Typing.{Suits, KeptSuits, IsTyped}
+use Rattle.px_typed.specs.Typing.{Suits, HasCells, KeptSuits, IsTyped}
 use Rattle.px_typed.proofs.Effects.{WriteSuits, write_at_suits, command_kept, update_kept}
 use Rattle.px_typed.proofs.Records.{with_record_holds}
 use Rattle.px_typed.proofs.Variables.{named_so, HoldsSuiting, Keeps, changed_suit, written_suits}
@@ -67,12 +67,12 @@ one_keeps : (plan : List Site) (write : Write) → WriteSuits plan write → (na
 one_keeps plan write suits name variable is cells suit = by (is_same variable.name write.name) refl
   where
     by : (b : Bool) → is_same variable.name write.name ≡ b
-        → All (Suits variable.kind) (if b then written cells (Some write) else cells)
+        → HasCells variable (if b then written cells (Some write) else cells)
     by true same =
         let here : write.name ≡ name =
         sym ((bytes_decides variable.name write.name).0 same)
         ∙ named_so (site_at plan write.owner).head.variables name variable is in
-        written_suits variable.kind cells (Some write) suit
+        written_suits variable cells (Some write) suit
         (λ w w_is.
         let it : write ≡ w = cc in
         subst (λ w. Suits variable.kind w.value) it (suits variable (ap (variable_at plan write.owner) here ∙ is)))

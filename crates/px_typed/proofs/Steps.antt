@@ -100,7 +100,7 @@ step_holds plan world distinct initials typed site own name false =
     keeps : ForSome (named site.head.variables name)
         (Keeps (λ variable. written variable.1 (write_to site.path variable.0.name (step_writes plan world))))
     keeps variable is cells suit =
-        written_suits variable.kind cells (write_to site.path variable.name (step_writes plan world)) suit
+        written_suits variable cells (write_to site.path variable.name (step_writes plan world)) suit
         (λ write written_is.
         let it : IsFound plan site.path variable.name write =
         write_is_found plan (own_write plan world) plan all_suit site.path variable.name write written_is in

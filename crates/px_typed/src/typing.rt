@@ -1,4 +1,4 @@
-// What variables hold keeps its type, as clauses of functions that do nothing. Different nodes of a fit plan have different
+// Variables keep their cells, and what they hold its type, as clauses of functions that do nothing. Different nodes of a fit plan have different
 // paths, by px_core's law on paths.
 ghost use Rattle.std.specs.Prelude.{List};
 ghost use Rattle.std.specs.List.{All};
@@ -12,7 +12,7 @@ ghost use Rattle.px_sem.specs.Step.{micro};
 ghost use Rattle.px_sem.specs.World.{World};
 ghost use Rattle.px_typed.specs.Typing.{InitialsSuit, IsTyped};
 
-/// A micro step keeps the types of cells and of kept values, from every world in which all are of their types.
+/// A micro step keeps the number of cells, and the types of cells and of kept values, from every world in which all are so.
 pub fn steps()
     ensures { (plan : List Site) (world : World) → AreDistinct plan → All InitialsSuit plan → IsTyped plan world
         → IsTyped plan (micro plan world) }
@@ -24,7 +24,7 @@ pub fn events()
         → IsTyped plan (take plan world event) }
 {}
 
-/// In the world that a run leads to all are of their types.
+/// In the world that a run leads to all are so.
 pub fn runs()
     ensures { (plan : List Site) (history : List Event) → AreDistinct plan → All InitialsSuit plan
         → ForSome (run plan history) (IsTyped plan) }
