@@ -1,5 +1,6 @@
 pub mod Listing
 pub mod Logging
 pub mod Printed
+pub mod Gathered
 pub mod Telling
 pub mod Tracing

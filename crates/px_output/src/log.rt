@@ -1,77 +1,76 @@
-// The text of a log: the trace of its history, which is run once more for it, then the line of each post, and how
-// the plan stands. So no trace is kept. Behind it stand the waits at which a script is stalled.
+// The text of a log: the trace of its history, which the stepper runs once more for it, then the line of each post, and
+// how the plan stands. So no trace is kept. Behind it stand the waits at which a script is stalled.
 ghost use Rattle.std.specs.Prelude.{◌≡◌, ℕ, ◌<◌, ◌^◌, ◌++◌, List, [], length, IfOk, OnOk, IsSome, IsTrue, Some};
 ghost use Rattle.std.specs.List.{list_all};
-ghost use Rattle.px_core.specs.Fit.{IsFit};
-ghost use Rattle.px_core.specs.Plan.{tree_of, sites};
 ghost use Rattle.px_event.specs.Fit.{is_fit_entry};
 ghost use Rattle.px_event.specs.declared.entry.Entry.{Entry as Posted};
-ghost use Rattle.px_sem.specs.Log.{events_of, accepted};
+ghost use Rattle.px_sem.specs.Log.{events_of, accepted, HasRun};
 ghost use Rattle.px_sem.specs.Run.{run, settled};
-ghost use Rattle.px_sem.specs.Stepper.{is_pending, fresh, settled_state};
+ghost use Rattle.px_sem.specs.Stepper.{Pending, is_pending, fresh, settled_state};
 ghost use Rattle.px_sem.specs.Text.{settled_text, trace, log_lines, text_of};
 ghost use Rattle.px_output.specs.Printing.{Prints, run_text};
 ghost use Rattle.px_output.specs.Stalls.{stall_lines};
 ghost use Rattle.px_output.specs.View.{view, OnlyPrints};
 
 use crate::printer::{PrintFault, Printer};
-use px_core::Plan;
 use px_event::Entry;
 use px_ports::Host;
 use px_script::Stall;
 use px_sem::{LogEntry, Stepper};
 use std::alloc::Global;
 
-/// Prints the text of a log that goes on from a history. The whole history, which ends with the accepted
-/// entries of the log, has to settle.
+/// Prints the text of a log that goes on from a history. The stepper is settled, and stands for the plan; it goes back to
+/// the start, and runs the whole history, which ends with the accepted entries of the log and has to settle.
 ///
 /// `SinkFailed` comes only where an emit failed or took nothing, `NoMemory` where memory ran out; a front of the text is
-/// emitted then.
+/// emitted then, and the stepper is anywhere in the run.
 pub fn print_log<H: Host, S: Stepper>(
     alloc: Global,
-    plan: &Plan,
+    stepper: &mut S,
     history: &[Entry],
     log: &[LogEntry],
     host: &mut H,
 ) -> Result<(), PrintFault>
-    requires fit { IsFit (tree_of plan.now) }
+    requires nothing { (S.state stepper.old).pending ≡ Pending.Nothing }
     requires events { IsTrue (list_all is_fit_entry history.now) }
     requires within { length history.now < 2 ^ 32 }
-    requires runs { IsSome (run (sites (tree_of plan.now)) (events_of history.now)) }
+    requires runs { IsSome (run (S.state stepper.old).nodes (events_of history.now)) }
+    ensures stands { OnOk result (HasRun (S.state stepper.old).nodes history.now (S.state stepper.new)) }
     ensures prints { (before : List Posted) → history.now ≡ before ++ accepted log.now
         → Prints (view H.Host host.old) [] (view H.Host host.new) []
-        (text_of (sites (tree_of plan.now)) before log.now) result }
+        (text_of (S.state stepper.old).nodes before log.now) result }
     ensures only { OnlyPrints (view H.Host host.old) (view H.Host host.new) }
 {
     let mut printer = Printer::new(alloc);
-    print_text::<H, S>(alloc, plan, history, log, &mut printer, host)?;
+    print_text(alloc, stepper, history, log, &mut printer, host)?;
     printer.finish(host)
 }
 
-/// Prints the text of a log that goes on from a history, and behind it a line for each wait at which a thread stands. The
-/// whole history, which ends with the accepted entries of the log, has to settle.
+/// Prints the text of a log that goes on from a history, as `print_log` does, and behind it a line for each wait at which a
+/// thread stands.
 ///
 /// `SinkFailed` comes only where an emit failed or took nothing, `NoMemory` where memory ran out; a front of the text is
-/// emitted then.
+/// emitted then, and the stepper is anywhere in the run.
 pub fn print_stalled<H: Host, S: Stepper>(
     alloc: Global,
-    plan: &Plan,
+    stepper: &mut S,
     history: &[Entry],
     log: &[LogEntry],
     stalls: &[Stall],
     host: &mut H,
 ) -> Result<(), PrintFault>
-    requires fit { IsFit (tree_of plan.now) }
+    requires nothing { (S.state stepper.old).pending ≡ Pending.Nothing }
     requires events { IsTrue (list_all is_fit_entry history.now) }
     requires within { length history.now < 2 ^ 32 }
-    requires runs { IsSome (run (sites (tree_of plan.now)) (events_of history.now)) }
+    requires runs { IsSome (run (S.state stepper.old).nodes (events_of history.now)) }
+    ensures stands { OnOk result (HasRun (S.state stepper.old).nodes history.now (S.state stepper.new)) }
     ensures prints { (before : List Posted) → history.now ≡ before ++ accepted log.now
         → Prints (view H.Host host.old) [] (view H.Host host.new) []
-        (text_of (sites (tree_of plan.now)) before log.now ++ stall_lines stalls.now) result }
+        (text_of (S.state stepper.old).nodes before log.now ++ stall_lines stalls.now) result }
     ensures only { OnlyPrints (view H.Host host.old) (view H.Host host.new) }
 {
     let mut printer = Printer::new(alloc);
-    print_text::<H, S>(alloc, plan, history, log, &mut printer, host)?;
+    print_text(alloc, stepper, history, log, &mut printer, host)?;
     print_stalls(stalls, &mut printer, host)?;
     printer.finish(host)
 }
@@ -79,23 +78,24 @@ pub fn print_stalled<H: Host, S: Stepper>(
 // Prints the text of a log, the end of which may stay with the printer.
 fn print_text<H: Host, S: Stepper>(
     alloc: Global,
-    plan: &Plan,
+    stepper: &mut S,
     history: &[Entry],
     log: &[LogEntry],
     printer: &mut Printer,
     host: &mut H,
 ) -> Result<(), PrintFault>
-    requires fit { IsFit (tree_of plan.now) }
+    requires nothing { (S.state stepper.old).pending ≡ Pending.Nothing }
     requires events { IsTrue (list_all is_fit_entry history.now) }
     requires within { length history.now < 2 ^ 32 }
-    requires runs { IsSome (run (sites (tree_of plan.now)) (events_of history.now)) }
+    requires runs { IsSome (run (S.state stepper.old).nodes (events_of history.now)) }
+    ensures stands { OnOk result (HasRun (S.state stepper.old).nodes history.now (S.state stepper.new)) }
     ensures prints { (before : List Posted) → history.now ≡ before ++ accepted log.now
         → Prints (view H.Host host.old) printer.old (view H.Host host.new) printer.new
-        (text_of (sites (tree_of plan.now)) before log.now) result }
+        (text_of (S.state stepper.old).nodes before log.now) result }
     ensures only { OnlyPrints (view H.Host host.old) (view H.Host host.new) }
 {
-    let mut stepper = S::fresh(alloc, plan)?;
-    print_trace(alloc, &mut stepper, history, printer, host)?;
+    stepper.rewind();
+    print_trace(alloc, stepper, history, printer, host)?;
     print_replies(log, printer, host)?;
     printer.standing(host, stepper.standing())
 }
@@ -112,9 +112,7 @@ fn print_trace<H: Host, S: Stepper>(
     requires events { IsTrue (list_all is_fit_entry history.now) }
     requires within { length history.now < 2 ^ 32 }
     requires runs { IsSome (run (S.state stepper.old).nodes (events_of history.now)) }
-    ensures plan { OnOk result ((S.state stepper.new).nodes ≡ (S.state stepper.old).nodes) }
-    ensures runs { OnOk result
-        (run (S.state stepper.old).nodes (events_of history.now) ≡ Some (S.state stepper.new).world) }
+    ensures runs { OnOk result (HasRun (S.state stepper.old).nodes history.now (S.state stepper.new)) }
     ensures prints { Prints (view H.Host host.old) printer.old (view H.Host host.new) printer.new
         (trace (S.state stepper.old).nodes history.now) result }
     ensures only { OnlyPrints (view H.Host host.old) (view H.Host host.new) }

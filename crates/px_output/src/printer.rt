@@ -1,7 +1,7 @@
 // The way of a text to the host: it gathers in a buffer, and goes out in large pieces until the sink fails.
-ghost use Rattle.std.specs.Prelude.{◌≡◌, ◌<◌, [], length, OnOk, IfErr};
+ghost use Rattle.std.specs.Prelude.{◌≡◌, [], IfErr};
 ghost use Rattle.px_output.specs.declared.printer.PrintFault.TheVariants.{SinkFailed, NoMemory as OutOfMemory};
-ghost use Rattle.px_output.specs.Printing.{Prints};
+ghost use Rattle.px_output.specs.Printing.{Prints, Gathers};
 ghost use Rattle.px_output.specs.View.{view, OnlyPrints};
 ghost use Rattle.px_sem.specs.Text.{start_text, heading_text, step_text, quiet_text, reply_line, standing_text, stall_line};
 
@@ -81,70 +81,55 @@ impl Printer {
     }
 
     /// Prints the heading of the start.
-    #[tactic(auto, using(crate::proofs::Printed::piece_printed, crate::proofs::Printed::nothing_printed))]
+    #[tactic(auto, using(crate::proofs::Gathered::piece_gathered, crate::proofs::Gathered::nothing_gathered))]
     pub fn start<H: Host>(&mut self, host: &mut H) -> Result<(), PrintFault>
-        ensures prints { Prints (view H.Host host.old) self.old (view H.Host host.new) self.new
-            (start_text) result }
-        ensures short { OnOk result (length self.new < 65536) }
-        ensures only { OnlyPrints (view H.Host host.old) (view H.Host host.new) }
+        ensures { Gathers H.Host host.old self.old host.new self.new (start_text) result }
     {
         push_start(self.alloc, &mut self.buffer)?;
         self.emit_piece(host)
     }
 
     /// Prints the heading of an event at its position in the history, from 1.
-    #[tactic(auto, using(crate::proofs::Printed::piece_printed, crate::proofs::Printed::nothing_printed))]
+    #[tactic(auto, using(crate::proofs::Gathered::piece_gathered, crate::proofs::Gathered::nothing_gathered))]
     pub fn heading<H: Host>(
         &mut self,
         host: &mut H,
         position: u32,
         entry: &Entry,
     ) -> Result<(), PrintFault>
-        ensures prints { Prints (view H.Host host.old) self.old (view H.Host host.new) self.new
-            (heading_text position entry.now) result }
-        ensures short { OnOk result (length self.new < 65536) }
-        ensures only { OnlyPrints (view H.Host host.old) (view H.Host host.new) }
+        ensures { Gathers H.Host host.old self.old host.new self.new (heading_text position entry.now) result }
     {
         push_heading(self.alloc, position, entry, &mut self.buffer)?;
         self.emit_piece(host)
     }
 
     /// Prints a micro step: its number, from 1, and its moves.
-    #[tactic(auto, using(crate::proofs::Printed::piece_printed, crate::proofs::Printed::nothing_printed))]
+    #[tactic(auto, using(crate::proofs::Gathered::piece_gathered, crate::proofs::Gathered::nothing_gathered))]
     pub fn step<H: Host>(
         &mut self,
         host: &mut H,
         number: u32,
         moves: &[Move],
     ) -> Result<(), PrintFault>
-        ensures prints { Prints (view H.Host host.old) self.old (view H.Host host.new) self.new
-            (step_text number moves.now) result }
-        ensures short { OnOk result (length self.new < 65536) }
-        ensures only { OnlyPrints (view H.Host host.old) (view H.Host host.new) }
+        ensures { Gathers H.Host host.old self.old host.new self.new (step_text number moves.now) result }
     {
         push_step(self.alloc, number, moves, &mut self.buffer)?;
         self.emit_piece(host)
     }
 
     /// Prints how many micro steps led to a quiet world.
-    #[tactic(auto, using(crate::proofs::Printed::piece_printed, crate::proofs::Printed::nothing_printed))]
+    #[tactic(auto, using(crate::proofs::Gathered::piece_gathered, crate::proofs::Gathered::nothing_gathered))]
     pub fn quiet<H: Host>(&mut self, host: &mut H, count: u32) -> Result<(), PrintFault>
-        ensures prints { Prints (view H.Host host.old) self.old (view H.Host host.new) self.new
-            (quiet_text count) result }
-        ensures short { OnOk result (length self.new < 65536) }
-        ensures only { OnlyPrints (view H.Host host.old) (view H.Host host.new) }
+        ensures { Gathers H.Host host.old self.old host.new self.new (quiet_text count) result }
     {
         push_quiet(self.alloc, count, &mut self.buffer)?;
         self.emit_piece(host)
     }
 
     /// Prints the line of a post.
-    #[tactic(auto, using(crate::proofs::Printed::piece_printed, crate::proofs::Printed::nothing_printed))]
+    #[tactic(auto, using(crate::proofs::Gathered::piece_gathered, crate::proofs::Gathered::nothing_gathered))]
     pub fn reply<H: Host>(&mut self, host: &mut H, logged: &LogEntry) -> Result<(), PrintFault>
-        ensures prints { Prints (view H.Host host.old) self.old (view H.Host host.new) self.new
-            (reply_line logged.now.entry.thread logged.now.entry.line logged.now.reply) result }
-        ensures short { OnOk result (length self.new < 65536) }
-        ensures only { OnlyPrints (view H.Host host.old) (view H.Host host.new) }
+        ensures { Gathers H.Host host.old self.old host.new self.new (reply_line logged.now.entry.thread logged.now.entry.line logged.now.reply) result }
     {
         let line = LoggedLine {
             thread: logged.entry.thread,
@@ -156,24 +141,18 @@ impl Printer {
     }
 
     /// Prints how a plan stands.
-    #[tactic(auto, using(crate::proofs::Printed::piece_printed, crate::proofs::Printed::nothing_printed))]
+    #[tactic(auto, using(crate::proofs::Gathered::piece_gathered, crate::proofs::Gathered::nothing_gathered))]
     pub fn standing<H: Host>(&mut self, host: &mut H, standing: Standing) -> Result<(), PrintFault>
-        ensures prints { Prints (view H.Host host.old) self.old (view H.Host host.new) self.new
-            (standing_text standing) result }
-        ensures short { OnOk result (length self.new < 65536) }
-        ensures only { OnlyPrints (view H.Host host.old) (view H.Host host.new) }
+        ensures { Gathers H.Host host.old self.old host.new self.new (standing_text standing) result }
     {
         push_standing(self.alloc, &standing, &mut self.buffer)?;
         self.emit_piece(host)
     }
 
     /// Prints the line of a wait at which a thread stands.
-    #[tactic(auto, using(crate::proofs::Printed::nothing_printed))]
+    #[tactic(auto, using(crate::proofs::Gathered::nothing_gathered))]
     pub fn stall<H: Host>(&mut self, host: &mut H, stall: &Stall) -> Result<(), PrintFault>
-        ensures prints { Prints (view H.Host host.old) self.old (view H.Host host.new) self.new
-            (stall_line stall.now.thread stall.now.line stall.now.cond) result }
-        ensures short { OnOk result (length self.new < 65536) }
-        ensures only { OnlyPrints (view H.Host host.old) (view H.Host host.new) }
+        ensures { Gathers H.Host host.old self.old host.new self.new (stall_line stall.now.thread stall.now.line stall.now.cond) result }
     {
         push_stall(
             self.alloc,
@@ -196,10 +175,8 @@ impl Printer {
 
     // Emits the buffer where it has grown to a piece. Only the sink can fail.
     fn emit_piece<H: Host>(&mut self, host: &mut H) -> Result<(), PrintFault>
-        ensures prints { Prints (view H.Host host.old) self.old (view H.Host host.new) self.new [] result }
+        ensures gathers { Gathers H.Host host.old self.old host.new self.new [] result }
         ensures of_the_sink { IfErr result (λ fault. fault ≡ SinkFailed) }
-        ensures short { OnOk result (length self.new < 65536) }
-        ensures only { OnlyPrints (view H.Host host.old) (view H.Host host.new) }
     {
         if self.buffer.len() >= PIECE {
             emit_all(host, &self.buffer)?;

@@ -1,5 +1,4 @@
 use Rattle.std.proofs.Common.{[], Ok, Err, refl, sym, append-nil}
-use Rattle.px_core.specs.Plan.{tree_of, sites}
 use Rattle.px_sem.specs.Text.{text_of}
 use Rattle.px_output.specs.View.{view}
 use Rattle.px_output.proofs.Printed.{fails_first, finished, from_nothing}
@@ -9,7 +8,7 @@ pub returns-in_err-print_text-clause-prints : goal.returns-in_err-print_text-cla
 returns-in_err-print_text-clause-prints g c = λ before whole.
     let old = view g.H.Host c.args.host.now in
     let new = view g.H.Host c.print_text.new.host in
-    let text = text_of (sites (tree_of c.args.plan.now)) before c.args.log.now in
+    let text = text_of (g.S.Stepper.state c.args.stepper.now).nodes before c.args.log.now in
     let fault = c.in_err-print_text.field-0.0 in
     fails_first Unit old new [] c.print_text.new.printer _ text [] text fault _ c.from_residual.ensures.1
     (from_nothing old new c.new-printer.result c.print_text.new.printer text (Err fault) c.new-printer.ensures (c.in_err-print_text.ensures.prints before whole)) (sym (append-nil text))
@@ -18,7 +17,7 @@ pub returns-clause-prints : goal.returns-clause-prints
 returns-clause-prints g c = λ before whole.
     let old = view g.H.Host c.args.host.now in
     let mid = view g.H.Host c.print_text.new.host in
-    let text = text_of (sites (tree_of c.args.plan.now)) before c.args.log.now in
+    let text = text_of (g.S.Stepper.state c.args.stepper.now).nodes before c.args.log.now in
     finished old mid (view g.H.Host c.finish.new.host) c.print_text.new.printer text text _ refl
     (from_nothing old mid _ _ text (Ok tt) c.new-printer.ensures (c.in_ok-print_text.ensures.prints before whole))
     c.in_ok-print_text.ensures.only c.finish.ensures.prints

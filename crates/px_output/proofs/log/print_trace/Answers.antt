@@ -20,7 +20,7 @@ returns-in_err-start-clause-prints g c =
     c.in_err-start.ensures.prints (start_is plan c.args.history.now)
 
 pub print_settling-requires-clause-settles : goal.print_settling-requires-clause-settles
-print_settling-requires-clause-settles g c = λ _ _.
+print_settling-requires-clause-settles g c =
     let from : State = g.S.Stepper.state c.args.stepper.now in
     subst (λ (x : State). IsSome (settled x.nodes x.world)) (sym c.requires.fresh)
     (run_starts from.nodes (events_of c.args.history.now) c.requires.runs)
@@ -95,7 +95,7 @@ returns-in_err-begin-clause-prints g c =
     c.loop-entry.printer entry told next ∙ sym (append_assoc told.told heading later))
 
 pub print_settling-requires-in-loop-entry-clause-settles : goal.print_settling-requires-in-loop-entry-clause-settles
-print_settling-requires-in-loop-entry-clause-settles g c = λ _ _.
+print_settling-requires-in-loop-entry-clause-settles g c =
     let plan = (g.S.Stepper.state c.args.stepper.now).nodes in
     let history = c.args.history.now in
     let index = c.loop-entry.entry-index in
@@ -165,10 +165,12 @@ loop-entry-preserved g c =
     }
 
 pub returns-clause-runs : goal.returns-clause-runs
-returns-clause-runs g c =
-    (told_to_end (g.S.Stepper.state c.args.stepper.now).nodes c.args.history.now c.loop-entry.entry-index (g.S.Stepper.state c.loop-entry.stepper)
-    (view g.H.Host c.args.host.now) (view g.H.Host c.loop-entry.host) c.args.printer.now c.loop-entry.printer c.loop-entry.invariant.told
-    c.loop-entry-test.false).0
+returns-clause-runs g c = (
+  (told_to_end (g.S.Stepper.state c.args.stepper.now).nodes c.args.history.now c.loop-entry.entry-index (g.S.Stepper.state c.loop-entry.stepper)
+      (view g.H.Host c.args.host.now) (view g.H.Host c.loop-entry.host) c.args.printer.now c.loop-entry.printer c.loop-entry.invariant.told
+      c.loop-entry-test.false).0,
+  c.loop-entry.invariant.told.rest,
+)
 
 pub returns-clause-prints : goal.returns-clause-prints
 returns-clause-prints g c =

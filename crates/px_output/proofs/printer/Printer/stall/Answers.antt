@@ -1,11 +1,10 @@
 use Rattle.std.proofs.Common.{◌∙◌, ℕ, List, ◌++◌, ap}
-use Rattle.px_output.specs.View.{view}
 use Rattle.px_output.proofs.Logging.{wait_line}
-use Rattle.px_output.proofs.Printed.{piece_printed}
+use Rattle.px_output.proofs.Gathered.{piece_gathered}
 use Rattle.px_output.proofs.printer.Printer.stall.Goals as goal
 
-pub returns-clause-prints : goal.returns-clause-prints
-returns-clause-prints g c =
+pub returns : goal.returns
+returns g c =
     let line = wait_line c.args.stall.now in
-    piece_printed (view g.H.Host c.args.host.now) (view g.H.Host c.emit_piece.new.host) c.args.self.now _ c.emit_piece.new.self line _
-    (◌∙◌ {A = List ℕ} c.in_ok-push_stall.ensures.ok (ap (λ text. text ++ line) c.self.view_is)) c.emit_piece.ensures.prints
+    piece_gathered g.H.Host c.args.host.now c.emit_piece.new.host c.args.self.now _ c.emit_piece.new.self line _
+    (◌∙◌ {A = List ℕ} c.in_ok-push_stall.ensures.ok (ap (λ text. text ++ line) c.self.view_is)) c.emit_piece.ensures.gathers
