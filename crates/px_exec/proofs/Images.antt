@@ -1,11 +1,12 @@
 -- What each image since some moment stands for, from one post to the next.
-use Rattle.std.proofs.Common.{◌≡◌, inl, ⊎_elim, ℕ, List, [], ◌∷◌, ◌++◌, Some, length, take, refl, sym, ◌∙◌, ap, subst, arith, append_assoc, append-nil}
+use Rattle.std.proofs.Common.{◌≡◌, inl, ⊎_elim, ℕ, List, [], ◌∷◌, ◌++◌, Some, length, take, sym, ◌∙◌, ap, subst, arith, append_assoc, append-nil}
 use Rattle.std.proofs.lemmas.List.{take_all}
 use Rattle.px_event.specs.declared.entry.Entry.{Entry}
 use Rattle.px_journal.specs.Crash.{WithOrWithout, LeavesOnly}
 use Rattle.px_journal.specs.Journal.{IsReady}
 use Rattle.px_journal.specs.Layout.{Stands}
 use Rattle.px_journal.specs.declared.journal.Journal.{Journal}
+use Rattle.px_journal.proofs.Going.{goes_none, goes_told}
 use Rattle.px_journal.proofs.Moments.{grows_on, left_before_or_after}
 use Rattle.px_ports.specs.Moment.{Images, LeftSince}
 use Rattle.px_ports.specs.declared.disk.Disk
@@ -32,14 +33,20 @@ ready_leaves members journal text told history left ready is to = record {
 }
 
 -- a call that doesn't reach the journal
-pub adds_nothing : {D : Type 0} (members : Disk.Ghosts D) (entry : Entry) (journal : Journal D) → AddsAtMost members entry journal journal
-adds_nothing members entry journal = record {
+pub adds_nothing : {F D : Type 0} (members : Disk.Ghosts D) (entry : Entry) (journal : Journal D) → ¬ F → AddsAtMost members F entry journal journal
+adds_nothing members entry journal right = record {
   whole_or_not = λ text history ready told is. ready_leaves members journal text told history (WithOrWithout text history entry) ready is (λ bytes stands. inl stands);
   keeps = λ told is t early text front since. since;
-  tells = refl;
-  moments = nothing_passes (members.moments journal.disk);
-  name = refl;
-  faults = omega arith;
+  goes = goes_none members journal.disk right;
+}
+
+-- the same failure, told in other words
+pub adds_told : {F G D : Type 0} (members : Disk.Ghosts D) {entry : Entry} {old new : Journal D} → AddsAtMost members F entry old new → (F → G) → (G → F)
+    → AddsAtMost members G entry old new
+adds_told members adds to from = record {
+  whole_or_not = adds.whole_or_not;
+  keeps = adds.keeps;
+  goes = goes_told members adds.goes to from;
 }
 
 -- a front of a history is one of a longer history

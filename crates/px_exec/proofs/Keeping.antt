@@ -1,6 +1,6 @@
 -- What an executive keeps, at its opening and after each answer of a post.
 use Rattle.std.proofs.Common.{◌≡◌, ◌≤◌, ◌<◌, ◌+◌, ◌^◌, ℕ, List, [], ◌∷◌, ◌++◌, Option, Some, None, IsSome, length, refl, sym, ◌∙◌, ap, subst, arith, append_assoc, append-nil, IsTrue, IsFalse}
-use Rattle.std.proofs.lemmas.List.{length-map, map-append, take_all}
+use Rattle.std.proofs.lemmas.List.{length-map, map-append}
 use Rattle.px_core.specs.Plan.{Site}
 use Rattle.px_event.specs.Fit.{is_fit_entry}
 use Rattle.px_event.specs.declared.entry.Entry.{Entry}
@@ -8,8 +8,8 @@ use Rattle.px_event.specs.declared.reply.Reply.{Reply}
 use Rattle.px_event.specs.declared.reply.Reply.TheVariants as replies
 use Rattle.px_journal.specs.Journal.{IsReady}
 use Rattle.px_journal.specs.declared.journal.Journal.{Journal}
-use Rattle.px_journal.proofs.Moments.{grows_on, left_now}
-use Rattle.px_ports.specs.Host.{Rose}
+use Rattle.px_journal.proofs.Going.{rose_on, goes_none, goes_then, goes_told}
+use Rattle.px_journal.proofs.Moments.{left_now}
 use Rattle.px_ports.specs.declared.disk.Disk
 use Rattle.px_sem.specs.Log.{Log, is_accepted, accepted, events_of, answer, world_after, AnswersEach}
 use Rattle.px_sem.specs.Run.{run}
@@ -52,16 +52,19 @@ module _ {S D : Type 0} (runs : Stepper.Ghosts S) (members : Disk.Ghosts D) wher
   pub closed_of : (exec : Executive S D) (failed : Failed) → Keeps runs members exec → exec.failed ≡ Some failed → IsClosed runs members exec failed
   closed_of exec failed keeps closed = subst (KeepsDisk runs members exec) closed keeps.disk
 
+  none_failed : (exec : Executive S D) → exec.failed ≡ None → ¬ IsSome exec.failed
+  none_failed exec unfailed some = absurd (let none = subst IsSome unfailed some in cc)
+
   -- ---- the journal after a reply
 
   module _ (old : Executive S D) (stepper : S) (journal : Journal D) (entry : Entry) where
     accepted_open : (history : List Entry) (log : Log) → Keeps runs members old → old.failed ≡ None → history ≡ old.history ++ entry ∷ []
         → ((text : List ℕ) (h : List Entry) → IsReady members old.journal text h → IsReady members journal text (h ++ entry ∷ []))
-        → AddsAtMost members entry old.journal journal → IsOpen members (with_parts old stepper journal history log None)
+        → {F : Type 0} → AddsAtMost members F entry old.journal journal → IsOpen members (with_parts old stepper journal history log None)
     accepted_open history log keeps unfailed grows kept adds = record {
       stands = λ text is. subst (IsReady members journal text) (sym grows) (kept text old.history ((open_of old keeps unfailed).stands text is));
       since = subst (λ (h : List Entry). KeepsSinceOpening members (with_parts old stepper journal h log None) h) (sym grows) (λ tells text is.
-          let told = told_of (members.content old.journal.disk) (keeps.tells ∙ tells) in
+          let told = told_of (members.content old.journal.disk) (keeps.goes.tells ∙ tells) in
           within_more members.images text old.opening.history old.history (accepted old.log) entry _ _ _ keeps.grown ((open_of old keeps unfailed).since tells text is)
           (adds.whole_or_not text old.history ((open_of old keeps unfailed).stands text is) (told.0) (told.1)));
     }
@@ -77,7 +80,7 @@ module _ {S D : Type 0} (runs : Stepper.Ghosts S) (members : Disk.Ghosts D) wher
         → history ≡ old.history ++ accepted (logged entry reply ∷ [])
         → (IsTrue (is_accepted reply) → (text : List ℕ) (h : List Entry) → IsReady members old.journal text h → IsReady members journal text (h ++ entry ∷ []))
         → (IsFalse (is_accepted reply) → journal ≡ old.journal)
-        → AddsAtMost members entry old.journal journal → IsOpen members (with_parts old stepper journal history log None)
+        → {F : Type 0} → AddsAtMost members F entry old.journal journal → IsOpen members (with_parts old stepper journal history log None)
     replied_open history log (replies.Accepted position) keeps unfailed grows kept still adds = accepted_open history log keeps unfailed grows (kept refl) adds
     replied_open history log replies.PlanFinished keeps unfailed grows kept still adds = refused_open history log keeps unfailed (grows ∙ append-nil old.history) (still refl)
     replied_open history log replies.Full keeps unfailed grows kept still adds = refused_open history log keeps unfailed (grows ∙ append-nil old.history) (still refl)
@@ -97,8 +100,8 @@ module _ {S D : Type 0} (runs : Stepper.Ghosts S) (members : Disk.Ghosts D) wher
       → runs.state stepper ≡ settled_state (plan_of runs old) (world_after (plan_of runs old) (world_of runs old) entry.event reply)
       → (IsTrue (is_accepted reply) → (text : List ℕ) (h : List Entry) → IsReady members old.journal text h → IsReady members journal text (h ++ entry ∷ []))
       → (IsFalse (is_accepted reply) → journal ≡ old.journal)
-      → AddsAtMost members entry old.journal journal → Keeps runs members (with_parts old stepper journal history log None)
-  keeps_replied old stepper journal history log entry reply keeps unfailed due logs grows few moved kept still adds = record {
+      → {F : Type 0} → ¬ F → AddsAtMost members F entry old.journal journal → Keeps runs members (with_parts old stepper journal history log None)
+  keeps_replied old stepper journal history log entry reply keeps unfailed due logs grows few moved kept still right adds = record {
     text = keeps.text;
     least = keeps.least;
     most = keeps.most;
@@ -115,10 +118,7 @@ module _ {S D : Type 0} (runs : Stepper.Ghosts S) (members : Disk.Ghosts D) wher
     few = few;
     settled = moved ∙ ap (settled_state plan) (sym world_is);
     runs_to = ap (λ h. run plan (events_of h)) grows ∙ run_after plan old.opening.limit old.history (world_of runs old) entry reply keeps.runs_to due ∙ ap Some (sym world_is);
-    name = adds.name ∙ keeps.name;
-    tells = adds.tells ∙ keeps.tells;
-    moments = grows_on _ _ _ keeps.moments adds.moments;
-    faults = omega (arith, keeps.faults, adds.faults);
+    goes = goes_told members (goes_then members keeps.goes (none_failed old unfailed) adds.goes) (λ failed. absurd (right failed)) (λ some. absurd (cc));
     disk = replied_open old stepper journal entry history log reply keeps unfailed grows kept still adds;
   }
     where
@@ -134,10 +134,9 @@ module _ {S D : Type 0} (runs : Stepper.Ghosts S) (members : Disk.Ghosts D) wher
   -- ---- after a failed append
   pub keeps_failed : (old : Executive S D) (stepper : S) (journal : Journal D) (entry : Entry) (position : ℕ)
       → Keeps runs members old → old.failed ≡ None → IsTrue (is_fit_entry entry) → answer_now runs old entry ≡ replies.Accepted position
-      → runs.state stepper ≡ runs.state old.stepper → Rose (members.faults old.journal.disk) (members.faults journal.disk)
-      → AddsAtMost members entry old.journal journal
+      → runs.state stepper ≡ runs.state old.stepper → {F : Type 0} → F → AddsAtMost members F entry old.journal journal
       → Keeps runs members (with_parts old stepper journal old.history old.log (Some (record { entry = entry; faults = members.faults journal.disk })))
-  keeps_failed old stepper journal entry position keeps unfailed fit due same rose adds = record {
+  keeps_failed old stepper journal entry position keeps unfailed fit due same failed adds = record {
     text = keeps.text;
     least = keeps.least;
     most = keeps.most;
@@ -146,10 +145,7 @@ module _ {S D : Type 0} (runs : Stepper.Ghosts S) (members : Disk.Ghosts D) wher
     few = keeps.few;
     settled = same ∙ keeps.settled ∙ ap (settled_state (plan_of runs old)) (sym world_is);
     runs_to = keeps.runs_to ∙ ap Some (sym world_is);
-    name = adds.name ∙ keeps.name;
-    tells = adds.tells ∙ keeps.tells;
-    moments = grows_on _ _ _ keeps.moments adds.moments;
-    faults = omega (arith, keeps.faults, adds.faults);
+    goes = goes_told members (goes_then members keeps.goes (none_failed old unfailed) adds.goes) (λ so. refl) (λ some. failed);
     disk = record {
       fit = fit;
       due = record {
@@ -158,13 +154,13 @@ module _ {S D : Type 0} (runs : Stepper.Ghosts S) (members : Disk.Ghosts D) wher
       };
       settles = some_run (plan_of runs old) (events_of (old.history ++ entry ∷ [])) _
           (run_after (plan_of runs old) old.opening.limit old.history (world_of runs old) entry (replies.Accepted position) keeps.runs_to (sym due));
-      rose = rose_on _ _ _ keeps.faults rose;
+      rose = rose_on _ _ _ keeps.goes.faults.later (adds.goes.faults.rose failed);
       counted = omega arith;
       now = λ tells text is image left.
-          let told = told_of (members.content old.journal.disk) (keeps.tells ∙ tells) in
-          (adds.whole_or_not text old.history (was.stands text is) (told.0) (told.1)).each image (left_now members.images _ _ image adds.moments left);
+          let told = told_of (members.content old.journal.disk) (keeps.goes.tells ∙ tells) in
+          (adds.whole_or_not text old.history (was.stands text is) (told.0) (told.1)).each image (left_now members.images _ _ image adds.goes.grows left);
       since = λ tells text is.
-          let told = told_of (members.content old.journal.disk) (keeps.tells ∙ tells) in
+          let told = told_of (members.content old.journal.disk) (keeps.goes.tells ∙ tells) in
           within_more members.images text old.opening.history old.history (accepted old.log) entry _ _ _ keeps.grown (was.since tells text is)
           (adds.whole_or_not text old.history (was.stands text is) (told.0) (told.1));
     };
@@ -182,9 +178,6 @@ module _ {S D : Type 0} (runs : Stepper.Ghosts S) (members : Disk.Ghosts D) wher
           let found = accepted_by _ _ _ (length old.history) position due in
           ap replies.Accepted (sym found.2) ∙ sym due
           ∙ ap (λ n. answer (plan_of runs old) old.opening.limit n (world_of runs old) entry.event) (sym (count_of old.history))
-
-      rose_on : (first before now : ℕ) → first ≤ before → Rose before now → Rose first now
-      rose_on first before now later rose = omega (arith, rose)
 
   -- ---- where nothing happened but room was made
   pub keeps_as_before : (old : Executive S D) (stepper : S) (journal : Journal D) (history : List Entry) (log : Log) (failed : Option Failed)
@@ -204,10 +197,7 @@ module _ {S D : Type 0} (runs : Stepper.Ghosts S) (members : Disk.Ghosts D) wher
         few = keeps.few;
         settled = same ∙ keeps.settled ∙ ap (settled_state (plan_of runs old)) (sym (ap (λ (s : State). s.world) same));
         runs_to = keeps.runs_to ∙ ap Some (sym (ap (λ (s : State). s.world) same));
-        name = keeps.name;
-        tells = keeps.tells;
-        moments = keeps.moments;
-        faults = keeps.faults;
+        goes = keeps.goes;
         disk = moved old.failed keeps.disk;
       }))))
     where
@@ -239,10 +229,7 @@ module _ {S D : Type 0} (runs : Stepper.Ghosts S) (members : Disk.Ghosts D) wher
     few = omega arith;
     settled = settled;
     runs_to = runs_to;
-    name = refl;
-    tells = refl;
-    moments = take_all (length (members.moments journal.disk)) (members.moments journal.disk) (omega arith);
-    faults = omega arith;
+    goes = goes_none members journal.disk (λ some. absurd (cc));
     disk = record {
       stands = λ text is. is;
       since = λ tells text is.

@@ -1,5 +1,6 @@
 -- What a post does, by what the stepper, the journal, the history and the log do.
 use Rattle.std.proofs.Common.{◌≡◌, ◌≢◌, ◌<◌, ◌+◌, ◌^◌, ℕ, List, [], ◌∷◌, ◌++◌, Option, Some, None, IsTrue, IsFalse, length, refl, sym, ◌∙◌, ap, subst, arith, length-append}
+use Rattle.std.specs.Prelude.{Err}
 use Rattle.std.specs.Option.{option_map}
 use Rattle.px_event.specs.Fit.{is_fit_entry}
 use Rattle.px_event.specs.declared.entry.Entry.{Entry}
@@ -7,7 +8,6 @@ use Rattle.px_event.specs.declared.reply.Reply.{Reply}
 use Rattle.px_event.specs.declared.reply.Reply.TheVariants as replies
 use Rattle.px_journal.specs.Journal.{IsReady}
 use Rattle.px_journal.specs.declared.journal.Journal.{Journal}
-use Rattle.px_ports.specs.Host.{Rose}
 use Rattle.px_ports.specs.declared.disk.Disk
 use Rattle.px_sem.specs.Log.{Log, is_accepted, accepted, answer, world_after}
 use Rattle.px_sem.specs.Stepper.{State, settled_state}
@@ -15,6 +15,7 @@ use Rattle.px_sem.specs.World.{standing_of}
 use Rattle.px_sem.specs.declared.standing.Standing.{Standing}
 use Rattle.px_sem.specs.declared.stepper.Stepper
 use Rattle.px_exec.specs.declared.failed.Failed.{Failed}
+use Rattle.px_exec.specs.declared.fault.PostFault.TheVariants as faults
 use Rattle.px_exec.specs.Answers.{answer_now, answered, logged, Replies, Fails, RanOut, Posts}
 use Rattle.px_exec.specs.Crash.{AddsAtMost}
 use Rattle.px_exec.specs.Executive.{Executive, Keeps, plan_of, world_of}
@@ -48,6 +49,13 @@ grows_from now mid old more is same = is ∙ ap (λ l. l ++ more) same
 pub length_more : {T : Type 0} (items old : List T) (item : T) (n : ℕ) → items ≡ old ++ item ∷ [] → length old + 1 < n → length items < n
 length_more items old item n is small = omega (arith, ap length is, length-append old (item ∷ []), small)
 
+-- a reply is no fault of the disk
+pub answered_otherwise : (reply : Reply) (limit : ℕ) (standing : Standing) → answered reply limit standing ≡ Err faults.DiskFault → ⊥
+answered_otherwise (replies.Accepted position) limit standing same = absurd (cc)
+answered_otherwise replies.PlanFinished limit standing same = absurd (cc)
+answered_otherwise replies.Full limit standing same = absurd (cc)
+answered_otherwise replies.Runaway limit standing same = absurd (cc)
+
 module _ {S D : Type 0} (runs : Stepper.Ghosts S) (members : Disk.Ghosts D) (old : Executive S D) (keeps : Keeps runs members old) where
   nodes_are : (runs.state old.stepper).nodes ≡ plan_of runs old
   nodes_are = ap (λ (s : State). s.nodes) keeps.settled
@@ -77,9 +85,9 @@ module _ {S D : Type 0} (runs : Stepper.Ghosts S) (members : Disk.Ghosts D) (old
         state_now : runs.state stepper ≡ settled_state (plan_of runs old) (world_after (plan_of runs old) (world_of runs old) entry.event reply)
         state_now = moved ∙ ap (λ nodes. settled_state nodes (world_after nodes (world_of runs old) entry.event reply)) nodes_are
 
-        pub keeps_reply : length log < 2 ^ 32 → AddsAtMost members entry old.journal journal → Keeps runs members (with_parts old stepper journal history log old.failed)
-        keeps_reply few adds = subst (λ (f : Option Failed). Keeps runs members (with_parts old stepper journal history log f)) (sym unfailed)
-            (keeps_replied runs members old stepper journal history log entry reply keeps unfailed (due_now reply due) logs grows few state_now kept still adds)
+        pub keeps_reply : {F : Type 0} → length log < 2 ^ 32 → ¬ F → AddsAtMost members F entry old.journal journal → Keeps runs members (with_parts old stepper journal history log old.failed)
+        keeps_reply few right adds = subst (λ (f : Option Failed). Keeps runs members (with_parts old stepper journal history log f)) (sym unfailed)
+            (keeps_replied runs members old stepper journal history log entry reply keeps unfailed (due_now reply due) logs grows few state_now kept still right adds)
 
         replies_so : Replies runs old (with_parts old stepper journal history log old.failed) entry reply
         replies_so = record {
@@ -126,23 +134,23 @@ module _ {S D : Type 0} (runs : Stepper.Ghosts S) (members : Disk.Ghosts D) (old
       module _ (history : List Entry) (log : Log) (failed : Option Failed) (same_history : history ≡ old.history) (same_log : log ≡ old.log)
           (closes : failed ≡ Some (record { entry = entry; faults = members.faults journal.disk }))
           (due : answer (runs.state old.stepper).nodes old.opening.limit count (runs.state old.stepper).world entry.event ≡ replies.Accepted (count + 1))
-          (same : runs.state stepper ≡ runs.state old.stepper) (rose : Rose (members.faults old.journal.disk) (members.faults journal.disk)) where
+          (same : runs.state stepper ≡ runs.state old.stepper) {F : Type 0} (failing : F) (adds : AddsAtMost members F entry old.journal journal) where
         due_then : answer_now runs old entry ≡ replies.Accepted (length old.history + 1)
         due_then = sym (due_now (replies.Accepted (count + 1)) (sym due)) ∙ ap (λ n. replies.Accepted (n + 1)) counts
 
-        pub keeps_fault : IsTrue (is_fit_entry entry) → AddsAtMost members entry old.journal journal → Keeps runs members (with_parts old stepper journal history log failed)
-        keeps_fault fit adds =
+        pub keeps_fault : IsTrue (is_fit_entry entry) → Keeps runs members (with_parts old stepper journal history log failed)
+        keeps_fault fit =
             subst (λ (f : Option Failed). Keeps runs members (with_parts old stepper journal history log f)) (sym closes)
             (subst (λ (l : Log). Keeps runs members (with_parts old stepper journal history l (Some (record { entry = entry; faults = members.faults journal.disk })))) (sym same_log)
             (subst (λ (h : List Entry). Keeps runs members (with_parts old stepper journal h old.log (Some (record { entry = entry; faults = members.faults journal.disk })))) (sym same_history)
-            (keeps_failed runs members old stepper journal entry _ keeps unfailed fit due_then same rose adds)))
+            (keeps_failed runs members old stepper journal entry _ keeps unfailed fit due_then same failing adds)))
 
         pub posts_fault : Fails runs members old (with_parts old stepper journal history log failed) entry
         posts_fault = record {
           unchanged = record { history = same_history; log = same_log; state = same; opening = refl };
           was_open = unfailed;
           due = due_then;
-          rose = rose;
+          rose = adds.goes.faults.rose failing;
           failed = closes;
         }
 

@@ -1,22 +1,20 @@
 -- What a crash at a moment of a post may leave.
-use Rattle.std.specs.Prelude.{◌≡◌, ◌≤◌, ℕ, List, length, take, is_some}
+use Rattle.std.specs.Prelude.{ℕ, List}
 use Rattle.std.specs.Option.{ForSome}
 use Rattle.px_event.specs.declared.entry.Entry.{Entry}
-use Rattle.px_journal.specs.Crash.{WithOrWithout, LeavesOnly, KeepsHistories}
+use Rattle.px_journal.specs.Crash.{WithOrWithout, KeepsHistories}
+use Rattle.px_journal.specs.Goes.{LeavesAtMost, Goes}
 use Rattle.px_journal.specs.Journal.{IsReady}
 use Rattle.px_journal.specs.declared.journal.Journal.{Journal}
 use Rattle.px_ports.specs.declared.disk.Disk
 
 -- A CALL THAT ADDS THE ENTRY TO A JOURNAL AT MOST. What it says of images, it says where the disk tells its bytes.
-pub record AddsAtMost {D : Type 0} (members : Disk.Ghosts D) (entry : Entry) (old new : Journal D) : Type 0 where
+pub record AddsAtMost {D : Type 0} (members : Disk.Ghosts D) (Failed : Type 0) (entry : Entry) (old new : Journal D) : Type 0 where
   -- each image since the call began stands for the history with the entry or without it
   pub whole_or_not : (text : List ℕ) (history : List Entry) → IsReady members old text history
-      → ForSome (members.content old.disk) (λ _. LeavesOnly members.images (WithOrWithout text history entry)
-      (members.moments old.disk) (members.moments new.disk))
+      → LeavesAtMost members (WithOrWithout text history entry) old.disk new.disk
   -- what each image since some moment begins with, the call doesn't take away
   pub keeps : ForSome (members.content old.disk)
       (λ _. KeepsHistories members.images (members.moments old.disk) (members.moments new.disk))
-  pub tells : is_some (members.content new.disk) ≡ is_some (members.content old.disk)
-  pub moments : take (length (members.moments old.disk)) (members.moments new.disk) ≡ members.moments old.disk
-  pub name : members.bound_to new.disk ≡ members.bound_to old.disk
-  pub faults : members.faults old.disk ≤ members.faults new.disk
+  -- the disk goes on, and has counted a fault just where the call failed
+  pub goes : Goes members Failed old.disk new.disk

@@ -1,9 +1,10 @@
 -- What an executive is, and what its type keeps from its opening on.
-use Rattle.std.specs.Prelude.{◌≡◌, ◌≤◌, ◌<◌, ◌^◌, ℕ, List, [], ◌∷◌, ◌++◌, length, take, Option, Some, None, IsSome, IsTrue, is_some}
+use Rattle.std.specs.Prelude.{◌≡◌, ◌≤◌, ◌<◌, ◌^◌, ℕ, List, [], ◌∷◌, ◌++◌, length, Option, Some, None, IsSome, IsTrue}
 use Rattle.px_core.specs.Plan.{Site}
 use Rattle.px_event.specs.Fit.{is_fit_entry}
 use Rattle.px_event.specs.declared.entry.Entry.{Entry}
 use Rattle.px_journal.specs.Crash.{WithOrWithout, LeavesOnly}
+use Rattle.px_journal.specs.Goes.{Goes}
 use Rattle.px_journal.specs.Journal.{IsReady}
 use Rattle.px_journal.specs.Layout.{Stands}
 use Rattle.px_journal.specs.declared.journal.Journal.{Journal}
@@ -103,10 +104,7 @@ pub record Keeps {S D : Type 0} (runs : Stepper.Ghosts S) (members : Disk.Ghosts
   -- the stepper stands for the plan, and its settled world is the run over the history
   pub settled : runs.state exec.stepper ≡ settled_state (plan_of runs exec) (world_of runs exec)
   pub runs_to : run (plan_of runs exec) (events_of exec.history) ≡ Some (world_of runs exec)
-  -- the disk has its name and tells its bytes as it did then, and its moments and its faults go on from those then
-  pub name : members.bound_to exec.journal.disk ≡ members.bound_to exec.opening.journal.disk
-  pub tells : is_some (members.content exec.journal.disk) ≡ is_some (members.content exec.opening.journal.disk)
-  pub moments : take (length (moments_then members exec)) (moments_now members exec) ≡ moments_then members exec
-  pub faults : members.faults exec.opening.journal.disk ≤ members.faults exec.journal.disk
+  -- the disk goes on from the opening, and has counted a fault since just where an append has failed
+  pub goes : Goes members (IsSome exec.failed) exec.opening.journal.disk exec.journal.disk
   -- the journal stands for the history, or the executive is closed
   pub disk : KeepsDisk runs members exec exec.failed

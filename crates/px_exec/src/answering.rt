@@ -7,7 +7,6 @@ ghost use Rattle.px_event.specs.Fit.{is_fit_entry};
 ghost use Rattle.px_event.specs.declared.entry.Entry.{Entry as AnyEntry};
 ghost use Rattle.px_event.specs.declared.reply.Reply.TheVariants.{Accepted};
 ghost use Rattle.px_journal.specs.Journal.{IsReady};
-ghost use Rattle.px_ports.specs.Host.{Rose};
 ghost use Rattle.px_sem.specs.Log.{answer, world_after, is_accepted};
 ghost use Rattle.px_sem.specs.Stepper.{Pending, settled_state};
 ghost use Rattle.px_exec.specs.Crash.{AddsAtMost};
@@ -51,11 +50,10 @@ pub(crate) fn answer<S: Stepper, D: Disk>(
 
     ensures err { OnErr result (S.state stepper.new ≡ S.state stepper.old) }
     ensures no_memory { IsErrOf result Unanswered.NoMemory → journal.new ≡ journal.old }
-    ensures cause { IsErrOf result Unanswered.DiskFault → Rose (D.faults journal.old.disk) (D.faults journal.new.disk) }
     ensures was_due { IsErrOf result Unanswered.DiskFault → answer (S.state stepper.old).nodes limit count
         (S.state stepper.old).world entry.now.event ≡ Accepted (count + 1) }
 
-    ensures crash { AddsAtMost D.Disk entry.now journal.old journal.new }
+    ensures crash { AddsAtMost D.Disk (IsErrOf result Unanswered.DiskFault) entry.now journal.old journal.new }
 {
     let position = match offer(stepper, alloc, limit, count, &entry.event) {
         Ok(Offered::Refused(reply)) => return Ok(reply),

@@ -9,7 +9,9 @@ use px_sem::{LogEntry, Stepper};
 
 /// The parts of an executive that outlive it.
 #[derive(Drop)]
-pub struct Parts<D: Disk> {
+pub struct Parts<S: Stepper, D: Disk> {
+    /// The stepper, which has run the history.
+    pub stepper: S,
     /// The journal, which stands for the history, or where an append failed perhaps for one event more.
     pub journal: Journal<D>,
     /// The accepted entries, those of the opening in front.
@@ -19,14 +21,15 @@ pub struct Parts<D: Disk> {
 }
 
 impl<S: Stepper, D: Disk> Exec<S, D> {
-    /// The journal, the history and the log. The world is left.
-    pub fn into_parts(self) -> Parts<D>
+    /// The stepper, the journal, the history and the log.
+    pub fn into_parts(self) -> Parts<S, D>
+        ensures stepper { result.stepper ≡ self.stepper }
         ensures journal { result.journal ≡ self.journal }
         ensures history { result.history.items ≡ self.history }
         ensures log { result.log.items ≡ self.log }
     {
         let Exec {
-            stepper: _,
+            stepper,
             journal,
             history,
             log,
@@ -34,6 +37,7 @@ impl<S: Stepper, D: Disk> Exec<S, D> {
             opening: _,
         } = self;
         Parts {
+            stepper,
             journal,
             history,
             log,

@@ -1,8 +1,9 @@
 // The post of an event.
-ghost use Rattle.std.specs.Prelude.{◌≡◌, IsTrue};
+ghost use Rattle.std.specs.Prelude.{◌≡◌, IsTrue, IsErrOf};
 ghost use Rattle.px_event.specs.Fit.{is_fit_entry};
 ghost use Rattle.px_exec.specs.Answers.{entry_of, answered, Posts};
 ghost use Rattle.px_exec.specs.Crash.{AddsAtMost};
+ghost use Rattle.px_exec.specs.declared.fault.PostFault.TheVariants as faults;
 
 use crate::answering::{Unanswered, answer};
 use crate::exec::Exec;
@@ -20,7 +21,7 @@ impl<S: Stepper, D: Disk> Exec<S, D> {
     ///
     /// The answers are tried in this order. `Closed` comes exactly where an earlier post was answered `DiskFault`;
     /// `PlanFinished` where the root has finished; `Full` where the history has at least as many events as it may have;
-    /// `Runaway` where the event doesn't settle; `DiskFault` only where a call of the disk failed, and closes the
+    /// `Runaway` where the event doesn't settle; `DiskFault` just where a call of the disk failed, and closes the
     /// executive. `NoMemory` may come in place of each but `Closed`, and before any call of the disk. `Ok` and the three
     /// refusals over the history are logged.
     pub fn post(
@@ -32,7 +33,8 @@ impl<S: Stepper, D: Disk> Exec<S, D> {
     ) -> Result<Receipt, PostFault>
         requires fit { IsTrue (is_fit_entry (entry_of thread line event.now)) }
         ensures answers { Posts S.Stepper D.Disk self.old self.new (entry_of thread line event.now) result }
-        ensures crash { AddsAtMost D.Disk (entry_of thread line event.now) self.old.journal self.new.journal }
+        ensures crash { AddsAtMost D.Disk (IsErrOf result faults.DiskFault) (entry_of thread line event.now)
+            self.old.journal self.new.journal }
     {
         if let Some(faults) = closed_after(&self.failed) {
             return Err(PostFault::Closed { faults });

@@ -28,6 +28,7 @@ module _ {D : Type 0} (members : Disk.Ghosts D) (before now : View) (disk : D) (
     performs = performs_more before now Calls (CommandCallsFor members asked before now disk disk Untouched) r widen performs;
     leaves = λ tells. untouched_at_once members disk;
     bound = inl unbound;
+    back = record { tells = refl; kept = λ other. refl };
   }
 
   pub usage_performed : (words : Option Command) → words ≡ None → now.emitted ≡ before.emitted
@@ -64,6 +65,7 @@ module _ {D : Type 0} (members : Disk.Ghosts D) (before now : View) (disk : D) (
     performs = c.performs;
     leaves = c.leaves;
     bound = bound_for (Run plan script journal limit) journal refl c.bound;
+    back = c.back;
   })
 
   pub resume_performed : (words : Option Command) (script journal : List ℕ) (limit : ℕ) → words ≡ Some (Resume script journal limit)
@@ -73,6 +75,7 @@ module _ {D : Type 0} (members : Disk.Ghosts D) (before now : View) (disk : D) (
     performs = c.performs;
     leaves = c.leaves;
     bound = bound_for (Resume script journal limit) journal refl c.bound;
+    back = c.back;
   })
 
   pub trace_performed : (words : Option Command) (journal : List ℕ) → words ≡ Some (Trace journal)
@@ -82,4 +85,5 @@ module _ {D : Type 0} (members : Disk.Ghosts D) (before now : View) (disk : D) (
     performs = c.performs;
     leaves = c.leaves;
     bound = bound_for (Trace journal) journal refl c.bound;
+    back = c.back;
   })

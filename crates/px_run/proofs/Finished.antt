@@ -1,14 +1,18 @@
 -- The end of a session, from what its posts have come to and what was printed.
 use Rattle.std.proofs.Common.{◌≡◌, ◌≤◌, inr, ℕ, List, [], ◌++◌, Option, Some, None, IsSome, IfSome, Result, Ok, Err, refl, sym, ◌∙◌, ap, subst, arith}
+use Rattle.std.specs.Prelude.{IsErrOf}
 use Rattle.px_core.specs.Plan.{Site}
 use Rattle.px_crew.specs.Crew.{Ends}
 use Rattle.px_event.specs.declared.entry.Entry.{Entry}
 use Rattle.px_exec.proofs.Keeping.{told_of}
 use Rattle.px_exec.specs.Executive.{Executive, plan_of, IsTextOf, TellsBytes}
+use Rattle.px_journal.specs.Goes.{Goes}
 use Rattle.px_journal.specs.Layout.{Stands}
+use Rattle.px_journal.proofs.Going.{goes_told}
 use Rattle.px_output.specs.Printing.{Prints}
 use Rattle.px_output.specs.View.{View}
 use Rattle.px_output.specs.declared.printer.PrintFault.{PrintFault}
+use Rattle.px_output.specs.declared.printer.PrintFault.TheVariants as faults
 use Rattle.px_ports.specs.declared.disk.Disk
 use Rattle.px_script.specs.Follows.{Follows, AreStalled, IsNextPost}
 use Rattle.px_script.specs.declared.crew_end.CrewEnd.{CrewEnd}
@@ -58,6 +62,11 @@ due_behind_since members plan left session old opened new _ later (DueBehind.sta
 due_behind_since members plan left session old opened new _ later (DueBehind.failed some rose) = DueBehind.failed some (omega (arith, later, rose))
 due_behind_since members plan left session old opened new _ later (DueBehind.no_memory none) = DueBehind.no_memory none
 
+-- a text that breaks off is no refusal
+pub breaks_otherwise : (fault : PrintFault) → ¬ IsErrOf {T = End} (Err (stop_of fault)) (stops.Refused refusals.DiskFault)
+breaks_otherwise faults.SinkFailed same = absurd (cc)
+breaks_otherwise faults.NoMemory same = absurd (cc)
+
 -- ---- what the work of the threads has come to
 
 module _ (plan : List Site) (first : List Entry) (log : Log) where
@@ -75,7 +84,7 @@ module _ (plan : List Site) (first : List Entry) (log : Log) where
   next_of threads failed crew.NoMemory (none, follows) = rw none tt
 
 module _ {S D : Type 0} (runs : Stepper.Ghosts S) (members : Disk.Ghosts D) (plan : List Site) (text : List ℕ) (exec : Executive S D) (threads : List Todo)
-    (posted : Posted D) (p : Posts members runs exec threads posted) (is : IsTextOf members exec text) (nodes : plan_of runs exec ≡ plan) (before now : View) where
+    (posted : Posted S D) (p : Posts members runs exec threads posted) (is : IsTextOf members exec text) (nodes : plan_of runs exec ≡ plan) (before now : View) where
   abbrev session : Session
   session = record { text = text; first = exec.opening.history; log = posted.log.items; failed = p.failed }
 
@@ -85,9 +94,18 @@ module _ {S D : Type 0} (runs : Stepper.Ghosts S) (members : Disk.Ghosts D) (pla
   abbrev EndsBy : CrewEnd → Type 0
   EndsBy = Ends (plan_of runs exec) exec.opening.history posted.log.items threads p.failed
 
-  finished : (result : Result End Stop) → Performs before now Calls result
-      → Finishes members runs text exec threads before now (record { result = result; disk = posted.disk })
-  finished result performs = record {
+  -- an ending is due, and no append has failed
+  abbrev pub IsDue : Ending → Type 0
+  IsDue ending = (p.failed ≡ None) × Calls (Some ending)
+
+  goes_right : (result : Result End Stop) → p.failed ≡ None → ¬ IsErrOf result (stops.Refused refusals.DiskFault)
+      → Goes members (IsErrOf result (stops.Refused refusals.DiskFault)) exec.opening.journal.disk posted.disk
+  goes_right result none other =
+      goes_told members p.goes (λ some. absurd (let no = subst IsSome none some in cc)) (λ same. absurd (other same))
+
+  finished : (result : Result End Stop) → Goes members (IsErrOf result (stops.Refused refusals.DiskFault)) exec.opening.journal.disk posted.disk
+      → Performs before now Calls result → Finishes members runs text exec threads before now (record { result = result; disk = posted.disk })
+  finished result goes performs = record {
     session = session;
     is_session = record {
       same_text = refl;
@@ -99,41 +117,41 @@ module _ {S D : Type 0} (runs : Stepper.Ghosts S) (members : Disk.Ghosts D) (pla
     };
     performs = performs;
     leaves = λ tells. p.disk tells text is;
-    bound = p.bound;
-    grows = p.grows;
-    faults = p.faults;
+    goes = goes;
   }
 
-  pub due_whole : posted.end ≡ crew.Done → Calls (Some (session_ending plan exec.opening.history posted.log.items))
+  pub due_whole : posted.end ≡ crew.Done → IsDue (session_ending plan exec.opening.history posted.log.items)
   due_whole done =
       let ends = subst EndsBy done p.ends in
-      subst (λ (sites : List Site). Calls (Some (session_ending sites exec.opening.history posted.log.items))) nodes (DueBehind.whole ends.0 ends.1)
+      (ends.0, subst (λ (sites : List Site). Calls (Some (session_ending sites exec.opening.history posted.log.items))) nodes (DueBehind.whole ends.0 ends.1))
 
   pub due_stalled : (stalls : List Stall) → (none : p.failed ≡ None)
       → AreStalled (plan_of runs exec) exec.opening.history posted.log.items threads stalls
-      → Calls (Some (stalled_ending plan exec.opening.history posted.log.items stalls))
+      → IsDue (stalled_ending plan exec.opening.history posted.log.items stalls)
   due_stalled stalls none stalled =
-      subst (λ (sites : List Site). Calls (Some (stalled_ending sites exec.opening.history posted.log.items stalls))) nodes (DueBehind.stalled stalls none stalled)
+      (none, subst (λ (sites : List Site). Calls (Some (stalled_ending sites exec.opening.history posted.log.items stalls))) nodes (DueBehind.stalled stalls none stalled))
 
-  pub finished_printed : (end : End) (ending : Ending) → Calls (Some ending) → ending.status ≡ number_of (status_of end)
+  pub finished_printed : (end : End) (ending : Ending) → IsDue ending → ending.status ≡ number_of (status_of end)
       → Prints {T = Unit} before [] now [] ending.text (Ok tt)
       → Finishes members runs text exec threads before now (record { result = Ok end; disk = posted.disk })
-  finished_printed end ending due status prints = finished (Ok end) (printed before now Calls end ending due status prints)
+  finished_printed end ending due status prints =
+      finished (Ok end) (goes_right (Ok end) due.0 (λ same. absurd (cc))) (printed before now Calls end ending due.1 status prints)
 
-  pub finished_broken_off : (ending : Ending) (fault : PrintFault) → Calls (Some ending) → Prints {T = Unit} before [] now [] ending.text (Err fault)
+  pub finished_broken_off : (ending : Ending) (fault : PrintFault) → IsDue ending → Prints {T = Unit} before [] now [] ending.text (Err fault)
       → Finishes members runs text exec threads before now (record { result = Err (stop_of fault); disk = posted.disk })
   finished_broken_off ending fault due prints =
-      finished (Err (stop_of fault)) (broken_off before now Calls ending fault (Err (stop_of fault)) due refl prints)
+      finished (Err (stop_of fault)) (goes_right (Err (stop_of fault)) due.0 (breaks_otherwise fault))
+      (broken_off before now Calls ending fault (Err (stop_of fault)) due.1 refl prints)
 
   pub finished_failed : posted.end ≡ crew.Disk → now.emitted ≡ before.emitted
       → Finishes members runs text exec threads before now (record { result = Err (stops.Refused refusals.DiskFault); disk = posted.disk })
   finished_failed fails same =
       let (entry, is, follows, next) = subst EndsBy fails p.ends in
       let some : IsSome p.failed = rw is refl in
-      finished (Err (stops.Refused refusals.DiskFault)) (DueBehind.failed some (p.rose some), same)
+      finished (Err (stops.Refused refusals.DiskFault)) (goes_told members p.goes (λ so. refl) (λ so. some)) (DueBehind.failed some (p.goes.faults.rose some), same)
 
   pub finished_early : posted.end ≡ crew.NoMemory → now.emitted ≡ before.emitted
       → Finishes members runs text exec threads before now (record { result = Err stops.NoMemory; disk = posted.disk })
   finished_early runs_out same =
       let ends = subst EndsBy runs_out p.ends in
-      finished (Err stops.NoMemory) (inr (DueBehind.no_memory ends.0, same))
+      finished (Err stops.NoMemory) (goes_right (Err stops.NoMemory) ends.0 (λ same. absurd (cc))) (inr (DueBehind.no_memory ends.0, same))

@@ -10,6 +10,7 @@ pub mod Performing
 pub mod Preparing
 pub mod SeenFiles
 pub mod Resumed
+pub mod Returning
 pub mod Running
 pub mod Sending
 pub mod Starting

@@ -1,7 +1,6 @@
 -- The reading of a plan and its script, and the start of the plan, ahead of a new journal.
 use Rattle.std.proofs.Common.{◌≡◌, ◌≤◌, inr, ℕ, List, [], Option, Some, None, IsErrAnd, Result, Ok, Err, IfErr, length, refl, sym, ◌∙◌, ap, subst}
-use Rattle.px_core.specs.Fit.{IsFit}
-use Rattle.px_core.specs.Plan.{Site, Tree, tree_of, sites}
+use Rattle.px_core.specs.Plan.{Site, Tree, sites}
 use Rattle.px_output.specs.View.{View, OnlyReads, KeepsFiles}
 use Rattle.px_ports.specs.declared.disk.Disk
 use Rattle.px_script.specs.Fit.{IsFitScript}
@@ -89,22 +88,22 @@ stopped_at_start old mid new plan script text tree threads fault r is source fir
 
 -- ---- a plan that has started
 
-pub prepared : {S : Type 0} (runs : Stepper.Ghosts S) (old mid new : View) (plan name : List ℕ) (ready : Prepared S)
-    → Reads (with_text plan_file) old mid plan (ready.text.items, tree_of ready.plan) → OnlyReads old mid → OnlyReads mid new
-    → length ready.text.items ≤ 1048576 → IsFit (tree_of ready.plan)
-    → Reads (script_file (sites (tree_of ready.plan))) mid new name ready.script.threads → IsFitScript ready.script
-    → (count : ℕ) × (started (sites (tree_of ready.plan)) ≡ Some ((runs.state ready.stepper).world, count))
-    → runs.state ready.stepper ≡ settled_state (sites (tree_of ready.plan)) (runs.state ready.stepper).world
+pub prepared : {S : Type 0} (runs : Stepper.Ghosts S) (old mid new : View) (plan name : List ℕ) (tree : Tree) (ready : Prepared S)
+    → Reads (with_text plan_file) old mid plan (ready.text.items, tree) → OnlyReads old mid → OnlyReads mid new
+    → length ready.text.items ≤ 1048576
+    → Reads (script_file (sites tree)) mid new name ready.script.threads → IsFitScript ready.script
+    → (count : ℕ) × (started (sites tree) ≡ Some ((runs.state ready.stepper).world, count))
+    → runs.state ready.stepper ≡ settled_state (sites tree) (runs.state ready.stepper).world
     → IsPrepared runs plan name old new ready
-prepared runs old mid new plan name ready source first second short fit read fit_script start at_rest = record {
-  source = reads_later (List ℕ × Tree) (with_text plan_file) old mid new plan (ready.text.items, tree_of ready.plan) second.read_faults source;
-  script = reads_since (List Todo) (script_file (sites (tree_of ready.plan))) old mid new name ready.script.threads first read;
+prepared runs old mid new plan name tree ready source first second short read fit_script start at_rest = record {
+  tree = tree;
+  source = reads_later (List ℕ × Tree) (with_text plan_file) old mid new plan (ready.text.items, tree) second.read_faults source;
+  script = reads_since (List Todo) (script_file (sites tree)) old mid new name ready.script.threads first read;
   lines = fit_script;
   short = short;
-  fit = fit;
   nodes = ap (λ s. s.nodes) at_rest;
   nothing = ap (λ s. s.pending) at_rest;
-  started = run_started (sites (tree_of ready.plan)) (runs.state ready.stepper) start at_rest;
+  started = run_started (sites tree) (runs.state ready.stepper) start at_rest;
 }
 
 -- a world that was run has settled
@@ -121,9 +120,9 @@ module _ {D : Type 0} (members : Disk.Ghosts D) (plan script name : List ℕ) (l
   -- a plan that has started was run
   pub prepared_runs : {S : Type 0} (runs : Stepper.Ghosts S) (ready : Prepared S) (carried : Carried D) → OnlyReads old mid → KeepsFiles mid new
       → IsPrepared runs plan script old mid ready
-      → RunsPrepared members (sites (tree_of ready.plan)) ready.text.items name limit ready.script.threads mid new disk carried
+      → RunsPrepared members (runs.state ready.stepper).nodes ready.text.items name limit ready.script.threads mid new disk carried
       → Runs members plan script name limit old new disk carried
-  prepared_runs runs ready carried only keeps is_ready done = record {
+  prepared_runs runs ready carried only keeps is_ready of_nodes = record {
     course = done.course;
     performs = performs_since old mid new (NewCalls members (sites tree) ready.text.items limit threads disk carried.disk done.course)
         (RunCalls members plan script limit old new disk carried.disk done.course) carried.result only
@@ -135,13 +134,17 @@ module _ {D : Type 0} (members : Disk.Ghosts D) (plan script name : List ℕ) (l
         done.performs;
     leaves = done.leaves;
     bound = done.bound;
+    back = done.back;
   }
     where
       tree : Tree
-      tree = tree_of ready.plan
+      tree = is_ready.tree
 
       threads : List Todo
       threads = ready.script.threads
+
+      done : RunsPrepared members (sites tree) ready.text.items name limit threads mid new disk carried
+      done = subst (λ (nodes : List Site). RunsPrepared members nodes ready.text.items name limit threads mid new disk carried) is_ready.nodes of_nodes
 
       start : (found : World × ℕ) × (started (sites tree) ≡ Some found)
       start = start_settles (sites tree) (runs.state ready.stepper).world
@@ -161,6 +164,7 @@ module _ {D : Type 0} (members : Disk.Ghosts D) (plan script name : List ℕ) (l
     );
     leaves = λ tells. untouched_at_once members disk;
     bound = inr unbound;
+    back = record { tells = refl; kept = λ other. refl };
   }
   not_prepared_runs stops.SinkFailed only unbound none = absurd none
   not_prepared_runs stops.NoMemory only unbound any = record {
@@ -168,4 +172,5 @@ module _ {D : Type 0} (members : Disk.Ghosts D) (plan script name : List ℕ) (l
     performs = inr (AfterFile.no_memory, only.emitted);
     leaves = λ tells. untouched_at_once members disk;
     bound = inr unbound;
+    back = record { tells = refl; kept = λ other. refl };
   }

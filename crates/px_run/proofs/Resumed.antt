@@ -26,7 +26,7 @@ use Rattle.px_session.specs.declared.fault.ReopenWhy.TheVariants as reopening
 use Rattle.px_session.specs.declared.reopening.Reopened.{Reopened}
 use Rattle.px_run.specs.Course.{Course, Settled, Unread, TakenUp, GoneOn, Due, AfterFile, Leaves}
 use Rattle.px_run.specs.Ending.{Ending, session_ending, runaway_at_start, no_journal, journal_damaged, journal_plan, journal_runaway}
-use Rattle.px_run.specs.Finishing.{IsLeft, Carries, Finishes, Resumes, Traces}
+use Rattle.px_run.specs.Finishing.{IsLeft, ComesBack, Carries, Finishes, Resumes, Traces}
 use Rattle.px_run.specs.Journaled.{IsSession, DueBehind, HasNoJournal, CannotRun, AfterJournal, ResumeCalls, TraceCalls}
 use Rattle.px_run.specs.Kinds.{script_file}
 use Rattle.px_run.specs.Stops.{Performs, StopsReading, stop_of, stop_of_reopen, ending_of}
@@ -106,6 +106,12 @@ module _ {D : Type 0} (members : Disk.Ghosts D) (journal : List ℕ) (Next : D �
       → Carries members journal Calls view view old (record { result = Err (stop_of_reopen fault.why); disk = fault.disk })
   not_taken_up fault refused = by fault.why refl refused.why
     where
+      back : ComesBack members old (record { result = Err (stop_of_reopen fault.why); disk = fault.disk })
+      back = record {
+        tells = refused.tells;
+        kept = λ other. refused.faults.kept (λ is. other (ap (λ why. let r : Result End Stop = Err (stop_of_reopen why) in r) is));
+      }
+
       still : fault.why ≢ reopening.DiskFault → IsUntouched members old fault.disk
       still other = record { content = refused.same other; unwritten = refused.unwritten }
 
@@ -116,6 +122,7 @@ module _ {D : Type 0} (members : Disk.Ghosts D) (journal : List ℕ) (Next : D �
         performs = subst (λ (w : ReopenWhy). Performs view view (Calls fault.disk Settled) (Err (stop_of_reopen w))) (sym is) performs;
         leaves = λ tells. (still (λ e. other (sym is ∙ e)), refused.settled (λ e. other (sym is ∙ e)));
         bound = refused.bound;
+        back = back;
       }
 
       -- the journal was read, and its plan or its history can't be run
@@ -129,6 +136,7 @@ module _ {D : Type 0} (members : Disk.Ghosts D) (journal : List ℕ) (Next : D �
             left_taken_up members text first old fault.disk (still (λ e. other (sym is ∙ e))) tells (refused.settled (λ e. other (sym is ∙ e)))
             (λ told here. stands told (sym (refused.same (λ e. other (sym is ∙ e))) ∙ here));
         bound = refused.bound;
+        back = back;
       }
 
       by : (why : ReopenWhy) → fault.why ≡ why → IsReopenWhy members old fault.disk fault.why
@@ -156,9 +164,19 @@ module _ {D : Type 0} (members : Disk.Ghosts D) (journal : List ℕ) (Next : D �
             (AfterJournal.disk_fails (subst (IsReopenWhy members old fault.disk) is cause), refl);
         leaves = λ tells. refused.unwritten;
         bound = refused.bound;
+        back = back;
       }
 
 -- ---- a journal that is taken up
+
+-- the disk comes back as it was when the journal was read
+reopened_back : {S D : Type 0} (runs : Stepper.Ghosts S) (members : Disk.Ghosts D) (journal : List ℕ) (limit : ℕ) (old : D) (reopened : Reopened S D)
+    → Reopens members runs journal limit old reopened → (disk : D) → disk ≡ reopened.exec.opening.journal.disk → (result : Result End Stop)
+    → ComesBack members old (record { result = result; disk = disk })
+reopened_back runs members journal limit old reopened r disk here result = record {
+  tells = ap (λ d. is_some (members.content d)) here ∙ ap is_some (r.untouched).content;
+  kept = λ other. ap members.faults here ∙ r.faults;
+}
 
 module _ {S D : Type 0} (runs : Stepper.Ghosts S) (members : Disk.Ghosts D) (script journal : List ℕ) (limit : ℕ) (old : D) (reopened : Reopened S D)
     (r : Reopens members runs journal limit old reopened) (before mid now : View) (only : OnlyReads before mid) where
@@ -177,6 +195,7 @@ module _ {S D : Type 0} (runs : Stepper.Ghosts S) (members : Disk.Ghosts D) (scr
     leaves = λ tells. subst (λ (d : D). Leaves members old d taken_up) (sym here)
         (left_taken_up members r.text reopened.exec.opening.history old reopened.exec.opening.journal.disk r.untouched tells (r.ready).settled (r.ready).stands);
     bound = inl (ap members.bound_to here ∙ r.bound);
+    back = reopened_back runs members journal limit old reopened r disk here _;
   }
     where
       by : (s : Stop) → StopsReading (script_file (sites tree)) before mid script s
@@ -206,7 +225,11 @@ module _ {S D : Type 0} (runs : Stepper.Ghosts S) (members : Disk.Ghosts D) (scr
           fronts_since members f.session old reopened.exec.opening.journal.disk carried.disk r.untouched
               (opening_stands members reopened.exec r.text f.session (f.is_session).same_text (f.is_session).same_first told r.ready) l.since,
         );
-    bound = inl (f.bound ∙ r.bound);
+    bound = inl (f.goes.stays.bound ∙ r.bound);
+    back = record {
+      tells = f.goes.tells ∙ ap is_some (r.untouched).content;
+      kept = λ other. f.goes.faults.kept other ∙ r.faults;
+    };
   }
     where
       f : Finishes members runs r.text reopened.exec script_left.threads mid now carried
@@ -233,7 +256,7 @@ module _ {S D : Type 0} (runs : Stepper.Ghosts S) (members : Disk.Ghosts D) (scr
               is_session,
               subst (λ (t : List Todo). DueBehind members (sites tree) t f.session old carried.disk due) threads_left
                   (subst (λ (p : List Site). DueBehind members p script_left.threads f.session old carried.disk due) r.nodes
-                  (due_behind_since members (plan_of runs reopened.exec) script_left.threads f.session old reopened.exec.opening.journal.disk carried.disk due r.faults behind)),
+                  (due_behind_since members (plan_of runs reopened.exec) script_left.threads f.session old reopened.exec.opening.journal.disk carried.disk due (omega (arith, r.faults)) behind)),
             ),
           ))
 
@@ -257,6 +280,7 @@ module _ {S D : Type 0} (runs : Stepper.Ghosts S) (members : Disk.Ghosts D) (jou
     leaves = λ tells. subst (λ (d : D). Leaves members old d traced_course) (sym here)
         (left_taken_up members r.text reopened.exec.opening.history old reopened.exec.opening.journal.disk r.untouched tells (r.ready).settled (r.ready).stands);
     bound = inl (ap members.bound_to here ∙ r.bound);
+    back = reopened_back runs members journal limit old reopened r disk here _;
   }
 
   pub trace_printed : Prints {T = Unit} before [] now [] traced_ending.text (Ok tt) → Traces members journal before now old (record { result = Ok ends.Done; disk = disk })

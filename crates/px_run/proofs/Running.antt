@@ -118,7 +118,11 @@ module _ {D : Type 0} (members : Disk.Ghosts D) where
           (NewCalls members plan text limit threads old carried.disk (Made finished.session)) carried.result
           (λ due behind. NewCalls.made finished.session due made.was_nothing (session, behind_here due behind)) finished.performs;
       leaves = λ tells. ((finished.leaves (made.tells ∙ tells)).now, fronts tells);
-      bound = inl (finished.bound ∙ made.bound);
+      bound = inl (finished.goes.stays.bound ∙ made.bound);
+      back = record {
+        tells = finished.goes.tells ∙ made.tells;
+        kept = λ other. finished.goes.faults.kept other ∙ made.faults;
+      };
     }
       where
         plan_is : plan_of runs exec ≡ plan
@@ -136,7 +140,7 @@ module _ {D : Type 0} (members : Disk.Ghosts D) where
         behind_here due behind =
             subst (λ (t : List Todo). DueBehind members plan t finished.session old carried.disk due) (sym all_left)
             (subst (λ (p : List Site). DueBehind members p threads finished.session old carried.disk due) plan_is
-            (due_behind_since members (plan_of runs exec) threads finished.session old exec.opening.journal.disk carried.disk due made.faults behind))
+            (due_behind_since members (plan_of runs exec) threads finished.session old exec.opening.journal.disk carried.disk due (omega (arith, made.faults)) behind))
 
         fronts : TellsBytes members old → LeavesFronts members (λ image. IsTrue (is_nothing image)) finished.session old carried.disk
         fronts tells =
@@ -153,24 +157,28 @@ module _ {D : Type 0} (members : Disk.Ghosts D) where
       performs = (NewCalls.exists whole, refl);
       leaves = λ tells. let told = told_of (members.content old) tells in fault.untouched told.0 told.1 (whole told.0 told.1);
       bound = fault.bound;
+      back = record { tells = fault.tells; kept = λ other. fault.faults.kept (λ same. absurd (cc)) };
     }
     not_made creating.DiskFault new starts rose fault = record {
       course = HalfMade text;
       performs = (NewCalls.half_made rose, refl);
       leaves = λ tells. (fault.leaves, fault.untouched);
       bound = fault.bound;
+      back = record { tells = fault.tells; kept = λ other. absurd (other refl) };
     }
     not_made creating.NoMemory new starts (inl still) fault = record {
       course = Untouched;
       performs = inr (NewCalls.no_memory, refl);
       leaves = λ tells. still;
       bound = fault.bound;
+      back = record { tells = fault.tells; kept = λ other. fault.faults.kept (λ same. absurd (cc)) };
     }
     not_made creating.NoMemory new starts (inr (nothing, history)) fault = record {
       course = Made (unposted text []);
       performs = inr (NewCalls.made (unposted text []) None nothing (session, DueBehind.no_memory refl), refl);
       leaves = λ tells. (history, fronts_of_none text old new tells (fault.tells ∙ tells) fault.leaves history);
       bound = fault.bound;
+      back = record { tells = fault.tells; kept = λ other. fault.faults.kept (λ same. absurd (cc)) };
     }
       where
         session : IsSession plan text [] limit (rest threads []) (unposted text [])

@@ -26,7 +26,7 @@ start_is tree to count is = sym (ap (of_start (sites tree)) is)
 pub runs_away : (tree : Tree) → started (sites tree) ≡ None → runaway_at_start ≡ start_ending tree
 runs_away tree none = sym (ap (of_start (sites tree)) none)
 
-nodes_at_rest : (plan : List Site) (now : State) → now ≡ settled_state plan now.world → now.nodes ≡ plan
+pub nodes_at_rest : (plan : List Site) (now : State) → now ≡ settled_state plan now.world → now.nodes ≡ plan
 nodes_at_rest plan now rest = ap (λ (s : State). s.nodes) rest
 
 -- a stepper that has settled after the start has run the empty history
@@ -61,11 +61,12 @@ posted_all tree threads now log entries (count, start) rest order each answers =
     } in
     DryRunOf.whole log dry
 
--- the text that is printed of a log from the start
-pub prints_log : (mid new : View) (plan : List Site) (shown history : List Entry) (shown_log log : Log) (r : Result Unit PrintFault)
-    → shown ≡ history → shown_log ≡ log → history ≡ accepted log
-    → ((before : List Entry) → shown ≡ before ++ accepted shown_log → Prints mid [] new [] (text_of plan before shown_log) r)
+-- the text that is printed of a log from the start, by the nodes of the stepper
+pub prints_log : (mid new : View) (nodes plan : List Site) (shown history : List Entry) (shown_log log : Log) (r : Result Unit PrintFault)
+    → nodes ≡ plan → shown ≡ history → shown_log ≡ log → history ≡ accepted log
+    → ((before : List Entry) → shown ≡ before ++ accepted shown_log → Prints mid [] new [] (text_of nodes before shown_log) r)
     → Prints mid [] new [] (text_of plan [] log) r
-prints_log mid new plan shown history shown_log log r entries_is log_is accepts prints =
-    subst (λ l. Prints mid [] new [] (text_of plan [] l) r) log_is
-    (prints [] (entries_is ∙ accepts ∙ ap accepted (sym log_is)))
+prints_log mid new nodes plan shown history shown_log log r nodes_is entries_is log_is accepts prints =
+    subst (λ (plan : List Site). Prints mid [] new [] (text_of plan [] log) r) nodes_is
+    (subst (λ l. Prints mid [] new [] (text_of nodes [] l) r) log_is
+    (prints [] (entries_is ∙ accepts ∙ ap accepted (sym log_is))))

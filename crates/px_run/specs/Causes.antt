@@ -1,5 +1,5 @@
 -- The causes of answers: what each status tells, when the program carries its command out, and when it refuses its files.
-use Rattle.std.specs.Prelude.{◌≡◌, ◌⊎◌, ◌<◌, ℕ, true, false, List, [], Option, Some, None, IsSome, IsTrue, IsFalse, if◌then◌else◌}
+use Rattle.std.specs.Prelude.{◌≡◌, ◌≢◌, ◌⊎◌, ◌<◌, ℕ, true, false, List, [], Option, Some, None, IsSome, IsTrue, IsFalse, is_some, if◌then◌else◌}
 use Rattle.std.specs.Option.{option_map, option_and_then, ForSome}
 use Rattle.px_compile.specs.Compiled.{IsCompiled}
 use Rattle.px_event.specs.declared.entry.Entry.{Entry}
@@ -129,6 +129,13 @@ module _ {D : Type 0} (members : Disk.Ghosts D) where
     no_memory : Cause words before now old new 10
     -- lines of a script are left, and each thread that has some stands at a wait that isn't met
     stalled : StallsOver words before now old → Cause words before now old new 11
+
+module _ {D : Type 0} (members : Disk.Ghosts D) where
+  -- THE DISK AS IT IS HANDED BACK: it tells its bytes as before, and with every status but these three its count of faults is
+  -- as it was. So 9 comes just where the count rose, but that 8 and 10 may stand in its place.
+  pub record IsHandedBack (old new : D) (status : ℕ) : Type 0 where
+    pub tells : is_some (members.content new) ≡ is_some (members.content old)
+    pub faults : status ≢ 8 → status ≢ 9 → status ≢ 10 → members.faults new ≡ members.faults old
 
 -- the status of a command whose plan and script are read: that of the plan's start, where the plan is run
 abbrev pub status_behind : Option Command → Tree → ℕ

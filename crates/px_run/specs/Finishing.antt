@@ -1,9 +1,9 @@
 -- What the commands with a journal have come to, part by part.
-use Rattle.std.specs.Prelude.{◌≡◌, ◌≤◌, ℕ, List, [], Option, Some, None, length, take}
-use Rattle.px_core.specs.Fit.{IsFit}
-use Rattle.px_core.specs.Plan.{Site, tree_of, sites}
+use Rattle.std.specs.Prelude.{◌≡◌, ◌≤◌, ℕ, List, [], Option, Some, None, IsErrOf, length, is_some}
+use Rattle.px_core.specs.Plan.{Site, Tree, sites}
 use Rattle.px_event.specs.declared.entry.Entry.{Entry}
 use Rattle.px_exec.specs.Executive.{Executive, plan_of, TellsBytes}
+use Rattle.px_journal.specs.Goes.{Goes}
 use Rattle.px_output.specs.View.{View}
 use Rattle.px_ports.specs.declared.disk.Disk
 use Rattle.px_script.specs.Fit.{IsFitScript}
@@ -23,6 +23,7 @@ use Rattle.px_run.specs.Headline.{CommandCallsFor, IsBoundFor}
 use Rattle.px_run.specs.Journaled.{IsSession, DueBehind, NewCalls, RunCalls, ResumeCalls, TraceCalls}
 use Rattle.px_run.specs.Kinds.{plan_file, script_file}
 use Rattle.px_run.specs.Stops.{Performs, ending_of}
+use Rattle.px_run.specs.declared.ending.Refusal.TheVariants as refusals
 use Rattle.px_run.specs.declared.ending.Stop.{Stop}
 use Rattle.px_run.specs.declared.ending.Stop.TheVariants as stops
 use Rattle.px_run.specs.declared.finishing.Carried.{Carried}
@@ -37,12 +38,12 @@ pub record IsLeft (plan : List Site) (name : List ℕ) (history : List Entry) (b
 
 -- plan and script are read, and the plan has started
 pub record IsPrepared {S : Type 0} (runs : Stepper.Ghosts S) (plan name : List ℕ) (before now : View) (prepared : Prepared S) : Type 0 where
-  pub source : Reads (with_text plan_file) before now plan (prepared.text.items, tree_of prepared.plan)
-  pub script : Reads (script_file (sites (tree_of prepared.plan))) before now name prepared.script.threads
+  pub tree : Tree
+  pub source : Reads (with_text plan_file) before now plan (prepared.text.items, tree)
+  pub script : Reads (script_file (sites tree)) before now name prepared.script.threads
   pub lines : IsFitScript prepared.script
   pub short : length prepared.text.items ≤ 1048576
-  pub fit : IsFit (tree_of prepared.plan)
-  pub nodes : (runs.state prepared.stepper).nodes ≡ sites (tree_of prepared.plan)
+  pub nodes : (runs.state prepared.stepper).nodes ≡ sites tree
   pub nothing : (runs.state prepared.stepper).pending ≡ Pending.Nothing
   pub started : run (runs.state prepared.stepper).nodes [] ≡ Some (runs.state prepared.stepper).world
 
@@ -56,13 +57,23 @@ IsNotPrepared plan script before now (stops.Refused refusal) =
 IsNotPrepared plan script before now stops.SinkFailed = ⊥
 IsNotPrepared plan script before now stops.NoMemory = Unit {0}
 
+-- the command is refused because a call of the disk failed
+abbrev pub IsDiskFault : {D : Type 0} → Carried D → Type 0
+IsDiskFault carried = IsErrOf carried.result (stops.Refused refusals.DiskFault)
+
 module _ {D : Type 0} (members : Disk.Ghosts D) where
+  -- how a disk comes back: it tells its bytes as before, and its count of faults is as it was but behind such a refusal
+  pub record ComesBack (old : D) (carried : Carried D) : Type 0 where
+    pub tells : is_some (members.content carried.disk) ≡ is_some (members.content old)
+    pub kept : ¬ IsDiskFault carried → members.faults carried.disk ≡ members.faults old
+
   -- A COMMAND WITH A JOURNAL has a course and performs what is due then; it leaves of the disk what that course does.
   pub record Carries (name : List ℕ) (Calls : D → Course → Due → Type 0) (before now : View) (old : D) (carried : Carried D) : Type 0 where
     pub course : Course
     pub performs : Performs before now (Calls carried.disk course) carried.result
     pub leaves : TellsBytes members old → Leaves members old carried.disk course
     pub bound : IsBoundAtMost members name carried.disk
+    pub back : ComesBack old carried
 
   -- THE END OF A SESSION over this text, with these threads left: what is due behind it is performed
   pub record Finishes {S : Type 0} (runs : Stepper.Ghosts S) (text : List ℕ) (exec : Executive S D) (left : List Todo) (before now : View)
@@ -71,9 +82,7 @@ module _ {D : Type 0} (members : Disk.Ghosts D) where
     pub is_session : IsSession (plan_of runs exec) text exec.opening.history exec.opening.limit left session
     pub performs : Performs before now (DueBehind members (plan_of runs exec) left session exec.opening.journal.disk carried.disk) carried.result
     pub leaves : TellsBytes members exec.opening.journal.disk → LeavesSession members session exec.opening.journal.disk carried.disk
-    pub bound : members.bound_to carried.disk ≡ members.bound_to exec.opening.journal.disk
-    pub grows : take (length (members.moments exec.opening.journal.disk)) (members.moments carried.disk) ≡ members.moments exec.opening.journal.disk
-    pub faults : members.faults exec.opening.journal.disk ≤ members.faults carried.disk
+    pub goes : Goes members (IsDiskFault carried) exec.opening.journal.disk carried.disk
 
   -- ---- the three commands
 
@@ -99,3 +108,4 @@ module _ {D : Type 0} (members : Disk.Ghosts D) where
     pub performs : Performs before now (CommandCallsFor members asked before now old carried.disk course) carried.result
     pub leaves : TellsBytes members old → Leaves members old carried.disk course
     pub bound : IsBoundFor members asked carried.disk
+    pub back : ComesBack old carried

@@ -52,6 +52,6 @@ fn dry_run_plan<H: Host, S: Stepper>(
     let entries = fetch_script(alloc, script, plan, host)?.into_entries(alloc)?;
     let mut stepper = start::<S>(alloc, plan)?;
     let session = post_each(&mut stepper, alloc, EVENT_LIMIT, entries)?;
-    print_log::<H, S>(alloc, plan, &session.history, &session.log, host)?;
+    print_log(alloc, &mut stepper, &session.history, &session.log, host)?;
     Ok(End::Done)
 }

@@ -1,14 +1,11 @@
 // The end of a command with a journal: what a script has left is worked off, and the text of the log printed.
 ghost use Rattle.std.specs.Prelude.{◌≡◌, ℕ, List, None, []};
-ghost use Rattle.px_core.specs.Fit.{IsFit};
-ghost use Rattle.px_core.specs.Plan.{tree_of, sites};
-ghost use Rattle.px_exec.specs.Executive.{plan_of, IsTextOf};
+ghost use Rattle.px_exec.specs.Executive.{IsTextOf};
 ghost use Rattle.px_output.specs.View.{view, KeepsFiles};
 ghost use Rattle.px_script.specs.Fit.{IsFitScript};
 ghost use Rattle.px_run.specs.Finishing.{Finishes};
 
 use crate::ending::{End, Refusal, Stop};
-use px_core::Plan;
 use px_exec::Exec;
 use px_output::{print_log, print_stalled};
 use px_ports::{Disk, Host};
@@ -30,14 +27,11 @@ pub struct Carried<D> {
 /// at which threads stand. Where an append fails, nothing is printed but the refusal.
 pub fn finish<H: Host, D: Disk, S: Stepper, P: Pace>(
     alloc: Global,
-    plan: &Plan,
     exec: Exec<S, D>,
     script: &Script,
     host: &mut H,
     pace: &P,
 ) -> Carried<D>
-    requires fit { IsFit (tree_of plan.now) }
-    requires nodes { plan_of S.Stepper exec ≡ sites (tree_of plan.now) }
     requires lines { IsFitScript script.now }
     requires open { exec.failed ≡ None }
     requires fresh { exec.log ≡ [] }
@@ -47,17 +41,19 @@ pub fn finish<H: Host, D: Disk, S: Stepper, P: Pace>(
 {
     let Posted {
         disk,
+        stepper,
         history,
         log,
         end,
     } = post_rest(alloc, exec, script, pace);
+    let mut stepper = stepper;
     let result = match end {
-        CrewEnd::Done => match print_log::<H, S>(alloc, plan, &history, &log, host) {
+        CrewEnd::Done => match print_log(alloc, &mut stepper, &history, &log, host) {
             Ok(()) => Ok(End::Done),
             Err(fault) => Err(fault.into()),
         },
         CrewEnd::Stalled { waits } => {
-            match print_stalled::<H, S>(alloc, plan, &history, &log, &waits, host) {
+            match print_stalled(alloc, &mut stepper, &history, &log, &waits, host) {
                 Ok(()) => Ok(End::Stalled),
                 Err(fault) => Err(fault.into()),
             }

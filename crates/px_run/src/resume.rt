@@ -46,7 +46,7 @@ pub fn resume<H: Host, D: Disk, S: Stepper, P: Pace>(
         }
     };
     match script_left(alloc, script, &plan, exec.history(), host) {
-        Ok(left) => finish(alloc, &plan, exec, &left, host, pace),
+        Ok(left) => finish(alloc, exec, &left, host, pace),
         Err(stop) => Carried {
             result: Err(stop),
             disk: exec.into_parts().journal.into_disk(),

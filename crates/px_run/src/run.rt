@@ -1,8 +1,6 @@
 // The command `run`: reads a plan and a script, makes a journal, lets the script's threads post, and prints the text of the
 // log.
 ghost use Rattle.std.specs.Prelude.{◌≡◌, ◌≤◌, None, [], Some, length, IfOk, IfErr};
-ghost use Rattle.px_core.specs.Fit.{IsFit};
-ghost use Rattle.px_core.specs.Plan.{tree_of, sites};
 ghost use Rattle.px_output.specs.View.{view, KeepsFiles, OnlyReads};
 ghost use Rattle.px_script.specs.Fit.{IsFitScript};
 ghost use Rattle.px_sem.specs.Run.{run};
@@ -12,7 +10,6 @@ ghost use Rattle.px_run.specs.Finishing.{IsPrepared, IsNotPrepared, Runs, RunsPr
 use crate::ending::Stop;
 use crate::finishing::{Carried, finish};
 use crate::reading::{Source, fetch_script, fetch_source};
-use px_core::Plan;
 use px_journal::CreateFault;
 use px_ports::{Disk, Host};
 use px_script::{Pace, Script};
@@ -20,11 +17,10 @@ use px_sem::{Stepper, start};
 use px_session::create;
 use std::alloc::Global;
 
-/// What is to run: a plan with its text, the script, and a stepper that has settled the start.
+/// What is to run: a plan's text, the script, and a stepper that has settled the start of the plan.
 #[derive(Drop)]
 struct Prepared<S: Stepper> {
     text: Vec<u8>,
-    plan: Plan,
     script: Script,
     stepper: S,
 }
@@ -72,7 +68,6 @@ fn prepare<H: Host, S: Stepper>(
     let stepper = start(alloc, &plan)?;
     Ok(Prepared {
         text,
-        plan,
         script,
         stepper,
     })
@@ -92,24 +87,21 @@ fn run_prepared<H: Host, D: Disk, S: Stepper, P: Pace>(
     requires least { 1 ≤ limit }
     requires most { limit ≤ 100000 }
     requires short { length prepared.text.items ≤ 1048576 }
-    requires fit { IsFit (tree_of prepared.plan) }
     requires lines { IsFitScript prepared.script }
-    requires nodes { (S.state prepared.stepper).nodes ≡ sites (tree_of prepared.plan) }
     requires nothing { (S.state prepared.stepper).pending ≡ Pending.Nothing }
     requires started { run (S.state prepared.stepper).nodes [] ≡ Some (S.state prepared.stepper).world }
 
-    ensures runs { RunsPrepared D.Disk (sites (tree_of prepared.plan)) prepared.text.items journal.now limit prepared.script.threads
+    ensures runs { RunsPrepared D.Disk (S.state prepared.stepper).nodes prepared.text.items journal.now limit prepared.script.threads
         (view H.Host host.old) (view H.Host host.new) disk result }
     ensures keeps { KeepsFiles (view H.Host host.old) (view H.Host host.new) }
 {
     let Prepared {
         text,
-        plan,
         script,
         stepper,
     } = prepared;
     match create(alloc, disk, journal, &text, stepper, limit) {
-        Ok(exec) => finish(alloc, &plan, exec, &script, host, pace),
+        Ok(exec) => finish(alloc, exec, &script, host, pace),
         Err(CreateFault { disk, why }) => Carried {
             result: Err(why.into()),
             disk,

@@ -3,7 +3,7 @@ ghost use Rattle.std.specs.Prelude.{◌≡◌, ◌≤◌, None, map};
 ghost use Rattle.std.specs.String.{string_bytes};
 ghost use Rattle.px_output.specs.View.{view, OnlyPrints, KeepsFiles};
 ghost use Rattle.px_words.specs.Words.{command};
-ghost use Rattle.px_run.specs.Causes.{Cause, IsComplete, IsRefused};
+ghost use Rattle.px_run.specs.Causes.{Cause, IsComplete, IsRefused, IsHandedBack};
 ghost use Rattle.px_run.specs.Finishing.{Performed};
 ghost use Rattle.px_run.specs.Headline.{Headline, Delivers, IsBoundFor};
 ghost use Rattle.px_run.specs.Stops.{number_of, ending_of};
@@ -64,6 +64,7 @@ pub fn plexil<H: Host, D: Disk, P: Pace>(
         (view H.Host host.old) (view H.Host host.new) disk result.disk result.status }
     ensures files { H.files host.new ≡ H.files host.old }
     ensures bound { IsBoundFor D.Disk (command (map string_bytes words.now)) result.disk }
+    ensures handed_back { IsHandedBack D.Disk disk result.disk result.status }
 
     // What each status tells, when the command is carried out, and when its files are refused.
     ensures causes { Cause D.Disk (map string_bytes words.now)
@@ -78,7 +79,7 @@ pub fn plexil<H: Host, D: Disk, P: Pace>(
 
 // The same over any stepper. What each status tells follows from the headline alone, so it is shown here, apart from the
 // body.
-fn plexil_with<H: Host, D: Disk, S: Stepper, P: Pace>(
+fn plexil_with<H: Host, D: Disk, S: Stepper + Send, P: Pace>(
     alloc: Global,
     words: &[String],
     host: &mut H,
@@ -90,6 +91,7 @@ fn plexil_with<H: Host, D: Disk, S: Stepper, P: Pace>(
         (view H.Host host.old) (view H.Host host.new) disk result.disk result.status }
     ensures files { H.files host.new ≡ H.files host.old }
     ensures bound { IsBoundFor D.Disk (command (map string_bytes words.now)) result.disk }
+    ensures handed_back { IsHandedBack D.Disk disk result.disk result.status }
     ensures causes { Cause D.Disk (map string_bytes words.now)
         (view H.Host host.old) (view H.Host host.new) disk result.disk result.status }
     ensures complete { IsComplete D.Disk (map string_bytes words.now)
@@ -112,6 +114,7 @@ fn ended<H: Host, D: Disk, S: Stepper, P: Pace>(
         (view H.Host host.old) (view H.Host host.new) disk result.disk result.status }
     ensures files { H.files host.new ≡ H.files host.old }
     ensures bound { IsBoundFor D.Disk (command (map string_bytes words.now)) result.disk }
+    ensures handed_back { IsHandedBack D.Disk disk result.disk result.status }
 {
     let Carried { result, disk } = carry_out::<H, D, S, P>(alloc, words, host, disk, pace);
     let status = match result {

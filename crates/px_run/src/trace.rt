@@ -24,7 +24,7 @@ pub fn trace<H: Host, D: Disk, S: Stepper>(
     ensures traces { Traces D.Disk journal.now (view H.Host host.old) (view H.Host host.new) disk result }
     ensures keeps { KeepsFiles (view H.Host host.old) (view H.Host host.new) }
 {
-    let Reopened { plan, exec } = match reopen::<S, D>(alloc, disk, journal, EVENT_LIMIT) {
+    let Reopened { plan: _, exec } = match reopen::<S, D>(alloc, disk, journal, EVENT_LIMIT) {
         Ok(reopened) => reopened,
         Err(ReopenFault { disk, why }) => {
             return Carried {
@@ -33,13 +33,16 @@ pub fn trace<H: Host, D: Disk, S: Stepper>(
             };
         }
     };
+    exec.keeps();
     let Parts {
+        stepper,
         journal,
         history,
         log: _,
     } = exec.into_parts();
+    let mut stepper = stepper;
     let disk = journal.into_disk();
-    match print_log::<H, S>(alloc, &plan, &history, &[], host) {
+    match print_log(alloc, &mut stepper, &history, &[], host) {
         Ok(()) => Carried {
             result: Ok(End::Done),
             disk,

@@ -24,7 +24,7 @@ pub fn trace_start<H: Host, S: Stepper>(
     ensures keeps { KeepsFiles (view H.Host host.old) (view H.Host host.new) }
 {
     let plan = fetch_plan(alloc, plan, host)?;
-    start::<S>(alloc, &plan)?;
-    print_log::<H, S>(alloc, &plan, &[], &[], host)?;
+    let mut stepper = start::<S>(alloc, &plan)?;
+    print_log(alloc, &mut stepper, &[], &[], host)?;
     Ok(End::Done)
 }

@@ -1,22 +1,21 @@
 -- What the posts of a session have come to, by what the executive keeps.
-use Rattle.std.proofs.Common.{◌≡◌, ◌≤◌, ◌<◌, ◌^◌, inl, inr, ⊎_elim, ℕ, List, [], ◌∷◌, ◌++◌, Option, Some, None, IsSome, length, take, refl, sym, ◌∙◌, ap, subst, arith, append-nil, IsTrue}
+use Rattle.std.proofs.Common.{◌≡◌, inl, inr, ⊎_elim, ℕ, List, [], ◌∷◌, ◌++◌, Option, Some, None, IsSome, length, refl, sym, ◌∙◌, ap, subst, arith, append-nil, IsTrue}
 use Rattle.std.specs.List.{list_all}
 use Rattle.std.specs.Option.{option_map, ForSome}
 use Rattle.px_crew.specs.Crew.{Ends}
 use Rattle.px_crew.specs.Executive.{failed_entry}
 use Rattle.px_event.specs.Fit.{is_fit_entry}
 use Rattle.px_event.specs.declared.entry.Entry.{Entry}
-use Rattle.px_exec.proofs.Growing.{some_run}
-use Rattle.px_exec.specs.Executive.{Opening, Executive, Keeps, KeepsDisk, IsOpen, IsClosed, IsTextOf, TellsBytes, StandsWithin, plan_of, world_of}
+use Rattle.px_exec.specs.Executive.{Opening, Executive, Keeps, KeepsDisk, IsOpen, IsClosed, IsTextOf, TellsBytes, StandsWithin, plan_of}
 use Rattle.px_exec.specs.declared.failed.Failed.{Failed}
+use Rattle.px_journal.proofs.Going.{goes_told}
 use Rattle.px_journal.specs.Crash.{LeavesOnly}
+use Rattle.px_journal.specs.Goes.{Goes}
 use Rattle.px_journal.specs.Journal.{IsReady}
 use Rattle.px_journal.specs.Layout.{Stands}
-use Rattle.px_ports.specs.Host.{Rose}
 use Rattle.px_ports.specs.declared.disk.Disk
 use Rattle.px_script.specs.declared.todo.Todo.{Todo}
-use Rattle.px_sem.specs.Log.{Log, IsLegal, accepted, events_of}
-use Rattle.px_sem.specs.Run.{run}
+use Rattle.px_sem.specs.Log.{Log, IsLegal, HasRun, accepted}
 use Rattle.px_sem.specs.declared.stepper.Stepper
 use Rattle.px_session.specs.Posted.{WasDue, LeavesSession, Posts}
 use Rattle.px_session.specs.Session.{Session, longest_of, unsure, IsEnd}
@@ -88,9 +87,6 @@ module _ {S D : Type 0} (runs : Stepper.Ghosts S) (members : Disk.Ghosts D) (exe
               (longer text) (closed_now.since tells text is);
         }
 
-    rose_since : Rose (members.faults exec.opening.journal.disk) (members.faults exec.journal.disk)
-    rose_since = omega (arith, closed_now.rose, closed_now.counted)
-
   pub leaves_session : ReadsAreLeft members → TellsBytes members exec.opening.journal.disk → (text : List ℕ) → IsTextOf members exec text
       → LeavesSession members (session_of text exec) exec.opening.journal.disk exec.journal.disk
   leaves_session law tells text is = by exec.failed refl
@@ -99,12 +95,17 @@ module _ {S D : Type 0} (runs : Stepper.Ghosts S) (members : Disk.Ghosts D) (exe
       by None unfailed = leaves_open unfailed tells text is
       by (Some failed) closed = leaves_closed failed closed law tells text is
 
-  pub rose_where : IsSome (failed_entry exec) → Rose (members.faults exec.opening.journal.disk) (members.faults exec.journal.disk)
-  rose_where some = by exec.failed refl
+  -- the disk since the opening, by the entry of a failed append
+  pub goes_since : Goes members (IsSome (failed_entry exec)) exec.opening.journal.disk exec.journal.disk
+  goes_since = goes_told members keeps.goes (to exec.failed) (from exec.failed)
     where
-      by : (f : Option Failed) → exec.failed ≡ f → Rose (members.faults exec.opening.journal.disk) (members.faults exec.journal.disk)
-      by None unfailed = let none = no_entry unfailed in absurd (cc)
-      by (Some failed) closed = rose_since failed closed
+      to : (f : Option Failed) → IsSome f → IsSome (option_map (λ (f : Failed). f.entry) f)
+      to None some = some
+      to (Some failed) some = refl
+
+      from : (f : Option Failed) → IsSome (option_map (λ (f : Failed). f.entry) f) → IsSome f
+      from None some = some
+      from (Some failed) some = refl
 
   pub unfailed_where : failed_entry exec ≡ None → exec.failed ≡ None
   unfailed_where none = by exec.failed refl
@@ -124,10 +125,11 @@ module _ {S D : Type 0} (runs : Stepper.Ghosts S) (members : Disk.Ghosts D) (exe
 
 -- WHAT POSTS HAVE COME TO, by what is left of the executive.
 pub closes : {S D : Type 0} (runs : Stepper.Ghosts S) (members : Disk.Ghosts D) (was after : Executive S D) → ReadsAreLeft members → Keeps runs members after
-    → after.opening ≡ was.opening → (threads : List Todo) (posted : Posted D)
+    → after.opening ≡ was.opening → (threads : List Todo) (posted : Posted S D)
     → Ends (plan_of runs after) after.opening.history after.log threads (failed_entry after) posted.end
-    → posted.disk ≡ after.journal.disk → posted.history.items ≡ after.history → posted.log.items ≡ after.log → Posts members runs was threads posted
-closes {S} {D} runs members was after law keeps same threads posted ends disk_is history_is log_is = record {
+    → posted.disk ≡ after.journal.disk → posted.stepper ≡ after.stepper → posted.history.items ≡ after.history → posted.log.items ≡ after.log
+    → Posts members runs was threads posted
+closes {S} {D} runs members was after law keeps same threads posted ends disk_is stepper_is history_is log_is = record {
   failed = failed_entry after;
   ends = subst (λ (o : Opening S D). Ends (runs.state o.stepper).nodes o.history posted.log.items threads (failed_entry after) posted.end) same
       (subst (λ (l : Log). Ends (plan_of runs after) after.opening.history l threads (failed_entry after) posted.end) (sym log_is) ends);
@@ -138,9 +140,9 @@ closes {S} {D} runs members was after law keeps same threads posted ends disk_is
   due = subst (λ (o : Opening S D). WasDue (runs.state o.stepper).nodes o.limit posted.history.items (failed_entry after)) same
       (subst (λ (h : List Entry). WasDue (plan_of runs after) after.opening.limit h (failed_entry after)) (sym history_is)
       (due_where runs members after keeps));
-  runs_on = subst (λ (o : Opening S D). IsSome (run (runs.state o.stepper).nodes (events_of posted.history.items))) same
-      (subst (λ (h : List Entry). IsSome (run (plan_of runs after) (events_of h))) (sym history_is)
-      (some_run (plan_of runs after) (events_of after.history) (world_of runs after) keeps.runs_to));
+  has_run = subst (λ (o : Opening S D). HasRun (runs.state o.stepper).nodes posted.history.items (runs.state posted.stepper)) same
+      (subst (λ (h : List Entry). HasRun (plan_of runs after) h (runs.state posted.stepper)) (sym history_is)
+      (subst (λ (s : S). HasRun (plan_of runs after) after.history (runs.state s)) (sym stepper_is) (keeps.runs_to, keeps.settled)));
   fit = λ none. subst (λ (h : List Entry). IsTrue (list_all is_fit_entry h)) (sym history_is) (ready none).fit;
   few = λ none. let few = (ready none).few in omega (arith, few, ap length history_is);
   disk = λ tells text is.
@@ -149,15 +151,8 @@ closes {S} {D} runs members was after law keeps same threads posted ends disk_is
       subst (λ (o : Opening S D). LeavesSession members (record { text = text; first = o.history; log = posted.log.items; failed = failed_entry after }) o.journal.disk posted.disk) same
       (subst (λ (l : Log). LeavesSession members (record { text = text; first = after.opening.history; log = l; failed = failed_entry after }) after.opening.journal.disk posted.disk) (sym log_is)
       (subst (λ (d : D). LeavesSession members (session_of text after) after.opening.journal.disk d) (sym disk_is) left));
-  grows = subst (λ (o : Opening S D). take (length (members.moments o.journal.disk)) (members.moments posted.disk) ≡ members.moments o.journal.disk) same
-      (subst (λ (d : D). take (length (members.moments after.opening.journal.disk)) (members.moments d) ≡ members.moments after.opening.journal.disk) (sym disk_is) keeps.moments);
-  bound = ap members.bound_to disk_is ∙ keeps.name ∙ ap (λ (o : Opening S D). members.bound_to o.journal.disk) same;
-  faults = subst (λ (o : Opening S D). members.faults o.journal.disk ≤ members.faults posted.disk) same
-      (subst (λ (d : D). members.faults after.opening.journal.disk ≤ members.faults d) (sym disk_is) keeps.faults);
-  rose = λ fails.
-      subst (λ (o : Opening S D). Rose (members.faults o.journal.disk) (members.faults posted.disk)) same
-      (subst (λ (d : D). Rose (members.faults after.opening.journal.disk) (members.faults d)) (sym disk_is)
-      (rose_where runs members after keeps fails));
+  goes = subst (λ (o : Opening S D). Goes members (IsSome (failed_entry after)) o.journal.disk posted.disk) same
+      (subst (λ (d : D). Goes members (IsSome (failed_entry after)) after.opening.journal.disk d) (sym disk_is) (goes_since runs members after keeps));
 }
   where
     ready : failed_entry after ≡ None → IsReady members after.journal (keeps.text.0) after.history

@@ -1,5 +1,6 @@
 -- A session that goes on, from the calls that take its journal up.
-use Rattle.std.proofs.Common.{◌≡◌, ◌≢◌, ◌≤◌, inl, ℕ, List, None, IsSome, Result, Ok, Err, IfOk, IfErr, refl, sym, ◌∙◌, ap, subst, arith, IsTrue, IsFalse}
+use Rattle.std.proofs.Common.{◌≡◌, ◌≢◌, inl, ℕ, List, IsSome, Result, Ok, Err, IfOk, IfErr, refl, sym, ◌∙◌, ap, subst, arith, IsTrue, IsFalse}
+use Rattle.std.specs.Prelude.{is_some}
 use Rattle.std.specs.Option.{ForSome}
 use Rattle.px_compile.specs.Compiled.{IsCompiled}
 use Rattle.px_core.specs.Fit.{IsFit}
@@ -10,12 +11,11 @@ use Rattle.px_exec.specs.Opening.{IsWhy, RunsAwayAt}
 use Rattle.px_exec.specs.declared.fault.OpenWhy.{OpenWhy}
 use Rattle.px_exec.specs.declared.fault.OpenWhy.TheVariants as opening
 use Rattle.px_journal.specs.Damage.{Damaged}
+use Rattle.px_journal.specs.Goes.{RisesWhere, Goes}
 use Rattle.px_journal.specs.Journal.{IsReady, IsSettled, IsUnwritten, IsUntouched}
 use Rattle.px_journal.specs.Layout.{is_nothing, Stands}
 use Rattle.px_journal.specs.declared.fault.RecoverWhy.{RecoverWhy}
 use Rattle.px_journal.specs.declared.fault.RecoverWhy.TheVariants as recovering
-use Rattle.px_ports.specs.Disk.{StaysAttached}
-use Rattle.px_ports.specs.Host.{Rose}
 use Rattle.px_ports.specs.declared.disk.Disk
 use Rattle.px_sem.specs.Log.{events_of}
 use Rattle.px_sem.specs.Run.{run}
@@ -24,6 +24,7 @@ use Rattle.px_journal.specs.declared.journal.Journal.{Journal}
 use Rattle.px_session.specs.Attached.{IsAttached, IsNotAttached}
 use Rattle.px_session.specs.Opened.{IsRunWhy, IsReopenWhy, IsNotReopened, IsOpening, Reopens}
 use Rattle.px_session.specs.declared.reopening.Reopened.{Reopened}
+use Rattle.px_journal.proofs.Going.{rises_told}
 use Rattle.px_session.proofs.Leaving.{untouched_on, unwritten_on}
 use Rattle.px_session.specs.Whys.{of_recover, of_open}
 use Rattle.px_session.specs.declared.fault.ReopenFault.{ReopenFault}
@@ -37,51 +38,58 @@ module _ {D : Type 0} (members : Disk.Ghosts D) (name : List ℕ) (old mid : D) 
     unwritten = (failed.untouched).unwritten;
     same = λ other. (failed.untouched).content;
     settled = λ other. absurd (other refl);
+    tells = ap is_some (failed.untouched).content;
     bound = failed.bound;
-    faults = failed.faults;
+    faults = record { later = failed.faults; rose = λ is. failed.rose; kept = λ other. absurd (other refl) };
   }
 
   module _ (was : IsAttached members name old mid) (new : D) (writes_nothing : IsUnwritten members mid new)
-      (stays : StaysAttached (members.bound_to mid) (members.bound_to new) (members.is_attached mid) (members.is_attached new))
-      (later : members.faults mid ≤ members.faults new) where
+      {Failed : Type 0} (goes : Goes members Failed mid new) where
     refused_with : (why : ReopenWhy) → IsReopenWhy members old new why → (why ≢ reopening.DiskFault → members.content new ≡ members.content mid)
-        → (why ≢ reopening.DiskFault → IsSettled members new) → IsNotReopened members name old (record { disk = new; why = why })
-    refused_with why cause same settled = record {
+        → (why ≢ reopening.DiskFault → IsSettled members new) → RisesWhere (why ≡ reopening.DiskFault) (members.faults mid) (members.faults new)
+        → IsNotReopened members name old (record { disk = new; why = why })
+    refused_with why cause same settled counts = record {
       why = cause;
       unwritten = unwritten_on members old mid new (was.untouched).unwritten writes_nothing;
       same = λ other. same other ∙ (was.untouched).content;
       settled = settled;
-      bound = inl (stays.bound ∙ was.bound);
-      faults = omega (arith, was.faults, later);
+      tells = goes.tells ∙ ap is_some (was.untouched).content;
+      bound = inl (goes.stays.bound ∙ was.bound);
+      faults = subst (λ (n : ℕ). RisesWhere (why ≡ reopening.DiskFault) n (members.faults new)) was.faults counts;
     }
 
     -- the journal was not read
     pub not_recovered : (why : RecoverWhy) (shown : ReopenWhy) → shown ≡ of_recover why
         → (why ≡ recovering.NoJournal → ForSome (members.content mid) (λ told. IsTrue (is_nothing told)))
         → ((at : ℕ) → why ≡ recovering.Damaged at → ForSome (members.content mid) (λ told. IsFalse (is_nothing told) × Damaged told at))
-        → (why ≡ recovering.DiskFault → Rose (members.faults mid) (members.faults new))
+        → RisesWhere (why ≡ recovering.DiskFault) (members.faults mid) (members.faults new)
         → (why ≢ recovering.DiskFault → members.content new ≡ members.content mid) → (why ≢ recovering.DiskFault → IsSettled members new)
         → IsNotReopened members name old (record { disk = new; why = shown })
-    not_recovered why shown is none damaged rose same settled =
+    not_recovered why shown is none damaged counts same settled =
         subst (λ (w : ReopenWhy). IsNotReopened members name old (record { disk = new; why = w })) (sym is) (by why refl)
       where
         by : (w : RecoverWhy) → why ≡ w → IsNotReopened members name old (record { disk = new; why = of_recover w })
         by recovering.NoJournal is = refused_with reopening.NoJournal (λ told here. none is told ((was.untouched).content ∙ here))
             (λ other. same (λ e. let both = sym is ∙ e in cc)) (λ other. settled (λ e. let both = sym is ∙ e in cc))
+            (rises_told counts (λ e. absurd (let both = sym is ∙ e in cc)) (λ e. absurd (cc)))
         by (recovering.Damaged at) is = refused_with (reopening.Damaged at) (λ told here. damaged at is told ((was.untouched).content ∙ here))
             (λ other. same (λ e. let both = sym is ∙ e in cc)) (λ other. settled (λ e. let both = sym is ∙ e in cc))
-        by recovering.DiskFault is = let more = rose is in refused_with reopening.DiskFault (omega (arith, was.faults, more)) (λ other. absurd (other refl)) (λ other. absurd (other refl))
+            (rises_told counts (λ e. absurd (let both = sym is ∙ e in cc)) (λ e. absurd (cc)))
+        by recovering.DiskFault is = let more = counts.rose is in
+            refused_with reopening.DiskFault (omega (arith, was.faults, more)) (λ other. absurd (other refl)) (λ other. absurd (other refl))
+            (rises_told counts (λ e. refl) (λ e. is))
         by recovering.NoMemory is = refused_with reopening.NoMemory tt (λ other. same (λ e. let both = sym is ∙ e in cc))
-            (λ other. settled (λ e. let both = sym is ∙ e in cc))
+            (λ other. settled (λ e. let both = sym is ∙ e in cc)) (rises_told counts (λ e. absurd (let both = sym is ∙ e in cc)) (λ e. absurd (cc)))
 
     -- it was read, and can't be run
     pub not_run : {T : Type 0} (text : List ℕ) (history : List Entry) (r : Result T (ReopenFault D))
-        → ForSome (members.content mid) (λ told. Stands told text history) → members.content new ≡ members.content mid
+        → ¬ Failed → ForSome (members.content mid) (λ told. Stands told text history) → members.content new ≡ members.content mid
         → IsSettled members new → IfErr r (λ fault. fault.disk ≡ new) → IfErr r (λ fault. IsRunWhy text history fault.why) → IfErr r (IsNotReopened members name old)
-    not_run text history (Ok done) stands same settled here why = tt
-    not_run text history (Err fault) stands same settled here why =
+    not_run text history (Ok done) right stands same settled here why = tt
+    not_run text history (Err fault) right stands same settled here why =
         subst (λ (d : D). IsNotReopened members name old (record { disk = d; why = fault.why })) (sym here)
-        (refused_with fault.why (by fault.why why) (λ other. same) (λ other. settled))
+        (refused_with fault.why (by fault.why why) (λ other. same) (λ other. settled)
+        (rises_told goes.faults (λ failed. absurd (right failed)) (λ is. absurd (subst (IsRunWhy text history) is why))))
       where
         before : ForSome (members.content old) (λ told. Stands told text history)
         before told is = stands told ((was.untouched).content ∙ is)
@@ -97,14 +105,14 @@ module _ {D : Type 0} (members : Disk.Ghosts D) (name : List ℕ) (old mid : D) 
 
     -- it was read, and its history was run
     pub taken_up : {S : Type 0} (runs : Stepper.Ghosts S) (limit : ℕ) (text : List ℕ) (history : List Entry) (journal : Journal D)
-        (r : Result (Reopened S D) (ReopenFault D)) → journal.disk ≡ new → IsReady members journal text history
+        (r : Result (Reopened S D) (ReopenFault D)) → ¬ Failed → journal.disk ≡ new → IsReady members journal text history
         → ForSome (members.content mid) (λ told. Stands told text history) → members.content new ≡ members.content mid
         → IfOk r (λ reopened. IsCompiled text (tree_of reopened.plan)) → IfOk r (λ reopened. IsFit (tree_of reopened.plan))
         → IfOk r (λ reopened. plan_of runs reopened.exec ≡ sites (tree_of reopened.plan))
         → IfOk r (λ reopened. IsSome (run (sites (tree_of reopened.plan)) (events_of history)))
         → IfOk r (λ reopened. IsOpening journal history limit reopened.exec) → IfOk r (Reopens members runs name limit old)
-    taken_up runs limit text history journal (Err fault) here ready stands same compiled fit nodes settles opening = tt
-    taken_up runs limit text history journal (Ok reopened) here ready stands same compiled fit nodes settles opening = record {
+    taken_up runs limit text history journal (Err fault) right here ready stands same compiled fit nodes settles opening = tt
+    taken_up runs limit text history journal (Ok reopened) right here ready stands same compiled fit nodes settles opening = record {
       text = text;
       ready = subst (λ (h : List Entry). IsReady members reopened.exec.opening.journal text h) (sym opening.first)
           (subst (λ (j : Journal D). IsReady members j text history) (sym opening.opened) ready);
@@ -124,8 +132,8 @@ module _ {D : Type 0} (members : Disk.Ghosts D) (name : List ℕ) (old mid : D) 
       };
       untouched = subst (λ (d : D). IsUntouched members old d) (sym disk_is)
           (untouched_on members old mid new was.untouched (record { content = same; unwritten = writes_nothing }));
-      bound = ap members.bound_to disk_is ∙ stays.bound ∙ was.bound;
-      faults = subst (λ (d : D). members.faults old ≤ members.faults d) (sym disk_is) (omega (arith, was.faults, later));
+      bound = ap members.bound_to disk_is ∙ goes.stays.bound ∙ was.bound;
+      faults = ap members.faults disk_is ∙ goes.faults.kept right ∙ was.faults;
     }
       where
         disk_is : reopened.exec.opening.journal.disk ≡ new

@@ -10,7 +10,7 @@ module _ {D : Type 0} (members : Disk.Ghosts D) where
     pub bound : members.bound_to new ≡ Some name
     pub attached : IsTrue (members.is_attached new)
     pub untouched : IsUntouched members old new
-    pub faults : members.faults old ≤ members.faults new
+    pub faults : members.faults new ≡ members.faults old
 
   -- the call has failed
   pub record IsNotAttached (name : List ℕ) (old new : D) : Type 0 where

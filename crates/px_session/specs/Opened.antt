@@ -1,5 +1,5 @@
 -- What opens a session over a journal, and why there is none.
-use Rattle.std.specs.Prelude.{◌≡◌, ◌≢◌, ◌≤◌, ◌⊎◌, ℕ, List, [], length, take, None, Some, IsSome, IsTrue, IsFalse, is_some}
+use Rattle.std.specs.Prelude.{◌≡◌, ◌≢◌, ◌⊎◌, ℕ, List, [], length, take, None, Some, IsSome, IsTrue, IsFalse, is_some}
 use Rattle.std.specs.Option.{ForSome}
 use Rattle.px_compile.specs.Compiled.{IsCompiled, IsRefused}
 use Rattle.px_core.specs.Fit.{IsFit}
@@ -7,8 +7,9 @@ use Rattle.px_core.specs.Plan.{Tree, tree_of, sites}
 use Rattle.px_event.specs.declared.entry.Entry.{Entry}
 use Rattle.px_exec.specs.Executive.{Executive, plan_of, IsTextOf}
 use Rattle.px_exec.specs.Opening.{RunsAwayAt}
-use Rattle.px_journal.specs.Crash.{OldOrNew, LeavesOnly}
+use Rattle.px_journal.specs.Crash.{OldOrNew}
 use Rattle.px_journal.specs.Damage.{Damaged}
+use Rattle.px_journal.specs.Goes.{RisesWhere, LeavesAtMost}
 use Rattle.px_journal.specs.Journal.{IsSettled, IsUnwritten, IsUntouched}
 use Rattle.px_journal.specs.Layout.{is_nothing, Stands}
 use Rattle.px_journal.specs.declared.journal.Journal.{Journal}
@@ -53,8 +54,7 @@ module _ {D : Type 0} (members : Disk.Ghosts D) where
   -- each image since is one from before, or is nothing, or stands for the text and the empty history
   pub record LeavesNew (text : List ℕ) (old new : D) : Type 0 where
     pub grows : take (length (members.moments old)) (members.moments new) ≡ members.moments old
-    pub each : ForSome (members.content old)
-        (λ _. LeavesOnly members.images (OldOrNew (members.images (members.moments old)) text) (members.moments old) (members.moments new))
+    pub each : LeavesAtMost members (OldOrNew (members.images (members.moments old)) text) old new
 
   -- A NEW SESSION: its journal stands for the text and no event, on a disk that was nothing.
   pub record Creates {S : Type 0} (name text : List ℕ) (stepper : S) (limit : ℕ) (old : D) (exec : Executive S D) : Type 0 where
@@ -65,7 +65,7 @@ module _ {D : Type 0} (members : Disk.Ghosts D) where
     pub leaves : LeavesNew text old exec.opening.journal.disk
     pub tells : is_some (members.content exec.opening.journal.disk) ≡ is_some (members.content old)
     pub bound : members.bound_to exec.opening.journal.disk ≡ Some name
-    pub faults : members.faults old ≤ members.faults exec.opening.journal.disk
+    pub faults : members.faults exec.opening.journal.disk ≡ members.faults old
 
   -- why there is no new session: a journal stands there, a call of the disk failed, or memory ran out, before a write or
   -- behind the last
@@ -82,7 +82,7 @@ module _ {D : Type 0} (members : Disk.Ghosts D) where
     pub tells : is_some (members.content fault.disk) ≡ is_some (members.content old)
     pub untouched : ForSome (members.content old) (λ told. IsFalse (is_nothing told) → IsUntouched members old fault.disk)
     pub bound : IsBoundAtMost members name fault.disk
-    pub faults : members.faults old ≤ members.faults fault.disk
+    pub faults : RisesWhere (fault.why ≡ creating.DiskFault) (members.faults old) (members.faults fault.disk)
 
   -- ---- a journal that stands
 
@@ -99,7 +99,7 @@ module _ {D : Type 0} (members : Disk.Ghosts D) where
     pub opening : IsOpening reopened.exec.opening.journal reopened.exec.opening.history limit reopened.exec
     pub untouched : IsUntouched members old reopened.exec.opening.journal.disk
     pub bound : members.bound_to reopened.exec.opening.journal.disk ≡ Some name
-    pub faults : members.faults old ≤ members.faults reopened.exec.opening.journal.disk
+    pub faults : members.faults reopened.exec.opening.journal.disk ≡ members.faults old
 
   -- why no session goes on
   abbrev pub IsReopenWhy : D → D → ReopenWhy → Type 0
@@ -117,5 +117,6 @@ module _ {D : Type 0} (members : Disk.Ghosts D) where
     pub unwritten : IsUnwritten members old fault.disk
     pub same : fault.why ≢ reopening.DiskFault → members.content fault.disk ≡ members.content old
     pub settled : fault.why ≢ reopening.DiskFault → IsSettled members fault.disk
+    pub tells : is_some (members.content fault.disk) ≡ is_some (members.content old)
     pub bound : IsBoundAtMost members name fault.disk
-    pub faults : members.faults old ≤ members.faults fault.disk
+    pub faults : RisesWhere (fault.why ≡ reopening.DiskFault) (members.faults old) (members.faults fault.disk)

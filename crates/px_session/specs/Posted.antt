@@ -1,5 +1,5 @@
 -- What the posts of a session have come to.
-use Rattle.std.specs.Prelude.{◌≡◌, ◌≤◌, ◌<◌, ◌^◌, ℕ, List, ◌++◌, length, take, Option, Some, None, IsTrue, IsSome}
+use Rattle.std.specs.Prelude.{◌≡◌, ◌<◌, ◌^◌, ℕ, List, ◌++◌, length, Option, Some, None, IsTrue, IsSome}
 use Rattle.std.specs.List.{list_all}
 use Rattle.px_core.specs.Plan.{Site}
 use Rattle.px_crew.specs.Crew.{Ends}
@@ -7,11 +7,10 @@ use Rattle.px_event.specs.Fit.{is_fit_entry}
 use Rattle.px_event.specs.declared.entry.Entry.{Entry}
 use Rattle.px_exec.specs.Executive.{Executive, plan_of, IsTextOf, TellsBytes}
 use Rattle.px_journal.specs.Crash.{LeavesOnly}
-use Rattle.px_ports.specs.Host.{Rose}
+use Rattle.px_journal.specs.Goes.{Goes}
 use Rattle.px_ports.specs.declared.disk.Disk
 use Rattle.px_script.specs.declared.todo.Todo.{Todo}
-use Rattle.px_sem.specs.Log.{IsLegal, WouldBeAccepted, accepted, events_of}
-use Rattle.px_sem.specs.Run.{run}
+use Rattle.px_sem.specs.Log.{IsLegal, WouldBeAccepted, HasRun, accepted}
 use Rattle.px_sem.specs.declared.stepper.Stepper
 use Rattle.px_session.specs.Session.{Session, HasOneHistory, IsFront}
 use Rattle.px_session.specs.declared.posting.Posted.{Posted}
@@ -29,20 +28,17 @@ module _ {D : Type 0} (members : Disk.Ghosts D) where
 
   -- WHAT POSTS HAVE COME TO: the work of the threads over the executive, with its legal log, the history that the accepted
   -- ones make, and the disk that stands for it.
-  pub record Posts {S : Type 0} (runs : Stepper.Ghosts S) (exec : Executive S D) (threads : List Todo) (posted : Posted D) : Type 0 where
+  pub record Posts {S : Type 0} (runs : Stepper.Ghosts S) (exec : Executive S D) (threads : List Todo) (posted : Posted S D) : Type 0 where
     pub failed : Option Entry
     pub ends : Ends (plan_of runs exec) exec.opening.history posted.log.items threads failed posted.end
     pub legal : IsLegal (plan_of runs exec) exec.opening.history exec.opening.limit posted.log.items
     pub history : posted.history.items ≡ exec.opening.history ++ accepted posted.log.items
     pub due : WasDue (plan_of runs exec) exec.opening.limit posted.history.items failed
-    pub runs_on : IsSome (run (plan_of runs exec) (events_of posted.history.items))
+    pub has_run : HasRun (plan_of runs exec) posted.history.items (runs.state posted.stepper)
     pub fit : failed ≡ None → IsTrue (list_all is_fit_entry posted.history.items)
     pub few : failed ≡ None → length posted.history.items < 2 ^ 32
     pub disk : TellsBytes members exec.opening.journal.disk → (text : List ℕ) → IsTextOf members exec text
         → LeavesSession (record { text = text; first = exec.opening.history; log = posted.log.items; failed = failed })
         exec.opening.journal.disk posted.disk
-    pub grows : take (length (members.moments exec.opening.journal.disk)) (members.moments posted.disk)
-        ≡ members.moments exec.opening.journal.disk
-    pub bound : members.bound_to posted.disk ≡ members.bound_to exec.opening.journal.disk
-    pub faults : members.faults exec.opening.journal.disk ≤ members.faults posted.disk
-    pub rose : IsSome failed → Rose (members.faults exec.opening.journal.disk) (members.faults posted.disk)
+    -- the disk goes on from the opening, and has counted a fault since just where an append has failed
+    pub goes : Goes members (IsSome failed) exec.opening.journal.disk posted.disk

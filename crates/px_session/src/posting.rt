@@ -13,9 +13,11 @@ use std::alloc::Global;
 
 /// What the posts of a session have come to.
 #[derive(Drop)]
-pub struct Posted<D> {
+pub struct Posted<S: Stepper, D> {
     /// The disk, handed back.
     pub disk: D,
+    /// What runs the plan, settled behind the history.
+    pub stepper: S,
     /// The accepted entries, those from before the session in front.
     pub history: Vec<Entry>,
     /// The posts of the session that were answered over the history, with their replies.
@@ -31,7 +33,7 @@ pub fn post_rest<S: Stepper, D: Disk, P: Pace>(
     exec: Exec<S, D>,
     script: &Script,
     pace: &P,
-) -> Posted<D>
+) -> Posted<S, D>
     requires fit { IsFitScript script.now }
     requires open { exec.failed ≡ None }
     requires fresh { exec.log ≡ [] }
@@ -41,12 +43,14 @@ pub fn post_rest<S: Stepper, D: Disk, P: Pace>(
     let end = work_in_turn(&mut exec, alloc, script, pace);
     exec.keeps();
     let Parts {
+        stepper,
         journal,
         history,
         log,
     } = exec.into_parts();
     Posted {
         disk: journal.into_disk(),
+        stepper,
         history,
         log,
         end,

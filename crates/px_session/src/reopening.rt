@@ -101,10 +101,14 @@ fn run_recovered<S: Stepper, D: Disk>(
     };
     match Exec::open(alloc, journal, stepper, history, limit) {
         Ok(exec) => Ok(Reopened { plan, exec }),
-        Err(OpenFault { journal, why }) => Err(ReopenFault {
-            disk: journal.into_disk(),
-            why: why.into(),
-        }),
+        Err(OpenFault { journal, why }) => {
+            // By name: the proof then has one call to follow, and not each shape that a plan may have.
+            drop(plan);
+            Err(ReopenFault {
+                disk: journal.into_disk(),
+                why: why.into(),
+            })
+        }
     }
 }
 
@@ -123,7 +127,7 @@ fn start_text<S: Stepper>(alloc: Global, text: &[u8]) -> Result<(Plan, S), Reope
     match start(alloc, &plan) {
         Ok(stepper) => Ok((plan, stepper)),
         Err(fault) => {
-            // By name: the proof then has one call to follow, and not each shape that a plan may have.
+            // By name, as above.
             drop(plan);
             Err(fault.into())
         }

@@ -1,6 +1,7 @@
-use Rattle.std.proofs.Common.{Ok, Err, List, refl, ap}
+use Rattle.std.proofs.Common.{Ok, Err, List, refl, ap, ◌∙◌}
 use Rattle.px_core.specs.Plan.{tree_of, sites}
 use Rattle.px_sem.proofs.Logs.{fit_accepted}
+use Rattle.px_sem.specs.Stepper.{State}
 use Rattle.px_script.specs.declared.todo.Todo.{Todo}
 use Rattle.px_run.specs.Course.{Untouched, AfterFile}
 use Rattle.px_run.specs.Ending.{log_ending}
@@ -9,7 +10,7 @@ use Rattle.px_run.specs.Kinds.{script_file}
 use Rattle.px_output.specs.View.{view}
 use Rattle.px_run.specs.declared.ending.End.TheVariants as ends
 use Rattle.px_run.proofs.Performing.{reading_stopped, memory_stopped, start_stopped_behind, printed_behind, broken_off_behind}
-use Rattle.px_run.proofs.Starting.{run_started, posted_all, prints_log}
+use Rattle.px_run.proofs.Starting.{run_started, nodes_at_rest, posted_all, prints_log}
 use Rattle.px_run.proofs.dry_run.dry_run_plan.Goals as goal
 
 pub returns-in_err-fetch_script-clause-performs : goal.returns-in_err-fetch_script-clause-performs
@@ -41,11 +42,11 @@ returns-in_err-session-clause-performs g c =
     c.from_residual-in_err-session.ensures.1 AfterFile.no_memory c.in_ok-fetch_script.ensures.only
 
 pub post_each-requires-clause-started : goal.post_each-requires-clause-started
-post_each-requires-clause-started g c = λ _ _.
+post_each-requires-clause-started g c =
     run_started (sites (tree_of c.args.plan.now)) (g.S.Stepper.state c.in_ok-stepper.stepper) c.in_ok-stepper.ensures.settled c.in_ok-stepper.ensures.rest
 
 pub print_log-requires-clause-events : goal.print_log-requires-clause-events
-print_log-requires-clause-events g c = λ _ _.
+print_log-requires-clause-events g c =
     rw (c.deref.ensures.value, c.in_ok-session.ensures.history)
     (fit_accepted c.in_ok-session.session.log.items (rw c.in_ok-session.ensures.each c.in_ok-entries.ensures.fit))
 
@@ -59,11 +60,13 @@ returns-in_err-print_log-clause-performs g c =
     let due = posted_all tree threads (g.S.Stepper.state c.in_ok-stepper.stepper) session.log.items
     c.in_ok-entries.entries.items c.in_ok-stepper.ensures.settled c.in_ok-stepper.ensures.rest c.in_ok-entries.ensures.order
     c.in_ok-session.ensures.each c.in_ok-session.ensures.legal in
+    let nodes = ap (λ (s : State). s.nodes) c.in_ok-session.ensures.rest
+    ∙ nodes_at_rest (sites tree) (g.S.Stepper.state c.in_ok-stepper.stepper) c.in_ok-stepper.ensures.rest in
     broken_off_behind (List Todo) (script_file (sites tree)) (view g.H.Host c.args.host.now) mid new c.args.script.now threads Untouched
     (DryRunOf (sites tree)) Untouched (log_ending (sites tree) session.log.items) c.in_err-print_log.field-0.0 _ c.in_ok-fetch_script.ensures.ok c.in_ok-fetch_script.ensures.only
     c.in_err-print_log.ensures.only due c.from_residual-in_err-print_log.ensures.1
-    (prints_log mid new (sites tree) c.deref.result.now session.history.items c.deref-2.result.now session.log.items (Err c.in_err-print_log.field-0.0)
-    c.deref.ensures.value c.deref-2.ensures.value c.in_ok-session.ensures.history c.in_err-print_log.ensures.prints)
+    (prints_log mid new (g.S.Stepper.state c.post_each.new.stepper).nodes (sites tree) c.deref.result.now session.history.items c.deref-2.result.now session.log.items (Err c.in_err-print_log.field-0.0)
+    nodes c.deref.ensures.value c.deref-2.ensures.value c.in_ok-session.ensures.history c.in_err-print_log.ensures.prints)
 
 pub returns-clause-performs : goal.returns-clause-performs
 returns-clause-performs g c =
@@ -75,7 +78,9 @@ returns-clause-performs g c =
     let due = posted_all tree threads (g.S.Stepper.state c.in_ok-stepper.stepper) session.log.items
     c.in_ok-entries.entries.items c.in_ok-stepper.ensures.settled c.in_ok-stepper.ensures.rest c.in_ok-entries.ensures.order
     c.in_ok-session.ensures.each c.in_ok-session.ensures.legal in
+    let nodes = ap (λ (s : State). s.nodes) c.in_ok-session.ensures.rest
+    ∙ nodes_at_rest (sites tree) (g.S.Stepper.state c.in_ok-stepper.stepper) c.in_ok-stepper.ensures.rest in
     printed_behind (List Todo) (script_file (sites tree)) (view g.H.Host c.args.host.now) mid new c.args.script.now threads Untouched
     (DryRunOf (sites tree)) Untouched ends.Done (log_ending (sites tree) session.log.items) c.in_ok-fetch_script.ensures.ok c.in_ok-fetch_script.ensures.only c.in_ok-print_log.ensures.only due refl
-    (prints_log mid new (sites tree) c.deref.result.now session.history.items c.deref-2.result.now session.log.items (Ok tt)
-    c.deref.ensures.value c.deref-2.ensures.value c.in_ok-session.ensures.history c.in_ok-print_log.ensures.prints)
+    (prints_log mid new (g.S.Stepper.state c.post_each.new.stepper).nodes (sites tree) c.deref.result.now session.history.items c.deref-2.result.now session.log.items (Ok tt)
+    nodes c.deref.ensures.value c.deref-2.ensures.value c.in_ok-session.ensures.history c.in_ok-print_log.ensures.prints)

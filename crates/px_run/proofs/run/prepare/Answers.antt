@@ -29,8 +29,8 @@ pub returns-clause-ok : goal.returns-clause-ok
 returns-clause-ok g c =
     let source = c.in_ok-text.field-0 in
     prepared g.S.Stepper (view g.H.Host c.args.host.now) (view g.H.Host c.fetch_source.new.host) (view g.H.Host c.fetch_script.new.host)
-    c.args.plan.now c.args.script.now
-    (record { text = source.text; plan = source.plan; script = c.in_ok-script.script; stepper = c.in_ok-stepper.stepper })
-    c.in_ok-text.ensures.ok c.in_ok-text.ensures.only c.in_ok-script.ensures.only c.in_ok-text.ensures.short c.in_ok-text.ensures.fit
+    c.args.plan.now c.args.script.now (tree_of source.plan)
+    (record { text = source.text; script = c.in_ok-script.script; stepper = c.in_ok-stepper.stepper })
+    c.in_ok-text.ensures.ok c.in_ok-text.ensures.only c.in_ok-script.ensures.only c.in_ok-text.ensures.short
     c.in_ok-script.ensures.ok c.in_ok-script.ensures.fit
     c.in_ok-stepper.ensures.settled c.in_ok-stepper.ensures.rest

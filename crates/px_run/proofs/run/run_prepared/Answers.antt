@@ -1,9 +1,7 @@
-use Rattle.std.proofs.Common.{[], IsSome, subst}
-use Rattle.px_core.specs.Plan.{tree_of, sites}
+use Rattle.std.proofs.Common.{[], refl, subst}
 use Rattle.px_exec.proofs.Growing.{some_run}
 use Rattle.px_output.specs.View.{view}
 use Rattle.px_script.proofs.Rests.{rest_whole}
-use Rattle.px_sem.specs.Run.{run}
 use Rattle.px_session.specs.Opened.{Creates, IsNotCreated}
 use Rattle.px_run.proofs.Running.{made_runs, not_made_runs}
 use Rattle.px_run.proofs.run.run_prepared.Goals as goal
@@ -16,8 +14,8 @@ returns-in-Ok-clause-runs g c =
     let exec = c.in-Ok.exec in
     let made : Creates g.D.Disk c.args.journal.now ready.text.items ready.stepper c.args.limit c.args.disk exec =
     subst (λ text. Creates g.D.Disk c.args.journal.now text ready.stepper c.args.limit c.args.disk exec) c.deref.ensures.value c.in-Ok.ensures.created in
-    made_runs g.D.Disk (sites (tree_of ready.plan)) ready.text.items c.args.journal.now c.args.limit ready.script.threads before now c.args.disk
-    (rest_whole ready.script.threads c.requires.lines.lines) g.S.Stepper ready.stepper exec c.finish.result c.requires.nodes made
+    made_runs g.D.Disk (g.S.Stepper.state ready.stepper).nodes ready.text.items c.args.journal.now c.args.limit ready.script.threads before now c.args.disk
+    (rest_whole ready.script.threads c.requires.lines.lines) g.S.Stepper ready.stepper exec c.finish.result refl made
     (c.finish.ensures.finishes ready.text.items made.stands)
 
 pub returns-clause-runs : goal.returns-clause-runs
@@ -25,8 +23,8 @@ returns-clause-runs g c =
     let ready = c.args.prepared in
     let before = view g.H.Host c.args.host.now in
     let fault = c.in-Err.field-0 in
-    not_made_runs g.D.Disk (sites (tree_of ready.plan)) ready.text.items c.args.journal.now c.args.limit ready.script.threads before before c.args.disk
+    not_made_runs g.D.Disk (g.S.Stepper.state ready.stepper).nodes ready.text.items c.args.journal.now c.args.limit ready.script.threads before before c.args.disk
     (rest_whole ready.script.threads c.requires.lines.lines) fault.why fault.disk c.into.result
-    (subst (λ nodes. IsSome (run nodes [])) c.requires.nodes (some_run _ [] _ c.requires.started))
+    (some_run _ [] _ c.requires.started)
     c.into.ensures
     (subst (λ text. IsNotCreated g.D.Disk c.args.journal.now text c.args.disk fault) c.deref.ensures.value c.in-Err.ensures.refused)

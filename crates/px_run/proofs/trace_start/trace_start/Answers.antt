@@ -1,12 +1,15 @@
-use Rattle.std.proofs.Common.{[], Some, Err, refl, ap}
+use Rattle.std.proofs.Common.{[], Some, Ok, Err, IsSome, refl, ap, sym, subst}
 use Rattle.px_core.specs.Plan.{Tree, tree_of, sites}
 use Rattle.px_run.specs.Course.{Untouched, EndsIn}
 use Rattle.px_run.specs.Ending.{start_ending, log_ending}
 use Rattle.px_run.specs.Kinds.{plan_file}
+use Rattle.px_output.specs.Printing.{Prints}
 use Rattle.px_output.specs.View.{view}
+use Rattle.px_sem.specs.Run.{run}
+use Rattle.px_sem.specs.Text.{text_of}
 use Rattle.px_run.specs.declared.ending.End.TheVariants as ends
 use Rattle.px_run.proofs.Performing.{reading_stopped, start_stopped_behind, printed_behind, broken_off_behind}
-use Rattle.px_run.proofs.Starting.{run_exists, start_is, runs_away}
+use Rattle.px_run.proofs.Starting.{run_exists, nodes_at_rest, start_is, runs_away}
 use Rattle.px_run.proofs.trace_start.trace_start.Goals as goal
 
 pub returns-in_err-plan-clause-performs : goal.returns-in_err-plan-clause-performs
@@ -14,30 +17,34 @@ returns-in_err-plan-clause-performs g c =
     reading_stopped Tree plan_file (view g.H.Host c.args.host.now) (view g.H.Host c.fetch_plan.new.host) c.args.plan.now Untouched _ c.in_err-plan.field-0.0
     c.from_residual.result c.from_residual.ensures.1 c.in_err-plan.ensures.err c.in_err-plan.ensures.only
 
-pub returns-in_err-start-clause-performs : goal.returns-in_err-start-clause-performs
-returns-in_err-start-clause-performs g c =
+pub returns-in_err-stepper-clause-performs : goal.returns-in_err-stepper-clause-performs
+returns-in_err-stepper-clause-performs g c =
     let tree = tree_of c.in_ok-plan.plan in
     start_stopped_behind Tree plan_file (view g.H.Host c.args.host.now) (view g.H.Host c.fetch_plan.new.host) c.args.plan.now tree Untouched
-    (λ tree. EndsIn Untouched (start_ending tree)) c.in_err-start.field-0.0 c.from_residual-in_err-start.result c.in_ok-plan.ensures.ok c.in_ok-plan.ensures.only
-    c.from_residual-in_err-start.ensures.1 (λ is. (refl, ap Some (runs_away tree (c.in_err-start.ensures.runaway (ap Err is)))))
+    (λ tree. EndsIn Untouched (start_ending tree)) c.in_err-stepper.field-0.0 c.from_residual-in_err-stepper.result c.in_ok-plan.ensures.ok c.in_ok-plan.ensures.only
+    c.from_residual-in_err-stepper.ensures.1 (λ is. (refl, ap Some (runs_away tree (c.in_err-stepper.ensures.runaway (ap Err is)))))
 
 pub print_log-requires-clause-runs : goal.print_log-requires-clause-runs
-print_log-requires-clause-runs g c = λ _ _.
-    run_exists (sites (tree_of c.in_ok-plan.plan)) _ c.in_ok-start.ensures.settled
+print_log-requires-clause-runs g c =
+    subst (λ plan. IsSome (run plan [])) (sym (nodes_at_rest (sites (tree_of c.in_ok-plan.plan)) _ c.in_ok-stepper.ensures.rest))
+    (run_exists (sites (tree_of c.in_ok-plan.plan)) _ c.in_ok-stepper.ensures.settled)
 
 pub returns-in_err-print_log-clause-performs : goal.returns-in_err-print_log-clause-performs
 returns-in_err-print_log-clause-performs g c =
     let tree = tree_of c.in_ok-plan.plan in
-    let settled = c.in_ok-start.ensures.settled in
+    let settled = c.in_ok-stepper.ensures.settled in
     broken_off_behind Tree plan_file (view g.H.Host c.args.host.now) (view g.H.Host c.fetch_plan.new.host) (view g.H.Host c.print_log.new.host)
     c.args.plan.now tree Untouched (λ tree. EndsIn Untouched (start_ending tree)) Untouched (log_ending (sites tree) []) c.in_err-print_log.field-0.0 _ c.in_ok-plan.ensures.ok
     c.in_ok-plan.ensures.only c.in_err-print_log.ensures.only (refl, ap Some (start_is tree _ settled.0 settled.1)) c.from_residual-in_err-print_log.ensures.1
-    (c.in_err-print_log.ensures.prints [] refl)
+    (subst (λ plan. Prints {T = Unit} (view g.H.Host c.fetch_plan.new.host) [] (view g.H.Host c.print_log.new.host) [] (text_of plan [] []) (Err c.in_err-print_log.field-0.0))
+    (nodes_at_rest (sites tree) (g.S.Stepper.state c.in_ok-stepper.stepper) c.in_ok-stepper.ensures.rest) (c.in_err-print_log.ensures.prints [] refl))
 
 pub returns-clause-performs : goal.returns-clause-performs
 returns-clause-performs g c =
     let tree = tree_of c.in_ok-plan.plan in
-    let settled = c.in_ok-start.ensures.settled in
+    let settled = c.in_ok-stepper.ensures.settled in
     printed_behind Tree plan_file (view g.H.Host c.args.host.now) (view g.H.Host c.fetch_plan.new.host) (view g.H.Host c.print_log.new.host)
     c.args.plan.now tree Untouched (λ tree. EndsIn Untouched (start_ending tree)) Untouched ends.Done (log_ending (sites tree) []) c.in_ok-plan.ensures.ok c.in_ok-plan.ensures.only
-    c.in_ok-print_log.ensures.only (refl, ap Some (start_is tree _ settled.0 settled.1)) refl (c.in_ok-print_log.ensures.prints [] refl)
+    c.in_ok-print_log.ensures.only (refl, ap Some (start_is tree _ settled.0 settled.1)) refl
+    (subst (λ plan. Prints {T = Unit} (view g.H.Host c.fetch_plan.new.host) [] (view g.H.Host c.print_log.new.host) [] (text_of plan [] []) (Ok tt))
+    (nodes_at_rest (sites tree) (g.S.Stepper.state c.in_ok-stepper.stepper) c.in_ok-stepper.ensures.rest) (c.in_ok-print_log.ensures.prints [] refl))

@@ -16,16 +16,16 @@ returns-in_err-journal-clause-refused g c =
     let old = c.args.disk in
     let mid = c.in-Ok.disk in
     handed_on (IsNotCreated g.D.Disk name text old) fault c.from_residual.result c.from_residual.ensures.1
-    (uncreated g.D.Disk name text old mid c.in-Ok.ensures.attached fault.disk told.grows told.old_or_new told.stays told.later told.tells fault.why
-    (why_refused g.D.Disk name text old mid c.in-Ok.ensures.attached fault.disk told.grows told.old_or_new told.stays told.later told.tells fault refl
-    told.exists told.no_memory told.cause) told.untouched)
+    (uncreated g.D.Disk name text old mid c.in-Ok.ensures.attached fault.disk told.goes told.old_or_new fault.why
+    (why_refused g.D.Disk name text old mid c.in-Ok.ensures.attached fault.disk told.goes told.old_or_new fault refl
+    told.exists told.no_memory told.goes.faults.rose) told.untouched told.goes.faults)
 
 pub returns-in-Ok-open-clause-created : goal.returns-in-Ok-open-clause-created
 returns-in-Ok-open-clause-created g c =
     let journal = c.in_ok-journal.journal in
     let told = c.in_ok-journal.ensures in
-    created g.D.Disk c.args.name.now c.args.text.now c.args.disk c.in-Ok.disk c.in-Ok.ensures.attached journal.disk told.grows told.old_or_new told.stays told.later told.tells
-    g.S.Stepper c.args.stepper c.args.limit journal c.new.result.items c.in-Ok-open.exec refl told.made told.only_nothing c.new.ensures.items
+    created g.D.Disk c.args.name.now c.args.text.now c.args.disk c.in-Ok.disk c.in-Ok.ensures.attached journal.disk told.goes told.old_or_new
+    g.S.Stepper c.args.stepper c.args.limit journal c.new.result.items c.in-Ok-open.exec (λ failed. failed) refl told.made told.only_nothing c.new.ensures.items
     c.in-Ok-open.ensures.opens
 
 pub returns-in-Err-open-clause-refused : goal.returns-in-Err-open-clause-refused
@@ -35,5 +35,5 @@ returns-in-Err-open-clause-refused g c =
     let fault = c.in-Err-open.ensures.refused in
     let here = c.into_disk.ensures ∙ ap (λ j. j.disk) fault.handed_back in
     subst (λ d. IsNotCreated g.D.Disk c.args.name.now c.args.text.now c.args.disk (record { disk = d; why = NoMemory })) (sym here)
-    (made_in_vain g.D.Disk c.args.name.now c.args.text.now c.args.disk c.in-Ok.disk c.in-Ok.ensures.attached journal.disk told.grows told.old_or_new told.stays
-    told.later told.tells journal refl told.made told.only_nothing)
+    (made_in_vain g.D.Disk c.args.name.now c.args.text.now c.args.disk c.in-Ok.disk c.in-Ok.ensures.attached journal.disk told.goes told.old_or_new
+    journal (λ failed. failed) refl told.made told.only_nothing)

@@ -6,22 +6,22 @@ pub returns-in-Ok-recover-clause-refused : goal.returns-in-Ok-recover-clause-ref
 returns-in-Ok-recover-clause-refused g c =
     let read = c.in-Ok-recover.recovered in
     let told = c.in-Ok-recover.ensures in
-    not_run g.D.Disk c.args.name.now c.args.disk c.in-Ok.disk c.in-Ok.ensures.attached read.journal.disk told.writes_nothing told.stays told.later
-    read.plan.items read.history.items c.run_recovered.result told.stands (told.same (λ none. none)) (told.read).settled
+    not_run g.D.Disk c.args.name.now c.args.disk c.in-Ok.disk c.in-Ok.ensures.attached read.journal.disk told.writes_nothing told.goes
+    read.plan.items read.history.items c.run_recovered.result (λ failed. failed) told.stands (told.same (λ none. none)) (told.read).settled
     c.run_recovered.ensures.handed_back c.run_recovered.ensures.why
 
 pub returns-in-Err-recover-clause-refused : goal.returns-in-Err-recover-clause-refused
 returns-in-Err-recover-clause-refused g c =
     let fault = c.in-Err-recover.field-0 in
     let told = c.in-Err-recover.ensures in
-    not_recovered g.D.Disk c.args.name.now c.args.disk c.in-Ok.disk c.in-Ok.ensures.attached fault.disk told.writes_nothing told.stays told.later
-    fault.why c.into.result c.into.ensures told.no_journal told.damaged told.cause told.same told.settled
+    not_recovered g.D.Disk c.args.name.now c.args.disk c.in-Ok.disk c.in-Ok.ensures.attached fault.disk told.writes_nothing told.goes
+    fault.why c.into.result c.into.ensures told.no_journal told.damaged told.goes.faults told.same told.settled
 
 pub returns-in-Ok-recover-clause-reopened : goal.returns-in-Ok-recover-clause-reopened
 returns-in-Ok-recover-clause-reopened g c =
     let read = c.in-Ok-recover.recovered in
     let told = c.in-Ok-recover.ensures in
     let run = c.run_recovered.ensures in
-    taken_up g.D.Disk c.args.name.now c.args.disk c.in-Ok.disk c.in-Ok.ensures.attached read.journal.disk told.writes_nothing told.stays told.later
-    g.S.Stepper c.args.limit read.plan.items read.history.items read.journal c.run_recovered.result refl told.read told.stands (told.same (λ none. none))
+    taken_up g.D.Disk c.args.name.now c.args.disk c.in-Ok.disk c.in-Ok.ensures.attached read.journal.disk told.writes_nothing told.goes
+    g.S.Stepper c.args.limit read.plan.items read.history.items read.journal c.run_recovered.result (λ failed. failed) refl told.read told.stands (told.same (λ none. none))
     run.compiled run.fit run.nodes run.settles run.opening

@@ -10,17 +10,17 @@ use Rattle.px_exec.proofs.Keeping.{keeps_at_once, opening_of}
 use Rattle.px_exec.proofs.exec.Exec.open.Goals as goal
 
 pub run_history-requires-clause-nothing : goal.run_history-requires-clause-nothing
-run_history-requires-clause-nothing g c κs within = c.requires.nothing
+run_history-requires-clause-nothing g c = c.requires.nothing
 
 pub run_history-requires-clause-started : goal.run_history-requires-clause-started
-run_history-requires-clause-started g c κs within = c.requires.started
+run_history-requires-clause-started g c = c.requires.started
 
 pub run_history-requires-clause-fit : goal.run_history-requires-clause-fit
-run_history-requires-clause-fit g c κs within =
+run_history-requires-clause-fit g c =
     subst (λ (h : List Entry). IsTrue (list_all is_fit_entry h)) (sym c.deref.ensures.value) (c.requires.ready.1).fit
 
 pub run_history-requires-clause-few : goal.run_history-requires-clause-few
-run_history-requires-clause-few g c κs within =
+run_history-requires-clause-few g c =
     subst (λ (h : List Entry). length h ≤ 100000) (sym c.deref.ensures.value) (c.requires.ready.1).few
 
 pub invariant_of-result : goal.invariant_of-result
