@@ -1,0 +1,4 @@
+pub mod Lists
+pub mod Dealing
+pub mod Shown
+pub mod Whole

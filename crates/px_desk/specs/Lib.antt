@@ -1,0 +1,4 @@
+pub mod Listing
+pub mod Seating
+pub mod Seats
+pub mod EventDesk
