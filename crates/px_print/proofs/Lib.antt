@@ -1,0 +1,11 @@
+pub mod Alike
+pub mod Bodies
+pub mod Exprs
+pub mod Items
+pub mod Laid
+pub mod Lists
+pub mod Plans
+pub mod Printing
+pub mod Strings
+pub mod Tokens
+pub mod Walking

@@ -1,0 +1,7 @@
+pub mod Texts
+pub mod Quoted
+pub mod ExprLayout
+pub mod BlockLayout
+pub mod Layout
+pub mod Unnumbered
+pub mod Reading
