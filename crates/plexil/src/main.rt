@@ -24,7 +24,7 @@ fn main(rt: HostRuntime) -> ExitCode {
     };
     let disk = StdDisk::new(alloc, rt);
     let mut host = StdHost::new(alloc, rt);
-    ExitCode::from(plexil(alloc, &words, &mut host, disk, &NoPace).status)
+    ExitCode::from(plexil(&rt, alloc, &words, &mut host, disk, &NoPace).status)
 }
 
 // The words behind the program's own name. A command line that isn't UTF-8 is faulty, and stands as one

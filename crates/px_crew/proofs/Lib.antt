@@ -1,7 +1,13 @@
-pub mod Endings
+pub mod Closing
+pub mod Composing
+pub mod Engaged
 pub mod Fits
+pub mod Further
+pub mod Gathering
+pub mod Listings
+pub mod Makers
 pub mod Passing
-pub mod Rounding
-pub mod Shown
+pub mod Seats
+pub mod Sending
 pub mod Standing
-pub mod Turns
+pub mod Working

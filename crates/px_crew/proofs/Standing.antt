@@ -2,14 +2,16 @@
 use Rattle.std.proofs.Common.{◌≡◌, ◌⊎◌, ℕ, ◌+◌, ◌<◌, ◌≤◌, List, [], ◌∷◌, ◌++◌, length, get_or, drop, Option, Some, None, refl, sym, ap, ◌∙◌, inl, inr}
 use Rattle.std.specs.List.{slice_get}
 use Rattle.std.specs.Option.{option_and_then, option_to_list}
-use Rattle.std.proofs.lemmas.List.{append-nil, append_assoc, drop_more, drop_all}
+use Rattle.std.proofs.lemmas.List.{append-nil, append_assoc, drop_more, drop_all, get_or-map}
 use Rattle.std.proofs.lemmas.Option.{slice_get_past, slice_get-get_or}
 use Rattle.px_event.specs.declared.cond.Cond.{Cond}
 use Rattle.px_script.specs.declared.line.Line.{Line}
 use Rattle.px_script.specs.declared.line.What.{What}
 use Rattle.px_script.specs.declared.stall.Stall.{Stall}
 use Rattle.px_script.specs.declared.todo.Todo.{Todo}
+use Rattle.px_script.specs.declared.worker.Worker.{Worker}
 use Rattle.px_crew.specs.Standstill.{wait_of, wait_at, waits_of}
+use Rattle.px_crew.specs.Work.{places_of}
 use Rattle.px_script.proofs.Walks.{line_at}
 
 -- ---- the wait at a place
@@ -39,6 +41,13 @@ waits_more waits threads places i todo place in_threads in_places is at =
     ∙ ap (λ (rest : List Stall). waits ++ rest)
     (sym (ap (λ (threads : List Todo). waits_of threads (drop i places)) (drop_more threads i todo in_threads ∙ ap (λ (t : Todo). t ∷ drop (i + 1) threads) (sym is))
     ∙ ap (λ (places : List ℕ). waits_of (todo ∷ drop (i + 1) threads) places) (drop_more places i place in_places ∙ ap (λ (p : ℕ). p ∷ drop (i + 1) places) (sym at))))
+
+-- the place of a worker
+pub place_at : {S : Type 0} (workers : List (Worker S)) (i : ℕ) (worker : Worker S) → i < length workers → worker ≡ get_or workers i worker
+    → worker.at ≡ get_or (places_of workers) i worker.at
+place_at {S} workers i worker within is =
+    let at : Worker S → ℕ = λ w. w.at in
+    ap at is ∙ sym (get_or-map at workers i worker worker.at within)
 
 -- where either list is at its end, none is left
 pub waits_end : (threads : List Todo) (places : List ℕ) (i : ℕ) → (length threads ≤ i) ⊎ (length places ≤ i) → waits_of (drop i threads) (drop i places) ≡ []

@@ -1,6 +1,6 @@
 pub mod Board
 pub mod Crew
-pub mod Executive
-pub mod Rounds
+pub mod Seat
 pub mod Standstill
 pub mod Walk
+pub mod Work

@@ -1,7 +1,10 @@
 -- The waits at which threads stand, and what they come to then.
-use Rattle.std.specs.Prelude.{◌≡◌, ◌≢◌, ℕ, List, [], ◌∷◌, ◌++◌, Option, Some, None}
+use Rattle.std.specs.Prelude.{◌≡◌, ◌≢◌, ◌⊎◌, ℕ, List, [], ◌∷◌, ◌++◌, length, Option, Some, None}
 use Rattle.std.specs.List.{slice_get}
 use Rattle.std.specs.Option.{option_and_then, option_to_list}
+use Rattle.px_core.specs.Plan.{Site}
+use Rattle.px_event.specs.declared.cond.Cond.{Cond}
+use Rattle.px_event.specs.declared.entry.Entry.{Entry}
 use Rattle.px_script.specs.declared.crew_end.CrewEnd.{CrewEnd}
 use Rattle.px_script.specs.declared.crew_end.CrewEnd.TheVariants as ends
 use Rattle.px_script.specs.declared.line.Line.{Line}
@@ -9,6 +12,15 @@ use Rattle.px_script.specs.declared.line.What.{What}
 use Rattle.px_script.specs.declared.line.What.TheVariants as whats
 use Rattle.px_script.specs.declared.stall.Stall.{Stall}
 use Rattle.px_script.specs.declared.todo.Todo.{Todo}
+use Rattle.px_sem.specs.Asking.{IsUnmetBehind}
+use Rattle.px_sem.specs.Log.{Log, accepted}
+
+-- a thread goes no further from a place: no line is left, or the next one waits for what isn't met
+abbrev pub IsHeld : List Site → List Entry → Log → Todo → ℕ → Type 0
+IsHeld plan first log todo place =
+    (place ≡ length todo.lines)
+    ⊎ ((number : ℕ) × (cond : Cond) × (slice_get todo.lines place ≡ Some (record { number = number; what = whats.Wait cond }))
+    × IsUnmetBehind plan (first ++ accepted log) cond)
 
 -- a thread's wait, if the line is one
 abbrev pub wait_of : ℕ → Line → Option Stall

@@ -2,30 +2,31 @@
 ghost use Rattle.std.specs.Prelude.{◌≡◌, ◌++◌, IfOk, OnOk};
 ghost use Rattle.std.specs.Option.{option_to_list};
 ghost use Rattle.px_crew.specs.Standstill.{wait_at, waits_of, IsStandstill};
+ghost use Rattle.px_crew.specs.Work.{places_of};
 
 use px_event::Cond;
-use px_script::{CrewEnd, Script, Stall, Todo, What};
+use px_script::{CrewEnd, Stall, Todo, What, Worker};
 use px_value::NoMemory;
 use std::alloc::Global;
 
-/// What threads come to that stand at these places.
-pub(crate) fn standstill(alloc: Global, script: &Script, places: &[usize]) -> CrewEnd
-    ensures { IsStandstill script.now.threads places.now result }
+/// What threads come to whose workers go no further.
+pub(crate) fn standstill<S>(alloc: Global, threads: &[Todo], workers: &[Worker<S>]) -> CrewEnd
+    ensures { IsStandstill threads.now (places_of workers.now) result }
 {
-    match waits(alloc, script.threads.as_slice(), places) {
+    match waits(alloc, threads, workers) {
         Ok(waits) if waits.is_empty() => CrewEnd::Done,
         Ok(waits) => CrewEnd::Stalled { waits },
         Err(_) => CrewEnd::NoMemory,
     }
 }
 
-/// The waits at these places of the threads.
-fn waits(alloc: Global, threads: &[Todo], places: &[usize]) -> Result<Vec<Stall>, NoMemory>
-    ensures { IfOk result (λ waits. waits.items ≡ waits_of threads.now places.now) }
+/// The waits at which the workers stand.
+fn waits<S>(alloc: Global, threads: &[Todo], workers: &[Worker<S>]) -> Result<Vec<Stall>, NoMemory>
+    ensures { IfOk result (λ waits. waits.items ≡ waits_of threads.now (places_of workers.now)) }
 {
     let mut waits = Vec::new(alloc);
-    for (todo, at) in threads.iter().zip(places) {
-        push_wait(alloc, &mut waits, todo, *at)?;
+    for (todo, worker) in threads.iter().zip(workers) {
+        push_wait(alloc, &mut waits, todo, worker.at as usize)?;
     }
     Ok(waits)
 }

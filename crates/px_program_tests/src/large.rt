@@ -3,7 +3,9 @@
 use crate::faults::Faults;
 use crate::running::{Answer, Call, answer_of};
 use std::alloc::Global;
+use std::sync::Wait;
 use std::test::Fail;
+use std::thread::Threads;
 
 // What a dry run prints of a plan that waits, where nothing is posted.
 const WAITING: &str = "event 0: start
@@ -16,7 +18,8 @@ plan running
 const GO: &str = "A: { Start Lookup(go); }";
 
 // What a call answers that needs no disk.
-fn answer(
+fn answer<R: Threads + Wait + Sync>(
+    rt: &R,
     alloc: Global,
     words: &str,
     plan: &[u8],
@@ -30,7 +33,7 @@ fn answer(
         journal: &[],
         faults,
     };
-    answer_of(alloc, call)
+    answer_of(rt, alloc, call)
 }
 
 // So many blanks, and then the text.
@@ -52,7 +55,7 @@ fn a_plan_has_at_most_1048576_bytes(rt: HostRuntime) -> Result<(), Fail> {
     ];
     for (blanks, plan, wanted, text) in cases {
         let plan = padded(alloc, blanks, plan)?;
-        let answer = answer(alloc, "check P", &plan, b"", Faults::NONE)?;
+        let answer = answer(&rt, alloc, "check P", &plan, b"", Faults::NONE)?;
         assert_eq!(rt; answer.text.as_str(), text, "{blanks}");
         assert_eq!(rt; answer.status, wanted, "{blanks}");
     }
@@ -65,7 +68,14 @@ fn a_script_has_at_most_16777216_bytes(rt: HostRuntime) -> Result<(), Fail> {
     let longer = "script refused: longer than 16777216 bytes\n";
     for (length, wanted, text) in [(16_777_216, 0, WAITING), (16_777_217, 4, longer)] {
         let comment = vec![in alloc; b'#'; length]?;
-        let answer = answer(alloc, "dry-run P S", GO.as_bytes(), &comment, Faults::NONE)?;
+        let answer = answer(
+            &rt,
+            alloc,
+            "dry-run P S",
+            GO.as_bytes(),
+            &comment,
+            Faults::NONE,
+        )?;
         assert_eq!(rt; answer.text.as_str(), text, "{length}");
         assert_eq!(rt; answer.status, wanted, "{length}");
     }
@@ -93,7 +103,14 @@ fn bytes_that_are_no_text_stand_in_comments_alone(rt: HostRuntime) -> Result<(),
         (b"\n\xff# a", 4, refusal),
     ];
     for (script, wanted, text) in cases {
-        let answer = answer(alloc, "dry-run P S", GO.as_bytes(), script, Faults::NONE)?;
+        let answer = answer(
+            &rt,
+            alloc,
+            "dry-run P S",
+            GO.as_bytes(),
+            script,
+            Faults::NONE,
+        )?;
         assert_eq!(rt; answer.text.as_str(), text);
         assert_eq!(rt; answer.status, wanted);
     }
@@ -127,6 +144,7 @@ fn a_script_of_100000_lines_is_posted_whole(rt: HostRuntime) -> Result<(), Fail>
         let mut lines = many_lines(alloc, 100_000)?;
         lines.push_str(rest)?;
         let answer = answer(
+            &rt,
             alloc,
             "dry-run P S",
             GO.as_bytes(),
@@ -159,7 +177,14 @@ fn a_plan_of_4096_blocks_and_64_levels_runs(rt: HostRuntime) -> Result<(), Fail>
     let refusal = "plan refused: too many nodes 4097\n";
     for (blocks, wanted, end) in [(4033, 0, finished), (4034, 3, refusal)] {
         let plan = deep_plan(alloc, blocks)?;
-        let answer = answer(alloc, "trace-start P", plan.as_bytes(), b"", Faults::NONE)?;
+        let answer = answer(
+            &rt,
+            alloc,
+            "trace-start P",
+            plan.as_bytes(),
+            b"",
+            Faults::NONE,
+        )?;
         assert_eq!(rt; answer.status, wanted, "{blocks}");
         assert!(rt; answer.text.as_str().ends_with(end), "{blocks}");
     }
@@ -175,7 +200,7 @@ fn a_long_text_is_emitted_in_large_pieces(rt: HostRuntime) -> Result<(), Fail> {
         emit: Some(2),
         ..Faults::NONE
     };
-    let answer = answer(alloc, "trace-start P", plan.as_bytes(), b"", faults)?;
+    let answer = answer(&rt, alloc, "trace-start P", plan.as_bytes(), b"", faults)?;
     assert_eq!(rt; answer.status, 8);
     assert!(rt; (65_536..131_072).contains(&answer.text.len()));
     Ok(())

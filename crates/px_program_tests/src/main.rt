@@ -31,6 +31,8 @@
 //! as in a power cut, and `leaves` then tells the IMAGE of a crash: `stable` is what was synced last, and the number of a
 //! byte what a read gives with this byte in place of each that was written since; without IMAGE it is what a read gives.
 //!
+//! The threads of a script run side by side: a row with several has the waits by which each order comes to the same.
+//!
 //! A row that doesn't hold is printed with what was answered in place of what had to be, and at the end the number of rows
 //! that hold.
 #![tactic(auto)]
@@ -43,12 +45,16 @@ mod row;
 #[cfg(test)]
 mod runaways;
 mod running;
+#[cfg(test)]
+mod side_by_side;
 
 use bytes::{bytes_of, digits_of};
 use row::Row;
 use running::{Answer, Call, answer_of};
 use std::alloc::Global;
 use std::io;
+use std::sync::Wait;
+use std::thread::Threads;
 
 fn main(rt: HostRuntime) -> anyhow::Result<()> {
     let alloc = rt.alloc();
@@ -72,12 +78,16 @@ fn main(rt: HostRuntime) -> anyhow::Result<()> {
 }
 
 // Whether the row that is spelled so holds; else it is told.
-fn holds(rt: &impl Print, alloc: Global, spelled: &str) -> anyhow::Result<bool> {
+fn holds<R: Print + Threads + Wait + Sync>(
+    rt: &R,
+    alloc: Global,
+    spelled: &str,
+) -> anyhow::Result<bool> {
     let Some(row) = Row::spelled_by(spelled) else {
         println!(rt; "no row: {spelled}")?;
         return Ok(false);
     };
-    let Answer { status, text, left } = answer_to(alloc, row)?;
+    let Answer { status, text, left } = answer_to(rt, alloc, row)?;
     let answered = format!(in alloc; "{status}\n{text}")?;
     let wanted = format!(in alloc; "{}\n", row.answer)?;
     if answered.as_str() == wanted.as_str() && left == bytes_of(alloc, row.leaves)? {
@@ -92,7 +102,11 @@ fn holds(rt: &impl Print, alloc: Global, spelled: &str) -> anyhow::Result<bool> 
 }
 
 // What the row's call answers.
-fn answer_to(alloc: Global, row: Row<'_>) -> anyhow::Result<Answer> {
+fn answer_to<R: Threads + Wait + Sync>(
+    rt: &R,
+    alloc: Global,
+    row: Row<'_>,
+) -> anyhow::Result<Answer> {
     let journal = bytes_of(alloc, row.journal)?;
     let call = Call {
         words: row.words,
@@ -101,5 +115,5 @@ fn answer_to(alloc: Global, row: Row<'_>) -> anyhow::Result<Answer> {
         journal: &journal,
         faults: row.faults,
     };
-    answer_of(alloc, call)
+    answer_of(rt, alloc, call)
 }

@@ -5,7 +5,9 @@ use crate::holds;
 use crate::running::{Answer, Call, answer_of};
 use std::alloc::Global;
 use std::process::Abort;
+use std::sync::Wait;
 use std::test::Fail;
+use std::thread::Threads;
 
 // Reports that are refused, and what is printed.
 const REPORTS: [(&str, &str, &str); 2] = [
@@ -207,7 +209,13 @@ journal refused: runaway at event 1",
 ];
 
 // What a call answers that needs no disk.
-fn answer(alloc: Global, words: &str, plan: &str, script: &str) -> anyhow::Result<Answer> {
+fn answer<R: Threads + Wait + Sync>(
+    rt: &R,
+    alloc: Global,
+    words: &str,
+    plan: &str,
+    script: &str,
+) -> anyhow::Result<Answer> {
     let call = Call {
         words,
         plan: plan.as_bytes(),
@@ -215,12 +223,16 @@ fn answer(alloc: Global, words: &str, plan: &str, script: &str) -> anyhow::Resul
         journal: &[],
         faults: Faults::NONE,
     };
-    answer_of(alloc, call)
+    answer_of(rt, alloc, call)
 }
 
-fn all_print(rt: &impl Abort, alloc: Global, rows: &[(&str, &str, &str)]) -> Result<(), Fail> {
+fn all_print<R: Abort + Threads + Wait + Sync>(
+    rt: &R,
+    alloc: Global,
+    rows: &[(&str, &str, &str)],
+) -> Result<(), Fail> {
     for (plan, script, printed) in rows {
-        let Answer { status, text, .. } = answer(alloc, "dry-run P S", plan, script)?;
+        let Answer { status, text, .. } = answer(rt, alloc, "dry-run P S", plan, script)?;
         assert_eq!(rt; text.as_str(), *printed, "{plan}");
         assert_eq!(rt; status, 0, "{plan}");
     }
@@ -240,7 +252,7 @@ fn a_refused_event_leaves_variables_and_commands(rt: HostRuntime) -> Result<(), 
 #[test]
 fn event_0_may_take_100000_micro_steps(rt: HostRuntime) -> Result<(), Fail> {
     let plan = "R: { Integer n = 0; Repeat n < 33333; n = n + 1; }";
-    let Answer { status, text, .. } = answer(rt.alloc(), "trace-start P", plan, "")?;
+    let Answer { status, text, .. } = answer(&rt, rt.alloc(), "trace-start P", plan, "")?;
     assert_eq!(rt; status, 0);
     assert!(rt; text.as_str().ends_with(LAST_STEPS));
     Ok(())
@@ -253,14 +265,18 @@ fn event_0_is_refused_where_it_takes_more(rt: HostRuntime) -> Result<(), Fail> {
         "A: { Repeat true; }",
     ];
     for plan in plans {
-        let Answer { status, text, .. } = answer(rt.alloc(), "trace-start P", plan, "")?;
+        let Answer { status, text, .. } = answer(&rt, rt.alloc(), "trace-start P", plan, "")?;
         assert_eq!(rt; status, 6, "{plan}");
         assert_eq!(rt; text.as_str(), "runaway at start\n", "{plan}");
     }
     Ok(())
 }
 
-fn all_hold(rt: &(impl Abort + Print), alloc: Global, rows: &[&str]) -> Result<(), Fail> {
+fn all_hold<R: Abort + Print + Threads + Wait + Sync>(
+    rt: &R,
+    alloc: Global,
+    rows: &[&str],
+) -> Result<(), Fail> {
     for row in rows {
         assert!(rt; holds(rt, alloc, row)?, "{row}");
     }

@@ -2,8 +2,10 @@
 use crate::faults::Faults;
 use px_ports::{MemDisk, MemFile, MemHost};
 use px_run::{Done, plexil};
-use px_script::NoPace;
+use px_script::{NoPace, Pace};
 use std::alloc::Global;
+use std::sync::Wait;
+use std::thread::Threads;
 
 /// The words of a call, and what it finds: the content of the files P and S, the disk, and what goes wrong.
 #[derive(Clone, Copy)]
@@ -58,7 +60,21 @@ fn host_of(alloc: Global, call: Call<'_>) -> anyhow::Result<MemHost> {
 }
 
 /// What the call answers.
-pub(crate) fn answer_of(alloc: Global, call: Call<'_>) -> anyhow::Result<Answer> {
+pub(crate) fn answer_of<R: Threads + Wait + Sync>(
+    rt: &R,
+    alloc: Global,
+    call: Call<'_>,
+) -> anyhow::Result<Answer> {
+    paced_answer_of(rt, alloc, call, &NoPace)
+}
+
+/// What the call answers whose threads have this pace.
+pub(crate) fn paced_answer_of<P: Pace, R: Threads + Wait + Sync>(
+    rt: &R,
+    alloc: Global,
+    call: Call<'_>,
+    pace: &P,
+) -> anyhow::Result<Answer> {
     let words = words_of(alloc, call.words)?;
     let mut host = host_of(alloc, call)?;
     let failing = listed(alloc, call.faults.device)?;
@@ -69,7 +85,7 @@ pub(crate) fn answer_of(alloc: Global, call: Call<'_>) -> anyhow::Result<Answer>
         call.faults.stop,
     )?;
 
-    let Done { status, disk } = plexil(alloc, &words, &mut host, disk, &NoPace);
+    let Done { status, disk } = plexil(rt, alloc, &words, &mut host, disk, pace);
     Ok(Answer {
         status,
         text: String::from_utf8(host.emitted().to_vec(alloc)?)?,

@@ -13,6 +13,8 @@ use px_script::{CrewEnd, Pace, Script};
 use px_sem::Stepper;
 use px_session::{Posted, post_rest};
 use std::alloc::Global;
+use std::sync::Wait;
+use std::thread::Threads;
 
 /// What a command has come to, and the disk that it was handed.
 #[derive(Drop)]
@@ -23,9 +25,10 @@ pub struct Carried<D> {
     pub disk: D,
 }
 
-/// Lets the script's threads post to an executive that no post has reached, and prints the text of its log, and the waits
-/// at which threads stand. Where an append fails, nothing is printed but the refusal.
-pub fn finish<H: Host, D: Disk, S: Stepper, P: Pace>(
+/// Lets the script's threads post to an executive that no post has reached, each from a thread of its own, and prints the
+/// text of its log, and the waits at which threads stand. Where an append fails, nothing is printed but the refusal.
+pub fn finish<H: Host, D: Disk + Send, S: Stepper + Send, P: Pace, R: Threads + Wait + Sync>(
+    rt: &R,
     alloc: Global,
     exec: Exec<S, D>,
     script: &Script,
@@ -45,7 +48,7 @@ pub fn finish<H: Host, D: Disk, S: Stepper, P: Pace>(
         history,
         log,
         end,
-    } = post_rest(alloc, exec, script, pace);
+    } = post_rest(rt, alloc, exec, script, pace);
     let mut stepper = stepper;
     let result = match end {
         CrewEnd::Done => match print_log(alloc, &mut stepper, &history, &log, host) {

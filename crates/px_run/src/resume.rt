@@ -18,10 +18,13 @@ use px_script::{Pace, Script, rest};
 use px_sem::Stepper;
 use px_session::{ReopenFault, Reopened, reopen};
 use std::alloc::Global;
+use std::sync::Wait;
+use std::thread::Threads;
 
 /// Goes on with the journal of this name on the disk: posts what the script in the file has left behind the journal's
 /// history, which may grow to `limit` events, from 1 to 100,000, and prints the text of the whole.
-pub fn resume<H: Host, D: Disk, S: Stepper, P: Pace>(
+pub fn resume<H: Host, D: Disk + Send, S: Stepper + Send, P: Pace, R: Threads + Wait + Sync>(
+    rt: &R,
     alloc: Global,
     script: &str,
     journal: &str,
@@ -46,7 +49,7 @@ pub fn resume<H: Host, D: Disk, S: Stepper, P: Pace>(
         }
     };
     match script_left(alloc, script, &plan, exec.history(), host) {
-        Ok(left) => finish(alloc, exec, &left, host, pace),
+        Ok(left) => finish(rt, alloc, exec, &left, host, pace),
         Err(stop) => Carried {
             result: Err(stop),
             disk: exec.into_parts().journal.into_disk(),

@@ -16,6 +16,8 @@ use px_script::{Pace, Script};
 use px_sem::{Stepper, start};
 use px_session::create;
 use std::alloc::Global;
+use std::sync::Wait;
+use std::thread::Threads;
 
 /// What is to run: a plan's text, the script, and a stepper that has settled the start of the plan.
 #[derive(Drop)]
@@ -27,7 +29,8 @@ struct Prepared<S: Stepper> {
 
 /// Runs the plan in one file by the script in another, with a journal of this name on the disk, whose history may grow to
 /// `limit` events, from 1 to 100,000. The disk isn't touched before plan and script are read and the plan has started.
-pub fn run<H: Host, D: Disk, S: Stepper, P: Pace>(
+pub fn run<H: Host, D: Disk + Send, S: Stepper + Send, P: Pace, R: Threads + Wait + Sync>(
+    rt: &R,
     alloc: Global,
     plan: &str,
     script: &str,
@@ -44,7 +47,7 @@ pub fn run<H: Host, D: Disk, S: Stepper, P: Pace>(
     ensures keeps { KeepsFiles (view H.Host host.old) (view H.Host host.new) }
 {
     match prepare::<H, S>(alloc, plan, script, host) {
-        Ok(prepared) => run_prepared(alloc, prepared, journal, limit, host, disk, pace),
+        Ok(prepared) => run_prepared(rt, alloc, prepared, journal, limit, host, disk, pace),
         Err(stop) => Carried {
             result: Err(stop),
             disk,
@@ -74,7 +77,8 @@ fn prepare<H: Host, S: Stepper>(
 }
 
 /// Makes the journal, lets the script's threads post, and prints the text of the log.
-fn run_prepared<H: Host, D: Disk, S: Stepper, P: Pace>(
+fn run_prepared<H: Host, D: Disk + Send, S: Stepper + Send, P: Pace, R: Threads + Wait + Sync>(
+    rt: &R,
     alloc: Global,
     prepared: Prepared<S>,
     journal: &str,
@@ -101,7 +105,7 @@ fn run_prepared<H: Host, D: Disk, S: Stepper, P: Pace>(
         stepper,
     } = prepared;
     match create(alloc, disk, journal, &text, stepper, limit) {
-        Ok(exec) => finish(alloc, exec, &script, host, pace),
+        Ok(exec) => finish(rt, alloc, exec, &script, host, pace),
         Err(CreateFault { disk, why }) => Carried {
             result: Err(why.into()),
             disk,

@@ -23,6 +23,8 @@ use px_script::Pace;
 use px_sem::Stepper;
 use px_words::Command;
 use std::alloc::Global;
+use std::sync::Wait;
+use std::thread::Threads;
 
 /// How a call has ended, and the disk that it was handed.
 #[derive(Drop)]
@@ -35,7 +37,8 @@ pub struct Done<D> {
 
 /// The program: does what the words ask for, which are those after the program's own name, and
 /// answers the status that the process ends with. All text goes to the host's sink. The disk has
-/// no name yet, and gets that of the journal where the command has one.
+/// no name yet, and gets that of the journal where the command has one. `run` and `resume` let each
+/// thread of a script post from a thread of its own.
 ///
 /// | Status | Comes |
 /// |---|---|
@@ -50,7 +53,8 @@ pub struct Done<D> {
 /// | 9 | a call of the disk failed |
 /// | 10 | memory ran out |
 /// | 11 | lines of the script are left, and each thread that has some stands at a wait that isn't met |
-pub fn plexil<H: Host, D: Disk, P: Pace>(
+pub fn plexil<H: Host, D: Disk + Send, P: Pace, R: Threads + Wait + Sync>(
+    rt: &R,
     alloc: Global,
     words: &[String],
     host: &mut H,
@@ -74,12 +78,13 @@ pub fn plexil<H: Host, D: Disk, P: Pace>(
     ensures refused { IsRefused D.Disk (map string_bytes words.now)
         (view H.Host host.old) (view H.Host host.new) disk result.disk result.status }
 {
-    plexil_with::<H, D, Naive, P>(alloc, words, host, disk, pace)
+    plexil_with::<H, D, Naive, P, R>(rt, alloc, words, host, disk, pace)
 }
 
 // The same over any stepper. What each status tells follows from the headline alone, so it is shown here, apart from the
 // body.
-fn plexil_with<H: Host, D: Disk, S: Stepper + Send, P: Pace>(
+fn plexil_with<H: Host, D: Disk + Send, S: Stepper + Send, P: Pace, R: Threads + Wait + Sync>(
+    rt: &R,
     alloc: Global,
     words: &[String],
     host: &mut H,
@@ -99,10 +104,11 @@ fn plexil_with<H: Host, D: Disk, S: Stepper + Send, P: Pace>(
     ensures refused { IsRefused D.Disk (map string_bytes words.now)
         (view H.Host host.old) (view H.Host host.new) disk result.disk result.status }
 {
-    ended::<H, D, S, P>(alloc, words, host, disk, pace)
+    ended::<H, D, S, P, R>(rt, alloc, words, host, disk, pace)
 }
 
-fn ended<H: Host, D: Disk, S: Stepper, P: Pace>(
+fn ended<H: Host, D: Disk + Send, S: Stepper + Send, P: Pace, R: Threads + Wait + Sync>(
+    rt: &R,
     alloc: Global,
     words: &[String],
     host: &mut H,
@@ -116,7 +122,7 @@ fn ended<H: Host, D: Disk, S: Stepper, P: Pace>(
     ensures bound { IsBoundFor D.Disk (command (map string_bytes words.now)) result.disk }
     ensures handed_back { IsHandedBack D.Disk disk result.disk result.status }
 {
-    let Carried { result, disk } = carry_out::<H, D, S, P>(alloc, words, host, disk, pace);
+    let Carried { result, disk } = carry_out::<H, D, S, P, R>(rt, alloc, words, host, disk, pace);
     let status = match result {
         Ok(end) => end.status(),
         Err(Stop::Refused(refusal)) => refuse(alloc, refusal, host),
@@ -129,7 +135,8 @@ fn ended<H: Host, D: Disk, S: Stepper, P: Pace>(
     }
 }
 
-fn carry_out<H: Host, D: Disk, S: Stepper, P: Pace>(
+fn carry_out<H: Host, D: Disk + Send, S: Stepper + Send, P: Pace, R: Threads + Wait + Sync>(
+    rt: &R,
     alloc: Global,
     words: &[String],
     host: &mut H,
@@ -154,7 +161,7 @@ fn carry_out<H: Host, D: Disk, S: Stepper, P: Pace>(
                 limit,
             },
         ) => {
-            return run::<H, D, S, P>(alloc, plan, script, journal, limit, host, disk, pace);
+            return run::<H, D, S, P, R>(rt, alloc, plan, script, journal, limit, host, disk, pace);
         }
         Some(
             Command::Resume {
@@ -163,7 +170,7 @@ fn carry_out<H: Host, D: Disk, S: Stepper, P: Pace>(
                 limit,
             },
         ) => {
-            return resume::<H, D, S, P>(alloc, script, journal, limit, host, disk, pace);
+            return resume::<H, D, S, P, R>(rt, alloc, script, journal, limit, host, disk, pace);
         }
         Some(Command::Trace { journal }) => return trace::<H, D, S>(alloc, journal, host, disk),
     };

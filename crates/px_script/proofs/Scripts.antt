@@ -1,13 +1,14 @@
 -- What a fit script has at each of its threads.
-use Rattle.std.proofs.Common.{◌≡◌, ◌≢◌, ℕ, zero, suc, ◌<◌, true, List, [], ◌∷◌, length, map, get_or, sym, ap, ◌∙◌, subst, arith, inl, inr}
-use Rattle.std.specs.Prelude.{nat_lt}
-use Rattle.std.specs.List.{list_all}
-use Rattle.std.proofs.lemmas.Bool.{and_parts, ltb-true, cases_lt}
+use Rattle.std.proofs.Common.{◌≡◌, ◌≢◌, ℕ, zero, suc, ◌+◌, ◌^◌, ◌<◌, ◌≤◌, true, List, [], ◌∷◌, length, map, get_or, sym, ap, ◌∙◌, subst, arith, inl, inr}
+use Rattle.std.specs.Prelude.{nat_lt, nat_le, ◌&&◌}
+use Rattle.std.specs.List.{list_all, sum_by}
+use Rattle.std.proofs.lemmas.Bool.{and_parts, leb-true, ltb-true, cases_lt}
 use Rattle.std.proofs.lemmas.List.{length-map, get_or-map}
 use Rattle.std.proofs.lemmas.List.Folds.{list_all-append}
+use Rattle.std.proofs.lemmas.List.Sums.{sum_by-le}
 use Rattle.std.proofs.lemmas.List.Sorted.{IsPermutation-refl}
 use Rattle.px_event.specs.Fit.{is_fit_entry}
-use Rattle.px_script.specs.Fit.{rise_above, IsFitScript}
+use Rattle.px_script.specs.Fit.{rise_above, is_fit_line, are_fit_lines, IsFitScript}
 use Rattle.px_script.specs.Order.{thread_entries, all_entries}
 use Rattle.px_script.specs.declared.script.Script.{Script}
 use Rattle.px_script.specs.declared.todo.Todo.{Todo}
@@ -51,7 +52,7 @@ ordered low (number ∷ numbers) (suc i) (suc j) rising order within =
 thread_of : Todo → ℕ
 thread_of todo = todo.thread
 
-threads_differ : (script : Script) (i j : ℕ) (d e : Todo) → IsFitScript script → i < length script.threads → j < length script.threads → j ≢ i
+pub threads_differ : (script : Script) (i j : ℕ) (d e : Todo) → IsFitScript script → i < length script.threads → j < length script.threads → j ≢ i
     → (get_or script.threads i d).thread ≢ (get_or script.threads j e).thread
 unfolding thread_of
 threads_differ script i j d e fit in_i in_j differ same =
@@ -63,6 +64,44 @@ threads_differ script i j d e fit in_i in_j differ same =
       | inl less ↦ omega (arith, at_i, at_j, same, ordered 0 numbers i j fit.rising less (omega arith))
       | inr more ↦ omega (arith, at_i, at_j, same, ordered 0 numbers j i fit.rising (omega arith) (omega arith))
     ]
+
+-- ---- there are at most eight, with at most 100,000 lines each
+
+rise_within : (low : ℕ) (threads : List Todo) → rise_above low (map (λ todo. todo.thread) threads) ≡ true → list_all (λ todo. nat_le todo.thread 8) threads ≡ true
+    → low ≤ 8 → low + length threads ≤ 8
+rise_within low [] rising within least = omega arith
+rise_within low (todo ∷ threads) rising within least =
+    let rises = and_parts (nat_lt low todo.thread) (rise_above todo.thread (map (λ todo. todo.thread) threads)) rising in
+    let below = and_parts (nat_le todo.thread 8) (list_all (λ todo. nat_le todo.thread 8) threads) within in
+    let most : todo.thread ≤ 8 = leb-true todo.thread 8 below.0 in
+    omega (arith, ltb-true low todo.thread rises.0, rise_within todo.thread threads rises.1 below.1 most)
+
+pub few_threads : (script : Script) → IsFitScript script → length script.threads ≤ 8
+few_threads script fit = omega (arith, rise_within 0 script.threads fit.rising fit.within (omega arith))
+
+lines_within : (threads : List Todo) (i : ℕ) (d : Todo) → i < length threads → list_all (λ todo. are_fit_lines todo.lines) threads ≡ true
+    → length (get_or threads i d).lines ≤ 100000
+lines_within [] i d within fit = absurd (omega arith)
+lines_within (todo ∷ threads) zero d within fit =
+    let one = and_parts (are_fit_lines todo.lines) (list_all (λ todo. are_fit_lines todo.lines) threads) fit in
+    let some = nat_le 1 (length todo.lines) in
+    let few = nat_le (length todo.lines) 100000 in
+    let rise = rise_above 0 (map (λ line. line.number) todo.lines) in
+    let counts = and_parts (some && few && rise) (list_all is_fit_line todo.lines) one.0 in
+    leb-true (length todo.lines) 100000 (and_parts some few (and_parts (some && few) rise counts.0).0).1
+lines_within (todo ∷ threads) (suc i) d within fit =
+    lines_within threads i d (omega arith) (and_parts (are_fit_lines todo.lines) (list_all (λ todo. are_fit_lines todo.lines) threads) fit).1
+
+pub few_lines : (script : Script) (i : ℕ) (d : Todo) → IsFitScript script → i < length script.threads → length (get_or script.threads i d).lines ≤ 100000
+few_lines script i d fit within = lines_within script.threads i d within fit.lines
+
+pub counts_fit : (script : Script) → IsFitScript script → sum_by (λ (todo : Todo). length todo.lines) script.threads < 2 ^ 64
+counts_fit script fit =
+    omega (
+      arith,
+      few_threads script fit,
+      sum_by-le (λ (todo : Todo). length todo.lines) 100000 script.threads (λ i d within. few_lines script i d fit within),
+    )
 
 -- ---- one of the threads
 

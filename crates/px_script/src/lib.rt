@@ -4,7 +4,7 @@
 //! script from bytes, with `threads` for the lines of each thread so far, and `parsed_line` one line: `set_line`,
 //! `node_line` with `kinds`, `wait_line` and `thread_line` have the kinds of lines, `place` finds the VALUEs, `value` reads them, and
 //! `text` cuts lines and words. `order` turns a script into its posts, in file order, `left` is what a history leaves of
-//! a script, and `stall` says what stops a thread.
+//! a script, `worker` is who works a thread's lines off, and `stall` says what stops a thread.
 //!
 //! `specs/Script.antt` says which script the bytes spell over a plan, `specs/ParsedLine.antt` what a line says,
 //! `specs/Order.antt` what file order is, `specs/Rest.antt` what is left, and `specs/Follows.antt` how a log goes through
@@ -34,6 +34,7 @@ mod todo;
 mod todos;
 mod value;
 mod wait_line;
+mod worker;
 
 pub use crew_end::CrewEnd;
 pub use fault::ScriptFault;
@@ -46,3 +47,4 @@ pub use script::Script;
 pub use stall::Stall;
 pub use todo::Todo;
 pub use todos::Todos;
+pub use worker::{WorkEnd, Worker};
