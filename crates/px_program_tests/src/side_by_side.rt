@@ -1,10 +1,14 @@
-// Two threads of a script that run at once: each is held before its first post until the other is before its own.
+// Two threads of a script that run at once: each is held before its first post until the other is before its own. And the
+// orders in which two threads' posts may come, each of them seen.
 use crate::faults::Faults;
 use crate::running::{Answer, Call, paced_answer_of};
 use px_script::Pace;
+use std::alloc::Global;
+use std::sync::Wait;
 use std::sync::atomic::AtomicU64;
 use std::sync::atomic::Ordering::SeqCst;
 use std::test::Fail;
+use std::thread::Threads;
 
 // How often a thread looks whether the other has come.
 const LOOKS: u64 = 1_000_000_000;
@@ -95,5 +99,156 @@ fn two_threads_run_at_once(rt: HostRuntime) -> Result<(), Fail> {
         assert_eq!(rt; post.load(SeqCst), 1);
     }
     assert_eq!(rt; meeting.others.load(SeqCst), 0);
+    Ok(())
+}
+
+// The orders of the lines 2 and 3 of thread 1 and the line 5 of thread 2.
+#[derive(Clone, Copy)]
+enum Order {
+    Last,
+    Between,
+    First,
+}
+
+const ORDERS: [Order; 3] = [Order::Last, Order::Between, Order::First];
+
+// What the run says of the micro steps and replies, and of the plan, where line 5 comes last, between, or first.
+const OUTCOMES: [&str; 3] = [
+    "quiet 1
+quiet 1
+quiet 2
+thread 1 line 2: accepted 1
+thread 1 line 3: accepted 2
+thread 2 line 5: refused plan finished
+plan finished SUCCESS
+",
+    "quiet 1
+quiet 1
+quiet 0
+quiet 2
+thread 1 line 2: accepted 1
+thread 2 line 5: accepted 2
+thread 1 line 3: accepted 3
+plan finished SUCCESS
+",
+    "quiet 1
+quiet 0
+quiet 1
+quiet 2
+thread 2 line 5: accepted 1
+thread 1 line 2: accepted 2
+thread 1 line 3: accepted 3
+plan finished SUCCESS
+",
+];
+
+// How many runs there are at most, and how long a thread gives way that wants to be second.
+const RUNS: usize = 1_000;
+const YIELDS: u64 = 100_000;
+
+// Leads the two threads towards an order: who wants to be second waits until the other is before its post, and then gives
+// way for a while.
+#[derive(Drop)]
+struct Leading {
+    order: Order,
+    third_comes: AtomicU64,
+    fifth_comes: AtomicU64,
+    yields: AtomicU64,
+}
+
+impl Leading {
+    fn new(order: Order) -> Leading {
+        Leading {
+            order,
+            third_comes: AtomicU64::new(0),
+            fifth_comes: AtomicU64::new(0),
+            yields: AtomicU64::new(0),
+        }
+    }
+
+    // Returns a while after the other post has come, or where it hasn't within so many looks.
+    fn gives_way_to(&self, post: &AtomicU64) {
+        for _ in 0..LOOKS {
+            if post.load(SeqCst) > 0 {
+                break;
+            }
+        }
+        for _ in 0..YIELDS {
+            self.yields.fetch_add(1, SeqCst);
+        }
+    }
+
+    // Returns once the other post has come, or where it hasn't within so many looks.
+    fn waits_for(&self, post: &AtomicU64) {
+        for _ in 0..LOOKS {
+            if post.load(SeqCst) > 0 {
+                return;
+            }
+        }
+    }
+}
+
+impl Pace for Leading {
+    fn before(&self, thread: u8, line: u32) {
+        match (self.order, thread, line) {
+            (Order::Last, 1, 3) => self.third_comes.store(1, SeqCst),
+            (Order::Last, 2, 5) => self.gives_way_to(&self.third_comes),
+            (Order::Between, 1, 3) => {
+                self.third_comes.store(1, SeqCst);
+                self.gives_way_to(&self.fifth_comes);
+            }
+            (Order::Between, 2, 5) => {
+                self.waits_for(&self.third_comes);
+                self.fifth_comes.store(1, SeqCst);
+            }
+            (Order::First, 1, 2) => self.gives_way_to(&self.fifth_comes),
+            (Order::First, 2, 5) => self.fifth_comes.store(1, SeqCst),
+            _ => {}
+        }
+    }
+}
+
+// The lines that say how the run went.
+fn told(alloc: Global, text: &str) -> Result<String, Fail> {
+    let mut told = String::new(alloc);
+    for line in text.lines() {
+        if line.starts_with("quiet ") || line.starts_with("thread ") || line.starts_with("plan ") {
+            told.push_str(line)?;
+            told.push_str("\n")?;
+        }
+    }
+    Ok(told)
+}
+
+// What the run of two threads comes to that are led towards an order.
+fn led<R: Threads + Wait + Sync>(rt: &R, alloc: Global, order: Order) -> Result<String, Fail> {
+    let call = Call {
+        words: "run P S J",
+        plan: b"A: { Start Lookup(go); End Lookup(done); }",
+        script: b"thread 1\nset go = true\nset done = true\nthread 2\nset done = false\n",
+        journal: &[],
+        faults: Faults::NONE,
+    };
+    let Answer { text, .. } = paced_answer_of(rt, alloc, call, &Leading::new(order))?;
+    told(alloc, text.as_str())
+}
+
+// Each run comes to one of the three, and of so many runs each comes.
+#[test]
+fn two_threads_come_in_each_of_three_orders(rt: HostRuntime) -> Result<(), Fail> {
+    let mut seen = [false; 3];
+    for _ in 0..RUNS {
+        for order in ORDERS {
+            let told = led(&rt, rt.alloc(), order)?;
+            let Some(i) = OUTCOMES.iter().position(|outcome| *outcome == told.as_str()) else {
+                panic!(rt; "{}", told.as_str());
+            };
+            seen[i] = true;
+        }
+        if seen == [true; 3] {
+            return Ok(());
+        }
+    }
+    assert_eq!(rt; seen, [true; 3]);
     Ok(())
 }
