@@ -14,11 +14,13 @@ use Rattle.px_expr_parse.specs.declared.opening.Opening.{Opening}
 use Rattle.px_expr_parse.specs.declared.opening.Opening.TheVariants as openings
 use Rattle.px_expr_parse.specs.Opening.{opening_of, Begins}
 use Rattle.px_expr_parse.specs.Tail.{closed_arguments, look_arguments}
-use Rattle.px_expr_parse.specs.Verdict.{Agree, GoesOn, IsLongest, IsRead, IsRefused, IsFound, IsMissing, HasSign, LacksSign}
+use Rattle.px_expr_parse.specs.Verdict.{Agree, AgreeBefore, GoesOn, IsLongest, IsRead, IsRefused, IsFound, IsMissing, HasSign, LacksSign}
 use Rattle.px_expr_parse.proofs.Chains.{spine}
 use Rattle.px_expr_parse.proofs.Closed.{closer_ends, paren_closes, comma_closes}
+use Rattle.px_expr_parse.proofs.Completions.{before, begun_as, begun_before, begun_here, moved, short_look_arguments, short_token}
 use Rattle.px_expr_parse.proofs.Openings.{rest_of}
 use Rattle.px_expr_parse.proofs.Parts.{agree_before, behind_sign}
+use Rattle.px_expr_parse.proofs.Spans.{local_closed_arguments, local_expression}
 
 -- arguments in front of others
 abbrev pub in_front : List Term → Terms → Terms
@@ -109,19 +111,17 @@ is_first_argument tokens at tree to longest first rest end o =
     ]
 
 -- Arguments so far, behind each of which a comma stands: all arguments are these and at least one more.
-pub record IsSoFar (tokens : List Token) (from : ℕ) (so_far : List Term) (at : ℕ) : Type 0 where
-  pub spells :
-      (first : Term) (rest : Terms) (end : ℕ) → closed_arguments (More first rest) tokens at end
-      → closed_arguments (in_front so_far (More first rest)) tokens from end
-  pub only :
-      (other : Terms) (end : ℕ) → closed_arguments other tokens from end
-      → (first : Term) × (rest : Terms) × (other ≡ in_front so_far (More first rest))
-      × closed_arguments (More first rest) tokens at end
-
 pub record HasArguments (tokens : List Token) (from : ℕ) (so_far : List Term) (at : ℕ) : Type 0 where
   pub advances : from ≤ at
   pub within : at ≤ length tokens
-  pub each : (others : List Token) → Agree tokens others at → IsSoFar others from so_far at
+  pub spells :
+      (others : List Token) → AgreeBefore tokens others at
+      → (first : Term) (rest : Terms) (end : ℕ) → closed_arguments (More first rest) others at end
+      → closed_arguments (in_front so_far (More first rest)) others from end
+  pub only :
+      (others : List Token) → Agree tokens others at → (other : Terms) (end : ℕ) → closed_arguments other others from end
+      → (first : Term) × (rest : Terms) × (other ≡ in_front so_far (More first rest))
+      × closed_arguments (More first rest) others at end
 
 pub no_arguments :
     (tokens : List Token) (from : ℕ) → from ≤ length tokens → (HasSign tokens from signs.CloseParen → ⊥)
@@ -130,10 +130,8 @@ no_arguments tokens from within lacks =
     record {
       advances = omega arith;
       within = within;
-      each = λ others agree. record {
-        spells = λ first rest end o. o;
-        only = only others agree;
-      };
+      spells = λ others agree first rest end o. o;
+      only = only;
     }
   where
     only :
@@ -151,9 +149,13 @@ module _ (tokens : List Token) (from : ℕ) (so_far : List Term) (at : ℕ) (beg
     omega (arith, begun.advances, g.0),
     g.1,
     λ others agree other end o.
-        let s = (begun.each others (agree_before tokens others at token g.0 agree)).only other end o in
+        let s = begun.only others (agree_before tokens others at token g.0 agree) other end o in
         let f = first_argument others at s.0 s.1 end s.3 in
         ends_argument others f.0 s.1 end f.2 (g.2 others agree s.0 f.0 f.1).1,
+    begun_before (short_token (kinds.Sign signs.CloseParen)) g.3 (λ others agree middle end tree none o close. (
+      in_front so_far (More tree NoTerms),
+      begun.spells others (before tokens others at token g.0 agree) tree NoTerms end (with_first_argument others at tree NoTerms middle end o close),
+    )),
   )
   refuse_argument (faults.Deep token) g = g
   refuse_argument faults.NoMemory g = g
@@ -164,9 +166,18 @@ module _ (tokens : List Token) (from : ℕ) (so_far : List Term) (at : ℕ) (beg
         (others : List Token) → Agree tokens others to → (other : Terms) (end : ℕ) → closed_arguments other others from end
         → (rest : Terms) × (other ≡ in_front so_far (More tree rest)) × NextArgument others to rest end
     nexts others agree other end o =
-        let s = (begun.each others (agree_before tokens others at to (omega (arith, read.advances)) agree)).only other end o in
+        let s = begun.only others (agree_before tokens others at to (omega (arith, read.advances)) agree) other end o in
         let is = is_first_argument others at tree to (read.longest others agree) s.0 s.1 end s.3 in
         (s.1, s.2 ∙ ap (λ (first : Term). in_front so_far (More first s.1)) is.0, is.1)
+
+    -- the argument stands in other tokens, and more behind it
+    spells_on :
+        (others : List Token) → AgreeBefore tokens others to → (rest : Terms) (end : ℕ) → NextArgument others to rest end
+        → closed_arguments (in_front so_far (More tree rest)) others from end
+    spells_on others agree rest end next =
+        begun.spells others (before tokens others at to (omega (arith, read.advances)) agree) tree rest end
+        (with_first_argument others at tree rest to end
+        (moved tokens (local_expression tree) (λ others agree. (read.longest others agree).spelled) others agree) next)
 
     -- a comma: there are more
     pub one_more_argument :
@@ -176,17 +187,13 @@ module _ (tokens : List Token) (from : ℕ) (so_far : List Term) (at : ℕ) (beg
         record {
           advances = omega (arith, begun.advances, read.advances);
           within = omega (arith, inside);
-          each = λ others agree.
+          spells = λ others agree first rest end o.
+              subst (λ (all : Terms). closed_arguments all others from end)
+              (sym (in_front_push so_far tree (More first rest)))
+              (spells_on others (before tokens others to (to + 1) (omega arith) agree) (More first rest) end (agree to (omega arith) ∙ comma, o));
+          only = λ others agree other end o.
               let agree_to = agree_before tokens others to (to + 1) (omega arith) agree in
-              let there : HasSign others to signs.Comma = agree_to to (omega arith) ∙ comma in
-              record {
-                spells = λ first rest end o.
-                    subst (λ (all : Terms). closed_arguments all others from end)
-                    (sym (in_front_push so_far tree (More first rest)))
-                    ((begun.each others (agree_before tokens others at to (omega (arith, read.advances)) agree_to)).spells tree (More first rest) end
-                    (with_first_argument others at tree (More first rest) to end (read.longest others agree_to).spelled (there, o)));
-                only = λ other end o. more others there other end (nexts others agree_to other end o);
-              };
+              more others (agree_to to (omega arith) ∙ comma) other end (nexts others agree_to other end o);
         }
       where
         more :
@@ -212,8 +219,7 @@ module _ (tokens : List Token) (from : ℕ) (so_far : List Term) (at : ℕ) (beg
               record {
                 spelled =
                     subst (λ (all : Terms). closed_arguments all others from (to + 1)) (sym (in_turn_push so_far tree))
-                    ((begun.each others (agree_before tokens others at to (omega (arith, read.advances)) agree_to)).spells tree NoTerms (to + 1)
-                    (with_first_argument others at tree NoTerms to (to + 1) (read.longest others agree_to).spelled (there, refl)));
+                    (spells_on others (λ place inside. agree_to place (omega (arith, inside))) NoTerms (to + 1) (there, refl));
                 only = λ other end o. all others there other end (nexts others agree_to other end o);
               };
         }
@@ -235,6 +241,7 @@ module _ (tokens : List Token) (from : ℕ) (so_far : List Term) (at : ℕ) (beg
           read.within,
           λ others agree other end o.
               none others agree other end (nexts others agree other end o),
+          begun_as (begun_here (short_token (kinds.Sign signs.CloseParen))) (λ others agree end none close. (in_front so_far (More tree NoTerms), spells_on others agree NoTerms end close)),
         )
       where
         none :
@@ -347,7 +354,7 @@ module _ (tokens : List Token) (from : ℕ) where
       → LacksSign tokens from signs.CloseParen fault → IsMissing look_arguments tokens from fault
   missing_look fault within no_open lacks =
       subst (λ (g : ParseFault). IsMissing look_arguments tokens from g) (sym lacks.0)
-      (omega arith, within, λ others agree other end o. none others agree (look_view others from other end o))
+      (omega arith, within, λ others agree other end o. none others agree (look_view others from other end o), begun_here short_look_arguments)
     where
       none : (others : List Token) → Agree tokens others from → {other : Terms} {end : ℕ} → LookArguments others from other end → ⊥
       none others agree (left_out close is) = lacks.1 (sym (agree from (omega arith)) ∙ close)
@@ -359,8 +366,16 @@ module _ (tokens : List Token) (from : ℕ) where
 
     pub missing_given :
         (fault : ParseFault) → IsMissing closed_arguments tokens (from + 1) fault → IsMissing look_arguments tokens from fault
-    missing_given (faults.SyntaxFault token) g =
-        (omega (arith, g.0), g.1, λ others agree other end o. none others agree (look_view others from other end o))
+    missing_given (faults.SyntaxFault token) g = (
+      omega (arith, g.0),
+      g.1,
+      λ others agree other end o. none others agree (look_view others from other end o),
+      begun_before (short_token (kinds.Sign signs.CloseParen)) g.3 (λ others agree middle end args close_none o close. (
+        args,
+        subst (λ (p : ℕ). look_arguments args others from p) (sym close.1)
+            (look_back others from args middle (from + 1, (agree from (omega (arith, g.0)) ∙ opening, refl), o) close.0),
+      )),
+    )
       where
         none : (others : List Token) → Agree tokens others token → {other : Terms} {end : ℕ} → LookArguments others from other end → ⊥
         none others agree (left_out close is) = open_or_close others from (there others token (omega (arith, g.0)) agree) close
@@ -406,4 +421,13 @@ module _ (tokens : List Token) (from : ℕ) where
             found.within,
             λ others agree other end o.
                 lacks.1 (sym (agree to (omega arith)) ∙ (given_is others agree (look_view others from other end o)).1),
+            begun_as (begun_here (short_token (kinds.Sign signs.CloseParen))) (λ others agree end none close. (
+              args,
+              subst (λ (p : ℕ). look_arguments args others from p) (sym close.1)
+                  (look_back others from args to (
+                    from + 1,
+                    (agree from (omega (arith, found.advances)) ∙ opening, refl),
+                    moved tokens (local_closed_arguments args) (λ others agree. (found.only others agree).spelled) others agree,
+                  ) close.0),
+            )),
           )

@@ -12,7 +12,9 @@ use Rattle.px_syntax.specs.Form.{Form, sign, ◌then◌}
 use Rattle.px_syntax.specs.Operator.{binary_of}
 use Rattle.px_expr_parse.specs.Tail.{is_closer}
 use Rattle.px_expr_parse.specs.Verdict.{GoesOn, operation, index, attribute, IsRead, IsRefused, IsFound, IsMissing, HasSign, LacksSign}
+use Rattle.px_expr_parse.proofs.Completions.{Shortest, before, begun_as, begun_before, begun_here, moved, short_token}
 use Rattle.px_expr_parse.proofs.Parts.{agree_before, IsClosing}
+use Rattle.px_expr_parse.proofs.Spans.{local_expression}
 
 -- a sign with which no expression goes on
 pub record IsCloser (which : Sign) : Type 0 where
@@ -98,21 +100,30 @@ module _ {B : Type 0} (second : B → Form) (closing : IsClosing second) where
               g.2 others agree other.1 end (subst (λ (place : ℕ). second other.1 others place end) is_first.1 o.2)
           | inr ends ↦ closing others other.1 o.0 end o.2 ends.1
         ],
+    begun_as g.3 (λ others agree end b o. (
+      (tree, b),
+      (
+        middle,
+        moved tokens (local_expression tree) (λ others agree. (f.longest others agree).spelled) others (before tokens others middle token g.0 agree),
+        o,
+      ),
+    )),
   )
   missing_close_part tokens from middle tree (faults.Deep token) f g = g
   missing_close_part tokens from middle tree faults.NoMemory f g = g
 
   pub missing_closed :
-      (tokens : List Token) (from : ℕ) (fault : ParseFault)
+      (tokens : List Token) (from : ℕ) (fault : ParseFault) → Shortest second
       → IsRefused 0 tokens from fault → IsMissing closed_by tokens from fault
-  missing_closed tokens from (faults.SyntaxFault token) f = (
+  missing_closed tokens from (faults.SyntaxFault token) short f = (
     f.0,
     f.1,
     λ others agree other end o.
         closing others other.1 o.0 end o.2 (f.2 others agree other.0 o.0 o.1).1,
+    begun_before short f.3 (λ others agree middle end a b o r. ((a, b), (middle, o, r))),
   )
-  missing_closed tokens from (faults.Deep token) f = f
-  missing_closed tokens from faults.NoMemory f = f
+  missing_closed tokens from (faults.Deep token) short f = f
+  missing_closed tokens from faults.NoMemory short f = f
 
 -- a sign behind an expression, which closes it
 module _ (which : Sign) (closer : IsCloser which) where
@@ -152,6 +163,8 @@ module _ (which : Sign) (closer : IsCloser which) where
                   lacks.1 (sym (agree middle (omega arith)) ∙ (subst (λ (place : ℕ). HasSign others place which) is_first.1 o.2.0))
               | inr ends ↦ closer_ends others o.0 which closer o.2.0 ends.1
             ],
+        begun_as (begun_here (short_token (kinds.Sign which))) (λ others agree end none o.
+            (tree, (middle, moved tokens (local_expression tree) (λ others agree. (f.longest others agree).spelled) others agree, o))),
       )
 
   pub missing_expression :
@@ -162,6 +175,7 @@ module _ (which : Sign) (closer : IsCloser which) where
     f.1,
     λ others agree other end o.
         closer_ends others o.0 which closer o.2.0 (f.2 others agree other o.0 o.1).1,
+    begun_before (short_token (kinds.Sign which)) f.3 (λ others agree middle end a none o r. (a, (middle, o, r))),
   )
   missing_expression tokens from (faults.Deep token) f = f
   missing_expression tokens from faults.NoMemory f = f

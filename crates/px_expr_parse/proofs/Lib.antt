@@ -1,6 +1,9 @@
+pub mod Spans
+pub mod Completions
 pub mod Chains
 pub mod Parts
 pub mod Closed
+pub mod Attributes
 pub mod Openings
 pub mod Productions
 pub mod Primaries

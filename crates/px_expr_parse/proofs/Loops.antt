@@ -8,9 +8,11 @@ use Rattle.px_syntax.specs.declared.fault.ParseFault.TheVariants as faults
 use Rattle.px_syntax.specs.declared.operator.BinaryOperator.{BinaryOperator}
 use Rattle.px_syntax.specs.Expr.{Term, Binary}
 use Rattle.px_syntax.specs.Operator.{binary_of}
-use Rattle.px_expr_parse.specs.Verdict.{Agree, binary_at, GoesOn, operation, index, attribute, IsLongest, IsRead, IsRefused, IsExpression, HasNoExpression, IsNoExpression, HasSign}
-use Rattle.px_expr_parse.proofs.Chains.{IsSpine, level, spine_begins, spine_goes_on, spine_ends, spine_stops, first_stops}
+use Rattle.px_expr_parse.specs.Verdict.{Agree, binary_at, GoesOn, operation, index, attribute, IsLongest, IsRead, IsRefused, IsExpression, IsFaultAt, IsNoExpression, HasSign}
+use Rattle.px_expr_parse.proofs.Chains.{IsSpine, level, operand_looser, spine_begins, spine_goes_on, spine_ends, spine_stops, first_stops}
+use Rattle.px_expr_parse.proofs.Completions.{before, begins_expression, begun_as, begun_whole, moved}
 use Rattle.px_expr_parse.proofs.Parts.{agree_before}
+use Rattle.px_expr_parse.proofs.Spans.{local_expression, local_operand}
 
 pub record HasSpine (floor : ℕ) (tokens : List Token) (from : ℕ) (left : Term) (at : ℕ) : Type 0 where
   pub advances : from < at
@@ -28,8 +30,12 @@ module _ (floor : ℕ) (tokens : List Token) (from : ℕ) where
       }
 
   pub loop_refused : (fault : ParseFault) → floor ≤ 8 → IsRefused 8 tokens from fault → IsRefused floor tokens from fault
-  loop_refused (faults.SyntaxFault token) le g =
-      (g.0, g.1, λ others agree. first_stops floor others from token le (g.2 others agree))
+  loop_refused (faults.SyntaxFault token) le g = (
+    g.0,
+    g.1,
+    λ others agree. first_stops floor others from token le (g.2 others agree),
+    begun_as g.3 (λ others agree end tree o. (tree, operand_looser floor 8 tree from end le o)),
+  )
   loop_refused (faults.Deep token) le g = g
   loop_refused faults.NoMemory le g = g
 
@@ -78,6 +84,19 @@ module _ (floor : ℕ) (tokens : List Token) (from : ℕ) where
             (so_far.spine others (agree_before tokens others at token (omega (arith, g.0)) agree))
             (there others token (omega (arith, g.0)) agree next is) allowed (omega (arith, g.0))
             (g.2 others agree),
+        begun_as g.3 (λ others agree end right o. (
+          Binary next left right,
+          (
+            0,
+            λ z. allowed,
+            (
+              at,
+              moved tokens (local_operand (level next) left) (λ more agree. (so_far.spine more agree).tight next (there more at (omega arith) agree next is))
+                  others (before tokens others at token (omega (arith, g.0)) agree),
+              (at + 1, (ap (option_and_then binary_of) (agree at (omega (arith, g.0))) ∙ is, refl), o),
+            ),
+          ),
+        )),
       )
       loop_stops (faults.Deep token) g = g
       loop_stops faults.NoMemory g = g
@@ -114,6 +133,7 @@ module _ (tokens : List Token) (from : ℕ) where
       record {
         within = g.1;
         none = λ tree end o. (g.2 tokens (λ place le. refl) tree end o).1;
+        begun = begins_expression tokens from token g.1 g.3;
         beyond = λ others agree inside tree end o. (g.2 others agree tree end o).0;
       }
   is_no_expression (faults.Deep token) g = g
@@ -122,7 +142,7 @@ module _ (tokens : List Token) (from : ℕ) where
   -- a bracket or a dot behind an expression
   pub is_followed :
       (tree : Term) (to : ℕ) → IsRead 0 tokens from tree to → GoesOn 0 tokens to
-      → HasNoExpression tokens from to
+      → IsFaultAt tokens from to
   is_followed tree to read follows =
       record {
         within = read.within;
@@ -130,6 +150,14 @@ module _ (tokens : List Token) (from : ℕ) where
           | inl same ↦ subst (λ (place : ℕ). GoesOn 0 tokens place) (sym same.1) follows
           | inr ends ↦ ends.1
         ];
+        begun = record {
+          others = tokens;
+          agree = λ place inside. refl;
+          tree = tree;
+          end = to;
+          spelled = (read.longest tokens (λ place le. refl)).spelled;
+          reached = omega arith;
+        };
         beyond = λ others agree inside other end o. elim ((read.longest others agree).only other end o) [
           | inl same ↦ omega (arith, same.1)
           | inr ends ↦ omega (arith, ends.0)
@@ -148,6 +176,7 @@ module _ (tokens : List Token) (from : ℕ) where
           (omega (arith, same.1), subst (λ (place : ℕ). GoesOn 0 others place) (sym same.1) (goes_on_too others agree follows))
       | inr ends ↦ (omega (arith, ends.0), ends.1)
     ],
+    begun_whole tree (local_expression tree) (read.longest tokens (λ place le. refl)).spelled,
   )
     where
       goes_on_too : (others : List Token) → Agree tokens others to → GoesOn 0 tokens to → GoesOn 0 others to

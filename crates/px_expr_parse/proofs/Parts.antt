@@ -7,6 +7,9 @@ use Rattle.px_syntax.specs.declared.fault.ParseFault.TheVariants as faults
 use Rattle.px_syntax.specs.Expr.{Term}
 use Rattle.px_syntax.specs.Form.{Form, sign, ◌then◌}
 use Rattle.px_expr_parse.specs.Verdict.{Agree, GoesOn, IsRead, IsFound, IsMissing, HasSign, LacksSign}
+use Rattle.px_lex.specs.declared.token.TokenKind.TheVariants as kinds
+use Rattle.px_expr_parse.proofs.Completions.{Shortest, before, begun_as, begun_before, begun_here, moved, short_behind, short_token}
+use Rattle.px_expr_parse.proofs.Spans.{IsLocal}
 
 -- tokens that agree up to a place agree up to each one before it
 pub agree_before :
@@ -50,25 +53,31 @@ module _ {A B : Type 0} (first : A → Form) (second : B → Form) where
 
   pub missing_second :
       (tokens : List Token) (from middle : ℕ) (a : A) (fault : ParseFault)
-      → IsFound first tokens from a middle → IsMissing second tokens middle fault
+      → IsLocal (first a) → IsFound first tokens from a middle → IsMissing second tokens middle fault
       → IsMissing both tokens from fault
-  missing_second tokens from middle a (faults.SyntaxFault token) f g = (
+  missing_second tokens from middle a (faults.SyntaxFault token) l f g = (
     omega (arith, f.advances, g.0),
     g.1,
     λ others agree other end o.
         let is_first = (f.only others (agree_before tokens others middle token g.0 agree)).only other.0 o.0 o.1 in
         g.2 others agree other.1 end (subst (λ (place : ℕ). second other.1 others place end) is_first.1 o.2),
+    begun_as g.3 (λ others agree end b o.
+        ((a, b), (middle, moved tokens l (λ others agree. (f.only others agree).spelled) others (before tokens others middle token g.0 agree), o))),
   )
-  missing_second tokens from middle a (faults.Deep token) f g = g
-  missing_second tokens from middle a faults.NoMemory f g = g
+  missing_second tokens from middle a (faults.Deep token) l f g = g
+  missing_second tokens from middle a faults.NoMemory l f g = g
 
   pub missing_first :
-      (tokens : List Token) (from : ℕ) (fault : ParseFault)
+      (tokens : List Token) (from : ℕ) (fault : ParseFault) → Shortest second
       → IsMissing first tokens from fault → IsMissing both tokens from fault
-  missing_first tokens from (faults.SyntaxFault token) f =
-      (f.0, f.1, λ others agree other end o. f.2 others agree other.0 o.0 o.1)
-  missing_first tokens from (faults.Deep token) f = f
-  missing_first tokens from faults.NoMemory f = f
+  missing_first tokens from (faults.SyntaxFault token) short f = (
+    f.0,
+    f.1,
+    λ others agree other end o. f.2 others agree other.0 o.0 o.1,
+    begun_before short f.3 (λ others agree middle end a b o r. ((a, b), (middle, o, r))),
+  )
+  missing_first tokens from (faults.Deep token) short f = f
+  missing_first tokens from faults.NoMemory short f = f
 
 -- a sign before a part
 module _ {B : Type 0} (which : Sign) (second : B → Form) where
@@ -93,26 +102,28 @@ module _ {B : Type 0} (which : Sign) (second : B → Form) where
       }
 
   pub missing_behind_sign :
-      (tokens : List Token) (from : ℕ) (fault : ParseFault)
+      (tokens : List Token) (from : ℕ) (fault : ParseFault) → HasSign tokens from which
       → IsMissing second tokens (from + 1) fault → IsMissing behind_sign tokens from fault
-  missing_behind_sign tokens from (faults.SyntaxFault token) g = (
+  missing_behind_sign tokens from (faults.SyntaxFault token) has g = (
     omega (arith, g.0),
     g.1,
     λ others agree other end o.
         g.2 others agree other end (subst (λ (place : ℕ). second other others place end) o.1.1 o.2),
+    begun_as g.3 (λ others agree end b o. (b, (from + 1, (agree from (omega (arith, g.0)) ∙ has, refl), o))),
   )
-  missing_behind_sign tokens from (faults.Deep token) g = g
-  missing_behind_sign tokens from faults.NoMemory g = g
+  missing_behind_sign tokens from (faults.Deep token) has g = g
+  missing_behind_sign tokens from faults.NoMemory has g = g
 
   pub missing_sign :
-      (tokens : List Token) (from : ℕ) (fault : ParseFault) → from ≤ length tokens
+      (tokens : List Token) (from : ℕ) (fault : ParseFault) → from ≤ length tokens → Shortest second
       → LacksSign tokens from which fault → IsMissing behind_sign tokens from fault
-  missing_sign tokens from fault within lacks =
+  missing_sign tokens from fault within short lacks =
       subst (λ (f : ParseFault). IsMissing behind_sign tokens from f) (sym lacks.0) (
         omega arith,
         within,
         λ others agree other end o.
             lacks.1 (sym (agree from (omega arith)) ∙ o.1.0),
+        begun_here (short_behind (kinds.Sign which) short),
       )
 
 -- a sign behind a part
@@ -140,22 +151,28 @@ module _ {A : Type 0} (first : A → Form) (which : Sign) where
 
   pub missing_behind :
       (tokens : List Token) (from middle : ℕ) (a : A) (fault : ParseFault)
-      → IsFound first tokens from a middle → LacksSign tokens middle which fault
+      → IsLocal (first a) → IsFound first tokens from a middle → LacksSign tokens middle which fault
       → IsMissing before_sign tokens from fault
-  missing_behind tokens from middle a fault f lacks =
+  missing_behind tokens from middle a fault l f lacks =
       subst (λ (g : ParseFault). IsMissing before_sign tokens from g) (sym lacks.0) (
         f.advances,
         f.within,
         λ others agree other end o.
             let is_first = (f.only others agree).only other o.0 o.1 in
             lacks.1 (sym (agree middle (omega arith)) ∙ (subst (λ (place : ℕ). HasSign others place which) is_first.1 o.2.0)),
+        begun_as (begun_here (short_token (kinds.Sign which))) (λ others agree end none o.
+            (a, (middle, moved tokens l (λ others agree. (f.only others agree).spelled) others agree, o))),
       )
 
   pub missing_before_sign :
       (tokens : List Token) (from : ℕ) (fault : ParseFault)
       → IsMissing first tokens from fault → IsMissing before_sign tokens from fault
-  missing_before_sign tokens from (faults.SyntaxFault token) f =
-      (f.0, f.1, λ others agree other end o. f.2 others agree other o.0 o.1)
+  missing_before_sign tokens from (faults.SyntaxFault token) f = (
+    f.0,
+    f.1,
+    λ others agree other end o. f.2 others agree other o.0 o.1,
+    begun_before (short_token (kinds.Sign which)) f.3 (λ others agree middle end a none o r. (a, (middle, o, r))),
+  )
   missing_before_sign tokens from (faults.Deep token) f = f
   missing_before_sign tokens from faults.NoMemory f = f
 

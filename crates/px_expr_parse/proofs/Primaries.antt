@@ -30,6 +30,7 @@ use Rattle.px_expr_parse.specs.declared.opening.Opening.TheVariants as openings
 use Rattle.px_expr_parse.specs.Opening.{opening_of, Begins}
 use Rattle.px_expr_parse.specs.Tail.{closed, indexed, attribute, argument, two_arguments, look_state}
 use Rattle.px_expr_parse.specs.Verdict.{Agree, unary_at, GoesOn, index, attribute as attribute_follows, IsRead, IsRefused, IsFound, IsMissing, HasSign}
+use Rattle.px_expr_parse.proofs.Completions.{begun_as, begun_here, short_operand}
 use Rattle.px_expr_parse.proofs.Openings.{opened, Produced, IsLeaf, NameRest, named_attribute, rest_of, prefix_of, token_there}
 use Rattle.px_expr_parse.proofs.Parts.{agree_before}
 use Rattle.px_expr_parse.proofs.Productions.{begins_too, read_produced, refuse_produced, read_opened, refuse_opened, Never}
@@ -55,135 +56,153 @@ module _ (tokens : List Token) (from : ℕ) where
   -- ---- parentheses
 
   module _ (begins : Begins tokens from openings.Paren) where
+    builds_paren :
+        (others : List Token) → kind_at others from ≡ kind_at tokens from → (tree : Term) (end : ℕ)
+        → closed signs.CloseParen tree others (from + 1) end → operand 8 tree others from end
+    builds_paren others same tree end o =
+        let t = token_there tokens from openings.Paren begins in (
+          suc o.1.0,
+          λ z. absurd (omega arith),
+          (from + 1, (same ∙ t.1 ∙ ap (λ (k : TokenKind). Some k) t.2, refl), (o.0, o.1.2, o.2)),
+        )
+
     pub read_paren :
         (tree : Term) (to : ℕ) → IsFound (closed signs.CloseParen) tokens (from + 1) tree to
         → IsRead 8 tokens from tree to
     read_paren =
         read_opened (λ (tree : Term). tree) (closed signs.CloseParen) tokens from openings.Paren begins
-        (λ others tree end r. r)
-        (λ others same part end o.
-        let t = token_there tokens from openings.Paren begins in (
-          suc o.1.0,
-          λ z. absurd (omega arith),
-          (from + 1, (same ∙ t.1 ∙ ap (λ (k : TokenKind). Some k) t.2, refl), (o.0, o.1.2, o.2)),
-        ))
+        (λ others tree end r. r) builds_paren
 
     pub refuse_paren :
         (fault : ParseFault) → IsMissing (closed signs.CloseParen) tokens (from + 1) fault
         → IsRefused 8 tokens from fault
     refuse_paren =
         refuse_opened (λ (tree : Term). tree) (closed signs.CloseParen) tokens from openings.Paren begins
-        (λ others tree end r. r)
+        (λ others tree end r. r) builds_paren
 
   -- ---- attributes
 
   module _ (begins : Begins tokens from openings.SelfNode) where
+    builds_self :
+        (others : List Token) → kind_at others from ≡ kind_at tokens from → (which : AttributeWord) (end : ℕ)
+        → attribute which others (from + 1) end → operand 8 (Attribute (nodes.SelfNode from) which) others from end
+    builds_self others same which end o =
+        let t = token_there tokens from openings.SelfNode begins in
+        (0, λ z. lit≤ tt, (from + 1, (refl, (same ∙ keyword_there openings.SelfNode words.SelfNode t.0 t.1 t.2, refl)), o))
+
     pub read_self :
         (which : AttributeWord) (to : ℕ) → IsFound attribute tokens (from + 1) which to
         → IsRead 8 tokens from (Attribute (nodes.SelfNode from) which) to
     read_self =
         read_opened (λ (which : AttributeWord). Attribute (nodes.SelfNode from) which) attribute tokens from openings.SelfNode begins
-        (λ others tree end r. r)
-        (λ others same part end o.
-        let t = token_there tokens from openings.SelfNode begins in
-        (0, λ z. lit≤ tt, (from + 1, (refl, (same ∙ keyword_there openings.SelfNode words.SelfNode t.0 t.1 t.2, refl)), o)))
+        (λ others tree end r. r) builds_self
 
     pub refuse_self :
         (fault : ParseFault) → IsMissing attribute tokens (from + 1) fault → IsRefused 8 tokens from fault
     refuse_self =
         refuse_opened (λ (which : AttributeWord). Attribute (nodes.SelfNode from) which) attribute tokens from openings.SelfNode begins
-        (λ others tree end r. r)
+        (λ others tree end r. r) builds_self
 
   module _ (begins : Begins tokens from openings.Parent) where
+    builds_parent :
+        (others : List Token) → kind_at others from ≡ kind_at tokens from → (which : AttributeWord) (end : ℕ)
+        → attribute which others (from + 1) end → operand 8 (Attribute (nodes.Parent from) which) others from end
+    builds_parent others same which end o =
+        let t = token_there tokens from openings.Parent begins in
+        (0, λ z. lit≤ tt, (from + 1, (refl, (same ∙ keyword_there openings.Parent words.Parent t.0 t.1 t.2, refl)), o))
+
     pub read_parent :
         (which : AttributeWord) (to : ℕ) → IsFound attribute tokens (from + 1) which to
         → IsRead 8 tokens from (Attribute (nodes.Parent from) which) to
     read_parent =
         read_opened (λ (which : AttributeWord). Attribute (nodes.Parent from) which) attribute tokens from openings.Parent begins
-        (λ others tree end r. r)
-        (λ others same part end o.
-        let t = token_there tokens from openings.Parent begins in
-        (0, λ z. lit≤ tt, (from + 1, (refl, (same ∙ keyword_there openings.Parent words.Parent t.0 t.1 t.2, refl)), o)))
+        (λ others tree end r. r) builds_parent
 
     pub refuse_parent :
         (fault : ParseFault) → IsMissing attribute tokens (from + 1) fault → IsRefused 8 tokens from fault
     refuse_parent =
         refuse_opened (λ (which : AttributeWord). Attribute (nodes.Parent from) which) attribute tokens from openings.Parent begins
-        (λ others tree end r. r)
+        (λ others tree end r. r) builds_parent
 
   module _ (begins : Begins tokens from openings.Sibling) where
+    builds_sibling :
+        (others : List Token) → kind_at others from ≡ kind_at tokens from → (parts : Identifier × AttributeWord) (end : ℕ)
+        → named_attribute parts others (from + 1) end → operand 8 (Attribute (nodes.Sibling from parts.0) parts.1) others from end
+    builds_sibling others same parts end o =
+        let t = token_there tokens from openings.Sibling begins in (
+          0,
+          λ z. lit≤ tt,
+          (o.0, (from + 1, (refl, (same ∙ keyword_there openings.Sibling words.Sibling t.0 t.1 t.2, refl)), o.1), o.2),
+        )
+
     pub read_sibling :
         (parts : Identifier × AttributeWord) (to : ℕ) → IsFound named_attribute tokens (from + 1) parts to
         → IsRead 8 tokens from (Attribute (nodes.Sibling from parts.0) parts.1) to
     read_sibling =
         read_opened (λ (parts : Identifier × AttributeWord). Attribute (nodes.Sibling from parts.0) parts.1)
-        named_attribute tokens from openings.Sibling begins
-        (λ others tree end r. r)
-        (λ others same part end o.
-        let t = token_there tokens from openings.Sibling begins in (
-          0,
-          λ z. lit≤ tt,
-          (o.0, (from + 1, (refl, (same ∙ keyword_there openings.Sibling words.Sibling t.0 t.1 t.2, refl)), o.1), o.2),
-        ))
+        named_attribute tokens from openings.Sibling begins (λ others tree end r. r) builds_sibling
 
     pub refuse_sibling :
         (fault : ParseFault) → IsMissing named_attribute tokens (from + 1) fault → IsRefused 8 tokens from fault
     refuse_sibling =
         refuse_opened (λ (parts : Identifier × AttributeWord). Attribute (nodes.Sibling from parts.0) parts.1)
-        named_attribute tokens from openings.Sibling begins (λ others tree end r. r)
+        named_attribute tokens from openings.Sibling begins (λ others tree end r. r) builds_sibling
 
   module _ (begins : Begins tokens from openings.Child) where
+    builds_child :
+        (others : List Token) → kind_at others from ≡ kind_at tokens from → (parts : Identifier × AttributeWord) (end : ℕ)
+        → named_attribute parts others (from + 1) end → operand 8 (Attribute (nodes.Child from parts.0) parts.1) others from end
+    builds_child others same parts end o =
+        let t = token_there tokens from openings.Child begins in (
+          0,
+          λ z. lit≤ tt,
+          (o.0, (from + 1, (refl, (same ∙ keyword_there openings.Child words.Child t.0 t.1 t.2, refl)), o.1), o.2),
+        )
+
     pub read_child :
         (parts : Identifier × AttributeWord) (to : ℕ) → IsFound named_attribute tokens (from + 1) parts to
         → IsRead 8 tokens from (Attribute (nodes.Child from parts.0) parts.1) to
     read_child =
         read_opened (λ (parts : Identifier × AttributeWord). Attribute (nodes.Child from parts.0) parts.1)
-        named_attribute tokens from openings.Child begins
-        (λ others tree end r. r)
-        (λ others same part end o.
-        let t = token_there tokens from openings.Child begins in (
-          0,
-          λ z. lit≤ tt,
-          (o.0, (from + 1, (refl, (same ∙ keyword_there openings.Child words.Child t.0 t.1 t.2, refl)), o.1), o.2),
-        ))
+        named_attribute tokens from openings.Child begins (λ others tree end r. r) builds_child
 
     pub refuse_child :
         (fault : ParseFault) → IsMissing named_attribute tokens (from + 1) fault → IsRefused 8 tokens from fault
     refuse_child =
         refuse_opened (λ (parts : Identifier × AttributeWord). Attribute (nodes.Child from parts.0) parts.1)
-        named_attribute tokens from openings.Child begins (λ others tree end r. r)
+        named_attribute tokens from openings.Child begins (λ others tree end r. r) builds_child
 
   -- ---- lookups and calls
 
   module _ (word : LookWord) (begins : Begins tokens from (openings.Look word)) where
+    builds_look :
+        (others : List Token) → kind_at others from ≡ kind_at tokens from → (parts : Identifier × Terms) (end : ℕ)
+        → look_state parts others (from + 1) end → operand 8 (Look word from parts.0 parts.1 None) others from end
+    builds_look others same parts end o =
+        let t = token_there tokens from (openings.Look word) begins in (
+          0,
+          λ z. lit≤ tt,
+          (from + 1, (refl, (same ∙ keyword_there (openings.Look word) (look_keyword word) t.0 t.1 t.2, refl)), o),
+        )
+
     pub read_look :
         (parts : Identifier × Terms) (to : ℕ) → IsFound look_state tokens (from + 1) parts to
         → IsRead 8 tokens from (Look word from parts.0 parts.1 None) to
     read_look =
         read_opened (λ (parts : Identifier × Terms). Look word from parts.0 parts.1 None)
-        look_state tokens from (openings.Look word) begins
-        (λ others tree end r. r)
-        (λ others same part end o.
-        let t = token_there tokens from (openings.Look word) begins in (
-          0,
-          λ z. lit≤ tt,
-          (from + 1, (refl, (same ∙ keyword_there (openings.Look word) (look_keyword word) t.0 t.1 t.2, refl)), o),
-        ))
+        look_state tokens from (openings.Look word) begins (λ others tree end r. r) builds_look
 
     pub refuse_look :
         (fault : ParseFault) → IsMissing look_state tokens (from + 1) fault → IsRefused 8 tokens from fault
     refuse_look =
         refuse_opened (λ (parts : Identifier × Terms). Look word from parts.0 parts.1 None)
-        look_state tokens from (openings.Look word) begins (λ others tree end r. r)
+        look_state tokens from (openings.Look word) begins (λ others tree end r. r) builds_look
 
   module _ (function : UnaryFunction) (begins : Begins tokens from (openings.UnaryCall function)) where
-    pub read_unary_call :
-        (tree : Term) (to : ℕ) → IsFound argument tokens (from + 1) tree to
-        → IsRead 8 tokens from (UnaryCall function from tree) to
-    read_unary_call =
-        read_opened (λ (tree : Term). UnaryCall function from tree) argument tokens from (openings.UnaryCall function) begins
-        (λ others tree end r. r)
-        (λ others same part end o.
+    builds_unary_call :
+        (others : List Token) → kind_at others from ≡ kind_at tokens from → (tree : Term) (end : ℕ)
+        → argument tree others (from + 1) end → operand 8 (UnaryCall function from tree) others from end
+    builds_unary_call others same tree end o =
         let t = token_there tokens from (openings.UnaryCall function) begins in (
           0,
           λ z. lit≤ tt,
@@ -192,23 +211,26 @@ module _ (tokens : List Token) (from : ℕ) where
             (refl, (same ∙ keyword_there (openings.UnaryCall function) (unary_keyword function) t.0 t.1 t.2, refl)),
             o,
           ),
-        ))
+        )
+
+    pub read_unary_call :
+        (tree : Term) (to : ℕ) → IsFound argument tokens (from + 1) tree to
+        → IsRead 8 tokens from (UnaryCall function from tree) to
+    read_unary_call =
+        read_opened (λ (tree : Term). UnaryCall function from tree) argument tokens from (openings.UnaryCall function) begins
+        (λ others tree end r. r) builds_unary_call
 
     pub refuse_unary_call :
         (fault : ParseFault) → IsMissing argument tokens (from + 1) fault → IsRefused 8 tokens from fault
     refuse_unary_call =
         refuse_opened (λ (tree : Term). UnaryCall function from tree) argument tokens from (openings.UnaryCall function) begins
-        (λ others tree end r. r)
+        (λ others tree end r. r) builds_unary_call
 
   module _ (function : BinaryFunction) (begins : Begins tokens from (openings.BinaryCall function)) where
-    pub read_binary_call :
-        (parts : Term × Term) (to : ℕ) → IsFound two_arguments tokens (from + 1) parts to
-        → IsRead 8 tokens from (BinaryCall function from parts.0 parts.1) to
-    read_binary_call =
-        read_opened (λ (parts : Term × Term). BinaryCall function from parts.0 parts.1)
-        two_arguments tokens from (openings.BinaryCall function) begins
-        (λ others tree end r. r)
-        (λ others same part end o.
+    builds_binary_call :
+        (others : List Token) → kind_at others from ≡ kind_at tokens from → (parts : Term × Term) (end : ℕ)
+        → two_arguments parts others (from + 1) end → operand 8 (BinaryCall function from parts.0 parts.1) others from end
+    builds_binary_call others same parts end o =
         let t = token_there tokens from (openings.BinaryCall function) begins in (
           0,
           λ z. lit≤ tt,
@@ -217,13 +239,20 @@ module _ (tokens : List Token) (from : ℕ) where
             (refl, (same ∙ keyword_there (openings.BinaryCall function) (binary_keyword function) t.0 t.1 t.2, refl)),
             o,
           ),
-        ))
+        )
+
+    pub read_binary_call :
+        (parts : Term × Term) (to : ℕ) → IsFound two_arguments tokens (from + 1) parts to
+        → IsRead 8 tokens from (BinaryCall function from parts.0 parts.1) to
+    read_binary_call =
+        read_opened (λ (parts : Term × Term). BinaryCall function from parts.0 parts.1)
+        two_arguments tokens from (openings.BinaryCall function) begins (λ others tree end r. r) builds_binary_call
 
     pub refuse_binary_call :
         (fault : ParseFault) → IsMissing two_arguments tokens (from + 1) fault → IsRefused 8 tokens from fault
     refuse_binary_call =
         refuse_opened (λ (parts : Term × Term). BinaryCall function from parts.0 parts.1)
-        two_arguments tokens from (openings.BinaryCall function) begins (λ others tree end r. r)
+        two_arguments tokens from (openings.BinaryCall function) begins (λ others tree end r. r) builds_binary_call
 
   -- ---- one token
 
@@ -256,8 +285,8 @@ module _ (tokens : List Token) (from : ℕ) where
       read_produced (λ (part : Unit {0}). leaf) alone Never tokens from
       (λ others agree tree end o.
       let is = one others agree tree end o in inl (record { part = tt; built = is.0; rest = is.1 }))
-      (λ others agree part end o.
-      subst (λ (place : ℕ). operand 8 leaf others from place) (sym o) (builds others (agree from (omega arith))))
+      (λ others same part end o.
+      subst (λ (place : ℕ). operand 8 leaf others from place) (sym o) (builds others same))
       tt (from + 1) (λ others end agree ends. absurd ends)
       (found_alone tokens (from + 1) (omega (arith, inside)))
 
@@ -305,6 +334,7 @@ module _ (tokens : List Token) (from : ℕ) where
     λ others agree tree end o.
         absurd (rest_of others from openings.Nothing
         (begins_too tokens others from openings.Nothing from (omega arith) agree begins) tree end o),
+    begun_here (short_operand 8 (lit≤ tt)),
   )
 
   pub refuse_end :
@@ -322,6 +352,7 @@ module _ (tokens : List Token) (from : ℕ) where
               let is : option_and_then unary_of None ≡ Some found.operator =
               sym (ap (option_and_then unary_of) here) ∙ found.is in cc
         ],
+    begun_here (short_operand 8 (lit≤ tt)),
   )
 
   -- ---- an operator before an operand
@@ -331,6 +362,19 @@ module _ (tokens : List Token) (from : ℕ) where
         → Produced (λ (part : Term). Unary operator from part) (operand 8) others from tree end
     prefixes others agree tree end o =
         prefix_of others from operator (ap (option_and_then unary_of) (agree from (omega arith)) ∙ is) tree end o
+
+    builds_prefix :
+        (others : List Token) → kind_at others from ≡ kind_at tokens from → (tree : Term) (end : ℕ)
+        → operand 8 tree others (from + 1) end → operand 8 (Unary operator from tree) others from end
+    builds_prefix others same tree end o = (
+      0,
+      λ z. omega (arith, unary_level operator),
+      (
+        from + 1,
+        (refl, (ap (option_and_then unary_of) same ∙ is, refl)),
+        subst (λ (floor : ℕ). operand floor tree others (from + 1) end) (sym (unary_level operator)) o,
+      ),
+    )
 
     pub read_prefix :
         (tree : Term) (to : ℕ) → IsRead 8 tokens (from + 1) tree to → IsRead 8 tokens from (Unary operator from tree) to
@@ -342,15 +386,7 @@ module _ (tokens : List Token) (from : ℕ) where
               let longest = g.longest others agree in
               let agree_next = agree_before tokens others (from + 1) to (omega (arith, g.advances)) agree in
               record {
-                spelled = (
-                  0,
-                  λ z. omega (arith, unary_level operator),
-                  (
-                    from + 1,
-                    (refl, (ap (option_and_then unary_of) (agree from (omega (arith, g.advances))) ∙ is, refl)),
-                    subst (λ (floor : ℕ). operand floor tree others (from + 1) to) (sym (unary_level operator)) longest.spelled,
-                  ),
-                );
+                spelled = builds_prefix others (agree from (omega (arith, g.advances))) tree to longest.spelled;
                 only = λ other end o.
                     let p = prefixes others agree_next other end o in
                     elim (longest.only p.part end p.rest) [
@@ -369,6 +405,8 @@ module _ (tokens : List Token) (from : ℕ) where
       λ others agree tree end o.
           let p = prefixes others (agree_before tokens others (from + 1) token g.0 agree) tree end o in
           g.2 others agree p.part end p.rest,
+      begun_as g.3 (λ others agree end tree o.
+          (Unary operator from tree, builds_prefix others (agree from (omega (arith, g.0))) tree end o)),
     )
     refuse_prefix (faults.Deep token) g = g
     refuse_prefix faults.NoMemory g = g
@@ -432,18 +470,22 @@ module _ (tokens : List Token) (from : ℕ) where
       indexes others end agree is =
           index (subst (λ (place : ℕ). HasSign others place signs.OpenBracket) (sym is) (bracket_there others agree))
 
+      builds_element :
+          (others : List Token) → kind_at others from ≡ kind_at tokens from → (place : Term) (end : ℕ)
+          → indexed place others (from + 1) end → operand 8 (Element name place) others from end
+      builds_element others same place end o = (0, λ z. lit≤ tt, (from + 1, name_there others same, o))
+
       pub read_element :
           (place : Term) (to : ℕ) → from + 1 < to → IsFound indexed tokens (from + 1) place to
           → IsRead 8 tokens from (Element name place) to
       read_element place to longer g =
-          read_produced (λ (place : Term). Element name place) indexed Short tokens from elements
-          (λ others agree part end o. (0, λ z. lit≤ tt, (from + 1, name_there others (agree from (omega arith)), o)))
+          read_produced (λ (place : Term). Element name place) indexed Short tokens from elements builds_element
           place to (λ others end agree is. (omega (arith, is, longer), indexes others end agree is)) g
 
       pub refuse_element :
           (fault : ParseFault) → IsMissing indexed tokens (from + 1) fault → IsRefused 8 tokens from fault
       refuse_element =
-          refuse_produced (λ (place : Term). Element name place) indexed Short tokens from elements
+          refuse_produced (λ (place : Term). Element name place) indexed Short tokens from elements builds_element
           (λ others end agree is. (is, indexes others end agree is))
 
     module _ (has : HasSign tokens (from + 1) signs.Dot) where
@@ -463,18 +505,22 @@ module _ (tokens : List Token) (from : ℕ) where
       follows others end agree is =
           attribute_follows (subst (λ (place : ℕ). HasSign others place signs.Dot) (sym is) (dot_there others agree))
 
+      builds_named :
+          (others : List Token) → kind_at others from ≡ kind_at tokens from → (which : AttributeWord) (end : ℕ)
+          → attribute which others (from + 1) end → operand 8 (Attribute (nodes.Named name) which) others from end
+      builds_named others same which end o = (0, λ z. lit≤ tt, (from + 1, name_there others same, o))
+
       pub read_named :
           (which : AttributeWord) (to : ℕ) → from + 1 < to → IsFound attribute tokens (from + 1) which to
           → IsRead 8 tokens from (Attribute (nodes.Named name) which) to
       read_named which to longer g =
-          read_produced (λ (which : AttributeWord). Attribute (nodes.Named name) which) attribute Short tokens from attributes
-          (λ others agree part end o. (0, λ z. lit≤ tt, (from + 1, name_there others (agree from (omega arith)), o)))
+          read_produced (λ (which : AttributeWord). Attribute (nodes.Named name) which) attribute Short tokens from attributes builds_named
           which to (λ others end agree is. (omega (arith, is, longer), follows others end agree is)) g
 
       pub refuse_named :
           (fault : ParseFault) → IsMissing attribute tokens (from + 1) fault → IsRefused 8 tokens from fault
       refuse_named =
-          refuse_produced (λ (which : AttributeWord). Attribute (nodes.Named name) which) attribute Short tokens from attributes
+          refuse_produced (λ (which : AttributeWord). Attribute (nodes.Named name) which) attribute Short tokens from attributes builds_named
           (λ others end agree is. (is, follows others end agree is))
 
 -- where a name begins, it is not missing

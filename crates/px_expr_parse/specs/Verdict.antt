@@ -1,9 +1,10 @@
 -- What the readers of expressions promise.
-use Rattle.std.specs.Prelude.{◌≡◌, ℕ, ◌≤◌, ◌<◌, ◌⊎◌, List, length, Option, Some}
+use Rattle.std.specs.Prelude.{◌≡◌, ℕ, ◌+◌, ◌≤◌, ◌<◌, ◌⊎◌, List, [], ◌∷◌, length, Option, Some}
 use Rattle.std.specs.Option.{option_and_then}
 use Rattle.px_lex.specs.declared.sign.Sign.{Sign}
 use Rattle.px_lex.specs.declared.sign.Sign.TheVariants as signs
 use Rattle.px_lex.specs.declared.token.Token.{Token}
+use Rattle.px_lex.specs.declared.token.TokenKind.{TokenKind}
 use Rattle.px_lex.specs.declared.token.TokenKind.TheVariants as kinds
 use Rattle.px_syntax.specs.declared.fault.ParseFault.{ParseFault}
 use Rattle.px_syntax.specs.declared.fault.ParseFault.TheVariants as faults
@@ -18,6 +19,22 @@ use Rattle.px_syntax.specs.Expr.{Term}
 -- other tokens are these up to and including a place
 abbrev pub Agree : List Token → List Token → ℕ → Type 0
 Agree tokens others last = (place : ℕ) → place ≤ last → kind_at others place ≡ kind_at tokens place
+
+-- other tokens are these before a place
+abbrev pub AgreeBefore : List Token → List Token → ℕ → Type 0
+AgreeBefore tokens others end = (place : ℕ) → place < end → kind_at others place ≡ kind_at tokens place
+
+-- these are the tokens from a place on
+abbrev pub Stand : List TokenKind → List Token → ℕ → Type 0
+Stand [] tokens place = Unit {0}
+Stand (kind ∷ kinds) tokens place = (kind_at tokens place ≡ Some kind) × Stand kinds tokens (place + 1)
+
+-- The tokens from a place to before another begin a part of a form: with what is missing behind them they are the whole.
+pub record IsBegun {A : Type 0} (form : A → Form) (tokens : List Token) (from token : ℕ) : Type 0 where
+  pub missing : List TokenKind
+  pub completed :
+      (others : List Token) → AgreeBefore tokens others token → Stand missing others token
+      → (part : A) × form part others from (token + length missing)
 
 -- the operator between two operands that a token is
 abbrev pub binary_at : List Token → ℕ → Option BinaryOperator
@@ -57,11 +74,13 @@ IsCutShort floor tokens from last =
     (tree : Term) (end : ℕ) → operand floor tree tokens from end
     → (end ≤ last) × GoesOn floor tokens end
 
--- the same of all tokens that agree up to and including the named one; want of memory says nothing
+-- The same of all tokens that agree up to and including the named one, where those before it begin an operand. Want of
+-- memory says nothing.
 abbrev pub IsRefused : ℕ → List Token → ℕ → ParseFault → Type 0
 IsRefused floor tokens from (faults.SyntaxFault token) =
     (from ≤ token) × (token ≤ length tokens)
     × ((others : List Token) → Agree tokens others token → IsCutShort floor others from token)
+    × IsBegun (operand floor) tokens from token
 IsRefused floor tokens from (faults.Deep token) = ⊥
 IsRefused floor tokens from faults.NoMemory = Unit {0}
 
@@ -79,11 +98,12 @@ pub record IsFound {A : Type 0} (form : A → Form) (tokens : List Token) (from 
   pub within : to ≤ length tokens
   pub only : (others : List Token) → Agree tokens others to → IsOnly form others from part to
 
--- no part of a form stands there, whatever follows the named token
+-- the tokens before the named one begin a part of a form, and those up to and including it begin none
 abbrev pub IsMissing : {A : Type 0} → (A → Form) → List Token → ℕ → ParseFault → Type 0
 IsMissing form tokens from (faults.SyntaxFault token) =
     (from ≤ token) × (token ≤ length tokens)
     × ((others : List Token) → Agree tokens others token → (part : _) (end : ℕ) → form part others from end → ⊥)
+    × IsBegun form tokens from token
 IsMissing form tokens from (faults.Deep token) = ⊥
 IsMissing form tokens from faults.NoMemory = Unit {0}
 
@@ -107,17 +127,28 @@ pub record IsExpression (tokens : List Token) (from : ℕ) (tree : Term) (to : �
   pub longest : (other : Term) (end : ℕ) → expression other tokens from end → end ≤ to
   pub ended : GoesOn 0 tokens to → ⊥
 
--- Behind each part of the tokens from a place that spells an expression stands something with which it goes on. No
--- expression begins with the tokens up to and including the named one, where there is such a one.
-pub record HasNoExpression (tokens : List Token) (from token : ℕ) : Type 0 where
+-- the tokens from a place to before another begin an expression, whatever follows them
+pub record BeginsExpression (tokens : List Token) (from token : ℕ) : Type 0 where
+  pub others : List Token
+  pub agree : AgreeBefore tokens others token
+  pub tree : Term
+  pub end : ℕ
+  pub spelled : expression tree others from end
+  pub reached : token ≤ end
+
+-- Behind each part of the tokens from a place that spells an expression stands something with which it goes on. The
+-- tokens before the named one begin an expression, and those up to and including it begin none, where there is such a
+-- token.
+pub record IsFaultAt (tokens : List Token) (from token : ℕ) : Type 0 where
   pub within : token ≤ length tokens
   pub none :
       (tree : Term) (end : ℕ) → expression tree tokens from end → GoesOn 0 tokens end
+  pub begun : BeginsExpression tokens from token
   pub beyond :
       (others : List Token) → Agree tokens others token → token < length tokens
       → (tree : Term) (end : ℕ) → expression tree others from end → end ≤ token
 
 abbrev pub IsNoExpression : List Token → ℕ → ParseFault → Type 0
-IsNoExpression tokens from (faults.SyntaxFault token) = HasNoExpression tokens from token
+IsNoExpression tokens from (faults.SyntaxFault token) = IsFaultAt tokens from token
 IsNoExpression tokens from (faults.Deep token) = ⊥
 IsNoExpression tokens from faults.NoMemory = Unit {0}

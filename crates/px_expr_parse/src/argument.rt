@@ -13,9 +13,9 @@ use std::alloc::Global;
 
 /// The expression that a sign closes, and the place behind that sign (PLEXIL reference manual, "Expressions").
 ///
-/// `SyntaxFault` comes exactly where there is none. Where the token that it names is one of the tokens, no expression
-/// that the sign closes begins with those from `from` up to and including it. `Deep` never comes: that no token is too
-/// deep bounds the stack.
+/// `SyntaxFault` comes exactly where there is none. It names the first token such that no expression that the sign closes
+/// begins with those from `from` up to and including it, or the number of tokens where the end comes too early. `Deep`
+/// never comes: that no token is too deep bounds the stack.
 pub fn parse_closed(
     alloc: Global,
     tokens: &[Token],
@@ -35,8 +35,9 @@ pub fn parse_closed(
 /// The arguments from behind an opening parenthesis on, and the place behind the one that closes them (PLEXIL
 /// reference manual, "Expressions").
 ///
-/// `SyntaxFault` comes exactly where there are none. Where the token that it names is one of the tokens, no arguments
-/// begin with those from `from` up to and including it. `Deep` never comes: that no token is too deep bounds the stack.
+/// `SyntaxFault` comes exactly where there are none. It names the first token such that no arguments begin with those from
+/// `from` up to and including it, or the number of tokens where the end comes too early. `Deep` never comes: that no token
+/// is too deep bounds the stack.
 pub fn parse_arguments(
     alloc: Global,
     tokens: &[Token],

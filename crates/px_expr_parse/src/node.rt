@@ -1,7 +1,9 @@
 // Attributes of nodes.
-ghost use Rattle.std.specs.Prelude.{◌≡◌, ◌+◌, ◌≤◌, length, IfOk, IfErr, MatchOption};
+ghost use Rattle.std.specs.Prelude.{◌≡◌, ◌+◌, ◌≤◌, ◌<◌, length, Some, IfOk, IfErr, MatchOption};
+ghost use Rattle.px_lex.specs.declared.token.TokenKind.TheVariants as kinds;
 ghost use Rattle.px_syntax.specs.declared.expr.Attribute.{Attribute as AttributeWord};
 ghost use Rattle.px_syntax.specs.ExprGrammar.{attribute_word};
+ghost use Rattle.px_syntax.specs.Form.{kind_at};
 ghost use Rattle.px_expr_parse.specs.Tail.{attribute, named};
 ghost use Rattle.px_expr_parse.specs.Verdict.{IsFound, IsMissing};
 
@@ -24,6 +26,18 @@ fn attribute_of(name: &str) -> Option<Attribute>
     }
 }
 
+/// The attribute whose word the token at a place is.
+fn attribute_there(tokens: &[Token], at: usize) -> Option<Attribute>
+    ensures { MatchOption result
+        ((which : AttributeWord) → kind_at tokens.now at ≡ Some (kinds.Identifier (attribute_word which)) → ⊥)
+        (λ which. (at < length tokens.now) × (kind_at tokens.now at ≡ Some (kinds.Identifier (attribute_word which)))) }
+{
+    match kind_at(tokens, at) {
+        Some(TokenKind::Identifier(name)) => attribute_of(name.as_str()),
+        _ => None,
+    }
+}
+
 /// A dot and an attribute: two tokens.
 pub(crate) fn attribute_at(tokens: &[Token], at: usize) -> Result<Attribute, ParseFault>
     requires { at ≤ length tokens.now }
@@ -31,10 +45,9 @@ pub(crate) fn attribute_at(tokens: &[Token], at: usize) -> Result<Attribute, Par
     ensures fault { IfErr result (λ fault. IsMissing attribute tokens.now at fault) }
 {
     expect(tokens, at, Sign::Dot)?;
-    let fault = ParseFault::SyntaxFault { token: at + 1 };
-    match kind_at(tokens, at + 1) {
-        Some(TokenKind::Identifier(name)) => attribute_of(name.as_str()).ok_or(fault),
-        _ => Err(fault),
+    match attribute_there(tokens, at + 1) {
+        Some(attribute) => Ok(attribute),
+        None => Err(ParseFault::SyntaxFault { token: at + 1 }),
     }
 }
 

@@ -15,10 +15,10 @@ use std::alloc::Global;
 /// "Expressions").
 ///
 /// `SyntaxFault` comes exactly where there is none, or where an operator between operands, `[` or a dot stands behind
-/// it, since no expression of a plan is followed by one of these. Where the token that it names is one of the tokens,
-/// no expression begins with those from `from` up to and including it. Both answers hold of all tokens that agree up to
-/// and including the place behind the expression or the named token. `Deep` never comes: that no token is too deep
-/// bounds the stack.
+/// it, since no expression of a plan is followed by one of these. It names the first token such that no expression begins
+/// with those from `from` up to and including it, or the number of tokens where the end comes too early. Both answers hold
+/// of all tokens that agree up to and including the place behind the expression or the named token. `Deep` never comes:
+/// that no token is too deep bounds the stack.
 pub fn parse_expr(
     alloc: Global,
     tokens: &[Token],

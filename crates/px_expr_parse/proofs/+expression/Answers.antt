@@ -8,9 +8,12 @@ use Rattle.px_syntax.specs.Form.{identifier}
 use Rattle.px_syntax.proofs.Levels.{binary_level}
 use Rattle.px_expr_parse.specs.Tail.{closed, closed_arguments, look_arguments, second_argument}
 use Rattle.px_expr_parse.specs.Verdict.{IsFound}
-use Rattle.px_expr_parse.proofs.Arguments.{HasArguments, found_given, found_none, last_argument, map_push, missing_given, missing_given_close, missing_last, no_arguments, one_more_argument, refuse_argument}
+use Rattle.px_expr_parse.proofs.Arguments.{HasArguments, found_given, found_none, last_argument, map_push, missing_given, missing_given_close, missing_last, missing_look, no_arguments, one_more_argument, refuse_argument}
 use Rattle.px_expr_parse.proofs.Closed.{closed_by, closer_ends, closer_of, comma_closes, found_closed, found_with_sign, missing_close_part, missing_closed, missing_expression, missing_sign_behind}
+use Rattle.px_lex.specs.declared.token.TokenKind.TheVariants as kinds
 use Rattle.px_expr_parse.proofs.Chains.{level}
+use Rattle.px_expr_parse.proofs.Completions.{Shortest, short_behind, short_both, short_closed, short_expression, short_look_arguments, short_name}
+use Rattle.px_expr_parse.proofs.Spans.{local_identifier}
 use Rattle.px_expr_parse.specs.declared.opening.Opening.TheVariants as openings
 use Rattle.px_expr_parse.proofs.Loops.{HasSpine, loop_begins, loop_ends, loop_goes_on, loop_refused, loop_stops}
 use Rattle.px_expr_parse.proofs.Parts.{IsClosing, both, found_behind_sign, found_both, missing_behind_sign, missing_first, missing_second, missing_sign, read_as}
@@ -21,6 +24,18 @@ use Rattle.px_expr_parse.proofs.+expression.Goals.{operation::operation-in-Some+
 -- a comma closes the first of two arguments
 second_closes : IsClosing second_argument
 second_closes tokens part from end o = closer_ends tokens from signs.Comma comma_closes o.1.0
+
+-- the shortest of what stands behind a word
+short_second : Shortest second_argument
+short_second = short_behind (kinds.Sign signs.Comma) (short_closed signs.CloseParen)
+
+short_two : Shortest (closed_by second_argument second_closes)
+short_two =
+    short_both short_expression short_second (λ others from middle end first second o r. ((first, second), (middle, o, r)))
+
+short_look : Shortest (both identifier look_arguments)
+short_look =
+    short_both short_name short_look_arguments (λ others from middle end name args o r. ((name, args), (middle, o, r)))
 
 pub argument::arguments-returns-then-is_sign-clause-ok : goal.argument::arguments-returns-then-is_sign-clause-ok
 argument::arguments-returns-then-is_sign-clause-ok t c =
@@ -78,6 +93,12 @@ pub argument::closed-returns-clause-ok : goal.argument::closed-returns-clause-ok
 argument::closed-returns-clause-ok t c =
     found_with_sign c.args.close (closer_of c.args.close c.requires.closer) c.args.tokens.now c.args.from
     c.in_ok-tree.end (term_of c.in_ok-tree.tree) c.in_ok-expect.ensures.ok.0 c.in_ok-tree.ensures.ok c.in_ok-expect.ensures.ok.1
+
+pub argument::look_arguments-returns-in_err-expect-clause-fault : goal.argument::look_arguments-returns-in_err-expect-clause-fault
+argument::look_arguments-returns-in_err-expect-clause-fault t c =
+    let p = err_from_is_err_and c.from_residual.result c.from_residual.ensures.1 in
+    rw (p.1, p.2) (missing_look c.args.tokens.now c.args.from c.in_err-expect.field-0.0 c.requires
+    (λ has. false≢true (c.if-not-is_sign.ensures.answer.1 has)) c.in_err-expect.ensures.fault)
 
 pub argument::look_arguments-returns-in_err-args-clause-fault : goal.argument::look_arguments-returns-in_err-args-clause-fault
 argument::look_arguments-returns-in_err-args-clause-fault t c =
@@ -161,14 +182,14 @@ pub primary::unary_call-returns-in_err-expect-clause-fault : goal.primary::unary
 primary::unary_call-returns-in_err-expect-clause-fault t c =
     let p = err_from_is_err_and c.from_residual.result c.from_residual.ensures.1 in
     rw (p.1, p.2) (refuse_unary_call c.args.tokens.now c.args.from c.args.function c.requires.begins c.in_err-expect.field-0.0
-    (missing_sign signs.OpenParen (closed signs.CloseParen) c.args.tokens.now (c.args.from + 1) c.in_err-expect.field-0.0 (omega (arith, c.requires.place)) c.in_err-expect.ensures.fault))
+    (missing_sign signs.OpenParen (closed signs.CloseParen) c.args.tokens.now (c.args.from + 1) c.in_err-expect.field-0.0 (omega (arith, c.requires.place)) (short_closed signs.CloseParen) c.in_err-expect.ensures.fault))
 
 pub primary::unary_call-returns-in_err-argument-clause-fault : goal.primary::unary_call-returns-in_err-argument-clause-fault
 primary::unary_call-returns-in_err-argument-clause-fault t c =
     let p = err_from_is_err_and c.from_residual-in_err-argument.result c.from_residual-in_err-argument.ensures.1 in
     let two : c.args.from + 2 ≡ c.args.from + 1 + 1 = omega arith in
     rw (p.1, p.2) (refuse_unary_call c.args.tokens.now c.args.from c.args.function c.requires.begins c.in_err-argument.field-0.0
-    (missing_behind_sign signs.OpenParen (closed signs.CloseParen) c.args.tokens.now (c.args.from + 1) c.in_err-argument.field-0.0 (rw two at c.in_err-argument.ensures.fault)))
+    (missing_behind_sign signs.OpenParen (closed signs.CloseParen) c.args.tokens.now (c.args.from + 1) c.in_err-argument.field-0.0 c.in_ok-expect.ensures.ok.1 (rw two at c.in_err-argument.ensures.fault)))
 
 pub primary::unary_call-returns-clause-ok : goal.primary::unary_call-returns-clause-ok
 primary::unary_call-returns-clause-ok t c =
@@ -183,35 +204,35 @@ pub primary::binary_call-returns-in_err-expect-clause-fault : goal.primary::bina
 primary::binary_call-returns-in_err-expect-clause-fault t c =
     let p = err_from_is_err_and c.from_residual.result c.from_residual.ensures.1 in
     rw (p.1, p.2) (refuse_binary_call c.args.tokens.now c.args.from c.args.function c.requires.begins c.in_err-expect.field-0.0
-    (missing_sign signs.OpenParen (closed_by second_argument second_closes) c.args.tokens.now (c.args.from + 1) c.in_err-expect.field-0.0 (omega (arith, c.requires.place)) c.in_err-expect.ensures.fault))
+    (missing_sign signs.OpenParen (closed_by second_argument second_closes) c.args.tokens.now (c.args.from + 1) c.in_err-expect.field-0.0 (omega (arith, c.requires.place)) short_two c.in_err-expect.ensures.fault))
 
 pub primary::binary_call-returns-in_err-first-clause-fault : goal.primary::binary_call-returns-in_err-first-clause-fault
 primary::binary_call-returns-in_err-first-clause-fault t c =
     let p = err_from_is_err_and c.from_residual-in_err-first.result c.from_residual-in_err-first.ensures.1 in
     let two : c.args.from + 2 ≡ c.args.from + 1 + 1 = omega arith in
     rw (p.1, p.2) (refuse_binary_call c.args.tokens.now c.args.from c.args.function c.requires.begins c.in_err-first.field-0.0
-    (missing_behind_sign signs.OpenParen (closed_by second_argument second_closes) c.args.tokens.now (c.args.from + 1) c.in_err-first.field-0.0
-    (missing_closed second_argument second_closes c.args.tokens.now (c.args.from + 1 + 1) c.in_err-first.field-0.0 (rw two at c.in_err-first.ensures.fault))))
+    (missing_behind_sign signs.OpenParen (closed_by second_argument second_closes) c.args.tokens.now (c.args.from + 1) c.in_err-first.field-0.0 c.in_ok-expect.ensures.ok.1
+    (missing_closed second_argument second_closes c.args.tokens.now (c.args.from + 1 + 1) c.in_err-first.field-0.0 short_second (rw two at c.in_err-first.ensures.fault))))
 
 pub primary::binary_call-returns-in_err-expect-2-clause-fault : goal.primary::binary_call-returns-in_err-expect-2-clause-fault
 primary::binary_call-returns-in_err-expect-2-clause-fault t c =
     let p = err_from_is_err_and c.from_residual-in_err-expect-2.result c.from_residual-in_err-expect-2.ensures.1 in
     let two : c.args.from + 2 ≡ c.args.from + 1 + 1 = omega arith in
     rw (p.1, p.2) (refuse_binary_call c.args.tokens.now c.args.from c.args.function c.requires.begins c.in_err-expect-2.field-0.0
-    (missing_behind_sign signs.OpenParen (closed_by second_argument second_closes) c.args.tokens.now (c.args.from + 1) c.in_err-expect-2.field-0.0
+    (missing_behind_sign signs.OpenParen (closed_by second_argument second_closes) c.args.tokens.now (c.args.from + 1) c.in_err-expect-2.field-0.0 c.in_ok-expect.ensures.ok.1
     (missing_close_part second_argument second_closes c.args.tokens.now (c.args.from + 1 + 1) c.in_ok-first.middle (term_of c.in_ok-first.first) c.in_err-expect-2.field-0.0
     (rw two at c.in_ok-first.ensures.ok)
-    (missing_sign signs.Comma (closed signs.CloseParen) c.args.tokens.now c.in_ok-first.middle c.in_err-expect-2.field-0.0 c.in_ok-first.ensures.ok.within c.in_err-expect-2.ensures.fault))))
+    (missing_sign signs.Comma (closed signs.CloseParen) c.args.tokens.now c.in_ok-first.middle c.in_err-expect-2.field-0.0 c.in_ok-first.ensures.ok.within (short_closed signs.CloseParen) c.in_err-expect-2.ensures.fault))))
 
 pub primary::binary_call-returns-in_err-second-clause-fault : goal.primary::binary_call-returns-in_err-second-clause-fault
 primary::binary_call-returns-in_err-second-clause-fault t c =
     let p = err_from_is_err_and c.from_residual-in_err-second.result c.from_residual-in_err-second.ensures.1 in
     let two : c.args.from + 2 ≡ c.args.from + 1 + 1 = omega arith in
     rw (p.1, p.2) (refuse_binary_call c.args.tokens.now c.args.from c.args.function c.requires.begins c.in_err-second.field-0.0
-    (missing_behind_sign signs.OpenParen (closed_by second_argument second_closes) c.args.tokens.now (c.args.from + 1) c.in_err-second.field-0.0
+    (missing_behind_sign signs.OpenParen (closed_by second_argument second_closes) c.args.tokens.now (c.args.from + 1) c.in_err-second.field-0.0 c.in_ok-expect.ensures.ok.1
     (missing_close_part second_argument second_closes c.args.tokens.now (c.args.from + 1 + 1) c.in_ok-first.middle (term_of c.in_ok-first.first) c.in_err-second.field-0.0
     (rw two at c.in_ok-first.ensures.ok)
-    (missing_behind_sign signs.Comma (closed signs.CloseParen) c.args.tokens.now c.in_ok-first.middle c.in_err-second.field-0.0 c.in_err-second.ensures.fault))))
+    (missing_behind_sign signs.Comma (closed signs.CloseParen) c.args.tokens.now c.in_ok-first.middle c.in_err-second.field-0.0 c.in_ok-expect-2.ensures.ok.1 c.in_err-second.ensures.fault))))
 
 pub primary::binary_call-returns-clause-ok : goal.primary::binary_call-returns-clause-ok
 primary::binary_call-returns-clause-ok t c =
@@ -232,15 +253,15 @@ pub primary::look-returns-in_err-expect-clause-fault : goal.primary::look-return
 primary::look-returns-in_err-expect-clause-fault t c =
     let p = err_from_is_err_and c.from_residual.result c.from_residual.ensures.1 in
     rw (p.1, p.2) (refuse_look c.args.tokens.now c.args.from c.args.word c.requires.begins c.in_err-expect.field-0.0
-    (missing_sign signs.OpenParen (both identifier look_arguments) c.args.tokens.now (c.args.from + 1) c.in_err-expect.field-0.0 (omega (arith, c.requires.place)) c.in_err-expect.ensures.fault))
+    (missing_sign signs.OpenParen (both identifier look_arguments) c.args.tokens.now (c.args.from + 1) c.in_err-expect.field-0.0 (omega (arith, c.requires.place)) short_look c.in_err-expect.ensures.fault))
 
 pub primary::look-returns-in_err-name-clause-fault : goal.primary::look-returns-in_err-name-clause-fault
 primary::look-returns-in_err-name-clause-fault t c =
     let p = err_from_is_err_and c.from_residual-in_err-name.result c.from_residual-in_err-name.ensures.1 in
     let two : c.args.from + 2 ≡ c.args.from + 1 + 1 = omega arith in
     rw (p.1, p.2) (refuse_look c.args.tokens.now c.args.from c.args.word c.requires.begins c.in_err-name.field-0.0
-    (missing_behind_sign signs.OpenParen (both identifier look_arguments) c.args.tokens.now (c.args.from + 1) c.in_err-name.field-0.0
-    (missing_first identifier look_arguments c.args.tokens.now (c.args.from + 1 + 1) c.in_err-name.field-0.0 (rw two at c.in_err-name.ensures.fault))))
+    (missing_behind_sign signs.OpenParen (both identifier look_arguments) c.args.tokens.now (c.args.from + 1) c.in_err-name.field-0.0 c.in_ok-expect.ensures.ok.1
+    (missing_first identifier look_arguments c.args.tokens.now (c.args.from + 1 + 1) c.in_err-name.field-0.0 short_look_arguments (rw two at c.in_err-name.ensures.fault))))
 
 pub primary::look-returns-in_err-args-clause-fault : goal.primary::look-returns-in_err-args-clause-fault
 primary::look-returns-in_err-args-clause-fault t c =
@@ -248,9 +269,9 @@ primary::look-returns-in_err-args-clause-fault t c =
     let two : c.args.from + 2 ≡ c.args.from + 1 + 1 = omega arith in
     let three : c.args.from + 3 ≡ c.args.from + 1 + 1 + 1 = omega arith in
     rw (p.1, p.2) (refuse_look c.args.tokens.now c.args.from c.args.word c.requires.begins c.in_err-args.field-0.0
-    (missing_behind_sign signs.OpenParen (both identifier look_arguments) c.args.tokens.now (c.args.from + 1) c.in_err-args.field-0.0
+    (missing_behind_sign signs.OpenParen (both identifier look_arguments) c.args.tokens.now (c.args.from + 1) c.in_err-args.field-0.0 c.in_ok-expect.ensures.ok.1
     (missing_second identifier look_arguments c.args.tokens.now (c.args.from + 1 + 1) (c.args.from + 1 + 1 + 1) c.in_ok-name.name c.in_err-args.field-0.0
-    (rw two at c.in_ok-name.ensures.ok) (rw three at c.in_err-args.ensures.fault))))
+    (local_identifier c.in_ok-name.name) (rw two at c.in_ok-name.ensures.ok) (rw three at c.in_err-args.ensures.fault))))
 
 pub primary::look-returns-clause-ok : goal.primary::look-returns-clause-ok
 primary::look-returns-clause-ok t c =
@@ -275,7 +296,7 @@ primary::named-returns-in_err-index-clause-fault t c =
     let p = err_from_is_err_and c.from_residual-in_err-index.result c.from_residual-in_err-index.ensures.1 in
     let two : c.args.from + 2 ≡ c.args.from + 1 + 1 = omega arith in
     rw (p.1, p.2) (refuse_element c.args.tokens.now c.args.from c.in_ok-name.name c.requires.begins c.in_ok-name.ensures.ok (c.if-is_sign.ensures.answer.0 refl) c.in_err-index.field-0.0
-    (missing_behind_sign signs.OpenBracket (closed signs.CloseBracket) c.args.tokens.now (c.args.from + 1) c.in_err-index.field-0.0 (rw two at c.in_err-index.ensures.fault)))
+    (missing_behind_sign signs.OpenBracket (closed signs.CloseBracket) c.args.tokens.now (c.args.from + 1) c.in_err-index.field-0.0 (c.if-is_sign.ensures.answer.0 refl) (rw two at c.in_err-index.ensures.fault)))
 
 pub primary::named-returns-then-is_sign-clause-ok : goal.primary::named-returns-then-is_sign-clause-ok
 primary::named-returns-then-is_sign-clause-ok t c =

@@ -3,6 +3,8 @@ use Rattle.std.proofs.lemmas.Result.{err_from_is_err_and}
 use Rattle.px_syntax.specs.declared.expr.NodeReference.TheVariants as nodes
 use Rattle.px_syntax.specs.Expr.{Attribute, term_of}
 use Rattle.px_expr_parse.specs.Tail.{attribute, named}
+use Rattle.px_expr_parse.proofs.Completions.{short_attribute}
+use Rattle.px_expr_parse.proofs.Spans.{local_named}
 use Rattle.px_expr_parse.proofs.Parts.{read_as, found_both, missing_first, missing_second}
 use Rattle.px_expr_parse.proofs.Primaries.{read_sibling, refuse_sibling}
 use Rattle.px_expr_parse.proofs.primary.sibling.Goals as goal
@@ -11,7 +13,7 @@ pub returns-in_err-name-clause-fault : goal.returns-in_err-name-clause-fault
 returns-in_err-name-clause-fault c =
     let p = err_from_is_err_and c.from_residual.result c.from_residual.ensures.1 in
     rw (p.1, p.2) (refuse_sibling c.args.tokens.now c.args.from c.requires.begins c.in_err-name.field-0.0
-    (missing_first named attribute c.args.tokens.now (c.args.from + 1) c.in_err-name.field-0.0 c.in_err-name.ensures.fault))
+    (missing_first named attribute c.args.tokens.now (c.args.from + 1) c.in_err-name.field-0.0 short_attribute c.in_err-name.ensures.fault))
 
 pub returns-in_err-attribute-clause-fault : goal.returns-in_err-attribute-clause-fault
 returns-in_err-attribute-clause-fault c =
@@ -19,7 +21,7 @@ returns-in_err-attribute-clause-fault c =
     let place : c.args.from + 4 ≡ c.args.from + 1 + 3 = omega arith in
     rw (p.1, p.2) (refuse_sibling c.args.tokens.now c.args.from c.requires.begins c.in_err-attribute.field-0.0
     (missing_second named attribute c.args.tokens.now (c.args.from + 1) (c.args.from + 1 + 3) c.in_ok-name.name c.in_err-attribute.field-0.0
-    c.in_ok-name.ensures.ok (rw place at c.in_err-attribute.ensures.fault)))
+    (local_named c.in_ok-name.name) c.in_ok-name.ensures.ok (rw place at c.in_err-attribute.ensures.fault)))
 
 pub returns-clause-ok : goal.returns-clause-ok
 returns-clause-ok c =
