@@ -22,11 +22,12 @@ use Rattle.px_syntax.specs.Plan.{PlanTree}
 use Rattle.px_syntax.specs.PlanFaults.{faults}
 use Rattle.px_core.specs.Plan.{Tree}
 use Rattle.px_plan_parse.specs.Verdict as parsing
+use Rattle.px_plan_parse.proofs.Plans.{one_place}
 use Rattle.px_check.specs.Checked.{IsFirst}
 use Rattle.px_expand.specs.Bound.{is_too_large}
 use Rattle.px_expand.specs.Core.{core}
 use Rattle.px_expand.specs.Verdict as expanding
-use Rattle.px_compile.specs.Compiled.{IsSplit, IsSpelled, IsCompiled, IsRefused, but_for_token}
+use Rattle.px_compile.specs.Compiled.{IsSplit, IsSpelled, IsCompiled, IsRefused}
 
 -- ---- what the stages find is one
 
@@ -111,16 +112,17 @@ no_refusal bytes plan answers.NoMemory some made refused = absurd (some refl)
 same_parse :
     (tokens : List Token) (f g : ParseFault) → f ≢ parse_faults.NoMemory → g ≢ parse_faults.NoMemory
     → parsing.IsRefused tokens f → parsing.IsRefused tokens g
-    → but_for_token (answers.Parse f) ≡ but_for_token (answers.Parse g)
+    → f ≡ g
 same_parse tokens (parse_faults.Deep m) (parse_faults.Deep n) hf hg a b =
     let both : m ∷ a.0 ≡ n ∷ b.0 = sym a.1 ∙ b.1 in
     let same : m ≡ n = (cc) in
-    ap (λ token. answers.Parse (parse_faults.Deep token)) same
+    ap (λ token. parse_faults.Deep token) same
 same_parse tokens (parse_faults.Deep m) (parse_faults.SyntaxFault n) hf hg a b =
     let both : m ∷ a.0 ≡ [] = sym a.1 ∙ b.0 in cc
 same_parse tokens (parse_faults.SyntaxFault m) (parse_faults.Deep n) hf hg a b =
     let both : n ∷ b.0 ≡ [] = sym b.1 ∙ a.0 in cc
-same_parse tokens (parse_faults.SyntaxFault m) (parse_faults.SyntaxFault n) hf hg a b = refl
+same_parse tokens (parse_faults.SyntaxFault m) (parse_faults.SyntaxFault n) hf hg a b =
+    ap (λ token. parse_faults.SyntaxFault token) (one_place tokens m n a.1 b.1)
 same_parse tokens parse_faults.NoMemory g hf hg a b = absurd (hf refl)
 same_parse tokens f parse_faults.NoMemory hf hg a b = absurd (hg refl)
 
@@ -143,10 +145,10 @@ same_expand tree (expand_faults.TooMany m) (expand_faults.TooMany n) hf hg a b =
 same_expand tree expand_faults.NoMemory g hf hg a b = absurd (hf refl)
 same_expand tree f expand_faults.NoMemory hf hg a b = absurd (hg refl)
 
--- two refusals are one, but for the token of a syntax fault
+-- two refusals are one
 pub one_refusal :
     (bytes : List ℕ) (f g : PlanFault) → f ≢ answers.NoMemory → g ≢ answers.NoMemory
-    → IsRefused bytes f → IsRefused bytes g → but_for_token f ≡ but_for_token g
+    → IsRefused bytes f → IsRefused bytes g → f ≡ g
 one_refusal bytes (answers.NotText m) (answers.NotText n) hf hg a b =
     ap (λ at. answers.NotText at)
     (sym (utf8_valid_len-IsValidUpTo bytes m a.1) ∙ utf8_valid_len-IsValidUpTo bytes n b.1)
@@ -163,8 +165,8 @@ one_refusal bytes (answers.Lex f) (answers.Expand g) hf hg a b = absurd (no_spli
 one_refusal bytes (answers.Parse f) (answers.NotText n) hf hg a b = absurd (no_text bytes b.0 a.2.text)
 one_refusal bytes (answers.Parse f) (answers.Lex g) hf hg a b = absurd (no_split bytes g a.0 b.0 b.2 a.2)
 one_refusal bytes (answers.Parse f) (answers.Parse g) hf hg a b =
-    same_parse b.0 f g a.1 b.1
-    (subst (λ (tokens : List Token). parsing.IsRefused tokens f) (one_split bytes a.0 b.0 a.2 b.2) a.3) b.3
+    ap (λ fault. answers.Parse fault) (same_parse b.0 f g a.1 b.1
+    (subst (λ (tokens : List Token). parsing.IsRefused tokens f) (one_split bytes a.0 b.0 a.2 b.2) a.3) b.3)
 one_refusal bytes (answers.Parse f) (answers.Check g) hf hg a b = absurd (no_tree bytes a.0 f b.0 a.1 a.2 a.3 b.2)
 one_refusal bytes (answers.Parse f) (answers.Expand g) hf hg a b = absurd (no_tree bytes a.0 f b.0 a.1 a.2 a.3 b.2)
 one_refusal bytes (answers.Check f) (answers.NotText n) hf hg a b = absurd (no_text bytes b.0 a.2.split.text)

@@ -57,8 +57,3 @@ IsRefused bytes answers.NoMemory = Unit {0}
 -- all bytes that spell a tree are refused for this
 abbrev pub AllRefused : PlanTree → PlanFault → Type 0
 AllRefused tree fault = (bytes : List ℕ) → IsSpelled bytes tree → IsRefused bytes fault
-
--- a fault but for the token of a syntax fault: which of the tokens that no plan goes on with it names is free
-abbrev pub but_for_token : PlanFault → PlanFault
-but_for_token (answers.Parse (parse_faults.SyntaxFault token)) = answers.Parse (parse_faults.SyntaxFault 0)
-but_for_token fault = fault

@@ -3,14 +3,13 @@ ghost use Rattle.std.specs.Prelude.{◌≡◌, ◌≢◌};
 ghost use Rattle.px_core.specs.Plan.{Tree};
 ghost use Rattle.px_syntax.specs.declared.fault.PlanFault.{PlanFault};
 ghost use Rattle.px_syntax.specs.declared.fault.PlanFault.TheVariants.{NoMemory};
-ghost use Rattle.px_compile.specs.Compiled.{IsCompiled, IsRefused, but_for_token};
+ghost use Rattle.px_compile.specs.Compiled.{IsCompiled, IsRefused};
 
-/// No bytes spell two plans; none that spell one are refused, but for want of memory; and none are refused in two ways,
-/// but that a syntax fault may name one token or another.
+/// No bytes spell two plans; none that spell one are refused, but for want of memory; and none are refused in two ways.
 pub fn one_answer(bytes: &[u8])
     ensures one_plan { (a b : Tree) → IsCompiled bytes.now a → IsCompiled bytes.now b → a ≡ b }
     ensures no_refusal { (plan : Tree) (fault : PlanFault) → fault ≢ NoMemory
         → IsCompiled bytes.now plan → IsRefused bytes.now fault → ⊥ }
     ensures one_refusal { (f g : PlanFault) → f ≢ NoMemory → g ≢ NoMemory
-        → IsRefused bytes.now f → IsRefused bytes.now g → but_for_token f ≡ but_for_token g }
+        → IsRefused bytes.now f → IsRefused bytes.now g → f ≡ g }
 {}

@@ -13,7 +13,8 @@ use Rattle.px_syntax.specs.declared.word.BlockForm.TheVariants as forms
 use Rattle.px_syntax.specs.Block.{ItemData, BlockTree, Braces, Actions, NoActions, More, ActionTree, Labelled, BodyTree, Inner, Assign, CallInto, Call, Update, If, While, For, actions_in_turn}
 use Rattle.px_syntax.specs.BlockGrammar.{action, block, body, each_action}
 use Rattle.px_syntax.specs.Form.{Form, identifier, kind_at, sign, ◌then◌, each}
-use Rattle.px_expr_parse.specs.Verdict.{Agree}
+use Rattle.px_expr_parse.specs.Verdict.{Agree, IsBegun}
+use Rattle.px_expr_parse.proofs.Completions.{begun_as, begun_here, short_token}
 use Rattle.px_plan_parse.specs.declared.start.Start.{Start}
 use Rattle.px_plan_parse.specs.declared.start.Start.TheVariants as starts
 use Rattle.px_plan_parse.specs.Part.{Anything, IsLacking, IsPart}
@@ -22,7 +23,7 @@ use Rattle.px_plan_parse.specs.Tail.{closed_actions, every_item, head, list_word
 use Rattle.px_plan_parse.proofs.Parts.{Begins, HasKind, LacksKind, Makes, before, both, both_of, lack_alone, lack_made, lack_word, part_alone, part_made, part_word}
 use Rattle.px_plan_parse.proofs.Sorts as sorts
 use Rattle.px_plan_parse.proofs.Sorts.{sort_of, tree_sort}
-use Rattle.px_plan_parse.proofs.Starts.{HasStart, found, start_brace, start_keyword, start_name, start_nothing, start_too, token_of}
+use Rattle.px_plan_parse.proofs.Starts.{HasStart, found, start_brace, start_keyword, start_name, start_nothing, start_same, start_too, token_of}
 
 -- ---- labels
 
@@ -61,7 +62,7 @@ module _ (tokens : List Token) (from : ℕ) where
       → Makes head (form_brace form) (λ (none : Unit {0}). Some form) tokens from
   makes_form form is =
       record {
-        builds = λ others agree part end o. o;
+        builds = λ others part end o. o;
         splits = λ others agree. split others (start_too tokens others from from (omega arith) agree ∙ is);
       }
     where
@@ -79,7 +80,7 @@ module _ (tokens : List Token) (from : ℕ) where
       → Makes head (λ (none : Unit {0}). sign signs.OpenBrace) (λ (none : Unit {0}). None) tokens from
   makes_brace no_form =
       record {
-        builds = λ others agree part end o. o;
+        builds = λ others part end o. o;
         splits = λ others agree. split others (start_too tokens others from from (omega arith) agree);
       }
     where
@@ -93,24 +94,24 @@ module _ (tokens : List Token) (from : ℕ) where
   form_word_ends form others end o = (form_starts form others from end o).1
 
   module _ (form : BlockForm) (is : start_at tokens from ≡ starts.Form form) where
+    word_stands : (others : List Token) → kind_at others from ≡ kind_at tokens from → written_form form others from (from + 1)
+    word_stands others same =
+        form_stands form others from (token_of others from (starts.Form form) (start_same tokens others from same ∙ is) (λ e. cc))
+
     pub part_form :
         from + 1 < length tokens → HasKind tokens (from + 1) (kinds.Sign signs.OpenBrace) → IsPart head Anything tokens from (Some form) (from + 2)
     part_form inside has =
         let two : from + 1 + 1 ≡ from + 2 = omega arith in
         subst (λ (to : ℕ). IsPart head Anything tokens from (Some form) to) two
         (part_made (makes_form form is)
-        (part_word (written_form form) (λ (none : Unit {0}). sign signs.OpenBrace)
-        (λ others agree.
-        form_stands form others from
-        (token_of others from (starts.Form form) (start_too tokens others from from (omega arith) agree ∙ is) (λ e. cc)))
-        (form_word_ends form) (part_alone inside has)))
+        (part_word (written_form form) (λ (none : Unit {0}). sign signs.OpenBrace) word_stands (form_word_ends form) (part_alone inside has)))
 
     pub lack_form :
         (fault : ParseFault) → from + 1 ≤ length tokens → LacksKind tokens (from + 1) (kinds.Sign signs.OpenBrace) fault
         → IsLacking head Anything tokens from fault
     lack_form fault within lacks =
         lack_made (makes_form form is)
-        (lack_word (written_form form) (λ (none : Unit {0}). sign signs.OpenBrace) (form_word_ends form) (lack_alone within lacks))
+        (lack_word (written_form form) (λ (none : Unit {0}). sign signs.OpenBrace) word_stands (form_word_ends form) (lack_alone within lacks))
 
   module _ (no_form : (form : BlockForm) → start_at tokens from ≡ starts.Form form → ⊥) where
     pub part_brace : from < length tokens → HasKind tokens from (kinds.Sign signs.OpenBrace) → IsPart head Anything tokens from None (from + 1)
@@ -190,6 +191,10 @@ module _ (tokens : List Token) (from : ℕ) where
               record {
                 reached = omega (arith, at);
                 within = omega (arith, at, within);
+                begun =
+                    subst (λ (t : ℕ). IsBegun (list_word None) tokens from t) (sym at)
+                    (begun_as (begun_here (short_token (kinds.Sign signs.Colon))) (λ others agree end none o.
+                    (forms.NodeList, (from + 1, (agree from (omega arith) ∙ has, refl), o))));
                 none = λ others agree.
                     none others (start_too tokens others from token (omega (arith, at)) agree) (sym (agree (from + 1) (omega (arith, at))));
               };
@@ -288,7 +293,7 @@ from_turn (More first rest) tokens from to o =
 pub makes_actions : (tokens : List Token) (from : ℕ) → Makes closed_actions closed_list actions_in_turn tokens from
 makes_actions tokens from =
     record {
-      builds = λ others agree part end o. (o.0, to_turn part others from o.0 o.1, o.2);
+      builds = λ others part end o. (o.0, to_turn part others from o.0 o.1, o.2);
       splits = λ others agree tree end o.
           let r = from_turn tree others from o.0 o.1 in (r.0, r.1, (o.0, r.2, o.2));
     }
@@ -351,7 +356,7 @@ pub actions_follow : Begins closed_actions Anything NoListWord
 actions_follow tokens tree from end o next = (actions_begin tree tokens from end o).1
 
 pub makes_block : (tokens : List Token) (from : ℕ) → Makes block (both_of head block_tail) block_build tokens from
-makes_block tokens from = record { builds = λ others agree. build others; splits = λ others agree. split others }
+makes_block tokens from = record { builds = build; splits = λ others agree. split others }
   where
     written :
         (others : List Token) (form : BlockForm) (items : List ItemData) (actions : Actions) (end : ℕ)

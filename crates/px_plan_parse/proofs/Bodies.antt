@@ -12,7 +12,9 @@ use Rattle.px_syntax.specs.BlockGrammar.{action, block, body, branch, else_ifs, 
 use Rattle.px_syntax.specs.Expr.{Term}
 use Rattle.px_syntax.specs.Form.{Form, identifier, keyword, optional, maybe, each}
 use Rattle.px_expr_parse.specs.Tail.{closed}
-use Rattle.px_expr_parse.specs.Verdict.{Agree, IsFound}
+use Rattle.px_expr_parse.specs.Verdict.{Agree, AgreeBefore, IsFound}
+use Rattle.px_expr_parse.proofs.Completions.{before as before_late, begun_as, moved}
+use Rattle.px_expr_parse.proofs.Spans.{local_identifier}
 use Rattle.px_expr_parse.proofs.Parts.{agree_before}
 use Rattle.px_plan_parse.specs.declared.start.Start.{Start}
 use Rattle.px_plan_parse.specs.declared.start.Start.TheVariants as starts
@@ -35,7 +37,7 @@ block_no_name tokens tree from end o next is =
 pub makes_branch :
     (tokens : List Token) (from : ℕ)
     → Makes branch (both label block) (λ (parts : Option Identifier × BlockTree). Branch parts.0 parts.1) tokens from
-makes_branch tokens from = record { builds = λ others agree part end o. o; splits = λ others agree. split others }
+makes_branch tokens from = record { builds = λ others part end o. o; splits = λ others agree. split others }
   where
     split :
         (others : List Token) (tree : BranchTree) (end : ℕ) → branch tree others from end
@@ -50,7 +52,7 @@ pub makes_guarded :
     → Makes guarded test_and_branch (λ (parts : Term × BranchTree). Guarded parts.0 parts.1) tokens from
 makes_guarded tokens from =
     record {
-      builds = λ others agree part end o. (o.0, o.1, (o.2.1.0, o.2.1.1, (o.2.0, o.2.1.2, o.2.2)));
+      builds = λ others part end o. (o.0, o.1, (o.2.1.0, o.2.1.1, (o.2.0, o.2.1.2, o.2.2)));
       splits = λ others agree. split others;
     }
   where
@@ -92,13 +94,13 @@ from_turn (ElseIf first rest) tokens from to o =
 pub makes_else_ifs : (tokens : List Token) (from : ℕ) → Makes else_ifs (each one_else_if) else_ifs_in_turn tokens from
 makes_else_ifs tokens from =
     record {
-      builds = λ others agree part end o. to_turn part others from end o;
+      builds = λ others part end o. to_turn part others from end o;
       splits = λ others agree tree end o. from_turn tree others from end o;
     }
 
 pub makes_otherwise :
     (tokens : List Token) (from : ℕ) → Makes otherwise (maybe (behind (kinds.Keyword words.Else) branch)) else_of tokens from
-makes_otherwise tokens from = record { builds = λ others agree. build others; splits = λ others agree. split others }
+makes_otherwise tokens from = record { builds = build; splits = λ others agree. split others }
   where
     build :
         (others : List Token) (part : Option BranchTree) (end : ℕ) → maybe (behind (kinds.Keyword words.Else) branch) part others from end
@@ -209,7 +211,7 @@ module _ (tokens : List Token) (from : ℕ) where
       → Makes body parts made tokens from
   makes_sort sort parts made begins build split =
       record {
-        builds = λ others agree part end o. build others part end o;
+        builds = λ others part end o. build others part end o;
         splits = λ others agree tree end o.
             split others tree end
             (same_Some (tree_sort tree) sort (sym (body_sort tree others from end o) ∙ ap sort_of (start_too tokens others from from (omega arith) agree) ∙ begins)) o;
@@ -330,7 +332,7 @@ module _ (tokens : List Token) (from : ℕ) where
       (start_at tokens from ≡ starts.Name → ⊥) → Makes action body (λ (tree : BodyTree). Labelled None tree) tokens from
   makes_unlabelled no_name =
       record {
-        builds = λ others agree part end o. (from, refl, o);
+        builds = λ others part end o. (from, refl, o);
         splits = λ others agree. split others (start_too tokens others from from (omega arith) agree);
       }
     where
@@ -344,6 +346,10 @@ module _ (tokens : List Token) (from : ℕ) where
   module _ (name : Identifier) (found : IsFound identifier tokens from name (from + 1)) where
     name_is : (others : List Token) → Agree tokens others (from + 1) → start_at others from ≡ starts.Name
     name_is others agree = start_name others from name.name (found.only others agree).spelled.1.0
+
+    -- the name in all tokens that agree
+    name_there : (others : List Token) → AgreeBefore tokens others (from + 1) → identifier name others from (from + 1)
+    name_there = moved tokens (local_identifier name) (λ others agree. (found.only others agree).spelled)
 
     -- an action without a label, by what is behind its name
     unlabelled :
@@ -413,6 +419,18 @@ module _ (tokens : List Token) (from : ℕ) where
                 record {
                   reached = omega (arith, l.reached);
                   within = l.within;
+                  begun = begun_as l.begun (λ others agree end parts o. (
+                    Labelled (Some name) parts,
+                    (
+                      from + 2,
+                      (
+                        from + 1,
+                        name_there others (before_late tokens others (from + 1) token (omega (arith, l.reached)) agree),
+                        (agree (from + 1) (omega (arith, l.reached)) ∙ colon, omega arith),
+                      ),
+                      o,
+                    ),
+                  ));
                   none = λ others agree other end o next.
                       let p = labelled others (agree_before tokens others (from + 1) token (omega (arith, l.reached)) agree) other end o in
                       l.none others agree p.0 end p.2 next;
@@ -445,7 +463,7 @@ module _ (tokens : List Token) (from : ℕ) where
                   spelled = (
                     from,
                     refl,
-                    (makes_named others from (ap sort_of (name_is others agree_next))).builds others (λ place le. refl) (name, inner) to
+                    (makes_named others from (ap sort_of (name_is others agree_next))).builds others (name, inner) to
                         (from + 1, (found.only others agree_next).spelled, one.spelled),
                   );
                   only = λ other end o next.
@@ -464,6 +482,16 @@ module _ (tokens : List Token) (from : ℕ) where
                 record {
                   reached = omega (arith, l.reached);
                   within = l.within;
+                  begun = begun_as l.begun (λ others agree end inner o.
+                      let named_is = name_there others (before_late tokens others (from + 1) token l.reached agree) in (
+                        Labelled None (named_body name inner),
+                        (
+                          from,
+                          refl,
+                          (makes_named others from (ap sort_of (start_name others from name.name named_is.1.0))).builds others (name, inner) end
+                              (from + 1, named_is, o),
+                        ),
+                      ));
                   none = λ others agree other end o next.
                       let p = plain others (agree_before tokens others (from + 1) token l.reached agree) other end o in
                       l.none others agree p.0 end p.2 tt;

@@ -9,10 +9,19 @@ use Rattle.px_syntax.specs.Form.{Form, each, with_commas}
 use Rattle.px_expr_parse.specs.Verdict.{Agree}
 use Rattle.px_plan_parse.specs.Part.{Follow, Anything, IsPart, IsLacking}
 use Rattle.px_plan_parse.specs.Tail.{Only}
-use Rattle.px_plan_parse.proofs.Parts.{IsFront, Begins, HasKind, LacksKind, Makes, behind, before, both, front_begins, front_ends, front_lacks, front_more, lack_before, lack_behind, lack_first, lack_made, lack_second, lack_token, part_before, part_behind, part_both, part_made}
+use Rattle.px_expr_parse.proofs.Completions.{short_nothing}
+use Rattle.px_expr_parse.proofs.Spans.{IsLocal, local_sign, local_then, local_never}
+use Rattle.px_plan_parse.proofs.Parts.{IsFront, Begins, HasKind, LacksKind, Makes, behind, before, both, front_begins, front_ends, front_lacks, front_more, lack_before, lack_behind, local_each, lack_first, lack_made, lack_second, lack_token, part_before, part_behind, part_both, part_made}
 
 abbrev pub further : {A : Type 0} → (A → Form) → A → Form
 further form = behind (kinds.Sign signs.Comma) form
+
+local_further : {A : Type 0} {form : A → Form} → ((part : A) → IsLocal (form part)) → (part : A) → IsLocal (further form part)
+local_further local part = local_then (local_sign signs.Comma) (local part)
+
+pub local_commas : {A : Type 0} {form : A → Form} → ((part : A) → IsLocal (form part)) → (parts : List A) → IsLocal (with_commas form parts)
+local_commas local [] = local_never
+local_commas local (first ∷ rest) = local_then (local first) (local_each (local_further local) rest)
 
 -- one part or more up to a place, where more may stand
 pub record HasCommas {A : Type 0} (form : A → Form) (Next Last : Follow) (tokens : List Token) (from : ℕ) (done : List A) (at : ℕ) : Type 0 where
@@ -32,7 +41,7 @@ module _ {A : Type 0} (form : A → Form) (Next : Follow) (close : Sign) (tokens
     (close_follows : (others : List Token) (place : ℕ) → HasKind others place (kinds.Sign close) → Next others place)
   where
     as_pair : Makes (with_commas form) (both form (each (further form))) (λ (parts : A × List A). parts.0 ∷ parts.1) tokens from
-    as_pair = record { builds = λ others agree part end o. o; splits = λ others agree. split others }
+    as_pair = record { builds = λ others part end o. o; splits = λ others agree. split others }
       where
         split :
             (others : List Token) (all : List A) (end : ℕ) → with_commas form all others from end
@@ -45,7 +54,7 @@ module _ {A : Type 0} (form : A → Form) (Next : Follow) (close : Sign) (tokens
     rest_begins others (part ∷ rest) place end o closes = comma_follows others place o.1.1.0
 
     pub commas_lack_first : {fault : ParseFault} → IsLacking form Next tokens from fault → IsLacking (closed_commas form close) Anything tokens from fault
-    commas_lack_first f = lack_before (λ others place has. has) (lack_made as_pair (lack_first rest_begins f))
+    commas_lack_first f = lack_before (λ others place has. has) (lack_made as_pair (lack_first rest_begins (short_nothing (λ others place. ([], refl))) f))
 
     pub commas_begin :
         {part : A} {to : ℕ} → IsPart form Next tokens from part to → HasCommas form Next (Only close) tokens from (part ∷ []) to
@@ -74,13 +83,13 @@ module _ {A : Type 0} (form : A → Form) (Next : Follow) (close : Sign) (tokens
           }
 
       pub commas_lack :
-          {fault : ParseFault} → HasKind tokens at (kinds.Sign signs.Comma) → IsLacking form Next tokens (at + 1) fault
-          → IsLacking (closed_commas form close) Anything tokens from fault
-      commas_lack comma f =
+          {fault : ParseFault} → ((part : A) → IsLocal (form part)) → HasKind tokens at (kinds.Sign signs.Comma)
+          → IsLacking form Next tokens (at + 1) fault → IsLacking (closed_commas form close) Anything tokens from fault
+      commas_lack local comma f =
           lack_before (λ others place has. has)
-          (lack_made as_pair (lack_second rest_begins so_far.begun
+          (lack_made as_pair (lack_second rest_begins (local so_far.first) so_far.begun
           (front_lacks so_far.front (λ others other place end o. comma_follows others place o.1.0) close_follows (goes_on comma)
-          (lack_behind f))))
+          (local_further local) (lack_behind comma f))))
 
       all_read : (HasKind tokens at (kinds.Sign signs.Comma) → ⊥) → IsPart (with_commas form) (Only close) tokens from done at
       all_read none =
@@ -94,6 +103,6 @@ module _ {A : Type 0} (form : A → Form) (Next : Follow) (close : Sign) (tokens
       commas_end none inside has = part_before (λ others place is. is) inside (all_read none) has
 
       pub commas_lack_close :
-          {fault : ParseFault} → (HasKind tokens at (kinds.Sign signs.Comma) → ⊥) → LacksKind tokens at (kinds.Sign close) fault
-          → IsLacking (closed_commas form close) Anything tokens from fault
-      commas_lack_close none lacks = lack_token (λ others place is. is) (all_read none) lacks
+          {fault : ParseFault} → ((part : A) → IsLocal (form part)) → (HasKind tokens at (kinds.Sign signs.Comma) → ⊥)
+          → LacksKind tokens at (kinds.Sign close) fault → IsLacking (closed_commas form close) Anything tokens from fault
+      commas_lack_close local none lacks = lack_token (λ others place is. is) (local_commas local done) (all_read none) lacks

@@ -13,7 +13,8 @@ use Rattle.px_syntax.specs.BlockGrammar.{type_word}
 use Rattle.px_syntax.specs.Form.{Form, identifier, keyword, kind_at, sign, ◌then◌, maybe}
 use Rattle.px_syntax.specs.Plan.{DeclarationData, Command, Lookup}
 use Rattle.px_syntax.specs.PlanGrammar.{declaration, parameter}
-use Rattle.px_expr_parse.specs.Verdict.{Agree}
+use Rattle.px_expr_parse.specs.Verdict.{Agree, IsBegun}
+use Rattle.px_expr_parse.proofs.Completions.{Shortest, begun_here}
 use Rattle.px_plan_parse.specs.declared.start.Start.{Start}
 use Rattle.px_plan_parse.specs.declared.start.Start.TheVariants as starts
 use Rattle.px_plan_parse.specs.Part.{Follow, Anything, IsLacking, IsPart}
@@ -28,16 +29,17 @@ use Rattle.px_plan_parse.proofs.Starts.{start_keyword, start_name, start_nothing
 -- a form that begins otherwise than what is there
 pub lacks_here :
     {A : Type 0} {form : A → Form} {Last : Follow} (tokens : List Token) (from : ℕ) (fault : ParseFault) → fault ≡ faults.SyntaxFault from
-    → from ≤ length tokens
+    → from ≤ length tokens → Shortest form
     → ((others : List Token) → start_at others from ≡ start_at tokens from → (part : A) (end : ℕ) → form part others from end → ⊥)
     → IsLacking form Last tokens from fault
-lacks_here tokens from fault e within none =
+lacks_here {form = form} tokens from fault e within short none =
     record {
       named = λ token is.
           let same : token ≡ from = cc in
           record {
             reached = omega (arith, same);
             within = omega (arith, same, within);
+            begun = subst (λ (t : ℕ). IsBegun form tokens from t) (sym same) (begun_here short);
             none = λ others agree tree end o next. none others (start_too tokens others from token (omega (arith, same)) agree) tree end o;
           };
       shallow = λ token is. cc;
@@ -57,7 +59,7 @@ module _ (tokens : List Token) (from : ℕ) where
       → Makes parameter (named_type of_type) (λ (name : Option Identifier). record { of_type = of_type; name = name }) tokens from
   makes_parameter of_type is =
       record {
-        builds = λ others agree part end o. o;
+        builds = λ others part end o. o;
         splits = λ others agree tree end o.
             let s = (type_starts tree.of_type others from o.0 o.1).0 in
             let t = start_too tokens others from from (omega arith) agree in
@@ -118,7 +120,7 @@ module _ (tokens : List Token) (from : ℕ) where
       (HasKind tokens from (kinds.Sign signs.CloseParen) → ⊥)
       → Makes closed_parameters (closed_commas parameter signs.CloseParen) (λ (parts : List Parameter). parts) tokens from
   makes_parameters no_paren =
-      record { builds = λ others agree. build others; splits = λ others agree. split others (sym (agree from (omega arith))) }
+      record { builds = build; splits = λ others agree. split others (sym (agree from (omega arith))) }
     where
       build :
           (others : List Token) (parts : List Parameter) (end : ℕ) → closed_commas parameter signs.CloseParen parts others from end
@@ -137,7 +139,7 @@ module _ (tokens : List Token) (from : ℕ) where
       (HasKind tokens from (kinds.Sign signs.OpenParen) → ⊥)
       → Makes declared_parameters (λ (none : Unit {0}). sign signs.Semicolon) (λ (none : Unit {0}). []) tokens from
   makes_no_parameters no_paren =
-      record { builds = λ others agree part end o. (from, inl refl, o); splits = λ others agree. split others (sym (agree from (omega arith))) }
+      record { builds = λ others part end o. (from, inl refl, o); splits = λ others agree. split others (sym (agree from (omega arith))) }
     where
       split :
           (others : List Token) → kind_at tokens from ≡ kind_at others from → (parts : List Parameter) (end : ℕ)
@@ -154,7 +156,7 @@ module _ (tokens : List Token) (from : ℕ) where
       → Makes declared_parameters (behind (kinds.Sign signs.OpenParen) (before closed_parameters (kinds.Sign signs.Semicolon)))
       (λ (parts : List Parameter). parts) tokens from
   makes_given_parameters has =
-      record { builds = λ others agree. build others; splits = λ others agree. split others (agree from (omega arith) ∙ has) }
+      record { builds = build; splits = λ others agree. split others (agree from (omega arith) ∙ has) }
     where
       build :
           (others : List Token) (parts : List Parameter) (end : ℕ)
@@ -201,7 +203,7 @@ module _ (tokens : List Token) (from : ℕ) where
       (answer : TypeName) → start_at tokens from ≡ starts.Type answer → Makes declaration (typed_word answer) (typed_build answer) tokens from
   makes_typed answer is =
       record {
-        builds = λ others agree. build others;
+        builds = build;
         splits = λ others agree. split others (start_too tokens others from from (omega arith) agree ∙ is);
       }
     where
@@ -238,7 +240,7 @@ module _ (tokens : List Token) (from : ℕ) where
       → Makes worded (behind (kinds.Keyword words.Command) signature) (λ (parts : Identifier × List Parameter). (true, parts)) tokens from
   makes_command_word is =
       record {
-        builds = λ others agree part end o. o;
+        builds = λ others part end o. o;
         splits = λ others agree. split others (start_too tokens others from from (omega arith) agree ∙ is);
       }
     where
@@ -254,7 +256,7 @@ module _ (tokens : List Token) (from : ℕ) where
       → Makes worded (behind (kinds.Keyword words.Lookup) signature) (λ (parts : Identifier × List Parameter). (false, parts)) tokens from
   makes_lookup_word is =
       record {
-        builds = λ others agree part end o. o;
+        builds = λ others part end o. o;
         splits = λ others agree. split others (start_too tokens others from from (omega arith) agree ∙ is);
       }
     where
@@ -277,7 +279,7 @@ module _ (tokens : List Token) (from : ℕ) where
       (λ (parts : Identifier × List Parameter). Command None parts.0 parts.1) tokens from
   makes_command is =
       record {
-        builds = λ others agree part end o. (from, refl, o);
+        builds = λ others part end o. (from, refl, o);
         splits = λ others agree. split others (start_too tokens others from from (omega arith) agree ∙ is);
       }
     where

@@ -19,7 +19,8 @@ use Rattle.px_syntax.specs.BlockGrammar.{condition_word, initial, item, listed, 
 use Rattle.px_syntax.specs.Expr.{Term}
 use Rattle.px_syntax.specs.ExprGrammar.{expression, literal_kind}
 use Rattle.px_syntax.specs.Form.{Form, identifier, kind_at, one, ◌then◌}
-use Rattle.px_expr_parse.specs.Verdict.{Agree}
+use Rattle.px_expr_parse.specs.Verdict.{Agree, IsBegun}
+use Rattle.px_expr_parse.proofs.Completions.{begun_here}
 use Rattle.px_expr_parse.specs.Tail.{closed}
 use Rattle.px_expr_parse.proofs.Arguments.{no_colon}
 use Rattle.px_expr_parse.proofs.Parts.{agree_before}
@@ -29,7 +30,8 @@ use Rattle.px_plan_parse.specs.Part.{Anything, IsLacking, IsPart, IsSole}
 use Rattle.px_plan_parse.specs.Start.{NoItem, is_item, start_at}
 use Rattle.px_plan_parse.specs.Tail.{array_size, closed_variables, first_value, listed_values, NoLiteral, Only, priority, test, Unless, VariableEnded}
 use Rattle.px_plan_parse.proofs.Parts.{Begins, HasKind, Makes, behind, both, lack_word, part_word}
-use Rattle.px_plan_parse.proofs.Starts.{condition_stands, condition_starts, item_starts, priority_starts, start_too, token_of, type_stands, type_starts}
+use Rattle.px_plan_parse.proofs.Shortests.{short_item, short_literal}
+use Rattle.px_plan_parse.proofs.Starts.{condition_stands, condition_starts, item_starts, priority_starts, start_same, start_too, token_of, type_starts, typed_ends, typed_stands}
 
 -- ---- literals
 
@@ -103,6 +105,7 @@ module _ (tokens : List Token) (from : ℕ) (kind : TokenKind) (has : HasKind to
               record {
                 reached = omega (arith, e);
                 within = omega (arith, e, inside);
+                begun = subst (λ (t : ℕ). IsBegun literal tokens from t) (sym e) (begun_here short_literal);
                 none = λ others agree other end o next. elim (literal_token others from other end o) [
                   | inl itself ↦
                       other_kind.1 other (let there : HasKind others from kind = agree from (omega (arith, e)) ∙ has in let t = itself.0 in cc)
@@ -199,7 +202,7 @@ module _ (tokens : List Token) (from : ℕ) where
       → Makes initial (behind (kinds.Sign signs.OpenList) listed_values) (λ (values : List ListedLiteral). Listed values from) tokens from
   makes_list opens =
       record {
-        builds = λ others agree part end o. (o.0, (refl, o.1), o.2);
+        builds = λ others part end o. (o.0, (refl, o.1), o.2);
         splits = λ others agree. split others (agree from (omega arith) ∙ opens);
       }
     where
@@ -220,7 +223,7 @@ module _ (tokens : List Token) (from : ℕ) where
       → Makes initial literal (λ (value : Literal). Value value from) tokens from
   makes_value no_list =
       record {
-        builds = λ others agree part end o. (refl, o);
+        builds = λ others part end o. (refl, o);
         splits = λ others agree. split others (sym (agree from (omega arith)));
       }
     where
@@ -245,7 +248,7 @@ variable_build parts = record { name = parts.0; size = parts.1.0; initial = part
 pub makes_variable : (tokens : List Token) (from : ℕ) → Makes variable variable_parts variable_build tokens from
 makes_variable tokens from =
     record {
-      builds = λ others agree part end o. o;
+      builds = λ others part end o. o;
       splits = λ others agree tree end o. ((tree.name, (tree.size, tree.initial)), refl, o);
     }
 
@@ -270,7 +273,7 @@ module _ (tokens : List Token) (from : ℕ) where
       (HasKind tokens from (kinds.Sign signs.Colon) → ⊥) → Makes test (closed signs.Semicolon) (λ (tree : Term). tree) tokens from
   makes_test no_colon_there =
       record {
-        builds = λ others agree part end o. (from, inl refl, o);
+        builds = λ others part end o. (from, inl refl, o);
         splits = λ others agree tree end o. split others (sym (agree from (omega arith))) tree end o;
       }
     where
@@ -286,7 +289,7 @@ module _ (tokens : List Token) (from : ℕ) where
       → Makes test (behind (kinds.Sign signs.Colon) (closed signs.Semicolon)) (λ (tree : Term). tree) tokens from
   makes_test_behind colon =
       record {
-        builds = λ others agree part end o. (o.0, inr o.1, o.2);
+        builds = λ others part end o. (o.0, inr o.1, o.2);
         splits = λ others agree tree end o. split others (agree from (omega arith) ∙ colon) tree end o;
       }
     where
@@ -315,7 +318,7 @@ module _ (tokens : List Token) (from : ℕ) where
       → Makes item (behind_type of_type) (λ (variables : List VariableData). Variables of_type variables) tokens from
   makes_variables of_type is =
       record {
-        builds = λ others agree part end o. o;
+        builds = λ others part end o. o;
         splits = λ others agree. split others (there (starts.Type of_type) is others agree);
       }
     where
@@ -336,7 +339,7 @@ module _ (tokens : List Token) (from : ℕ) where
       → Makes item (behind_condition condition) (λ (tree : Term). Conditions condition from tree) tokens from
   makes_condition condition is =
       record {
-        builds = λ others agree part end o. (o.0, (refl, o.1), o.2);
+        builds = λ others part end o. (o.0, (refl, o.1), o.2);
         splits = λ others agree. split others (there (starts.Condition condition) is others agree);
       }
     where
@@ -360,7 +363,7 @@ module _ (tokens : List Token) (from : ℕ) where
       → Makes item (behind (kinds.Keyword words.Priority) priority) (λ (value : ℕ). Priority from value) tokens from
   makes_priority is =
       record {
-        builds = λ others agree part end o. (o.0, (refl, o.1), o.2);
+        builds = λ others part end o. (o.0, (refl, o.1), o.2);
         splits = λ others agree. split others (there starts.Priority is others agree);
       }
     where
@@ -378,27 +381,33 @@ module _ (tokens : List Token) (from : ℕ) where
       → {variables : List VariableData} {to : ℕ} → IsPart closed_variables Anything tokens (from + 1) variables to
       → IsPart (behind_type of_type) Anything tokens from variables to
   part_type of_type is {variables = variables} {to = to} g =
-      part_word (type_word of_type) closed_variables
-      (λ others agree. type_stands of_type others from (token_of others from (starts.Type of_type) (there (starts.Type of_type) is others agree) (λ e. cc)))
-      (λ others end o. (type_starts of_type others from end o).1) g
+      part_word (type_word of_type) closed_variables (typed_stands tokens from of_type is) (typed_ends tokens from of_type) g
 
-  pub lack_type : (of_type : TypeName) {fault : ParseFault} → IsLacking closed_variables Anything tokens (from + 1) fault
+  pub lack_type : (of_type : TypeName) → start_at tokens from ≡ starts.Type of_type
+      → {fault : ParseFault} → IsLacking closed_variables Anything tokens (from + 1) fault
       → IsLacking (behind_type of_type) Anything tokens from fault
-  lack_type of_type g = lack_word (type_word of_type) closed_variables (λ others end o. (type_starts of_type others from end o).1) g
+  lack_type of_type is g =
+      lack_word (type_word of_type) closed_variables (typed_stands tokens from of_type is) (typed_ends tokens from of_type) g
+
+  word_stands : (condition : Condition) → start_at tokens from ≡ starts.Condition condition
+      → (others : List Token) → kind_at others from ≡ kind_at tokens from → condition_word condition others from (from + 1)
+  word_stands condition is others same =
+      condition_stands condition others from
+      (token_of others from (starts.Condition condition) (start_same tokens others from same ∙ is) (λ e. cc))
 
   pub part_condition : (condition : Condition) → start_at tokens from ≡ starts.Condition condition
       → {tree : Term} {to : ℕ} → IsPart test Anything tokens (from + 1) tree to
       → IsPart (behind_condition condition) Anything tokens from tree to
   part_condition condition is g =
-      part_word (condition_word condition) test
-      (λ others agree.
-      condition_stands condition others from
-      (token_of others from (starts.Condition condition) (there (starts.Condition condition) is others agree) (λ e. cc)))
+      part_word (condition_word condition) test (word_stands condition is)
       (λ others end o. (condition_starts condition others from end o).1) g
 
-  pub lack_condition : (condition : Condition) {fault : ParseFault} → IsLacking test Anything tokens (from + 1) fault
+  pub lack_condition : (condition : Condition) → start_at tokens from ≡ starts.Condition condition
+      → {fault : ParseFault} → IsLacking test Anything tokens (from + 1) fault
       → IsLacking (behind_condition condition) Anything tokens from fault
-  lack_condition condition g = lack_word (condition_word condition) test (λ others end o. (condition_starts condition others from end o).1) g
+  lack_condition condition is g =
+      lack_word (condition_word condition) test (word_stands condition is)
+      (λ others end o. (condition_starts condition others from end o).1) g
 
   pub lacks_item :
       (fault : ParseFault) → fault ≡ faults.SyntaxFault from → from ≤ length tokens → is_item (start_at tokens from) ≡ false
@@ -410,6 +419,7 @@ module _ (tokens : List Token) (from : ℕ) where
             record {
               reached = omega (arith, same);
               within = omega (arith, same, within);
+              begun = subst (λ (t : ℕ). IsBegun item tokens from t) (sym same) (begun_here short_item);
               none = λ others agree tree end o next.
                   let s = item_starts tree others from end o in
                   let t = start_too tokens others from token (omega (arith, same)) agree in

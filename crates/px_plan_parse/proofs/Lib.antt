@@ -1,10 +1,13 @@
 pub mod Parts
 pub mod Commas
+pub mod Spans
 pub mod Starts
 pub mod Sorts
 pub mod Items
+pub mod Shortests
 pub mod Globals
 pub mod Names
+pub mod Numbers
 pub mod Blocks
 pub mod Bodies
 pub mod Depths

@@ -15,6 +15,8 @@ use Rattle.px_syntax.specs.Form.{Form, identifier, kind_at, optional, sign, ◌t
 use Rattle.px_expr_parse.specs.Verdict.{Agree, IsFound, IsMissing, IsRefused}
 use Rattle.px_expr_parse.proofs.Closed.{closer_ends, semicolon_closes, comma_closes}
 use Rattle.px_expr_parse.proofs.Calls.{inside_of, no_value}
+use Rattle.px_expr_parse.proofs.Completions.{before as before_late, begun_as, moved}
+use Rattle.px_expr_parse.proofs.Spans.{local_identifier}
 use Rattle.px_plan_parse.specs.Named.{NamedData, Calls, Writes, WrittenData, Value, Answer, called, named, optional_index, written}
 use Rattle.px_plan_parse.specs.Part.{Follow, Anything, Ended, IsLacking, IsPart, IsSole, Lacks}
 use Rattle.px_plan_parse.specs.Tail.{closed_pairs, Unless}
@@ -65,6 +67,18 @@ module _ (tokens : List Token) (from : ℕ) where
             record {
               reached = omega (arith, l.reached);
               within = l.within;
+              begun = begun_as l.begun (λ others agree end args o. (
+                Answer (record { name = name; args = args }),
+                (
+                  o.0,
+                  (
+                    from + 1,
+                    moved tokens (local_identifier name) (λ others agree. (found.only others agree).spelled) others (before_late tokens others (from + 1) token l.reached agree),
+                    o.1,
+                  ),
+                  o.2,
+                ),
+              ));
               none = λ others agree. none others token l agree (agree_before tokens others (from + 1) token l.reached agree);
             };
         shallow = f.shallow;
@@ -164,6 +178,7 @@ module _ (tokens : List Token) (from : ℕ) where
               record {
                 reached = l.reached;
                 within = l.within;
+                begun = begun_as l.begun (λ others agree end tree o. (Value tree, o));
                 none = λ others agree. none others token (behind_name token is) l agree;
               };
           shallow = f.shallow;
@@ -185,7 +200,7 @@ module _ (tokens : List Token) (from : ℕ) where
   pub makes_call :
       HasKind tokens from (kinds.Sign signs.OpenParen) → Makes named called (λ (args : Terms). Calls args) tokens from
   makes_call paren =
-      record { builds = λ others agree part end o. o; splits = λ others agree. split others (agree from (omega arith) ∙ paren) }
+      record { builds = λ others part end o. o; splits = λ others agree. split others (agree from (omega arith) ∙ paren) }
     where
       split :
           (others : List Token) → HasKind others from (kinds.Sign signs.OpenParen) → (tree : NamedData) (end : ℕ) → named tree others from end
@@ -201,7 +216,7 @@ module _ (tokens : List Token) (from : ℕ) where
       → Makes named (both optional_index (behind (kinds.Sign signs.Assign) written))
       (λ (parts : Option Term × WrittenData). Writes parts.0 parts.1) tokens from
   makes_assignment no_paren =
-      record { builds = λ others agree part end o. o; splits = λ others agree. split others (sym (agree from (omega arith))) }
+      record { builds = λ others part end o. o; splits = λ others agree. split others (sym (agree from (omega arith))) }
     where
       split :
           (others : List Token) → kind_at tokens from ≡ kind_at others from → (tree : NamedData) (end : ℕ) → named tree others from end
@@ -224,7 +239,7 @@ pub makes_pair :
     (λ (parts : Identifier × Term). record { name = parts.0; value = parts.1 }) tokens from
 makes_pair tokens from =
     record {
-      builds = λ others agree part end o. o;
+      builds = λ others part end o. o;
       splits = λ others agree tree end o. ((tree.name, tree.value), refl, o);
     }
 
@@ -243,7 +258,7 @@ module _ {A : Type 0} (form : A → Form)
         → Makes (λ (part : A). optional (sign signs.Colon) then form part) form (λ (part : A). part) tokens from
     makes_without_colon none =
         record {
-          builds = λ others agree part end o. (from, inl refl, o);
+          builds = λ others part end o. (from, inl refl, o);
           splits = λ others agree tree end o. split others (sym (agree from (omega arith))) tree end o;
         }
       where
@@ -258,7 +273,7 @@ module _ {A : Type 0} (form : A → Form)
         → Makes (λ (part : A). optional (sign signs.Colon) then form part) (behind (kinds.Sign signs.Colon) form) (λ (part : A). part) tokens from
     makes_with_colon colon =
         record {
-          builds = λ others agree part end o. (o.0, inr o.1, o.2);
+          builds = λ others part end o. (o.0, inr o.1, o.2);
           splits = λ others agree tree end o. split others (agree from (omega arith) ∙ colon) tree end o;
         }
       where

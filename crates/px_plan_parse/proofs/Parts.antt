@@ -1,5 +1,5 @@
 -- Parts of plans, joined to longer ones.
-use Rattle.std.proofs.Common.{◌≡◌, ℕ, ◌+◌, ◌≤◌, ◌<◌, inl, inr, refl, sym, ap, subst, ◌∙◌, List, [], ◌∷◌, ◌++◌, length, Option, Some, None, append_assoc, arith}
+use Rattle.std.proofs.Common.{◌≡◌, ℕ, ◌+◌, ◌≤◌, ◌<◌, inl, inr, refl, sym, ap, subst, ◌∙◌, List, [], ◌∷◌, ◌++◌, length, Option, Some, None, append_assoc, append-nil, arith}
 use Rattle.px_lex.specs.declared.token.Token.{Token}
 use Rattle.px_lex.specs.declared.token.TokenKind.{TokenKind}
 use Rattle.px_syntax.specs.declared.fault.ParseFault.{ParseFault}
@@ -7,8 +7,10 @@ use Rattle.px_syntax.specs.declared.fault.ParseFault.TheVariants as faults
 use Rattle.px_syntax.specs.Expr.{Term}
 use Rattle.px_syntax.specs.ExprGrammar.{expression}
 use Rattle.px_syntax.specs.Form.{Form, kind_at, one, ◌then◌, maybe, each}
-use Rattle.px_expr_parse.specs.Verdict.{Agree, IsRead, IsRefused, IsFound, IsMissing}
+use Rattle.px_expr_parse.specs.Verdict.{Agree, IsBegun, IsRead, IsRefused, IsFound, IsMissing}
+use Rattle.px_expr_parse.proofs.Completions.{Shortest, before as before_late, begun_as, begun_before, begun_here, moved, short_behind, short_token}
 use Rattle.px_expr_parse.proofs.Parts.{agree_before}
+use Rattle.px_expr_parse.proofs.Spans.{IsLocal, local_nothing, local_then}
 use Rattle.px_plan_parse.specs.Part.{Follow, Ended, IsPart, Lacks, IsLacking}
 
 -- ---- what the reader of expressions found
@@ -36,6 +38,7 @@ of_missing form tokens from (faults.SyntaxFault token) Next f =
           record {
             reached = f.0;
             within = f.1;
+            begun = f.3;
             none = λ others agree part end o next. f.2 others agree part end o;
           }
           );
@@ -73,6 +76,7 @@ of_refused tokens from (faults.SyntaxFault token) f =
           record {
             reached = f.0;
             within = f.1;
+            begun = f.3;
             none = λ others agree part end o ended. ended (f.2 others agree part end o).1;
           }
           );
@@ -118,16 +122,20 @@ module _ {A B : Type 0} {first : A → Form} {second : B → Form} {Next Last : 
       }
 
   pub lack_second :
-      {middle : ℕ} {a : A} {fault : ParseFault} → Begins second Last Next
+      {middle : ℕ} {a : A} {fault : ParseFault} → Begins second Last Next → IsLocal (first a)
       → IsPart first Next tokens from a middle → IsLacking second Last tokens middle fault
       → IsLacking (both first second) Last tokens from fault
-  lack_second {middle = middle} begins f g =
+  lack_second {middle = middle} {a = a} begins local f g =
       record {
         named = λ token is.
             let l = g.named token is in
             record {
               reached = omega (arith, f.advances, l.reached);
               within = l.within;
+              begun = begun_as l.begun (λ others agree end b o. (
+                (a, b),
+                (middle, moved tokens local (λ others agree. (f.sole others agree).spelled) others (before_late tokens others middle token l.reached agree), o),
+              ));
               none = λ others agree other end o next.
                   let is_first =
                   (f.sole others (agree_before tokens others middle token l.reached agree)).only other.0 o.0 o.1
@@ -138,15 +146,16 @@ module _ {A B : Type 0} {first : A → Form} {second : B → Form} {Next Last : 
       }
 
   pub lack_first :
-      {fault : ParseFault} → Begins second Last Next
+      {fault : ParseFault} → Begins second Last Next → Shortest second
       → IsLacking first Next tokens from fault → IsLacking (both first second) Last tokens from fault
-  lack_first begins f =
+  lack_first begins short f =
       record {
         named = λ token is.
             let l = f.named token is in
             record {
               reached = l.reached;
               within = l.within;
+              begun = begun_before short l.begun (λ others agree middle end a b o r. ((a, b), (middle, o, r)));
               none = λ others agree other end o next. l.none others agree other.0 o.0 o.1 (begins others other.1 o.0 end o.2 next);
             };
         shallow = f.shallow;
@@ -174,6 +183,7 @@ module _ {A : Type 0} {form : A → Form} {Next Last : Follow} {tokens : List To
               record {
                 reached = l.reached;
                 within = l.within;
+                begun = l.begun;
                 none = λ others agree part end o last. l.none others agree part end o (narrows others end last);
               };
           shallow = f.shallow;
@@ -182,6 +192,10 @@ module _ {A : Type 0} {form : A → Form} {Next Last : Follow} {tokens : List To
 -- the same where the second part depends on the first
 abbrev pub both_of : {A B : Type 0} → (A → Form) → (A → B → Form) → A × B → Form
 both_of first second parts = first parts.0 then second parts.0 parts.1
+
+-- a second part for each first one
+abbrev pub each_of : {A B : Type 0} → (A → B → Form) → (A → B) → Form
+each_of {A = A} second part tokens from to = (a : A) → second a (part a) tokens from to
 
 module _ {A B : Type 0} {first : A → Form} (second : A → B → Form) {Next Last : Follow} {tokens : List Token} {from : ℕ}
     (begins : (a : A) → Begins (second a) Last Next)
@@ -213,15 +227,19 @@ module _ {A B : Type 0} {first : A → Form} (second : A → B → Form) {Next L
         }
 
     pub lack_second_of :
-        {middle : ℕ} {a : A} {fault : ParseFault} → IsPart first Next tokens from a middle → IsLacking (second a) Last tokens middle fault
-        → IsLacking (both_of first second) Last tokens from fault
-    lack_second_of {middle = middle} {a = a} f g =
+        {middle : ℕ} {a : A} {fault : ParseFault} → IsLocal (first a) → IsPart first Next tokens from a middle
+        → IsLacking (second a) Last tokens middle fault → IsLacking (both_of first second) Last tokens from fault
+    lack_second_of {middle = middle} {a = a} local f g =
         record {
           named = λ token is.
               let l = g.named token is in
               record {
                 reached = omega (arith, f.advances, l.reached);
                 within = l.within;
+                begun = begun_as l.begun (λ others agree end b o. (
+                  (a, b),
+                  (middle, moved tokens local (λ others agree. (f.sole others agree).spelled) others (before_late tokens others middle token l.reached agree), o),
+                ));
                 none = λ others agree other end o next.
                     let is_first =
                     (f.sole others (agree_before tokens others middle token l.reached agree)).only other.0 o.0 o.1
@@ -235,14 +253,16 @@ module _ {A B : Type 0} {first : A → Form} (second : A → B → Form) {Next L
         }
 
     pub lack_first_of :
-        {fault : ParseFault} → IsLacking first Next tokens from fault → IsLacking (both_of first second) Last tokens from fault
-    lack_first_of f =
+        {fault : ParseFault} → Shortest (each_of second) → IsLacking first Next tokens from fault
+        → IsLacking (both_of first second) Last tokens from fault
+    lack_first_of short f =
         record {
           named = λ token is.
               let l = f.named token is in
               record {
                 reached = l.reached;
                 within = l.within;
+                begun = begun_before short l.begun (λ others agree middle end a b o r. ((a, b a), (middle, o, r a)));
                 none = λ others agree other end o next.
                     l.none others agree other.0 o.0 o.1 (begins other.0 others other.1 o.0 end o.2 next);
               };
@@ -279,15 +299,17 @@ module _ {B : Type 0} {kind : TokenKind} {second : B → Form} {Last : Follow} {
       }
 
   pub lack_behind :
-      {fault : ParseFault} → IsLacking second Last tokens (from + 1) fault
+      {fault : ParseFault} → HasKind tokens from kind → IsLacking second Last tokens (from + 1) fault
       → IsLacking (behind kind second) Last tokens from fault
-  lack_behind g =
+  lack_behind has g =
       record {
         named = λ token is.
             let l = g.named token is in
             record {
               reached = omega (arith, l.reached);
               within = l.within;
+              begun = begun_as l.begun (λ others agree end b o.
+                  (b, (from + 1, (agree from (omega (arith, l.reached)) ∙ has, refl), o)));
               none = λ others agree other end o next.
                   l.none others agree other end (subst (λ (place : ℕ). second other others place end) o.1.1 o.2) next;
             };
@@ -295,15 +317,16 @@ module _ {B : Type 0} {kind : TokenKind} {second : B → Form} {Last : Follow} {
       }
 
   pub lack_kind :
-      {fault : ParseFault} → from ≤ length tokens → LacksKind tokens from kind fault
+      {fault : ParseFault} → from ≤ length tokens → Shortest second → LacksKind tokens from kind fault
       → IsLacking (behind kind second) Last tokens from fault
-  lack_kind within lacks =
+  lack_kind within short lacks =
       record {
         named = λ token is.
             let e : token ≡ from = let f = lacks.0 in cc in
             record {
               reached = omega (arith, e);
               within = omega (arith, e, within);
+              begun = subst (λ (t : ℕ). IsBegun (behind kind second) tokens from t) (sym e) (begun_here (short_behind kind short));
               none = λ others agree other end o next.
                   lacks.1 (sym (agree from (omega (arith, e))) ∙ o.1.0);
             };
@@ -333,6 +356,7 @@ module _ {kind : TokenKind} {Last : Follow} {tokens : List Token} {from : ℕ} w
             record {
               reached = omega (arith, e);
               within = omega (arith, e, within);
+              begun = subst (λ (t : ℕ). IsBegun (λ (none : Unit {0}). one kind) tokens from t) (sym e) (begun_here (short_token kind));
               none = λ others agree other end o next. lacks.1 (sym (agree from (omega (arith, e))) ∙ o.0);
             };
         shallow = λ token is. let f = lacks.0 in cc;
@@ -341,7 +365,7 @@ module _ {kind : TokenKind} {Last : Follow} {tokens : List Token} {from : ℕ} w
 -- a word with more than one spelling before a part
 module _ {B : Type 0} (word : Form) (second : B → Form) {Last : Follow} {tokens : List Token} {from : ℕ} where
   pub part_word :
-      {to : ℕ} {b : B} → ((others : List Token) → Agree tokens others from → word others from (from + 1))
+      {to : ℕ} {b : B} → ((others : List Token) → kind_at others from ≡ kind_at tokens from → word others from (from + 1))
       → ((others : List Token) (end : ℕ) → word others from end → end ≡ from + 1) → IsPart second Last tokens (from + 1) b to
       → IsPart (λ (part : B). word then second part) Last tokens from b to
   part_word {to = to} {b = b} stands ends g =
@@ -351,22 +375,25 @@ module _ {B : Type 0} (word : Form) (second : B → Form) {Last : Follow} {token
         sole = λ others agree.
             let one_second = g.sole others agree in
             record {
-              spelled = (from + 1, stands others (agree_before tokens others from to (omega (arith, g.advances)) agree), one_second.spelled);
+              spelled = (from + 1, stands others (agree from (omega (arith, g.advances))), one_second.spelled);
               only = λ other end o next.
                   one_second.only other end (subst (λ (place : ℕ). second other others place end) (ends others o.0 o.1) o.2) next;
             };
       }
 
   pub lack_word :
-      {fault : ParseFault} → ((others : List Token) (end : ℕ) → word others from end → end ≡ from + 1)
+      {fault : ParseFault} → ((others : List Token) → kind_at others from ≡ kind_at tokens from → word others from (from + 1))
+      → ((others : List Token) (end : ℕ) → word others from end → end ≡ from + 1)
       → IsLacking second Last tokens (from + 1) fault → IsLacking (λ (part : B). word then second part) Last tokens from fault
-  lack_word ends g =
+  lack_word stands ends g =
       record {
         named = λ token is.
             let l = g.named token is in
             record {
               reached = omega (arith, l.reached);
               within = l.within;
+              begun = begun_as l.begun (λ others agree end b o.
+                  (b, (from + 1, stands others (agree from (omega (arith, l.reached))), o)));
               none = λ others agree other end o next.
                   l.none others agree other end (subst (λ (place : ℕ). second other others place end) (ends others o.0 o.1) o.2) next;
             };
@@ -399,15 +426,19 @@ module _ {A : Type 0} {first : A → Form} {kind : TokenKind} {Next Last : Follo
         }
 
     pub lack_token :
-        {middle : ℕ} {a : A} {fault : ParseFault} → IsPart first Next tokens from a middle → LacksKind tokens middle kind fault
-        → IsLacking (before first kind) Last tokens from fault
-    lack_token {middle = middle} f lacks =
+        {middle : ℕ} {a : A} {fault : ParseFault} → IsLocal (first a) → IsPart first Next tokens from a middle
+        → LacksKind tokens middle kind fault → IsLacking (before first kind) Last tokens from fault
+    lack_token {middle = middle} {a = a} local f lacks =
         record {
           named = λ token is.
               let e : token ≡ middle = let g = lacks.0 in cc in
               record {
                 reached = omega (arith, e, f.advances);
                 within = omega (arith, e, f.within);
+                begun =
+                    subst (λ (t : ℕ). IsBegun (before first kind) tokens from t) (sym e)
+                    (begun_as (begun_here (short_token kind)) (λ others agree end none o.
+                    (a, (middle, moved tokens local (λ others agree. (f.sole others agree).spelled) others agree, o))));
                 none = λ others agree other end o next.
                     let agree_middle = agree_before tokens others middle token (omega (arith, e)) agree in
                     let is_first = (f.sole others agree_middle).only other o.0 o.1 (follows others o.0 o.2.0) in
@@ -425,6 +456,7 @@ module _ {A : Type 0} {first : A → Form} {kind : TokenKind} {Next Last : Follo
               record {
                 reached = l.reached;
                 within = l.within;
+                begun = begun_before (short_token kind) l.begun (λ others agree middle end a none o r. (a, (middle, o, r)));
                 none = λ others agree other end o next. l.none others agree other o.0 o.1 (follows others o.0 o.2.0);
               };
           shallow = f.shallow;
@@ -434,8 +466,7 @@ module _ {A : Type 0} {first : A → Form} {kind : TokenKind} {Next Last : Follo
 
 pub record Makes {A B : Type 0} (whole : A → Form) (inner : B → Form) (build : B → A) (tokens : List Token) (from : ℕ) : Type 0 where
   pub builds :
-      (others : List Token) → Agree tokens others from → (part : B) (end : ℕ) → inner part others from end
-      → whole (build part) others from end
+      (others : List Token) (part : B) (end : ℕ) → inner part others from end → whole (build part) others from end
   pub splits :
       (others : List Token) → Agree tokens others from → (tree : A) (end : ℕ) → whole tree others from end
       → (part : B) × (tree ≡ build part) × inner part others from end
@@ -452,7 +483,7 @@ module _ {A B : Type 0} {whole : A → Form} {inner : B → Form} {build : B →
             let agree_from = agree_before tokens others from to f.advances agree in
             let sole = f.sole others agree in
             record {
-              spelled = makes.builds others agree_from _ to sole.spelled;
+              spelled = makes.builds others _ to sole.spelled;
               only = λ other end o next.
                   let s = makes.splits others agree_from other end o in
                   let is = sole.only s.0 end s.2 next in
@@ -470,6 +501,7 @@ module _ {A B : Type 0} {whole : A → Form} {inner : B → Form} {build : B →
             record {
               reached = l.reached;
               within = l.within;
+              begun = begun_as l.begun (λ others agree end part o. (build part, makes.builds others part end o));
               none = λ others agree other end o next.
                   let s = makes.splits others (agree_before tokens others from token l.reached agree) other end o in
                   l.none others agree s.0 end s.2 next;
@@ -478,6 +510,18 @@ module _ {A B : Type 0} {whole : A → Form} {inner : B → Form} {build : B →
       }
 
 -- ---- parts in turn
+
+pub local_each : {A : Type 0} {form : A → Form} → ((part : A) → IsLocal (form part)) → (parts : List A) → IsLocal (each form parts)
+local_each local [] = local_nothing
+local_each local (part ∷ parts) = local_then (local part) (local_each local parts)
+
+-- parts in turn, and one more
+each_push :
+    {A : Type 0} (form : A → Form) (tokens : List Token) (parts : List A) (part : A) (from middle to : ℕ)
+    → each form parts tokens from middle → form part tokens middle to → each form (parts ++ part ∷ []) tokens from to
+each_push form tokens [] part from middle to all o = (to, subst (λ (p : ℕ). form part tokens p to) all o, refl)
+each_push form tokens (first ∷ parts) part from middle to all o =
+    (all.0, all.1, each_push form tokens parts part all.0 middle to all.2 o)
 
 -- parts in turn up to a place, where more may stand
 pub record IsFront {A : Type 0} (form : A → Form) (Last : Follow) (tokens : List Token) (from : ℕ) (done : List A) (at : ℕ) : Type 0 where
@@ -501,6 +545,10 @@ module _ {A : Type 0} {form : A → Form} {Last : Follow} {tokens : List Token} 
       }
 
   module _ {done : List A} {at : ℕ} (front : IsFront form Last tokens from done at) where
+    all_done : (others : List Token) → Agree tokens others at → each form done others from at
+    all_done others agree =
+        subst (λ (all : List A). each form all others from at) (append-nil done) (front.builds others agree [] at refl)
+
     pub front_ends :
         ((others : List Token) → Agree tokens others at → (part : A) (end : ℕ) → form part others at end → ⊥)
         → IsPart (each form) Last tokens from done at
@@ -510,19 +558,15 @@ module _ {A : Type 0} {form : A → Form} {Last : Follow} {tokens : List Token} 
           within = front.within;
           sole = λ others agree.
               record {
-                spelled = subst (λ (all : List A). each form all others from at) (append_none done) (front.builds others agree [] at refl);
+                spelled = all_done others agree;
                 only = λ other end o last. ends others agree other end (front.splits others agree other end o last);
               };
         }
       where
-        append_none : (xs : List A) → xs ++ [] ≡ xs
-        append_none [] = refl
-        append_none (x ∷ xs) = ap (λ (ys : List A). x ∷ ys) (append_none xs)
-
         ends :
             (others : List Token) → Agree tokens others at → (all : List A) (end : ℕ)
             → (rest : List A) × (all ≡ done ++ rest) × each form rest others at end → (all ≡ done) × (end ≡ at)
-        ends others agree all end ([], is, o) = (is ∙ append_none done, o)
+        ends others agree all end ([], is, o) = (is ∙ append-nil done, o)
         ends others agree all end (part ∷ rest, is, o) = absurd (none others agree part o.0 o.1)
 
     -- what may follow an element: another, or what may follow them all; and the next one begins where these don't end
@@ -564,14 +608,20 @@ module _ {A : Type 0} {form : A → Form} {Last : Follow} {tokens : List Token} 
                 )
 
         pub front_lacks :
-            {fault : ParseFault} → IsLacking form Next tokens at fault → IsLacking (each form) Last tokens from fault
-        front_lacks f =
+            {fault : ParseFault} → ((part : A) → IsLocal (form part)) → IsLacking form Next tokens at fault
+            → IsLacking (each form) Last tokens from fault
+        front_lacks local f =
             record {
               named = λ token is.
                   let l = f.named token is in
                   record {
                     reached = omega (arith, front.advances, l.reached);
                     within = l.within;
+                    begun = begun_as l.begun (λ others agree end part o. (
+                      done ++ part ∷ [],
+                      each_push form others done part from at end
+                          (moved tokens (local_each local done) all_done others (before_late tokens others at token l.reached agree)) o,
+                    ));
                     none = λ others agree all end o last.
                         let agree_at = agree_before tokens others at token l.reached agree in
                         none others agree_at token l agree all end last (front.splits others agree_at all end o last);
@@ -633,6 +683,7 @@ module _ {A : Type 0} {form : A → Form} {Last : Follow} {tokens : List Token} 
               record {
                 reached = l.reached;
                 within = l.within;
+                begun = begun_as l.begun (λ others agree end part o. (Some part, o));
                 none = λ others agree. none others token l agree;
               };
           shallow = f.shallow;

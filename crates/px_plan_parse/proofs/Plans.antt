@@ -13,14 +13,16 @@ use Rattle.px_syntax.specs.BlockGrammar.{block, label}
 use Rattle.px_syntax.specs.Form.{Form, kind_at}
 use Rattle.px_syntax.specs.Plan.{DeclarationData, PlanTree}
 use Rattle.px_syntax.specs.PlanGrammar.{plan}
-use Rattle.px_expr_parse.specs.Verdict.{Agree}
+use Rattle.px_expr_parse.specs.Verdict.{Agree, IsBegun}
+use Rattle.px_expr_parse.proofs.Completions.{begun_whole, whole_of}
+use Rattle.px_plan_parse.proofs.Spans.{local_plan}
 use Rattle.px_expr_parse.proofs.Calls.{inside_of}
 use Rattle.px_plan_parse.specs.declared.start.Start.{Start}
 use Rattle.px_plan_parse.specs.declared.start.Start.TheVariants as starts
 use Rattle.px_plan_parse.specs.Part.{Anything, IsLacking, IsPart}
 use Rattle.px_plan_parse.specs.Start.{NoDeclaration, is_declaration, start_at}
 use Rattle.px_plan_parse.specs.Tail.{every_declaration}
-use Rattle.px_plan_parse.specs.Verdict.{BeginsNoPlan, IsNoPlan, IsPlan}
+use Rattle.px_plan_parse.specs.Verdict.{BeginsPlan, IsFaultAt, IsNoPlan, IsPlan}
 use Rattle.px_plan_parse.proofs.Blocks.{block_sort}
 use Rattle.px_plan_parse.proofs.Parts.{Begins, Makes, both}
 use Rattle.px_plan_parse.proofs.Sorts as sorts
@@ -37,7 +39,7 @@ pub makes_plan :
     record { declarations = parts.0; label = parts.1.0; root = parts.1.1 }) tokens from
 makes_plan tokens from =
     record {
-      builds = λ others agree part end o. o;
+      builds = λ others part end o. o;
       splits = λ others agree tree end o. ((tree.declarations, (tree.label, tree.root)), refl, o);
     }
 
@@ -63,18 +65,28 @@ module _ (tokens : List Token) where
         only = λ other o. (sole.only other (length tokens) o tt).0;
       }
 
+  begins_plan : (token : ℕ) → token ≤ length tokens → IsBegun plan tokens 0 token → BeginsPlan tokens token
+  begins_plan token within begun =
+      let whole = whole_of tokens 0 token within begun in
+      record { others = whole.0; agree = whole.2; tree = whole.1; spelled = whole.3 }
+
   pub is_no_plan : (fault : ParseFault) → IsLacking plan Anything tokens 0 fault → IsNoPlan tokens fault
   is_no_plan (faults.SyntaxFault token) f =
       let l = f.named token refl in
-      record { within = l.within; none = λ others agree tree o. l.none others agree tree (length others) o tt }
+      record {
+        within = l.within;
+        begun = begins_plan token l.within l.begun;
+        none = λ others agree tree o. l.none others agree tree (length others) o tt;
+      }
   is_no_plan (faults.Deep token) f = f.shallow token refl
   is_no_plan faults.NoMemory f = tt
 
   -- a plan that ends before a token
-  pub goes_on : (tree : PlanTree) (end : ℕ) → end < length tokens → IsPart plan Anything tokens 0 tree end → BeginsNoPlan tokens end
+  pub goes_on : (tree : PlanTree) (end : ℕ) → end < length tokens → IsPart plan Anything tokens 0 tree end → IsFaultAt tokens end
   goes_on tree end more f =
       record {
         within = f.within;
+        begun = begins_plan end f.within (begun_whole tree (local_plan tree) (f.sole tokens (λ place le. refl)).spelled);
         none = λ others agree other o. none others agree ((f.sole others agree).only other (length others) o tt).1;
       }
     where
@@ -93,3 +105,11 @@ module _ (tokens : List Token) where
           let t = there in
           let inside = inside_of others end t.0 (agree end (omega arith) ∙ t.1) in
           omega (arith, inside, same)
+
+  -- no fault is before another, so they are at one place
+  not_before : (first second : ℕ) → IsFaultAt tokens first → IsFaultAt tokens second → first < second → ⊥
+  not_before first second f g before =
+      f.none g.begun.others (λ place inside. g.begun.agree place (omega (arith, inside, before))) g.begun.tree g.begun.spelled
+
+  pub one_place : (first second : ℕ) → IsFaultAt tokens first → IsFaultAt tokens second → first ≡ second
+  one_place first second f g = omega (arith, not_before first second f g, not_before second first g f)

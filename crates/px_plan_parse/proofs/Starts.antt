@@ -1,5 +1,5 @@
 -- What begins with a token, and which token that is.
-use Rattle.std.proofs.Common.{◌≡◌, ℕ, ◌+◌, ◌≤◌, ◌⊎◌, inl, inr, refl, sym, ap, subst, ◌∙◌, List, Option, Some, None, true, false, arith}
+use Rattle.std.proofs.Common.{◌≡◌, ℕ, ◌+◌, ◌≤◌, ◌⊎◌, inl, inr, refl, sym, ap, subst, ◌∙◌, List, Option, Some, None, true, false}
 use Rattle.std.specs.Option.{option_map_or}
 use Rattle.px_lex.specs.declared.keyword.Keyword.{Keyword}
 use Rattle.px_lex.specs.declared.keyword.Keyword.TheVariants as words
@@ -25,6 +25,9 @@ use Rattle.px_plan_parse.proofs.Parts.{HasKind}
 -- the start at a place in other tokens that agree
 pub start_too : (tokens others : List Token) (place last : ℕ) → place ≤ last → Agree tokens others last → start_at others place ≡ start_at tokens place
 start_too tokens others place last le agree = ap (λ (kind : Option TokenKind). option_map_or start_of kind starts.Nothing) (agree place le)
+
+pub start_same : (tokens others : List Token) (place : ℕ) → kind_at others place ≡ kind_at tokens place → start_at others place ≡ start_at tokens place
+start_same tokens others place same = ap (λ (kind : Option TokenKind). option_map_or start_of kind starts.Nothing) same
 
 pub start_here : (tokens : List Token) (place : ℕ) (kind : TokenKind) → HasKind tokens place kind → start_at tokens place ≡ start_of kind
 start_here tokens place kind has = ap (λ (k : Option TokenKind). option_map_or start_of k starts.Nothing) has
@@ -228,10 +231,10 @@ start_nothing which no_brace tokens place has = start_here tokens place (kinds.S
 
 module _ (tokens : List Token) (from : ℕ) (of_type : TypeName) where
   pub typed_stands :
-      start_at tokens from ≡ starts.Type of_type → (others : List Token) → Agree tokens others from → type_word of_type others from (from + 1)
-  typed_stands is others agree =
-      type_stands of_type others from
-      (token_of others from (starts.Type of_type) (start_too tokens others from from (omega arith) agree ∙ is) (λ e. cc))
+      start_at tokens from ≡ starts.Type of_type → (others : List Token) → kind_at others from ≡ kind_at tokens from
+      → type_word of_type others from (from + 1)
+  typed_stands is others same =
+      type_stands of_type others from (token_of others from (starts.Type of_type) (start_same tokens others from same ∙ is) (λ e. cc))
 
   pub typed_ends : (others : List Token) (end : ℕ) → type_word of_type others from end → end ≡ from + 1
   typed_ends others end o = (type_starts of_type others from end o).1

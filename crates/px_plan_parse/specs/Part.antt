@@ -4,7 +4,7 @@ use Rattle.px_lex.specs.declared.token.Token.{Token}
 use Rattle.px_syntax.specs.declared.fault.ParseFault.{ParseFault}
 use Rattle.px_syntax.specs.declared.fault.ParseFault.TheVariants as faults
 use Rattle.px_syntax.specs.Form.{Form}
-use Rattle.px_expr_parse.specs.Verdict.{Agree, GoesOn}
+use Rattle.px_expr_parse.specs.Verdict.{Agree, GoesOn, IsBegun}
 
 -- what may follow a part
 abbrev pub Follow : Type 1
@@ -29,10 +29,12 @@ pub record IsPart {A : Type 0} (form : A → Form) (Next : Follow) (tokens : Lis
   pub within : to ≤ length tokens
   pub sole : (others : List Token) → Agree tokens others to → IsSole form Next others from part to
 
--- No part of a form stands at a place and is followed by what may follow it, whatever follows the named token.
+-- The tokens before the named one begin a part of a form. No part of it stands at the place and is followed by what may
+-- follow it, whatever follows the named token.
 pub record Lacks {A : Type 0} (form : A → Form) (Next : Follow) (tokens : List Token) (from token : ℕ) : Type 0 where
   pub reached : from ≤ token
   pub within : token ≤ length tokens
+  pub begun : IsBegun form tokens from token
   pub none :
       (others : List Token) → Agree tokens others token → (part : A) (end : ℕ) → form part others from end
       → Next others end → ⊥

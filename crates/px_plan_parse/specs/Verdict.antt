@@ -6,16 +6,25 @@ use Rattle.px_syntax.specs.declared.fault.ParseFault.TheVariants as faults
 use Rattle.px_syntax.specs.Depth.{too_deep}
 use Rattle.px_syntax.specs.Plan.{PlanTree}
 use Rattle.px_syntax.specs.PlanGrammar.{Spells}
-use Rattle.px_expr_parse.specs.Verdict.{Agree}
+use Rattle.px_expr_parse.specs.Verdict.{Agree, AgreeBefore}
 
 -- The tokens spell the plan, and no other.
 pub record IsPlan (tokens : List Token) (tree : PlanTree) : Type 0 where
   pub spelled : Spells tree tokens
   pub only : (other : PlanTree) → Spells other tokens → other ≡ tree
 
--- No plan begins with the tokens up to and including the named one; where none is named they spell none.
-pub record BeginsNoPlan (tokens : List Token) (token : ℕ) : Type 0 where
+-- the tokens before one begin a plan, whatever follows them
+pub record BeginsPlan (tokens : List Token) (token : ℕ) : Type 0 where
+  pub others : List Token
+  pub agree : AgreeBefore tokens others token
+  pub tree : PlanTree
+  pub spelled : Spells tree others
+
+-- The tokens before the named one begin a plan, and those up to and including it begin none; where none is named they
+-- all begin one and spell none. There is one such place at most.
+pub record IsFaultAt (tokens : List Token) (token : ℕ) : Type 0 where
   pub within : token ≤ length tokens
+  pub begun : BeginsPlan tokens token
   pub none : (others : List Token) → Agree tokens others token → (tree : PlanTree) → Spells tree others → ⊥
 
 -- a token is the first that is too deep
@@ -24,12 +33,12 @@ IsFirstTooDeep tokens token = (rest : List ℕ) × (too_deep tokens ≡ token �
 
 -- why tokens that are not too deep are no plan
 abbrev pub IsNoPlan : List Token → ParseFault → Type 0
-IsNoPlan tokens (faults.SyntaxFault token) = BeginsNoPlan tokens token
+IsNoPlan tokens (faults.SyntaxFault token) = IsFaultAt tokens token
 IsNoPlan tokens (faults.Deep token) = ⊥
 IsNoPlan tokens faults.NoMemory = Unit {0}
 
 -- why tokens are no plan; want of memory says nothing
 abbrev pub IsRefused : List Token → ParseFault → Type 0
 IsRefused tokens (faults.Deep token) = IsFirstTooDeep tokens token
-IsRefused tokens (faults.SyntaxFault token) = (too_deep tokens ≡ []) × BeginsNoPlan tokens token
+IsRefused tokens (faults.SyntaxFault token) = (too_deep tokens ≡ []) × IsFaultAt tokens token
 IsRefused tokens faults.NoMemory = Unit {0}

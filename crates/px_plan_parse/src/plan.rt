@@ -15,8 +15,8 @@ use std::alloc::Global;
 /// The plan that tokens spell, which is then the only one (PLEXIL reference manual, "Plexil Syntax").
 ///
 /// `Deep` comes exactly where a token is too deep, and names the first such. `SyntaxFault` comes exactly where none is
-/// and the tokens spell no plan. Where the token that it names is one of the tokens, no plan begins with those up to and
-/// including it; else it is the number of tokens.
+/// and the tokens spell no plan. It names the first token such that no plan begins with those up to and including it, or
+/// the number of tokens where the end comes too early.
 pub fn parse(alloc: Global, tokens: &[Token]) -> Result<Surface, ParseFault>
     ensures ok { IfOk result (λ surface. IsPlan tokens.now (plan_of surface)) }
     ensures shallow { IfOk result (λ surface. too_deep tokens.now ≡ []) }

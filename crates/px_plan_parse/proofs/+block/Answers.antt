@@ -21,34 +21,40 @@ use Rattle.px_plan_parse.proofs.Blocks.{action_acts, action_goes_on, actions_fol
 use Rattle.px_plan_parse.proofs.Bodies.{block_no_name, else_follows, else_goes_on, else_if_goes_on, end_follows, lack_labelled, lack_plain, makes_branch, makes_else_ifs, makes_for, makes_guarded, makes_if, makes_inner, makes_named, makes_otherwise, makes_unlabelled, makes_update, makes_while, no_body, no_else, no_else_if, no_sort, one_else_if, part_end_if, part_labelled, part_plain}
 use Rattle.px_plan_parse.proofs.Globals.{lacks_here}
 use Rattle.px_plan_parse.proofs.Names.{name_missing}
-use Rattle.px_plan_parse.proofs.Parts.{IsFront, front_ends, front_lacks, front_more, lack_before, lack_behind, lack_first, lack_first_of, lack_kind, lack_made, lack_narrowed, lack_present, lack_second, lack_second_of, lack_token, of_found, of_missing, part_absent, part_before, part_behind, part_both, part_both_of, part_made, part_narrowed, part_present}
+use Rattle.px_plan_parse.proofs.Parts.{IsFront, front_ends, front_lacks, front_more, lack_before, lack_behind, lack_first, lack_first_of, lack_kind, lack_made, lack_narrowed, lack_present, lack_second, lack_second_of, lack_token, local_each, of_found, of_missing, part_absent, part_before, part_behind, part_both, part_both_of, part_made, part_narrowed, part_present}
+use Rattle.px_expr_parse.proofs.Spans.{IsLocal, local_closed, local_identifier, local_one, local_then}
+use Rattle.px_plan_parse.proofs.Shortests.{short_actions, short_block, short_body, short_branch, short_else_ifs, short_end_if, short_list, short_loop, short_otherwise, short_tail, short_tested}
+use Rattle.px_plan_parse.proofs.Spans.{local_action, local_counter, local_else_ifs, local_guarded, local_head, local_item, local_label, local_list_word}
 use Rattle.px_plan_parse.proofs.Sorts.{sort_of}
 use Rattle.px_plan_parse.proofs.Starts.{here, name_here}
 use Rattle.px_plan_parse.proofs.+block.Goals as goal
 use Rattle.px_plan_parse.proofs.+block.Goals.{body::conditional-then-begins, body::conditional-else-begins}
 
+local_else_if : (part : GuardedTree) → IsLocal (one_else_if part)
+local_else_if part = local_then (local_one (kinds.Keyword words.ElseIf)) (local_guarded part)
+
 pub block::block-returns-in_err-word-clause-fault : goal.block::block-returns-in_err-word-clause-fault
 block::block-returns-in_err-word-clause-fault t c =
     let p = err_from_is_err_and c.from_residual.result c.from_residual.ensures.1 in
-    rw (p.1, p.2) (lack_made (makes_block c.args.tokens.now c.args.from) (lack_first_of block_tail (λ word others part from end o next. tt) c.in_err-word.ensures.fault))
+    rw (p.1, p.2) (lack_made (makes_block c.args.tokens.now c.args.from) (lack_first_of block_tail (λ word others part from end o next. tt) short_tail c.in_err-word.ensures.fault))
 
 pub block::block-returns-in_err-items-clause-fault : goal.block::block-returns-in_err-items-clause-fault
 block::block-returns-in_err-items-clause-fault t c =
     let p = err_from_is_err_and c.from_residual-in_err-items.result c.from_residual-in_err-items.ensures.1 in
-    rw (p.1, p.2) (lack_made (makes_block c.args.tokens.now c.args.from) (lack_second_of block_tail (λ word others part from end o next. tt) c.in_ok-word.ensures.ok
-    (lack_first (list_begins c.in_ok-word.word) c.in_err-items.ensures.fault)))
+    rw (p.1, p.2) (lack_made (makes_block c.args.tokens.now c.args.from) (lack_second_of block_tail (λ word others part from end o next. tt) (local_head c.in_ok-word.word) c.in_ok-word.ensures.ok
+    (lack_first (list_begins c.in_ok-word.word) (short_list c.in_ok-word.word) c.in_err-items.ensures.fault)))
 
 pub block::block-returns-in_err-form-clause-fault : goal.block::block-returns-in_err-form-clause-fault
 block::block-returns-in_err-form-clause-fault t c =
     let p = err_from_is_err_and c.from_residual-in_err-form.result c.from_residual-in_err-form.ensures.1 in
-    rw (p.1, p.2) (lack_made (makes_block c.args.tokens.now c.args.from) (lack_second_of block_tail (λ word others part from end o next. tt) c.in_ok-word.ensures.ok
-    (lack_second (list_begins c.in_ok-word.word) c.in_ok-items.ensures.ok (lack_first actions_follow c.in_err-form.ensures.fault))))
+    rw (p.1, p.2) (lack_made (makes_block c.args.tokens.now c.args.from) (lack_second_of block_tail (λ word others part from end o next. tt) (local_head c.in_ok-word.word) c.in_ok-word.ensures.ok
+    (lack_second (list_begins c.in_ok-word.word) (local_each local_item _) c.in_ok-items.ensures.ok (lack_first actions_follow short_actions c.in_err-form.ensures.fault))))
 
 pub block::block-returns-in_err-actions-clause-fault : goal.block::block-returns-in_err-actions-clause-fault
 block::block-returns-in_err-actions-clause-fault t c =
     let p = err_from_is_err_and c.from_residual-in_err-actions.result c.from_residual-in_err-actions.ensures.1 in
-    rw (p.1, p.2) (lack_made (makes_block c.args.tokens.now c.args.from) (lack_second_of block_tail (λ word others part from end o next. tt) c.in_ok-word.ensures.ok
-    (lack_second (list_begins c.in_ok-word.word) c.in_ok-items.ensures.ok (lack_second actions_follow c.in_ok-form.ensures.ok c.in_err-actions.ensures.fault))))
+    rw (p.1, p.2) (lack_made (makes_block c.args.tokens.now c.args.from) (lack_second_of block_tail (λ word others part from end o next. tt) (local_head c.in_ok-word.word) c.in_ok-word.ensures.ok
+    (lack_second (list_begins c.in_ok-word.word) (local_each local_item _) c.in_ok-items.ensures.ok (lack_second actions_follow (local_list_word c.in_ok-word.word c.in_ok-form.form) c.in_ok-form.ensures.ok c.in_err-actions.ensures.fault))))
 
 pub block::block-returns-clause-ok : goal.block::block-returns-clause-ok
 block::block-returns-clause-ok t c =
@@ -61,7 +67,7 @@ block::actions-returns-in_err-action-clause-fault t c =
     let p = err_from_is_err_and c.from_residual.result c.from_residual.ensures.1 in
     rw (p.1, p.2) (lack_made (makes_actions c.args.tokens.now c.args.from) (lack_before (λ others place is. is) (front_lacks c.loop-alloc.invariant
     (λ others part from end o. (action_acts part others from end o).1) closing_no_branch
-    (action_goes_on c.args.tokens.now c.loop-alloc.at (ap is_action (sym c.start_at.ensures.value) ∙ sym c.is_action.ensures ∙ c.loop-alloc-test.true)) c.in_err-action.ensures.fault)))
+    (action_goes_on c.args.tokens.now c.loop-alloc.at (ap is_action (sym c.start_at.ensures.value) ∙ sym c.is_action.ensures ∙ c.loop-alloc-test.true)) local_action c.in_err-action.ensures.fault)))
 
 pub block::actions-loop-alloc-preserved : goal.block::actions-loop-alloc-preserved
 block::actions-loop-alloc-preserved t c =
@@ -74,7 +80,7 @@ block::actions-loop-alloc-preserved t c =
 pub block::actions-returns-in_err-expect-clause-fault : goal.block::actions-returns-in_err-expect-clause-fault
 block::actions-returns-in_err-expect-clause-fault t c =
     let p = err_from_is_err_and c.from_residual-in_err-expect.result c.from_residual-in_err-expect.ensures.1 in
-    rw (p.1, p.2) (lack_made (makes_actions c.args.tokens.now c.args.from) (lack_token (λ others place is. is)
+    rw (p.1, p.2) (lack_made (makes_actions c.args.tokens.now c.args.from) (lack_token (λ others place is. is) (local_each local_action _)
     (front_ends c.loop-alloc.invariant (no_action c.args.tokens.now c.loop-alloc.at (ap is_action (sym c.start_at.ensures.value) ∙ sym c.is_action.ensures ∙ c.loop-alloc-test.false))) c.in_err-expect.ensures.fault))
 
 pub block::actions-returns-clause-ok : goal.block::actions-returns-clause-ok
@@ -85,12 +91,12 @@ block::actions-returns-clause-ok t c =
 pub branch::branch-returns-in_err-label-clause-fault : goal.branch::branch-returns-in_err-label-clause-fault
 branch::branch-returns-in_err-label-clause-fault t c =
     let p = err_from_is_err_and c.from_residual.result c.from_residual.ensures.1 in
-    rw (p.1, p.2) (lack_made (makes_branch c.args.tokens.now c.args.from) (lack_first block_no_name c.in_err-label.ensures.fault))
+    rw (p.1, p.2) (lack_made (makes_branch c.args.tokens.now c.args.from) (lack_first block_no_name short_block c.in_err-label.ensures.fault))
 
 pub branch::branch-returns-in_err-block-clause-fault : goal.branch::branch-returns-in_err-block-clause-fault
 branch::branch-returns-in_err-block-clause-fault t c =
     let p = err_from_is_err_and c.from_residual-in_err-block.result c.from_residual-in_err-block.ensures.1 in
-    rw (p.1, p.2) (lack_made (makes_branch c.args.tokens.now c.args.from) (lack_second block_no_name c.in_ok-label.ensures.ok c.in_err-block.ensures.fault))
+    rw (p.1, p.2) (lack_made (makes_branch c.args.tokens.now c.args.from) (lack_second block_no_name (local_label c.in_ok-label.label) c.in_ok-label.ensures.ok c.in_err-block.ensures.fault))
 
 pub branch::branch-returns-clause-ok : goal.branch::branch-returns-clause-ok
 branch::branch-returns-clause-ok t c =
@@ -100,18 +106,18 @@ branch::branch-returns-clause-ok t c =
 pub branch::guarded-returns-in_err-expect-clause-fault : goal.branch::guarded-returns-in_err-expect-clause-fault
 branch::guarded-returns-in_err-expect-clause-fault t c =
     let p = err_from_is_err_and c.from_residual.result c.from_residual.ensures.1 in
-    rw (p.1, p.2) (lack_made (makes_guarded c.args.tokens.now c.args.from) (lack_kind (c.requires.place) c.in_err-expect.ensures.fault))
+    rw (p.1, p.2) (lack_made (makes_guarded c.args.tokens.now c.args.from) (lack_kind (c.requires.place) short_tested c.in_err-expect.ensures.fault))
 
 pub branch::guarded-returns-in_err-test-clause-fault : goal.branch::guarded-returns-in_err-test-clause-fault
 branch::guarded-returns-in_err-test-clause-fault t c =
     let p = err_from_is_err_and c.from_residual-in_err-test.result c.from_residual-in_err-test.ensures.1 in
-    rw (p.1, p.2) (lack_made (makes_guarded c.args.tokens.now c.args.from) (lack_behind (lack_first {Next = Anything} (λ others part from end o next. tt)
+    rw (p.1, p.2) (lack_made (makes_guarded c.args.tokens.now c.args.from) (lack_behind c.in_ok-expect.ensures.ok.1 (lack_first {Next = Anything} (λ others part from end o next. tt) short_branch
     (of_missing (closed signs.CloseParen) c.args.tokens.now (c.args.from + 1) c.in_err-test.field-0.0 Anything c.in_err-test.ensures.fault))))
 
 pub branch::guarded-returns-in_err-branch-clause-fault : goal.branch::guarded-returns-in_err-branch-clause-fault
 branch::guarded-returns-in_err-branch-clause-fault t c =
     let p = err_from_is_err_and c.from_residual-in_err-branch.result c.from_residual-in_err-branch.ensures.1 in
-    rw (p.1, p.2) (lack_made (makes_guarded c.args.tokens.now c.args.from) (lack_behind (lack_second (λ others part from end o next. tt) (of_found Anything c.in_ok-test.ensures.ok) c.in_err-branch.ensures.fault)))
+    rw (p.1, p.2) (lack_made (makes_guarded c.args.tokens.now c.args.from) (lack_behind c.in_ok-expect.ensures.ok.1 (lack_second (λ others part from end o next. tt) (local_closed signs.CloseParen _) (of_found Anything c.in_ok-test.ensures.ok) c.in_err-branch.ensures.fault)))
 
 pub branch::guarded-returns-clause-ok : goal.branch::guarded-returns-clause-ok
 branch::guarded-returns-clause-ok t c =
@@ -122,8 +128,8 @@ branch::guarded-returns-clause-ok t c =
 pub branch::else_ifs-returns-in_err-other-clause-fault : goal.branch::else_ifs-returns-in_err-other-clause-fault
 branch::else_ifs-returns-in_err-other-clause-fault t c =
     let p = err_from_is_err_and c.from_residual.result c.from_residual.ensures.1 in
-    rw (p.1, p.2) (lack_made (makes_else_ifs c.args.tokens.now c.args.from) (front_lacks c.loop-alloc.invariant {Next = Anything} (λ others part from end o. tt) (λ others place last. tt) (else_if_goes_on c.args.tokens.now c.loop-alloc.at (c.loop-alloc-test.ensures.answer.0 refl))
-    (lack_behind c.in_err-other.ensures.fault)))
+    rw (p.1, p.2) (lack_made (makes_else_ifs c.args.tokens.now c.args.from) (front_lacks c.loop-alloc.invariant {Next = Anything} (λ others part from end o. tt) (λ others place last. tt) (else_if_goes_on c.args.tokens.now c.loop-alloc.at (c.loop-alloc-test.ensures.answer.0 refl)) local_else_if
+    (lack_behind (here starts.ElseIf (kinds.Keyword words.ElseIf) (λ kind is_of. is_of) (λ e. cc) c.args.tokens.now c.loop-alloc.at (c.loop-alloc-test.ensures.answer.0 refl)) c.in_err-other.ensures.fault)))
 
 pub branch::else_ifs-loop-alloc-preserved : goal.branch::else_ifs-loop-alloc-preserved
 branch::else_ifs-loop-alloc-preserved t c =
@@ -146,7 +152,7 @@ pub branch::otherwise-returns-in_err-branch-clause-fault : goal.branch::otherwis
 branch::otherwise-returns-in_err-branch-clause-fault t c =
     let p = err_from_is_err_and c.from_residual.result c.from_residual.ensures.1 in
     rw (p.1, p.2) (lack_made (makes_otherwise c.args.tokens.now c.args.from) (lack_present (else_goes_on c.args.tokens.now c.args.from (c.if-not-begins.ensures.answer.0 refl))
-    (lack_behind (lack_narrowed (λ others place last. tt) c.in_err-branch.ensures.fault))))
+    (lack_behind (here starts.Else (kinds.Keyword words.Else) (λ kind is_of. is_of) (λ e. cc) c.args.tokens.now c.args.from (c.if-not-begins.ensures.answer.0 refl)) (lack_narrowed (λ others place last. tt) c.in_err-branch.ensures.fault))))
 
 pub branch::otherwise-returns-clause-ok : goal.branch::otherwise-returns-clause-ok
 branch::otherwise-returns-clause-ok t c =
@@ -199,19 +205,19 @@ body::body-returns-in_err-name-in-Name-clause-fault t c =
 pub body::conditional-returns-in_err-first-clause-fault : goal.body::conditional-returns-in_err-first-clause-fault
 body::conditional-returns-in_err-first-clause-fault t c =
     let p = err_from_is_err_and c.from_residual.result c.from_residual.ensures.1 in
-    rw (p.1, p.2) (lack_made (makes_if c.args.tokens.now c.args.from (ap sort_of c.requires.begins)) (lack_behind (lack_first {Next = Anything} (λ others part from end o next. tt) c.in_err-first.ensures.fault)))
+    rw (p.1, p.2) (lack_made (makes_if c.args.tokens.now c.args.from (ap sort_of c.requires.begins)) (lack_behind (here starts.If (kinds.Keyword words.If) (λ kind is_of. is_of) (λ e. cc) c.args.tokens.now c.args.from c.requires.begins) (lack_first {Next = Anything} (λ others part from end o next. tt) short_else_ifs c.in_err-first.ensures.fault)))
 
 pub body::conditional-returns-in_err-others-clause-fault : goal.body::conditional-returns-in_err-others-clause-fault
 body::conditional-returns-in_err-others-clause-fault t c =
     let p = err_from_is_err_and c.from_residual-in_err-others.result c.from_residual-in_err-others.ensures.1 in
-    rw (p.1, p.2) (lack_made (makes_if c.args.tokens.now c.args.from (ap sort_of c.requires.begins)) (lack_behind (lack_second (λ others part from end o next. tt) c.in_ok-first.ensures.ok
-    (lack_first else_follows c.in_err-others.ensures.fault))))
+    rw (p.1, p.2) (lack_made (makes_if c.args.tokens.now c.args.from (ap sort_of c.requires.begins)) (lack_behind (here starts.If (kinds.Keyword words.If) (λ kind is_of. is_of) (λ e. cc) c.args.tokens.now c.args.from c.requires.begins) (lack_second (λ others part from end o next. tt) (local_guarded _) c.in_ok-first.ensures.ok
+    (lack_first else_follows short_otherwise c.in_err-others.ensures.fault))))
 
 pub body::conditional-returns-in_err-otherwise-clause-fault : goal.body::conditional-returns-in_err-otherwise-clause-fault
 body::conditional-returns-in_err-otherwise-clause-fault t c =
     let p = err_from_is_err_and c.from_residual-in_err-otherwise.result c.from_residual-in_err-otherwise.ensures.1 in
-    rw (p.1, p.2) (lack_made (makes_if c.args.tokens.now c.args.from (ap sort_of c.requires.begins)) (lack_behind (lack_second (λ others part from end o next. tt) c.in_ok-first.ensures.ok
-    (lack_second else_follows c.in_ok-others.ensures.ok (lack_first end_follows c.in_err-otherwise.ensures.fault)))))
+    rw (p.1, p.2) (lack_made (makes_if c.args.tokens.now c.args.from (ap sort_of c.requires.begins)) (lack_behind (here starts.If (kinds.Keyword words.If) (λ kind is_of. is_of) (λ e. cc) c.args.tokens.now c.args.from c.requires.begins) (lack_second (λ others part from end o next. tt) (local_guarded _) c.in_ok-first.ensures.ok
+    (lack_second else_follows (local_else_ifs _) c.in_ok-others.ensures.ok (lack_first end_follows short_end_if c.in_err-otherwise.ensures.fault)))))
 
 pub body::conditional-returns-clause-ok : goal.body::conditional-returns-clause-ok
 body::conditional-returns-clause-ok t c =
@@ -234,25 +240,25 @@ body::conditional-returns-clause-ok t c =
 pub body::counted-returns-in_err-variable-clause-fault : goal.body::counted-returns-in_err-variable-clause-fault
 body::counted-returns-in_err-variable-clause-fault t c =
     let p = err_from_is_err_and c.from_residual.result c.from_residual.ensures.1 in
-    rw (p.1, p.2) (lack_made (makes_for c.args.tokens.now c.args.from (ap sort_of c.requires.begins)) (lack_behind (lack_first {Next = Anything} (λ others part from end o next. tt) c.in_err-variable.ensures.fault)))
+    rw (p.1, p.2) (lack_made (makes_for c.args.tokens.now c.args.from (ap sort_of c.requires.begins)) (lack_behind (here starts.For (kinds.Keyword words.For) (λ kind is_of. is_of) (λ e. cc) c.args.tokens.now c.args.from c.requires.begins) (lack_first {Next = Anything} (λ others part from end o next. tt) short_loop c.in_err-variable.ensures.fault)))
 
 pub body::counted-returns-in_err-test-clause-fault : goal.body::counted-returns-in_err-test-clause-fault
 body::counted-returns-in_err-test-clause-fault t c =
     let p = err_from_is_err_and c.from_residual-in_err-test.result c.from_residual-in_err-test.ensures.1 in
-    rw (p.1, p.2) (lack_made (makes_for c.args.tokens.now c.args.from (ap sort_of c.requires.begins)) (lack_behind (lack_second (λ others part from end o next. tt) c.in_ok-variable.ensures.ok (lack_first {Next = Anything} (λ others part from end o next. tt)
+    rw (p.1, p.2) (lack_made (makes_for c.args.tokens.now c.args.from (ap sort_of c.requires.begins)) (lack_behind (here starts.For (kinds.Keyword words.For) (λ kind is_of. is_of) (λ e. cc) c.args.tokens.now c.args.from c.requires.begins) (lack_second (λ others part from end o next. tt) (local_counter _) c.in_ok-variable.ensures.ok (lack_first {Next = Anything} (λ others part from end o next. tt) short_tested
     (of_missing (closed signs.Semicolon) c.args.tokens.now c.in_ok-variable.behind_counter c.in_err-test.field-0.0 Anything c.in_err-test.ensures.fault)))))
 
 pub body::counted-returns-in_err-step-clause-fault : goal.body::counted-returns-in_err-step-clause-fault
 body::counted-returns-in_err-step-clause-fault t c =
     let p = err_from_is_err_and c.from_residual-in_err-step.result c.from_residual-in_err-step.ensures.1 in
-    rw (p.1, p.2) (lack_made (makes_for c.args.tokens.now c.args.from (ap sort_of c.requires.begins)) (lack_behind (lack_second (λ others part from end o next. tt) c.in_ok-variable.ensures.ok (lack_second (λ others part from end o next. tt) (of_found Anything c.in_ok-test.ensures.ok)
-    (lack_first {Next = Anything} (λ others part from end o next. tt) (of_missing (closed signs.CloseParen) c.args.tokens.now c.in_ok-test.behind_test c.in_err-step.field-0.0 Anything c.in_err-step.ensures.fault))))))
+    rw (p.1, p.2) (lack_made (makes_for c.args.tokens.now c.args.from (ap sort_of c.requires.begins)) (lack_behind (here starts.For (kinds.Keyword words.For) (λ kind is_of. is_of) (λ e. cc) c.args.tokens.now c.args.from c.requires.begins) (lack_second (λ others part from end o next. tt) (local_counter _) c.in_ok-variable.ensures.ok (lack_second (λ others part from end o next. tt) (local_closed signs.Semicolon _) (of_found Anything c.in_ok-test.ensures.ok)
+    (lack_first {Next = Anything} (λ others part from end o next. tt) short_branch (of_missing (closed signs.CloseParen) c.args.tokens.now c.in_ok-test.behind_test c.in_err-step.field-0.0 Anything c.in_err-step.ensures.fault))))))
 
 pub body::counted-returns-in_err-branch-clause-fault : goal.body::counted-returns-in_err-branch-clause-fault
 body::counted-returns-in_err-branch-clause-fault t c =
     let p = err_from_is_err_and c.from_residual-in_err-branch.result c.from_residual-in_err-branch.ensures.1 in
-    rw (p.1, p.2) (lack_made (makes_for c.args.tokens.now c.args.from (ap sort_of c.requires.begins)) (lack_behind (lack_second (λ others part from end o next. tt) c.in_ok-variable.ensures.ok (lack_second (λ others part from end o next. tt) (of_found Anything c.in_ok-test.ensures.ok)
-    (lack_second (λ others part from end o next. tt) (of_found Anything c.in_ok-step.ensures.ok) (lack_narrowed (λ others place last. tt) c.in_err-branch.ensures.fault))))))
+    rw (p.1, p.2) (lack_made (makes_for c.args.tokens.now c.args.from (ap sort_of c.requires.begins)) (lack_behind (here starts.For (kinds.Keyword words.For) (λ kind is_of. is_of) (λ e. cc) c.args.tokens.now c.args.from c.requires.begins) (lack_second (λ others part from end o next. tt) (local_counter _) c.in_ok-variable.ensures.ok (lack_second (λ others part from end o next. tt) (local_closed signs.Semicolon _) (of_found Anything c.in_ok-test.ensures.ok)
+    (lack_second (λ others part from end o next. tt) (local_closed signs.CloseParen _) (of_found Anything c.in_ok-step.ensures.ok) (lack_narrowed (λ others place last. tt) c.in_err-branch.ensures.fault))))))
 
 pub body::body-returns-in_ok-name-in-Name-clause-ok : goal.body::body-returns-in_ok-name-in-Name-clause-ok
 body::body-returns-in_ok-name-in-Name-clause-ok t c =
@@ -263,7 +269,7 @@ body::body-returns-in_ok-name-in-Name-clause-ok t c =
 pub body::body-returns-in_ok-name-in-Name-clause-fault : goal.body::body-returns-in_ok-name-in-Name-clause-fault
 body::body-returns-in_ok-name-in-Name-clause-fault t c =
     IfErr-weaker c.named.result _ _ (λ fault missing.
-    lack_made (makes_named c.args.tokens.now c.args.from (ap sort_of (sym c.start_at.ensures.value ∙ c.in-Name.is))) (lack_second (λ others part from end o next. tt) (of_found Anything c.in_ok-name-in-Name.ensures.ok) (lack_narrowed (λ others place last. tt) missing))) c.named.ensures.fault
+    lack_made (makes_named c.args.tokens.now c.args.from (ap sort_of (sym c.start_at.ensures.value ∙ c.in-Name.is))) (lack_second (λ others part from end o next. tt) (local_identifier _) (of_found Anything c.in_ok-name-in-Name.ensures.ok) (lack_narrowed (λ others place last. tt) missing))) c.named.ensures.fault
 
 pub body::body-returns-in_err-block-in-Form-clause-fault : goal.body::body-returns-in_err-block-in-Form-clause-fault
 body::body-returns-in_err-block-in-Form-clause-fault t c =
@@ -288,7 +294,7 @@ body::body-returns-in_ok-block-in-Brace-clause-ok t c =
 pub body::body-returns-in_err-pairs-in-Update-clause-fault : goal.body::body-returns-in_err-pairs-in-Update-clause-fault
 body::body-returns-in_err-pairs-in-Update-clause-fault t c =
     let p = err_from_is_err_and c.from_residual-in_err-pairs-in-Update.result c.from_residual-in_err-pairs-in-Update.ensures.1 in
-    rw (p.1, p.2) (lack_made (makes_update c.args.tokens.now c.args.from (ap sort_of (sym c.start_at.ensures.value ∙ c.in-Update.is))) (lack_behind (lack_narrowed (λ others place last. tt) c.in_err-pairs-in-Update.ensures.fault)))
+    rw (p.1, p.2) (lack_made (makes_update c.args.tokens.now c.args.from (ap sort_of (sym c.start_at.ensures.value ∙ c.in-Update.is))) (lack_behind (here starts.Update (kinds.Keyword words.Update) (λ kind is_of. is_of) (λ e. cc) c.args.tokens.now c.args.from (sym c.start_at.ensures.value ∙ c.in-Update.is)) (lack_narrowed (λ others place last. tt) c.in_err-pairs-in-Update.ensures.fault)))
 
 pub body::body-returns-in_ok-pairs-in-Update-clause-ok : goal.body::body-returns-in_ok-pairs-in-Update-clause-ok
 body::body-returns-in_ok-pairs-in-Update-clause-ok t c =
@@ -298,7 +304,7 @@ body::body-returns-in_ok-pairs-in-Update-clause-ok t c =
 pub body::body-returns-in_err-guarded-in-While-clause-fault : goal.body::body-returns-in_err-guarded-in-While-clause-fault
 body::body-returns-in_err-guarded-in-While-clause-fault t c =
     let p = err_from_is_err_and c.from_residual-in_err-guarded-in-While.result c.from_residual-in_err-guarded-in-While.ensures.1 in
-    rw (p.1, p.2) (lack_made (makes_while c.args.tokens.now c.args.from (ap sort_of (sym c.start_at.ensures.value ∙ c.in-While.is))) (lack_behind (lack_narrowed (λ others place last. tt) c.in_err-guarded-in-While.ensures.fault)))
+    rw (p.1, p.2) (lack_made (makes_while c.args.tokens.now c.args.from (ap sort_of (sym c.start_at.ensures.value ∙ c.in-While.is))) (lack_behind (here starts.While (kinds.Keyword words.While) (λ kind is_of. is_of) (λ e. cc) c.args.tokens.now c.args.from (sym c.start_at.ensures.value ∙ c.in-While.is)) (lack_narrowed (λ others place last. tt) c.in_err-guarded-in-While.ensures.fault)))
 
 pub body::body-returns-in_ok-guarded-in-While-clause-ok : goal.body::body-returns-in_ok-guarded-in-While-clause-ok
 body::body-returns-in_ok-guarded-in-While-clause-ok t c =
@@ -307,7 +313,7 @@ body::body-returns-in_ok-guarded-in-While-clause-ok t c =
 
 pub body::body-returns-in_default-clause-fault : goal.body::body-returns-in_default-clause-fault
 body::body-returns-in_default-clause-fault t c =
-    lacks_here c.args.tokens.now c.args.from _ refl c.requires.place (no_body c.args.tokens.now c.args.from (ap sort_of (sym c.start_at.ensures.value)
+    lacks_here c.args.tokens.now c.args.from _ refl c.requires.place short_body (no_body c.args.tokens.now c.args.from (ap sort_of (sym c.start_at.ensures.value)
     ∙ no_sort c.start_at.result c.in_default.not-Name c.in_default.not-Form c.in_default.not-Brace c.in_default.not-Update c.in_default.not-If c.in_default.not-While c.in_default.not-For))
 
 pub body::counted-returns-clause-ok : goal.body::counted-returns-clause-ok

@@ -6,6 +6,8 @@ use Rattle.px_plan_parse.specs.Part.{Anything}
 use Rattle.px_plan_parse.proofs.Blocks.{no_label}
 use Rattle.px_plan_parse.proofs.Globals.{name_goes_on}
 use Rattle.px_plan_parse.proofs.Parts.{lack_before, lack_present, of_missing, part_absent}
+use Rattle.px_expr_parse.proofs.Spans.{local_identifier}
+use Rattle.px_plan_parse.proofs.Parts.{lack_token, of_found}
 use Rattle.px_plan_parse.proofs.block.label.Goals as goal
 
 pub returns-then-not-begins-clause-ok : goal.returns-then-not-begins-clause-ok
@@ -18,3 +20,10 @@ returns-in_err-name-clause-fault c =
     rw (p.1, p.2) (lack_present (name_goes_on c.args.tokens.now c.args.from (c.if-not-begins.ensures.answer.0 refl))
     (lack_before {Next = Anything} (λ others place is. tt)
     (of_missing identifier c.args.tokens.now c.args.from c.in_err-name.field-0.0 Anything c.in_err-name.ensures.fault)))
+
+pub returns-in_err-expect-clause-fault : goal.returns-in_err-expect-clause-fault
+returns-in_err-expect-clause-fault c =
+    let p = err_from_is_err_and c.from_residual-in_err-expect.result c.from_residual-in_err-expect.ensures.1 in
+    rw (p.1, p.2) (lack_present (name_goes_on c.args.tokens.now c.args.from (c.if-not-begins.ensures.answer.0 refl))
+    (lack_token {Next = Anything} (λ others place is. tt) (local_identifier _) (of_found Anything c.in_ok-name.ensures.ok)
+    c.in_err-expect.ensures.fault))

@@ -13,6 +13,14 @@ use mir.Syntax.{w32}
 use mir.Val.{SFits, of_z, to_z}
 use Rattle.px_plan_parse.proofs.Parts.{lack_before, lack_behind, lack_kind, lack_second, lack_token, of_found, part_before, part_behind, part_both}
 use Rattle.px_plan_parse.proofs.Starts.{here, start_integer}
+use Rattle.px_expr_parse.proofs.Spans.{local_identifier}
+use Rattle.px_plan_parse.proofs.Shortests.{short_counted}
+use Rattle.px_plan_parse.proofs.Spans.{local_signed}
+use Rattle.px_expr_parse.proofs.Completions.{short_behind}
+use Rattle.px_plan_parse.proofs.Shortests.{short_first}
+use Rattle.px_plan_parse.proofs.Parts.{lack_first, of_missing}
+use Rattle.px_lex.specs.declared.sign.Sign.TheVariants as signs
+use Rattle.px_syntax.specs.Form.{identifier}
 use Rattle.px_plan_parse.proofs.body.counter.Goals as goal
 
 two : (n : ℕ) → n + 2 ≡ n + 1 + 1
@@ -26,23 +34,25 @@ four n = omega arith
 
 pub returns-then-not-begins-clause-fault : goal.returns-then-not-begins-clause-fault
 returns-then-not-begins-clause-fault c =
-    lack_behind (lack_kind (omega (arith, c.in_ok-expect.ensures.ok.0))
+    lack_behind c.in_ok-expect.ensures.ok.1 (lack_kind (omega (arith, c.in_ok-expect.ensures.ok.0)) short_counted
     (refl, λ has. false≢true (c.if-not-begins.ensures.answer.1 (start_integer c.args.tokens.now (c.args.from + 1) has))))
 
 pub returns-in_err-first-clause-fault : goal.returns-in_err-first-clause-fault
 returns-in_err-first-clause-fault c =
     let p = err_from_is_err_and c.from_residual-in_err-first.result c.from_residual-in_err-first.ensures.1 in
-    rw (p.1, p.2) (lack_behind (lack_behind (rw (sym (two c.args.from)) (
-    lack_second (λ others part from end o next. tt) (of_found Anything c.in_ok-variable.ensures.ok)
-    (rw (sym (three c.args.from)) (lack_behind (lack_before {Next = Anything} (λ others place is. tt)
+    rw (p.1, p.2) (lack_behind c.in_ok-expect.ensures.ok.1 (lack_behind (here (starts.Type types.Integer) (kinds.Keyword words.Integer) (λ kind is_of. is_of) (λ e. cc) c.args.tokens.now (c.args.from + 1)
+    (c.if-not-begins.ensures.answer.0 refl)) (rw (sym (two c.args.from)) (
+    lack_second (λ others part from end o next. tt) (local_identifier _) (of_found Anything c.in_ok-variable.ensures.ok)
+    (rw (sym (three c.args.from)) (lack_behind c.in_ok-expect-2.ensures.ok.1 (lack_before {Next = Anything} (λ others place is. tt)
     (rw (four c.args.from) at c.in_err-first.ensures.fault))))))))
 
 pub returns-in_err-expect-3-clause-fault : goal.returns-in_err-expect-3-clause-fault
 returns-in_err-expect-3-clause-fault c =
     let p = err_from_is_err_and c.from_residual-in_err-expect-3.result c.from_residual-in_err-expect-3.ensures.1 in
-    rw (p.1, p.2) (lack_behind (lack_behind (rw (sym (two c.args.from)) (
-    lack_second (λ others part from end o next. tt) (of_found Anything c.in_ok-variable.ensures.ok)
-    (rw (sym (three c.args.from)) (lack_behind (lack_token {Next = Anything} (λ others place is. tt)
+    rw (p.1, p.2) (lack_behind c.in_ok-expect.ensures.ok.1 (lack_behind (here (starts.Type types.Integer) (kinds.Keyword words.Integer) (λ kind is_of. is_of) (λ e. cc) c.args.tokens.now (c.args.from + 1)
+    (c.if-not-begins.ensures.answer.0 refl)) (rw (sym (two c.args.from)) (
+    lack_second (λ others part from end o next. tt) (local_identifier _) (of_found Anything c.in_ok-variable.ensures.ok)
+    (rw (sym (three c.args.from)) (lack_behind c.in_ok-expect-2.ensures.ok.1 (lack_token {Next = Anything} (λ others place is. tt) (local_signed _)
     (rw (four c.args.from) at c.in_ok-first.ensures.ok) c.in_err-expect-3.ensures.fault)))))))
 
 pub returns-clause-ok : goal.returns-clause-ok
@@ -62,3 +72,24 @@ pub returns-clause-fits : goal.returns-clause-fits
 returns-clause-fits c =
     let same : to_z w32 (of_z w32 c.in_ok-first.first) ≡ c.in_ok-first.first = to_z-of_z w32 c.in_ok-first.first c.in_ok-first.ensures.fits in
     subst (λ (first : ℤ). SFits w32 first) (sym same) c.in_ok-first.ensures.fits
+
+pub returns-in_err-expect-clause-fault : goal.returns-in_err-expect-clause-fault
+returns-in_err-expect-clause-fault c =
+    let p = err_from_is_err_and c.from_residual.result c.from_residual.ensures.1 in
+    rw (p.1, p.2) (lack_kind c.requires (short_behind (kinds.Keyword words.Integer) short_counted) c.in_err-expect.ensures.fault)
+
+pub returns-in_err-variable-clause-fault : goal.returns-in_err-variable-clause-fault
+returns-in_err-variable-clause-fault c =
+    let p = err_from_is_err_and c.from_residual-in_err-variable.result c.from_residual-in_err-variable.ensures.1 in
+    rw (p.1, p.2) (lack_behind c.in_ok-expect.ensures.ok.1 (lack_behind (here (starts.Type types.Integer) (kinds.Keyword words.Integer) (λ kind is_of. is_of) (λ e. cc) c.args.tokens.now (c.args.from + 1)
+    (c.if-not-begins.ensures.answer.0 refl)) (rw (sym (two c.args.from)) (
+    lack_first {Next = Anything} (λ others part from end o next. tt) (short_behind (kinds.Sign signs.Assign) short_first)
+    (of_missing identifier c.args.tokens.now (c.args.from + 2) c.in_err-variable.field-0.0 Anything c.in_err-variable.ensures.fault)))))
+
+pub returns-in_err-expect-2-clause-fault : goal.returns-in_err-expect-2-clause-fault
+returns-in_err-expect-2-clause-fault c =
+    let p = err_from_is_err_and c.from_residual-in_err-expect-2.result c.from_residual-in_err-expect-2.ensures.1 in
+    rw (p.1, p.2) (lack_behind c.in_ok-expect.ensures.ok.1 (lack_behind (here (starts.Type types.Integer) (kinds.Keyword words.Integer) (λ kind is_of. is_of) (λ e. cc) c.args.tokens.now (c.args.from + 1)
+    (c.if-not-begins.ensures.answer.0 refl)) (rw (sym (two c.args.from)) (
+    lack_second (λ others part from end o next. tt) (local_identifier _) (of_found Anything c.in_ok-variable.ensures.ok)
+    (rw (sym (three c.args.from)) (lack_kind (omega (arith, c.in_ok-variable.ensures.ok.within)) short_first c.in_err-expect-2.ensures.fault))))))

@@ -9,6 +9,7 @@ use Rattle.px_plan_parse.specs.Tail.{Only}
 use Rattle.px_plan_parse.proofs.Commas.{HasCommas, commas_end, commas_lack, commas_lack_close, commas_lack_first, commas_more}
 use Rattle.px_plan_parse.proofs.Globals.{comma_is_no_name, makes_parameters, no_parameters, paren_is_no_comma, paren_is_no_name}
 use Rattle.px_plan_parse.proofs.Parts.{lack_made, part_made}
+use Rattle.px_plan_parse.proofs.Spans.{local_parameter}
 use Rattle.px_plan_parse.proofs.global.closed_parameters.Goals as goal
 
 pub returns-then-is_sign-clause-ok : goal.returns-then-is_sign-clause-ok
@@ -28,7 +29,7 @@ returns-in_err-next-clause-fault c =
     let p = err_from_is_err_and c.from_residual-in_err-next.result c.from_residual-in_err-next.ensures.1 in
     rw (p.1, p.2) (lack_made (makes_parameters c.args.tokens.now c.args.from (λ has. false≢true (c.if-is_sign.ensures.answer.1 has)))
     (commas_lack parameter NoName signs.CloseParen c.args.tokens.now c.args.from paren_is_no_comma
-    comma_is_no_name paren_is_no_name c.loop-alloc.invariant (c.loop-alloc-test.ensures.answer.0 refl) c.in_err-next.ensures.fault))
+    comma_is_no_name paren_is_no_name c.loop-alloc.invariant local_parameter (c.loop-alloc-test.ensures.answer.0 refl) c.in_err-next.ensures.fault))
 
 pub loop-alloc-preserved : goal.loop-alloc-preserved
 loop-alloc-preserved c =
@@ -42,7 +43,7 @@ returns-in_err-expect-clause-fault c =
     let p = err_from_is_err_and c.from_residual-in_err-expect.result c.from_residual-in_err-expect.ensures.1 in
     rw (p.1, p.2) (lack_made (makes_parameters c.args.tokens.now c.args.from (λ has. false≢true (c.if-is_sign.ensures.answer.1 has)))
     (commas_lack_close parameter NoName signs.CloseParen c.args.tokens.now c.args.from paren_is_no_comma
-    comma_is_no_name paren_is_no_name c.loop-alloc.invariant (λ has. false≢true (c.loop-alloc-test.ensures.answer.1 has)) c.in_err-expect.ensures.fault))
+    comma_is_no_name paren_is_no_name c.loop-alloc.invariant local_parameter (λ has. false≢true (c.loop-alloc-test.ensures.answer.1 has)) c.in_err-expect.ensures.fault))
 
 pub returns-clause-ok : goal.returns-clause-ok
 returns-clause-ok c =

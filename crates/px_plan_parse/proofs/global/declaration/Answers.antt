@@ -10,13 +10,15 @@ use Rattle.px_plan_parse.specs.Start.{is_declaration}
 use Rattle.px_plan_parse.proofs.Globals.{lacks_here, makes_command, no_declaration, not_declaration}
 use Rattle.px_plan_parse.proofs.Parts.{lack_behind, lack_made, part_behind, part_made}
 use Rattle.px_plan_parse.proofs.Starts.{here}
+use Rattle.px_plan_parse.proofs.Shortests.{short_declaration}
 use Rattle.px_plan_parse.proofs.global.declaration.Goals as goal
 
 pub returns-in_err-name-in-Command-clause-fault : goal.returns-in_err-name-in-Command-clause-fault
 returns-in_err-name-in-Command-clause-fault c =
     let p = err_from_is_err_and c.from_residual.result c.from_residual.ensures.1 in
-    rw (p.1, p.2) (lack_made (makes_command c.args.tokens.now c.args.from (sym c.start_at.ensures.value ∙ c.in-Command.is))
-    (lack_behind c.in_err-name-in-Command.ensures.fault))
+    let is = sym c.start_at.ensures.value ∙ c.in-Command.is in
+    rw (p.1, p.2) (lack_made (makes_command c.args.tokens.now c.args.from is)
+    (lack_behind (here starts.Command (kinds.Keyword words.Command) (λ kind is_of. is_of) (λ e. cc) c.args.tokens.now c.args.from is) c.in_err-name-in-Command.ensures.fault))
 
 pub returns-in_ok-name-in-Command-clause-ok : goal.returns-in_ok-name-in-Command-clause-ok
 returns-in_ok-name-in-Command-clause-ok c =
@@ -28,6 +30,6 @@ returns-in_ok-name-in-Command-clause-ok c =
 
 pub returns-in_default-clause-fault : goal.returns-in_default-clause-fault
 returns-in_default-clause-fault c =
-    lacks_here c.args.tokens.now c.args.from _ refl c.requires
+    lacks_here c.args.tokens.now c.args.from _ refl c.requires short_declaration
     (no_declaration c.args.tokens.now c.args.from
     (ap is_declaration (sym c.start_at.ensures.value) ∙ not_declaration c.start_at.result c.in_default.not-Command c.in_default.not-Type))

@@ -3,6 +3,7 @@ use Rattle.std.proofs.lemmas.Result.{err_from_is_err_and}
 use Rattle.std.proofs.lemmas.Bool.{false≢true}
 use Rattle.px_plan_parse.proofs.Globals.{makes_given_parameters, makes_no_parameters}
 use Rattle.px_plan_parse.proofs.Parts.{lack_alone, lack_before, lack_behind, lack_made, lack_token, part_alone, part_before, part_behind, part_made}
+use Rattle.px_plan_parse.proofs.Spans.{local_closed_parameters}
 use Rattle.px_plan_parse.proofs.global.declared_parameters.Goals as goal
 
 pub returns-in_err-expect-clause-fault : goal.returns-in_err-expect-clause-fault
@@ -21,13 +22,13 @@ pub returns-in_err-parameters-clause-fault : goal.returns-in_err-parameters-clau
 returns-in_err-parameters-clause-fault c =
     let p = err_from_is_err_and c.from_residual-in_err-parameters.result c.from_residual-in_err-parameters.ensures.1 in
     rw (p.1, p.2) (lack_made (makes_given_parameters c.args.tokens.now c.args.from (c.if-not-is_sign.ensures.answer.0 refl))
-    (lack_behind (lack_before (λ others place is. tt) c.in_err-parameters.ensures.fault)))
+    (lack_behind (c.if-not-is_sign.ensures.answer.0 refl) (lack_before (λ others place is. tt) c.in_err-parameters.ensures.fault)))
 
 pub returns-in_err-expect-2-clause-fault : goal.returns-in_err-expect-2-clause-fault
 returns-in_err-expect-2-clause-fault c =
     let p = err_from_is_err_and c.from_residual-in_err-expect-2.result c.from_residual-in_err-expect-2.ensures.1 in
     rw (p.1, p.2) (lack_made (makes_given_parameters c.args.tokens.now c.args.from (c.if-not-is_sign.ensures.answer.0 refl))
-    (lack_behind (lack_token (λ others place is. tt) c.in_ok-parameters.ensures.ok c.in_err-expect-2.ensures.fault)))
+    (lack_behind (c.if-not-is_sign.ensures.answer.0 refl) (lack_token (λ others place is. tt) (local_closed_parameters _) c.in_ok-parameters.ensures.ok c.in_err-expect-2.ensures.fault)))
 
 pub returns-clause-ok : goal.returns-clause-ok
 returns-clause-ok c =

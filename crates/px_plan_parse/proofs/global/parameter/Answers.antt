@@ -10,11 +10,12 @@ use Rattle.px_plan_parse.specs.Start.{NoName}
 use Rattle.px_plan_parse.proofs.Globals.{lacks_here, makes_parameter, name_goes_on, no_name, no_parameter}
 use Rattle.px_plan_parse.proofs.Parts.{lack_made, lack_present, lack_word, of_found, of_missing, part_absent, part_made, part_present, part_word}
 use Rattle.px_plan_parse.proofs.Starts.{typed_ends, typed_stands}
+use Rattle.px_plan_parse.proofs.Shortests.{short_parameter}
 use Rattle.px_plan_parse.proofs.global.parameter.Goals as goal
 
 pub returns-in_default-clause-fault : goal.returns-in_default-clause-fault
 returns-in_default-clause-fault c =
-    lacks_here c.args.tokens.now c.args.from _ refl c.requires
+    lacks_here c.args.tokens.now c.args.from _ refl c.requires short_parameter
     (no_parameter c.args.tokens.now c.args.from (λ of_type is. c.in_default.not-Type of_type (c.start_at.ensures.value ∙ is)))
 
 pub returns-then-not-begins-clause-ok : goal.returns-then-not-begins-clause-ok
@@ -32,7 +33,7 @@ returns-in_err-name-clause-fault c =
     let p = err_from_is_err_and c.from_residual.result c.from_residual.ensures.1 in
     let is = sym c.start_at.ensures.value ∙ c.in-Type.is in
     rw (p.1, p.2) (lack_made (makes_parameter c.args.tokens.now c.args.from c.in-Type.of_type is)
-    (lack_word (type_word c.in-Type.of_type) (maybe identifier) (typed_ends c.args.tokens.now c.args.from c.in-Type.of_type)
+    (lack_word (type_word c.in-Type.of_type) (maybe identifier) (typed_stands c.args.tokens.now c.args.from c.in-Type.of_type is) (typed_ends c.args.tokens.now c.args.from c.in-Type.of_type)
     (lack_present (name_goes_on c.args.tokens.now (c.args.from + 1) (c.if-not-begins.ensures.answer.0 refl))
     (of_missing identifier c.args.tokens.now (c.args.from + 1) c.in_err-name.field-0.0 NoName c.in_err-name.ensures.fault))))
 

@@ -10,6 +10,7 @@ use Rattle.px_plan_parse.specs.Part.{Anything, IsPart}
 use Rattle.px_plan_parse.proofs.Globals.{lacks_here, makes_command_word, makes_lookup_word, makes_typed, no_word, worded}
 use Rattle.px_plan_parse.proofs.Parts.{lack_behind, lack_made, lack_word, part_behind, part_made, part_word}
 use Rattle.px_plan_parse.proofs.Starts.{here, typed_ends, typed_stands}
+use Rattle.px_plan_parse.proofs.Shortests.{short_worded}
 use Rattle.px_plan_parse.proofs.global.typed.Goals as goal
 
 two : (n : ℕ) → n + 2 ≡ n + 1 + 1
@@ -20,9 +21,9 @@ returns-in_err-name-in-Command-clause-fault c =
     let p = err_from_is_err_and c.from_residual.result c.from_residual.ensures.1 in
     let is = sym c.start_at.ensures.value ∙ c.in-Command.is in
     rw (p.1, p.2) (lack_made (makes_typed c.args.tokens.now c.args.from c.args.answer c.requires.begins)
-    (lack_word (type_word c.args.answer) worded (typed_ends c.args.tokens.now c.args.from c.args.answer)
+    (lack_word (type_word c.args.answer) worded (typed_stands c.args.tokens.now c.args.from c.args.answer c.requires.begins) (typed_ends c.args.tokens.now c.args.from c.args.answer)
     (lack_made (makes_command_word c.args.tokens.now (c.args.from + 1) is)
-    (lack_behind (rw (two c.args.from) at c.in_err-name-in-Command.ensures.fault)))))
+    (lack_behind (here starts.Command (kinds.Keyword words.Command) (λ kind is_of. is_of) (λ e. cc) c.args.tokens.now (c.args.from + 1) is) (rw (two c.args.from) at c.in_err-name-in-Command.ensures.fault)))))
 
 pub returns-in_ok-name-in-Command-clause-ok : goal.returns-in_ok-name-in-Command-clause-ok
 returns-in_ok-name-in-Command-clause-ok c =
@@ -40,9 +41,9 @@ returns-in_err-name-in-Lookup-clause-fault c =
     let p = err_from_is_err_and c.from_residual-in_err-name-in-Lookup.result c.from_residual-in_err-name-in-Lookup.ensures.1 in
     let is = sym c.start_at.ensures.value ∙ c.in-Lookup.is in
     rw (p.1, p.2) (lack_made (makes_typed c.args.tokens.now c.args.from c.args.answer c.requires.begins)
-    (lack_word (type_word c.args.answer) worded (typed_ends c.args.tokens.now c.args.from c.args.answer)
+    (lack_word (type_word c.args.answer) worded (typed_stands c.args.tokens.now c.args.from c.args.answer c.requires.begins) (typed_ends c.args.tokens.now c.args.from c.args.answer)
     (lack_made (makes_lookup_word c.args.tokens.now (c.args.from + 1) is)
-    (lack_behind (rw (two c.args.from) at c.in_err-name-in-Lookup.ensures.fault)))))
+    (lack_behind (here starts.Lookup (kinds.Keyword words.Lookup) (λ kind is_of. is_of) (λ e. cc) c.args.tokens.now (c.args.from + 1) is) (rw (two c.args.from) at c.in_err-name-in-Lookup.ensures.fault)))))
 
 pub returns-in_ok-name-in-Lookup-clause-ok : goal.returns-in_ok-name-in-Lookup-clause-ok
 returns-in_ok-name-in-Lookup-clause-ok c =
@@ -58,7 +59,7 @@ returns-in_ok-name-in-Lookup-clause-ok c =
 pub returns-in_default-clause-fault : goal.returns-in_default-clause-fault
 returns-in_default-clause-fault c =
     lack_made (makes_typed c.args.tokens.now c.args.from c.args.answer c.requires.begins)
-    (lack_word (type_word c.args.answer) worded (typed_ends c.args.tokens.now c.args.from c.args.answer)
-    (lacks_here c.args.tokens.now (c.args.from + 1) _ refl (omega (arith, c.requires.place))
+    (lack_word (type_word c.args.answer) worded (typed_stands c.args.tokens.now c.args.from c.args.answer c.requires.begins) (typed_ends c.args.tokens.now c.args.from c.args.answer)
+    (lacks_here c.args.tokens.now (c.args.from + 1) _ refl (omega (arith, c.requires.place)) short_worded
     (no_word c.args.tokens.now (c.args.from + 1) (λ is. c.in_default.not-Command (c.start_at.ensures.value ∙ is))
     (λ is. c.in_default.not-Lookup (c.start_at.ensures.value ∙ is)))))

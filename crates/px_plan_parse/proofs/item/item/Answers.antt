@@ -17,20 +17,20 @@ returns-in_err-variables-in-Type-clause-fault c =
     let p = err_from_is_err_and c.from_residual.result c.from_residual.ensures.1 in
     let is = sym c.start_at.ensures.value ∙ c.in-Type.is in
     rw (p.1, p.2) (lack_made (makes_variables c.args.tokens.now c.args.from c.in-Type.of_type is)
-    (lack_type c.args.tokens.now c.args.from c.in-Type.of_type c.in_err-variables-in-Type.ensures.fault))
+    (lack_type c.args.tokens.now c.args.from c.in-Type.of_type is c.in_err-variables-in-Type.ensures.fault))
 
 pub returns-in_err-test-in-Condition-clause-fault : goal.returns-in_err-test-in-Condition-clause-fault
 returns-in_err-test-in-Condition-clause-fault c =
     let p = err_from_is_err_and c.from_residual-in_err-test-in-Condition.result c.from_residual-in_err-test-in-Condition.ensures.1 in
     let is = sym c.start_at.ensures.value ∙ c.in-Condition.is in
     rw (p.1, p.2) (lack_made (makes_condition c.args.tokens.now c.args.from c.in-Condition.condition is)
-    (lack_condition c.args.tokens.now c.args.from c.in-Condition.condition c.in_err-test-in-Condition.ensures.fault))
+    (lack_condition c.args.tokens.now c.args.from c.in-Condition.condition is c.in_err-test-in-Condition.ensures.fault))
 
 pub returns-in_err-priority-in-Priority-clause-fault : goal.returns-in_err-priority-in-Priority-clause-fault
 returns-in_err-priority-in-Priority-clause-fault c =
     let p = err_from_is_err_and c.from_residual-in_err-priority-in-Priority.result c.from_residual-in_err-priority-in-Priority.ensures.1 in
     let is = sym c.start_at.ensures.value ∙ c.in-Priority.is in
-    rw (p.1, p.2) (lack_made (makes_priority c.args.tokens.now c.args.from is) (lack_behind c.in_err-priority-in-Priority.ensures.fault))
+    rw (p.1, p.2) (lack_made (makes_priority c.args.tokens.now c.args.from is) (lack_behind (here starts.Priority (kinds.Keyword words.Priority) (λ kind is_of. is_of) (λ e. cc) c.args.tokens.now c.args.from is) c.in_err-priority-in-Priority.ensures.fault))
 
 pub returns-in_ok-variables-in-Type-clause-ok : goal.returns-in_ok-variables-in-Type-clause-ok
 returns-in_ok-variables-in-Type-clause-ok c =

@@ -6,13 +6,14 @@ use Rattle.px_expr_parse.proofs.Arguments.{map_push}
 use Rattle.px_plan_parse.specs.Start.{NoItem, is_item}
 use Rattle.px_plan_parse.proofs.Items.{item_goes_on, no_item_there}
 use Rattle.px_plan_parse.proofs.Parts.{IsFront, front_ends, front_lacks, front_more}
+use Rattle.px_plan_parse.proofs.Spans.{local_item}
 use Rattle.px_plan_parse.proofs.item.items.Goals as goal
 
 pub returns-in_err-item-clause-fault : goal.returns-in_err-item-clause-fault
 returns-in_err-item-clause-fault c =
     let p = err_from_is_err_and c.from_residual.result c.from_residual.ensures.1 in
     rw (p.1, p.2) (front_lacks c.loop-alloc.invariant (λ others part from end o. tt) (λ others place last. tt)
-    (item_goes_on c.args.tokens.now c.loop-alloc.at (ap is_item (sym c.start_at.ensures.value) ∙ sym c.is_item.ensures ∙ c.loop-alloc-test.true)) c.in_err-item.ensures.fault)
+    (item_goes_on c.args.tokens.now c.loop-alloc.at (ap is_item (sym c.start_at.ensures.value) ∙ sym c.is_item.ensures ∙ c.loop-alloc-test.true)) local_item c.in_err-item.ensures.fault)
 
 pub loop-alloc-preserved : goal.loop-alloc-preserved
 loop-alloc-preserved c =

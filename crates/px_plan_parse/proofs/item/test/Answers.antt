@@ -19,7 +19,7 @@ returns-then-is_sign-clause-fault c =
     let colon = c.if-is_sign.ensures.answer.0 refl in
     IfErr-weaker c.parse_closed.result _ _ (λ fault missing.
     lack_made (makes_test_behind c.args.tokens.now c.args.from colon)
-    (lack_behind (of_missing (closed signs.Semicolon) c.args.tokens.now (c.args.from + 1) fault Anything missing))) c.parse_closed.ensures.fault
+    (lack_behind colon (of_missing (closed signs.Semicolon) c.args.tokens.now (c.args.from + 1) fault Anything missing))) c.parse_closed.ensures.fault
 
 pub returns-clause-ok : goal.returns-clause-ok
 returns-clause-ok c =

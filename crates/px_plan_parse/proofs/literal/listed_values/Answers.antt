@@ -7,6 +7,7 @@ use Rattle.px_syntax.specs.BlockGrammar.{listed}
 use Rattle.px_plan_parse.specs.Tail.{Only}
 use Rattle.px_plan_parse.proofs.Items.{comma_is_no_minus, listed_begins, paren_is_no_minus, paren_no_comma}
 use Rattle.px_plan_parse.proofs.Parts.{IsFront, front_ends, front_lacks, front_more, lack_before, part_before}
+use Rattle.px_plan_parse.proofs.Spans.{local_listed}
 use Rattle.px_plan_parse.proofs.literal.listed_values.Goals as goal
 
 pub returns-in_err-value-clause-fault : goal.returns-in_err-value-clause-fault
@@ -15,7 +16,7 @@ returns-in_err-value-clause-fault c =
     rw (p.1, p.2) (lack_before (λ others place has. has) (front_lacks c.loop-alloc.invariant
     (λ others part from end o. listed_begins signs.Comma comma_is_no_minus part others from end o) paren_no_comma
     (λ others agree closes. false≢true (c.loop-alloc-test.ensures.answer.1 (sym (agree c.loop-alloc.at (omega arith)) ∙ closes)))
-    c.in_err-value.ensures.fault))
+    local_listed c.in_err-value.ensures.fault))
 
 pub loop-alloc-preserved : goal.loop-alloc-preserved
 loop-alloc-preserved c =

@@ -6,6 +6,8 @@ use Rattle.px_plan_parse.proofs.Parts.{lack_behind, lack_first, lack_kind, lack_
 use Rattle.px_plan_parse.specs.Named.{Calls, Writes, written_data}
 use Rattle.px_syntax.specs.Expr.{in_turn, term_of}
 use Rattle.std.specs.Option.{option_map}
+use Rattle.px_plan_parse.proofs.Shortests.{short_assigned, short_written}
+use Rattle.px_plan_parse.proofs.Spans.{local_index}
 use Rattle.px_plan_parse.proofs.named.named.Goals as goal
 
 pub returns-in_err-args-clause-fault : goal.returns-in_err-args-clause-fault
@@ -24,19 +26,19 @@ pub returns-in_err-index-clause-fault : goal.returns-in_err-index-clause-fault
 returns-in_err-index-clause-fault c =
     let p = err_from_is_err_and c.from_residual-in_err-index.result c.from_residual-in_err-index.ensures.1 in
     rw (p.1, p.2) (lack_made (makes_assignment c.args.tokens.now c.args.from (λ has. false≢true (c.if-is_sign.ensures.answer.1 has)))
-    (lack_first assign_begins c.in_err-index.ensures.fault))
+    (lack_first assign_begins short_assigned c.in_err-index.ensures.fault))
 
 pub returns-in_err-expect-clause-fault : goal.returns-in_err-expect-clause-fault
 returns-in_err-expect-clause-fault c =
     let p = err_from_is_err_and c.from_residual-in_err-expect.result c.from_residual-in_err-expect.ensures.1 in
     rw (p.1, p.2) (lack_made (makes_assignment c.args.tokens.now c.args.from (λ has. false≢true (c.if-is_sign.ensures.answer.1 has)))
-    (lack_second assign_begins c.in_ok-index.ensures.ok (lack_kind c.in_ok-index.ensures.ok.within c.in_err-expect.ensures.fault)))
+    (lack_second assign_begins (local_index _) c.in_ok-index.ensures.ok (lack_kind c.in_ok-index.ensures.ok.within short_written c.in_err-expect.ensures.fault)))
 
 pub returns-in_err-value-clause-fault : goal.returns-in_err-value-clause-fault
 returns-in_err-value-clause-fault c =
     let p = err_from_is_err_and c.from_residual-in_err-value.result c.from_residual-in_err-value.ensures.1 in
     rw (p.1, p.2) (lack_made (makes_assignment c.args.tokens.now c.args.from (λ has. false≢true (c.if-is_sign.ensures.answer.1 has)))
-    (lack_second assign_begins c.in_ok-index.ensures.ok (lack_behind c.in_err-value.ensures.fault)))
+    (lack_second assign_begins (local_index _) c.in_ok-index.ensures.ok (lack_behind c.in_ok-expect.ensures.ok.1 c.in_err-value.ensures.fault)))
 
 pub returns-clause-ok : goal.returns-clause-ok
 returns-clause-ok c = (

@@ -12,7 +12,7 @@ returns-in_err-index-clause-fault c =
     let p = err_from_is_err_and c.from_residual.result c.from_residual.ensures.1 in
     let bracket = c.if-not-is_sign.ensures.answer.0 refl in
     rw (p.1, p.2) (lack_present (not_unless c.args.tokens.now c.args.from signs.OpenBracket bracket)
-    (lack_behind (of_missing (closed signs.CloseBracket) c.args.tokens.now (c.args.from + 1) c.in_err-index.field-0.0 (Unless signs.OpenBracket)
+    (lack_behind bracket (of_missing (closed signs.CloseBracket) c.args.tokens.now (c.args.from + 1) c.in_err-index.field-0.0 (Unless signs.OpenBracket)
     c.in_err-index.ensures.fault)))
 
 pub returns-clause-ok : goal.returns-clause-ok

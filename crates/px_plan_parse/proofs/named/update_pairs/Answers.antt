@@ -16,7 +16,7 @@ pub returns-then-is_sign-clause-fault : goal.returns-then-is_sign-clause-fault
 returns-then-is_sign-clause-fault c =
     let colon = c.if-is_sign.ensures.answer.0 refl in
     IfErr-weaker c.closed_pairs.result _ _ (λ fault missing.
-    lack_made (makes_with_colon closed_pairs no_colon_pairs c.args.tokens.now c.args.from colon) (lack_behind missing)) c.closed_pairs.ensures.fault
+    lack_made (makes_with_colon closed_pairs no_colon_pairs c.args.tokens.now c.args.from colon) (lack_behind colon missing)) c.closed_pairs.ensures.fault
 
 pub returns-clause-ok : goal.returns-clause-ok
 returns-clause-ok c =

@@ -9,6 +9,7 @@ use Rattle.px_plan_parse.specs.Part.{Anything, IsPart}
 use Rattle.px_plan_parse.proofs.Names.{lack_answer, lack_value, later, name_missing, part_answer, part_value, semicolon_ends}
 use Rattle.px_plan_parse.proofs.Parts.{lack_before, lack_token, of_read, of_refused, part_before}
 use Rattle.px_plan_parse.proofs.Starts.{name_here, start_name}
+use Rattle.px_expr_parse.proofs.Spans.{local_expression}
 use Rattle.px_plan_parse.proofs.named.written.Goals as goal
 
 pub returns-in_err-name-clause-fault : goal.returns-in_err-name-clause-fault
@@ -47,7 +48,7 @@ returns-in_err-expect-clause-fault c =
     (λ name has paren. false≢true (c.if-calls.ensures.1 (start_name c.args.tokens.now c.args.from name has, paren)))
     c.in_err-expect.field-0.0
     (λ token is name has. let same : token ≡ c.in_ok-value.end = cc in omega (arith, same, c.in_ok-value.ensures.read.advances))
-    (lack_token semicolon_ends (of_read c.in_ok-value.ensures.read) c.in_err-expect.ensures.fault))
+    (lack_token semicolon_ends (local_expression _) (of_read c.in_ok-value.ensures.read) c.in_err-expect.ensures.fault))
 
 pub returns-clause-ok : goal.returns-clause-ok
 returns-clause-ok c =

@@ -8,6 +8,7 @@ use Rattle.px_expr_parse.proofs.Arguments.{map_push}
 use Rattle.px_plan_parse.specs.Tail.{Only, VariableEnded}
 use Rattle.px_plan_parse.proofs.Commas.{HasCommas, commas_end, commas_lack, commas_lack_close, commas_lack_first, commas_more}
 use Rattle.px_plan_parse.proofs.Items.{comma_ends_variable, semicolon_ends_variable, semicolon_is_no_comma}
+use Rattle.px_plan_parse.proofs.Spans.{local_variable}
 use Rattle.px_plan_parse.proofs.variable.variables.Goals as goal
 
 pub returns-in_err-first-clause-fault : goal.returns-in_err-first-clause-fault
@@ -20,7 +21,7 @@ pub returns-in_err-next-clause-fault : goal.returns-in_err-next-clause-fault
 returns-in_err-next-clause-fault c =
     let p = err_from_is_err_and c.from_residual-in_err-next.result c.from_residual-in_err-next.ensures.1 in
     rw (p.1, p.2) (commas_lack variable VariableEnded signs.Semicolon c.args.tokens.now c.args.from semicolon_is_no_comma
-    comma_ends_variable semicolon_ends_variable c.loop-alloc.invariant (c.loop-alloc-test.ensures.answer.0 refl) c.in_err-next.ensures.fault)
+    comma_ends_variable semicolon_ends_variable c.loop-alloc.invariant local_variable (c.loop-alloc-test.ensures.answer.0 refl) c.in_err-next.ensures.fault)
 
 pub loop-alloc-preserved : goal.loop-alloc-preserved
 loop-alloc-preserved c =
@@ -33,7 +34,7 @@ pub returns-in_err-expect-clause-fault : goal.returns-in_err-expect-clause-fault
 returns-in_err-expect-clause-fault c =
     let p = err_from_is_err_and c.from_residual-in_err-expect.result c.from_residual-in_err-expect.ensures.1 in
     rw (p.1, p.2) (commas_lack_close variable VariableEnded signs.Semicolon c.args.tokens.now c.args.from semicolon_is_no_comma
-    comma_ends_variable semicolon_ends_variable c.loop-alloc.invariant (λ has. false≢true (c.loop-alloc-test.ensures.answer.1 has)) c.in_err-expect.ensures.fault)
+    comma_ends_variable semicolon_ends_variable c.loop-alloc.invariant local_variable (λ has. false≢true (c.loop-alloc-test.ensures.answer.1 has)) c.in_err-expect.ensures.fault)
 
 pub returns-clause-ok : goal.returns-clause-ok
 returns-clause-ok c =
