@@ -127,7 +127,8 @@ pub record IsExpression (tokens : List Token) (from : ℕ) (tree : Term) (to : �
   pub longest : (other : Term) (end : ℕ) → expression other tokens from end → end ≤ to
   pub ended : GoesOn 0 tokens to → ⊥
 
--- the tokens from a place to before another begin an expression, whatever follows them
+-- The tokens from a place to before another begin an expression: tokens that are the same up to there spell one that
+-- reaches so far.
 pub record BeginsExpression (tokens : List Token) (from token : ℕ) : Type 0 where
   pub others : List Token
   pub agree : AgreeBefore tokens others token

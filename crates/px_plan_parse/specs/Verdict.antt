@@ -13,7 +13,7 @@ pub record IsPlan (tokens : List Token) (tree : PlanTree) : Type 0 where
   pub spelled : Spells tree tokens
   pub only : (other : PlanTree) → Spells other tokens → other ≡ tree
 
--- the tokens before one begin a plan, whatever follows them
+-- The tokens before a place begin a plan: tokens that are the same up to there spell one.
 pub record BeginsPlan (tokens : List Token) (token : ℕ) : Type 0 where
   pub others : List Token
   pub agree : AgreeBefore tokens others token
