@@ -142,9 +142,10 @@ plan finished SUCCESS
 ",
 ];
 
-// How many runs there are at most, and how long a thread gives way that wants to be second.
+// How many runs there are at most of each order, and how far a thread counts that gives way.
 const RUNS: usize = 1_000;
-const YIELDS: u64 = 100_000;
+
+const COUNTED: u64 = 100_000;
 
 // Leads the two threads towards an order: who wants to be second waits until the other is before its post, and then gives
 // way for a while.
@@ -153,7 +154,9 @@ struct Leading {
     order: Order,
     third_comes: AtomicU64,
     fifth_comes: AtomicU64,
-    yields: AtomicU64,
+    counted: AtomicU64,
+    // How often a thread has looked for the other in vain.
+    missed: AtomicU64,
 }
 
 impl Leading {
@@ -162,28 +165,26 @@ impl Leading {
             order,
             third_comes: AtomicU64::new(0),
             fifth_comes: AtomicU64::new(0),
-            yields: AtomicU64::new(0),
+            counted: AtomicU64::new(0),
+            missed: AtomicU64::new(0),
         }
     }
 
-    // Returns a while after the other post has come, or where it hasn't within so many looks.
-    fn gives_way_to(&self, post: &AtomicU64) {
-        for _ in 0..LOOKS {
-            if post.load(SeqCst) > 0 {
-                break;
-            }
-        }
-        for _ in 0..YIELDS {
-            self.yields.fetch_add(1, SeqCst);
-        }
-    }
-
-    // Returns once the other post has come, or where it hasn't within so many looks.
-    fn waits_for(&self, post: &AtomicU64) {
+    // Returns once the other post has come, or has not within so many looks.
+    fn wait_for(&self, post: &AtomicU64) {
         for _ in 0..LOOKS {
             if post.load(SeqCst) > 0 {
                 return;
             }
+        }
+        self.missed.fetch_add(1, SeqCst);
+    }
+
+    // The same, a while later.
+    fn give_way_to(&self, post: &AtomicU64) {
+        self.wait_for(post);
+        for _ in 0..COUNTED {
+            self.counted.fetch_add(1, SeqCst);
         }
     }
 }
@@ -192,16 +193,16 @@ impl Pace for Leading {
     fn before(&self, thread: u8, line: u32) {
         match (self.order, thread, line) {
             (Order::Last, 1, 3) => self.third_comes.store(1, SeqCst),
-            (Order::Last, 2, 5) => self.gives_way_to(&self.third_comes),
+            (Order::Last, 2, 5) => self.give_way_to(&self.third_comes),
             (Order::Between, 1, 3) => {
                 self.third_comes.store(1, SeqCst);
-                self.gives_way_to(&self.fifth_comes);
+                self.give_way_to(&self.fifth_comes);
             }
             (Order::Between, 2, 5) => {
-                self.waits_for(&self.third_comes);
+                self.wait_for(&self.third_comes);
                 self.fifth_comes.store(1, SeqCst);
             }
-            (Order::First, 1, 2) => self.gives_way_to(&self.fifth_comes),
+            (Order::First, 1, 2) => self.give_way_to(&self.fifth_comes),
             (Order::First, 2, 5) => self.fifth_comes.store(1, SeqCst),
             _ => {}
         }
@@ -220,8 +221,8 @@ fn told(alloc: Global, text: &str) -> Result<String, Fail> {
     Ok(told)
 }
 
-// What the run of two threads comes to that are led towards an order.
-fn led<R: Threads + Wait + Sync>(rt: &R, alloc: Global, order: Order) -> Result<String, Fail> {
+// What the run of two threads comes to that are led so.
+fn led<R: Threads + Wait + Sync>(rt: &R, alloc: Global, leading: &Leading) -> Result<String, Fail> {
     let call = Call {
         words: "run P S J",
         plan: b"A: { Start Lookup(go); End Lookup(done); }",
@@ -229,7 +230,7 @@ fn led<R: Threads + Wait + Sync>(rt: &R, alloc: Global, order: Order) -> Result<
         journal: &[],
         faults: Faults::NONE,
     };
-    let Answer { text, .. } = paced_answer_of(rt, alloc, call, &Leading::new(order))?;
+    let Answer { text, .. } = paced_answer_of(rt, alloc, call, leading)?;
     told(alloc, text.as_str())
 }
 
@@ -239,8 +240,13 @@ fn two_threads_come_in_each_of_three_orders(rt: HostRuntime) -> Result<(), Fail>
     let mut seen = [false; 3];
     for _ in 0..RUNS {
         for order in ORDERS {
-            let told = led(&rt, rt.alloc(), order)?;
-            let Some(i) = OUTCOMES.iter().position(|outcome| *outcome == told.as_str()) else {
+            let leading = Leading::new(order);
+            let told = led(&rt, rt.alloc(), &leading)?;
+            assert_eq!(rt; leading.missed.load(SeqCst), 0);
+            let Some(i) = OUTCOMES
+                .iter()
+                .position(|outcome| *outcome == told.as_str())
+            else {
                 panic!(rt; "{}", told.as_str());
             };
             seen[i] = true;
