@@ -24,7 +24,7 @@ pub fn trace<H: Host, D: Disk, S: Stepper>(
     ensures traces { Traces D.Disk journal.now (view H.Host host.old) (view H.Host host.new) disk result }
     ensures keeps { KeepsFiles (view H.Host host.old) (view H.Host host.new) }
 {
-    let Reopened { plan: _, exec } = match reopen::<S, D>(alloc, disk, journal, EVENT_LIMIT) {
+    let Reopened { plan, exec } = match reopen::<S, D>(alloc, disk, journal, EVENT_LIMIT) {
         Ok(reopened) => reopened,
         Err(ReopenFault { disk, why }) => {
             return Carried {
@@ -33,6 +33,7 @@ pub fn trace<H: Host, D: Disk, S: Stepper>(
             };
         }
     };
+    drop(plan);
     exec.keeps();
     let Parts {
         stepper,
