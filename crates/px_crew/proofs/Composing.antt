@@ -25,7 +25,7 @@ use Rattle.px_crew.specs.Crew.{AreAt}
 use Rattle.px_crew.specs.Seat.{own, entry_in, board_of, HasGoneOn}
 use Rattle.px_crew.specs.Walk.{lines_between}
 use Rattle.px_crew.specs.Work.{board, places_of, HaveWorked}
-use Rattle.px_crew.proofs.Further.{front_and_between}
+use Rattle.px_crew.proofs.Further.{front_and_between, walks_on}
 use Rattle.px_crew.proofs.Listings.{log_in-append, failed_in-behind, failed_in-front, own-append, none_own, own_stays}
 use Rattle.px_crew.proofs.Makers.{IsMadeFor, are_made_for, entries_made, only_made, failed_made}
 use Rattle.px_crew.proofs.Passing.{walks_same}
@@ -183,7 +183,7 @@ module _ {S : Type 0} (start : Start) (fits : S → Type 0) (seating : S → Sea
         record {
           walks = walks_same start.plan start.plan start.first start.first ((board start fits seating (get_or news i e)).log ++ front.0) (log_in list) todo.thread 0 _ _ refl refl (sym front.1) refl
               (walks_longer start.plan start.first (board start fits seating (get_or news i e)).log front.0 todo.thread 0 (take (get_or news i e).at todo.lines)
-              (one.walked.walks
+              (walks_on todo (get_or olds i e).at (board start fits seating (get_or olds i e)) (board start fits seating (get_or news i e)) _ one.walked
               (walks_same start.plan start.plan start.first start.first (log_in first) (board start fits seating (get_or olds i e)).log todo.thread 0 _ _ refl refl (sym (log_at_first i d e within)) refl was.walks)));
           entries = ap (λ (log : Log). entries_of todo.thread (posted_in log)) log_is
               ∙ entries_on start.plan start.first (log_in first) (log_in (items w.later)) todo (get_or olds i e).at (get_or news i e).at one.walked.further

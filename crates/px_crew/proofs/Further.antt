@@ -12,28 +12,49 @@ use Rattle.px_script.specs.declared.line.What.{What}
 use Rattle.px_script.specs.declared.line.What.TheVariants as whats
 use Rattle.px_script.specs.declared.todo.Todo.{Todo}
 use Rattle.px_script.specs.declared.worker.WorkEnd.TheVariants as works
-use Rattle.px_crew.specs.Board.{Board}
+use Rattle.px_script.specs.Follows.{Walks}
+use Rattle.px_crew.specs.Board.{Board, IsLater}
 use Rattle.px_crew.specs.Standstill.{IsHeld}
 use Rattle.px_crew.specs.Walk.{lines_between, EndsAt, Walked}
 use Rattle.px_crew.specs.Work.{work_end}
 use Rattle.px_crew.specs.declared.walking.Reach.{Reach}
 use Rattle.px_crew.specs.declared.walking.Stop.{Stop}
 use Rattle.px_crew.specs.declared.walking.Stop.TheVariants as stops
-use Rattle.px_crew.proofs.Passing.{Walking, later_then}
-use Rattle.px_script.proofs.Walks.{line_at}
+use Rattle.px_crew.proofs.Passing.{Walking, later_then, walks_same}
+use Rattle.px_script.proofs.Walks.{line_at, walks_joined}
 
 -- a front of lines and those behind it, up to a place, are the front up to that place
 pub front_and_between : (lines : List Line) (from to : ℕ) → from ≤ to → take from lines ++ drop from (take to lines) ≡ take to lines
 front_and_between lines from to order =
     ap (λ (front : List Line). front ++ drop from (take to lines)) (sym (take-take from to lines order)) ∙ take-append-drop from (take to lines)
 
+lines_then : (lines : List Line) (from at to : ℕ) → from ≤ at → at ≤ to → at ≤ length lines
+    → drop from (take to lines) ≡ drop from (take at lines) ++ drop at (take to lines)
+lines_then lines from at to before after within =
+    ap (drop from) (sym (front_and_between lines at to after))
+    ∙ drop-append-le from (take at lines) (drop at (take to lines)) (omega (arith, length-take at lines))
+
+-- lines that walk through what was shown, and those that walk on through what came since, walk through all
+walks_behind : (old new : Board) (thread from : ℕ) (lines others : List Line) → IsLater old new → Walks old.plan old.first old.log thread from lines
+    → Walks new.plan new.first new.log thread (length old.log) others → Walks new.plan new.first new.log thread from (lines ++ others)
+walks_behind old new thread from lines others later walk next =
+    walks_same new.plan new.plan new.first new.first (old.log ++ later.more) new.log thread from (lines ++ others) (lines ++ others) refl refl (sym later.log) refl
+    (walks_joined new.plan new.first old.log later.more thread from lines others
+    (walks_same old.plan new.plan old.first new.first old.log old.log thread from lines lines (sym later.plan) (sym later.first) refl refl walk)
+    (walks_same new.plan new.plan new.first new.first new.log (old.log ++ later.more) thread (length old.log) others others refl refl later.log refl next))
+
+-- where the lines before a walk were walked through what was shown then, all are through what is shown now
+pub walks_on : (todo : Todo) (from : ℕ) (old new : Board) (reach : Reach) → Walked todo from old new reach
+    → Walks old.plan old.first old.log todo.thread 0 (take from todo.lines) → Walks new.plan new.first new.log todo.thread 0 (take reach.at todo.lines)
+walks_on todo from old new reach w walk =
+    subst (λ (lines : List Line). Walks new.plan new.first new.log todo.thread 0 lines) (front_and_between todo.lines from reach.at w.further)
+    (walks_behind old new todo.thread 0 (take from todo.lines) (drop from (take reach.at todo.lines)) w.later walk w.walks)
+
 -- lines between two places and those up to a third
 between_then : (todo : Todo) (from at to : ℕ) → from ≤ at → at ≤ to → at ≤ length todo.lines
     → thread_entries (lines_between from to todo) ≡ thread_entries (lines_between from at todo) ++ thread_entries (lines_between at to todo)
 between_then todo from at to before after within =
-    ap (filter_map (entry_of todo.thread))
-    (ap (drop from) (sym (front_and_between todo.lines at to after))
-    ∙ drop-append-le from (take at todo.lines) (drop at (take to todo.lines)) (omega (arith, length-take at todo.lines)))
+    ap (filter_map (entry_of todo.thread)) (lines_then todo.lines from at to before after within)
     ∙ filter_map-append (entry_of todo.thread) (drop from (take at todo.lines)) (drop at (take to todo.lines))
 
 -- nothing is something
@@ -58,7 +79,9 @@ walked_then todo from at old mid new reach before w next = record {
       ∙ ap (λ (made : List Entry). made ++ thread_entries (lines_between at reach.at todo)) w.made
       ∙ append_assoc old.made (thread_entries (lines_between from at todo)) (thread_entries (lines_between at reach.at todo))
       ∙ ap (λ (made : List Entry). old.made ++ made) (sym (between_then todo from at reach.at before next.further w.within));
-  walks = λ start. next.walks (w.walks start);
+  walks = subst (λ (lines : List Line). Walks new.plan new.first new.log todo.thread (length old.log) lines)
+      (sym (lines_then todo.lines from at reach.at before next.further w.within))
+      (walks_behind mid new todo.thread (length old.log) (drop from (take at todo.lines)) (drop at (take reach.at todo.lines)) next.later w.walks next.walks);
   ends = ends_then todo reach.at old mid new reach.end w.broke next.ends;
 }
 
@@ -67,7 +90,7 @@ pub unbroken_at : (todo : Todo) (at : ℕ) (old new : Board) (end : Result Unit 
 unbroken_at todo at old new (Ok done) ends unbroken = ends.1
 unbroken_at todo at old new (Err stops.Waits) ends unbroken = ends.4.2.broke ∙ ends.3
 unbroken_at todo at old new (Err stops.Disk) ends unbroken = absurd (unbroken refl)
-unbroken_at todo at old new (Err stops.NoMemory) ends unbroken = ends.4.broke ∙ ends.3
+unbroken_at todo at old new (Err stops.NoMemory) ends unbroken = ends.4.0.broke ∙ ends.3
 
 -- where it has, its seat has seen one
 pub seen_at : (todo : Todo) (at : ℕ) (old new : Board) (end : Result Unit Stop) → EndsAt todo at old new end → work_end end ≡ works.Disk → IsSome new.failed
@@ -92,7 +115,7 @@ next_at todo at old new (Err stops.Disk) entry ends unbroken broken =
           (refl, ends.2 ∙ ap (λ (what : What). Some (line_at line.number what)) stopped.1)
       | inr finds ↦ absurd (none_some entry (sym (finds.looked.broke ∙ ends.3 ∙ unbroken) ∙ broken))
     ]
-next_at todo at old new (Err stops.NoMemory) entry ends unbroken broken = absurd (none_some entry (sym (ends.4.broke ∙ ends.3 ∙ unbroken) ∙ broken))
+next_at todo at old new (Err stops.NoMemory) entry ends unbroken broken = absurd (none_some entry (sym (ends.4.0.broke ∙ ends.3 ∙ unbroken) ∙ broken))
 
 apart : works.Going ≡ works.Disk → ⊥
 apart is = cc

@@ -59,17 +59,18 @@ pub record Walking (todo : Todo) (from at : ℕ) (old new : Board) : Type 0 wher
   pub later : IsLater old new
   pub made : new.made ≡ old.made ++ thread_entries (lines_between from at todo)
   pub broke : new.broke ≡ old.broke
-  pub walks : Walks old.plan old.first old.log todo.thread 0 (take from todo.lines)
-      → Walks new.plan new.first new.log todo.thread 0 (take at todo.lines)
+  pub walks : Walks new.plan new.first new.log todo.thread (length old.log) (drop from (take at todo.lines))
 
 pub walking_none : (todo : Todo) (from : ℕ) (board : Board) → from ≤ length todo.lines → Walking todo from from board board
-walking_none todo from board within = record {
-  within = within;
-  later = later_at_once board;
-  made = sym (ap (λ (lines : List Line). board.made ++ filter_map (entry_of todo.thread) lines) (drop_all from (take from todo.lines) (omega (arith, length-take from todo.lines))) ∙ append-nil board.made);
-  broke = refl;
-  walks = λ walk. walk;
-}
+walking_none todo from board within =
+    let none = drop_all from (take from todo.lines) (omega (arith, length-take from todo.lines)) in
+    record {
+      within = within;
+      later = later_at_once board;
+      made = sym (ap (λ (lines : List Line). board.made ++ filter_map (entry_of todo.thread) lines) none ∙ append-nil board.made);
+      broke = refl;
+      walks = walks_same board.plan board.plan board.first board.first board.log board.log todo.thread (length board.log) [] (drop from (take from todo.lines)) refl refl refl (sym none) (omega arith);
+    }
 
 -- one line more between
 lines_more : (todo : Todo) (from at : ℕ) (line : Line) → from ≤ at → at < length todo.lines → line ≡ get_or todo.lines at line
@@ -93,10 +94,9 @@ walking_post todo from at old mid new number event w before within is a =
           ∙ ap (λ (made : List Entry). old.made ++ made)
           (sym (ap (filter_map (entry_of todo.thread)) (lines_more todo from at line before within is) ∙ filter_map-append (entry_of todo.thread) (drop from (take at todo.lines)) (line ∷ [])));
       broke = a.broke ∙ w.broke;
-      walks = λ start.
-          walks_same mid.plan new.plan mid.first new.first (mid.log ++ later.more) new.log todo.thread 0 _ _ (sym later.plan) (sym later.first) (sym later.log)
-          (sym (take_more todo.lines at line within ∙ ap (λ (l : Line). take at todo.lines ++ l ∷ []) (sym is)))
-          (walks_post mid.plan mid.first mid.log a.others todo.thread 0 (take at todo.lines) number event a.reply (w.walks start));
+      walks = walks_same mid.plan new.plan mid.first new.first (mid.log ++ later.more) new.log todo.thread (length old.log) _ _ (sym later.plan) (sym later.first) (sym later.log)
+          (sym (lines_more todo from at line before within is))
+          (walks_post mid.plan mid.first mid.log a.others todo.thread (length old.log) (drop from (take at todo.lines)) number event a.reply w.walks);
     }
 
 walking_wait : (todo : Todo) (from at : ℕ) (old mid new : Board) (number : ℕ) (cond : Cond) → Walking todo from at old mid → from ≤ at → at < length todo.lines
@@ -112,10 +112,9 @@ walking_wait todo from at old mid new number cond w before within is looked met 
           ∙ ap (λ (made : List Entry). old.made ++ made)
           (sym (ap (filter_map (entry_of todo.thread)) (lines_more todo from at line before within is) ∙ filter_map-append (entry_of todo.thread) (drop from (take at todo.lines)) (line ∷ []) ∙ append-nil _));
       broke = looked.broke ∙ w.broke;
-      walks = λ start.
-          walks_same mid.plan new.plan mid.first new.first (mid.log ++ later.more) new.log todo.thread 0 _ _ (sym later.plan) (sym later.first) (sym later.log)
-          (sym (take_more todo.lines at line within ∙ ap (λ (l : Line). take at todo.lines ++ l ∷ []) (sym is)))
-          (walks_wait mid.plan mid.first mid.log later.more todo.thread 0 (take at todo.lines) number cond (w.walks start)
+      walks = walks_same mid.plan new.plan mid.first new.first (mid.log ++ later.more) new.log todo.thread (length old.log) _ _ (sym later.plan) (sym later.first) (sym later.log)
+          (sym (lines_more todo from at line before within is))
+          (walks_wait mid.plan mid.first mid.log later.more todo.thread (length old.log) (drop from (take at todo.lines)) number cond w.walks
           (subst (λ (plan : List Site). IsMetBehind plan (mid.first ++ accepted (mid.log ++ later.more)) cond) later.plan
           (subst (λ (first : List Entry). IsMetBehind new.plan (first ++ accepted (mid.log ++ later.more)) cond) later.first
           (subst (λ (log : Log). IsMetBehind new.plan (new.first ++ accepted log) cond) later.log met))));
@@ -148,12 +147,12 @@ walked_all todo from at old new w before all = record {
 stopped_later : (thread : ℕ) (line : Line) (mid new : Board) (stop : Stop) → StopsAt thread line mid new stop → IsLater mid new
 stopped_later thread line mid new stops.Waits stopped = stopped.2.later
 stopped_later thread line mid new stops.Disk stopped = elim stopped.2 [ inl broken ↦ broken.later | inr finds ↦ finds.looked.later ]
-stopped_later thread line mid new stops.NoMemory stopped = stopped.later
+stopped_later thread line mid new stops.NoMemory stopped = stopped.0.later
 
 stopped_made : (thread : ℕ) (line : Line) (mid new : Board) (stop : Stop) → StopsAt thread line mid new stop → new.made ≡ mid.made
 stopped_made thread line mid new stops.Waits stopped = stopped.2.made
 stopped_made thread line mid new stops.Disk stopped = elim stopped.2 [ inl broken ↦ broken.made | inr finds ↦ finds.looked.made ]
-stopped_made thread line mid new stops.NoMemory stopped = stopped.made
+stopped_made thread line mid new stops.NoMemory stopped = stopped.0.made
 
 pub walked_to : (todo : Todo) (from at : ℕ) (old mid new : Board) (line : Line) (stop : Stop) → Walking todo from at old mid → from ≤ at → at < length todo.lines
     → line ≡ get_or todo.lines at line → StopsAt todo.thread line mid new stop → Walked todo from old new (record { at = at; end = Err stop })
@@ -164,8 +163,7 @@ walked_to todo from at old mid new line stop w before within is stopped =
       within = w.within;
       later = later_then w.later later;
       made = stopped_made todo.thread line mid new stop stopped ∙ w.made;
-      walks = λ start.
-          walks_same mid.plan new.plan mid.first new.first (mid.log ++ later.more) new.log todo.thread 0 _ _ (sym later.plan) (sym later.first) (sym later.log) refl
-          (walks_longer mid.plan mid.first mid.log later.more todo.thread 0 (take at todo.lines) (w.walks start));
+      walks = walks_same mid.plan new.plan mid.first new.first (mid.log ++ later.more) new.log todo.thread (length old.log) _ _ (sym later.plan) (sym later.first) (sym later.log) refl
+          (walks_longer mid.plan mid.first mid.log later.more todo.thread (length old.log) (drop from (take at todo.lines)) w.walks);
       ends = (line, mid, slice_get_read todo.lines (length todo.lines) at line refl within is, w.broke, stopped);
     }

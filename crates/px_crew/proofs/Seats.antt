@@ -179,7 +179,7 @@ module _ (start : Start) (old new : Seating) (mine : HasMade old) (made : HasMad
   posts_board entry (Err faults.Runaway) legal h = answered_board entry _ h
   posts_board entry (Err faults.DiskFault) legal h = broken_board entry h.0 legal h.1 h.2
   posts_board entry (Err (faults.Closed count)) legal h = record { looked = looked_board h.0; failed = some_failed h.1.0 count h.1.1 }
-  posts_board entry (Err faults.NoMemory) legal h = looked_board h.0
+  posts_board entry (Err faults.NoMemory) legal h = (looked_board h.0, ap entry_in h.1)
 
   pub posts_on : (entry : Entry) (answer : Result Receipt PostFault) → Answers start (Adds old new) (HasLooked old new) (items new.seen) entry answer
       → HasGoneOn old new

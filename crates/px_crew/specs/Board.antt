@@ -1,5 +1,5 @@
 -- What a board shows to a thread, and what becomes of it: an executive, or a thread's share of one.
-use Rattle.std.specs.Prelude.{◌≡◌, List, [], ◌∷◌, ◌++◌, Option, Some, IsSome, Result, Ok, Err}
+use Rattle.std.specs.Prelude.{◌≡◌, List, [], ◌∷◌, ◌++◌, Option, Some, None, IsSome, Result, Ok, Err}
 use Rattle.px_core.specs.Plan.{Site}
 use Rattle.px_event.specs.declared.entry.Entry.{Entry}
 use Rattle.px_event.specs.declared.reply.Reply.{Reply}
@@ -68,4 +68,4 @@ Posts old new entry (Err (faults.Full limit)) = IsAnswered old new entry
 Posts old new entry (Err faults.Runaway) = IsAnswered old new entry
 Posts old new entry (Err faults.DiskFault) = IsBroken old new entry
 Posts old new entry (Err (faults.Closed count)) = FindsBroken old new
-Posts old new entry (Err faults.NoMemory) = IsLooked old new
+Posts old new entry (Err faults.NoMemory) = IsLooked old new × (new.failed ≡ None)

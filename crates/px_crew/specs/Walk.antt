@@ -1,5 +1,5 @@
 -- How a thread's lines are passed.
-use Rattle.std.specs.Prelude.{◌≡◌, ◌≤◌, ◌⊎◌, ℕ, ◌++◌, length, take, drop, Some, Result, Ok, Err, IsTrue}
+use Rattle.std.specs.Prelude.{◌≡◌, ◌≤◌, ◌⊎◌, ℕ, ◌++◌, length, take, drop, Some, None, Result, Ok, Err, IsTrue}
 use Rattle.std.specs.List.{slice_get}
 use Rattle.px_event.specs.Fit.{is_fit_entry}
 use Rattle.px_event.specs.declared.cond.Cond.{Cond}
@@ -33,14 +33,15 @@ PassesLine thread line old new = by line.what
     by (whats.Post event) = IsAnswered old new (entry_of thread line.number event)
     by (whats.Wait cond) = IsLooked old new × IsMetBehind new.plan (history_on new) cond
 
--- the thread stops at the line: its condition doesn't hold, its append failed, an append had failed, or memory ran out
+-- the thread stops at the line: its condition doesn't hold, its append failed, an append had failed, or memory ran out where
+-- none had
 abbrev pub StopsAt : ℕ → Line → Board → Board → Stop → Type 0
 StopsAt thread line old new stops.Waits =
     (cond : Cond) × (line.what ≡ whats.Wait cond) × IsLooked old new × IsUnmetBehind new.plan (history_on new) cond
 StopsAt thread line old new stops.Disk =
     (event : Event) × (line.what ≡ whats.Post event)
     × (IsBroken old new (entry_of thread line.number event) ⊎ FindsBroken old new)
-StopsAt thread line old new stops.NoMemory = IsLooked old new
+StopsAt thread line old new stops.NoMemory = IsLooked old new × (new.failed ≡ None)
 
 abbrev pub Passes : ℕ → Line → Board → Board → Result Unit Stop → Type 0
 Passes thread line old new (Ok done) = PassesLine thread line old new
@@ -57,13 +58,12 @@ EndsAt todo at old new (Err stop) =
     (line : Line) × (before : Board) × (slice_get todo.lines at ≡ Some line) × (before.broke ≡ old.broke)
     × StopsAt todo.thread line before new stop
 
--- A WALK FROM ONE PLACE TO ANOTHER: what was made through the board is what the lines between post. Where the lines before
--- it were walked through what was shown then, those and the lines between are walked through what is shown now.
+-- A WALK FROM ONE PLACE TO ANOTHER: what was made through the board is what the lines between post, and these are walked
+-- through what is shown now, behind all that was shown then.
 pub record Walked (todo : Todo) (from : ℕ) (old new : Board) (reach : Reach) : Type 0 where
   pub further : from ≤ reach.at
   pub within : reach.at ≤ length todo.lines
   pub later : IsLater old new
   pub made : new.made ≡ old.made ++ thread_entries (lines_between from reach.at todo)
-  pub walks : Walks old.plan old.first old.log todo.thread 0 (take from todo.lines)
-      → Walks new.plan new.first new.log todo.thread 0 (take reach.at todo.lines)
+  pub walks : Walks new.plan new.first new.log todo.thread (length old.log) (drop from (take reach.at todo.lines))
   pub ends : EndsAt todo reach.at old new reach.end

@@ -86,6 +86,26 @@ module _ (plan : List Site) (first : List Entry) where
             (walks_longer log more thread behind lines walk.3),
       )
 
+module _ (plan : List Site) (first : List Entry) where
+  -- a walk from a place is one from a place before it
+  walks_sooner : (log : Log) (thread from sooner : ℕ) (lines : List Line) → sooner ≤ from → Walks plan first log thread from lines
+      → Walks plan first log thread sooner lines
+  walks_sooner log thread from sooner [] order walk = omega (arith, order, walk)
+  walks_sooner log thread from sooner (line ∷ lines) order walk = (walk.0, omega (arith, order, walk.1), walk.2, walk.3)
+
+  -- lines that walk through a log, and those that walk on from its end through what came since, walk through both
+  pub walks_joined : (log more : Log) (thread from : ℕ) (lines others : List Line) → Walks plan first log thread from lines
+      → Walks plan first (log ++ more) thread (length log) others → Walks plan first (log ++ more) thread from (lines ++ others)
+  walks_joined log more thread from [] others walk next = walks_sooner (log ++ more) thread (length log) from others walk next
+  walks_joined log more thread from (line ∷ lines) others walk next =
+      let behind = place_behind plan first log walk.0 line.what in (
+        walk.0,
+        walk.1,
+        passes_longer plan first log more thread walk.0 line.number line.what (walks_within plan first log thread behind lines walk.3) walk.2,
+        subst (λ (from : ℕ). Walks plan first (log ++ more) thread from (lines ++ others)) (same_behind plan first log more walk.0 line.what)
+            (walks_joined log more thread behind lines others walk.3 next),
+      )
+
 -- what was pushed is the last
 slice_get-push : {X : Type 0} (xs : List X) (x : X) → slice_get (xs ++ x ∷ []) (length xs) ≡ Some x
 slice_get-push xs x =
