@@ -17,7 +17,7 @@ through : (plan : List Site) (a b c : ℕ) → goes_before plan a b ≡ true →
     → goes_before plan a c ≡ true
 through plan a b c ab bc = grind (arith, nat_tests)
 
-other_way : (plan : List Site) (a b : ℕ) → goes_before plan a b ≡ false → a ≢ b → goes_before plan b a ≡ true
+pub other_way : (plan : List Site) (a b : ℕ) → goes_before plan a b ≡ false → a ≢ b → goes_before plan b a ≡ true
 other_way plan a b fails apart = grind (arith, nat_tests)
 
 pub not_itself : (plan : List Site) (a : ℕ) → goes_before plan a a ≡ false

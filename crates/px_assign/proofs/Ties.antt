@@ -245,7 +245,7 @@ kept_alike plan world wanting holding node target kept =
 
 -- ---- losers
 
-loser_alike : (plan : List Site) (world : World) (wanting holding : List ℕ) (node : ℕ) → IsSound plan → node < length plan
+pub loser_alike : (plan : List Site) (world : World) (wanting holding : List ℕ) (node : ℕ) → IsSound plan → node < length plan
     → All (λ node. node < length plan) wanting → All (λ node. node < length plan) holding
     → AreWriters plan world wanting holding → would_start plan world (site_in plan node) ≡ true
     → is_loser plan wanting holding node ≡ semantics.is_loser plan world (site_in plan node)

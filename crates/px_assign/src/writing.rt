@@ -5,8 +5,9 @@ ghost use Rattle.px_assign.specs.Conflicts.{variable_of, priority_of, goes_befor
 
 use px_flat::{Flat, NumberedBody};
 
-/// The first cell of the variable that a node writes, if it writes one.
-pub(crate) fn variable_of(flat: &Flat, node: u32) -> Option<u32>
+/// The first cell of the variable that a node writes, or of the array of which it writes an element, if it writes one:
+/// the target of an assignment, or of a command's result.
+pub fn variable_of(flat: &Flat, node: u32) -> Option<u32>
     requires { node < length (plan_of flat.now) }
     ensures { result ≡ variable_of (plan_of flat.now) node }
 {

@@ -13,6 +13,7 @@ pub mod NumberedValues
 pub mod Numbers
 pub mod Sites
 pub mod Slotted
+pub mod Sources
 pub mod Subtrees
 pub mod Sums
 pub mod Tables

@@ -11,5 +11,6 @@ pub mod Parts
 pub mod Row
 pub mod Rows
 pub mod Slots
+pub mod Sources
 pub mod Values
 pub mod Within

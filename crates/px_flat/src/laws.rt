@@ -6,6 +6,7 @@ ghost use Rattle.px_flat.specs.declared.act.Act.{Act};
 ghost use Rattle.px_flat.specs.Flat.{plan_of};
 ghost use Rattle.px_flat.specs.Parts.{IsParts};
 ghost use Rattle.px_flat.specs.Row.{site_in};
+ghost use Rattle.px_flat.specs.Sources.{ReadOnlySources};
 ghost use Rattle.px_flat.specs.Values.{HaveValues};
 
 use crate::flat::Flat;
@@ -17,4 +18,10 @@ pub fn values(_flat: &Flat, _node: u32)
     ensures { (cells : List Value) (reports : List (LookState × Value)) (acts : List Act)
         → IsParts (plan_of _flat.now) cells acts
         → HaveValues (plan_of _flat.now) cells reports acts (site_in (plan_of _flat.now) _node).head }
+{}
+
+/// A numbered expression of any form has the same value wherever each of its sources is the same: each cell that it
+/// names, all cells of an array of which it reads an element, and each lookup name.
+pub fn sources(_flat: &Flat)
+    ensures { ReadOnlySources (plan_of _flat.now) }
 {}

@@ -1,5 +1,5 @@
 // Members of groups, some of which count.
-ghost use Rattle.std.specs.Prelude.{◌≡◌, ◌<◌, ◌↔◌, ◌^◌, nat_eq, length, All, IfOk, IfSome, IsTrue};
+ghost use Rattle.std.specs.Prelude.{◌≡◌, ◌<◌, ◌↔◌, ◌^◌, nat_eq, length, slice_index_or, None, All, IfOk, IfSome, IsTrue};
 ghost use Rattle.px_tally.specs.Tally.{nobody, marked, is_counted, total, CountsOthersAsBefore, CountsNobody};
 
 use px_value::NoMemory;
@@ -59,6 +59,14 @@ impl Tally {
                 self.totals[group as usize] -= 1;
             }
         }
+    }
+
+    /// The group of a member; None where it is of none.
+    pub fn group(&self, member: u32) -> Option<u32>
+        requires { member < length self.now.group_of }
+        ensures { result ≡ slice_index_or self.now.group_of member None }
+    {
+        self.group_of[member as usize]
     }
 
     /// Whether the member counts.

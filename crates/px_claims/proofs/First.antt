@@ -1,0 +1,122 @@
+-- The first that wants, from the writers of a variable on, is the one of its writers that goes first.
+use Rattle.std.proofs.Common.{◌≡◌, ℕ, ◌<◌, ◌≤◌, Bool, true, false, not, ◌&&◌, ◌||◌, List, length, get_or, Some, refl, ap, sym, ◌∙◌, subst, arith, inl, inr}
+use Rattle.std.specs.Prelude.{nat_eq, nat_lt}
+use Rattle.std.specs.List.{position_or_len}
+use Rattle.std.specs.Option.{option_map}
+use Rattle.std.proofs.lemmas.Bool.{and_parts, and_from, or_parts, cases_lt, eqb-true, eq-eqb, le-ltb, ltb-false, not-true, false≢true}
+use Rattle.std.proofs.lemmas.List.Folds.{Any-from_list_any, find_at}
+use Rattle.std.proofs.lemmas.List.Sums.{fails_before_first, passes_at_first}
+use Rattle.std.proofs.lemmas.List.{get_or_default}
+use Rattle.std.proofs.lemmas.Option.{same_Some, slice_get-get_or}
+use Rattle.px_core.specs.Plan.{Site}
+use Rattle.px_assign.specs.Conflicts.{variable_of, priority_of, goes_before}
+use Rattle.px_claims.specs.declared.order.Writer.{Writer}
+use Rattle.px_claims.specs.Ordering.{AreInOrder, IsWriter, first_wanting, stands_before}
+
+-- a writer stands from those of this variable on, and wants what it writes
+abbrev pub is_candidate : (ℕ → Bool) → ℕ → Writer → Bool
+is_candidate wants variable writer = not (nat_lt writer.variable variable) && wants writer.node
+
+-- a node writes the variable and wants it, and none that does goes before
+pub record GoesFirst (plan : List Site) (wants : ℕ → Bool) (variable node : ℕ) : Type 0 where
+  pub within : node < length plan
+  pub writes : variable_of plan node ≡ Some variable
+  pub wanted : wants node ≡ true
+  pub before : (other : ℕ) → other < length plan → variable_of plan other ≡ Some variable → wants other ≡ true
+      → goes_before plan other node ≡ false
+
+-- where a node stands among the writers
+record StandsAt (plan : List Site) (writers : List Writer) (variable node : ℕ) : Type 0 where
+  place : ℕ
+  writer : Writer
+  inside : place < length writers
+  is : get_or writers place writer ≡ writer
+  node_is : writer.node ≡ node
+  variable_is : writer.variable ≡ variable
+  priority_is : writer.priority ≡ priority_of plan node
+
+-- one of the same variable stands before another just where it goes before it
+same_variable : (plan : List Site) (a b : Writer) (m n : ℕ) → a.node ≡ m → b.node ≡ n → a.priority ≡ priority_of plan m
+    → b.priority ≡ priority_of plan n → a.variable ≡ b.variable → stands_before a b ≡ false → goes_before plan m n ≡ false
+same_variable plan a b m n at_a at_b p_a p_b same fails =
+    let behind = or_parts (nat_lt a.variable b.variable)
+    (nat_eq a.variable b.variable
+    && (nat_lt a.priority b.priority || (nat_eq a.priority b.priority && nat_lt a.node b.node))) fails in
+    (λ i. nat_lt (sym p_a i) (sym p_b i) || (nat_eq (sym p_a i) (sym p_b i) && nat_lt (sym at_a i) (sym at_b i)))
+    ∙ sym (ap (λ same. same && (nat_lt a.priority b.priority || (nat_eq a.priority b.priority && nat_lt a.node b.node)))
+    (eq-eqb a.variable b.variable same))
+    ∙ behind.1
+
+module _ (plan : List Site) (writers : List Writer) (are : AreInOrder plan writers) (wants : ℕ → Bool) (variable : ℕ) where
+  stands_at : (node : ℕ) → node < length plan → variable_of plan node ≡ Some variable → StandsAt plan writers variable node
+  stands_at node within is =
+      let found = Any-from_list_any (λ (writer : Writer). nat_eq node writer.node) writers
+      (are.whole.all node variable within is) in
+      let writer : Writer = found.1 in
+      let says : IsWriter plan writer =
+      subst (IsWriter plan) found.3 (are.whole.each found.0 writer found.2) in
+      let node_is : writer.node ≡ node = sym (eqb-true node writer.node found.4) in
+      record {
+        place = found.0;
+        writer = writer;
+        inside = found.2;
+        is = found.3;
+        node_is = node_is;
+        variable_is = same_Some writer.variable variable (sym says.variable ∙ ap (variable_of plan) node_is ∙ is);
+        priority_is = says.priority ∙ ap (priority_of plan) node_is;
+      }
+
+  passes : (node : ℕ) → wants node ≡ true → (at : StandsAt plan writers variable node)
+      → is_candidate wants variable at.writer ≡ true
+  passes node want at =
+      and_from (not (nat_lt at.writer.variable variable)) (wants at.writer.node)
+      (ap not (le-ltb at.writer.variable variable (omega (arith, at.variable_is))))
+      (ap wants at.node_is ∙ want)
+
+  -- none that passes stands before the first that does
+  not_before : (at : ℕ) (writer : Writer) → is_candidate wants variable (get_or writers at writer) ≡ true
+      → position_or_len (is_candidate wants variable) writers ≤ at
+  not_before at writer is = elim (cases_lt at (position_or_len (is_candidate wants variable) writers)) [
+    | inl below ↦ absurd (false≢true (sym (fails_before_first (is_candidate wants variable) writers at writer below) ∙ is))
+    | inr from ↦ from
+  ]
+
+  pub first_is : (wanting : ℕ) → wanting < length plan → variable_of plan wanting ≡ Some variable → wants wanting ≡ true
+      → (node : ℕ) × (first_wanting wants writers variable ≡ Some node) × GoesFirst plan wants variable node
+  first_is wanting within is want =
+      let test : Writer → Bool = is_candidate wants variable in
+      let at = stands_at wanting within is in
+      let d : Writer = at.writer in
+      let first : ℕ = position_or_len test writers in
+      let up_to : first ≤ at.place =
+      not_before at.place d (ap test at.is ∙ passes wanting want at) in
+      let inside : first < length writers = omega (arith, up_to, at.inside) in
+      let found : Writer = get_or writers first d in
+      let both = and_parts (not (nat_lt found.variable variable)) (wants found.node)
+      (passes_at_first test writers d inside) in
+      let says : IsWriter plan found = are.whole.each first d inside in
+      let low : variable ≤ found.variable = ltb-false found.variable variable (not-true (nat_lt found.variable variable) both.0) in
+      let ordered : stands_before at.writer found ≡ false =
+      sym (ap (λ writer. stands_before writer found) at.is) ∙ are.order first at.place d up_to at.inside in
+      let high : found.variable ≤ at.writer.variable =
+      ltb-false at.writer.variable found.variable (or_parts (nat_lt at.writer.variable found.variable)
+      (nat_eq at.writer.variable found.variable
+      && (nat_lt at.writer.priority found.priority
+      || (nat_eq at.writer.priority found.priority && nat_lt at.writer.node found.node))) ordered).0 in
+      let own : found.variable ≡ variable = omega (arith, low, high, at.variable_is) in (
+        found.node,
+        ap (option_map (λ (writer : Writer). writer.node)) (find_at test writers ∙ slice_get-get_or writers first d inside),
+        record {
+          within = says.within;
+          writes = says.variable ∙ ap Some own;
+          wanted = both.1;
+          before = λ other there writes wanted.
+              let behind = stands_at other there writes in
+              let past : first ≤ behind.place =
+              not_before behind.place behind.writer (ap test behind.is ∙ passes other wanted behind) in
+              same_variable plan behind.writer found other found.node behind.node_is refl behind.priority_is says.priority
+              (behind.variable_is ∙ sym own)
+              (sym (λ i. stands_before (behind.is i) (get_or_default writers first behind.writer d inside i))
+              ∙ are.order first behind.place behind.writer past behind.inside);
+        },
+      )

@@ -1,0 +1,8 @@
+pub mod Contested
+pub mod First
+pub mod Search
+pub mod Sorting
+pub mod Table
+pub mod Variables
+pub mod Winning
+pub mod Writers

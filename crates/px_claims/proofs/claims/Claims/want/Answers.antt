@@ -1,0 +1,44 @@
+use Rattle.std.proofs.Common.{◌≡◌, get_or, Some, None, ap, sym, ◌∙◌, subst}
+use Rattle.px_links.specs.Links.{HoldsOthersAsBefore}
+use Rattle.px_tally.specs.Tally.{TallyData}
+use Rattle.px_claims.specs.Keeping.{IsKept, is_contested}
+use Rattle.px_claims.proofs.Contested.{holder_for}
+use Rattle.px_claims.proofs.Table.{wanted_tallies, wanted_then, wanted_alone}
+use Rattle.px_claims.proofs.claims.Claims.want.Goals as goal
+
+pub invariant_of-self : goal.invariant_of-self
+invariant_of-self c =
+    let t = c.self.inside in
+    let kept = c.self.invariant in
+    let is = c.set.ensures.tally in
+    let of : get_or t.wanting.group_of c.args.node None ≡ Some c.in-Some.variable =
+    sym (ap (λ (tally : TallyData). get_or tally.group_of c.args.node None) is) ∙ sym c.group.ensures ∙ c.in-Some.is in
+    subst (λ (now : TallyData). IsKept (record { writers = t.writers; wanting = now; holding = t.holding; contested = c.judge.new.contested })) (sym is)
+    (record {
+      order = kept.order;
+      nodes = kept.nodes;
+      tallies = wanted_tallies t.wanting t.holding kept.tallies c.args.node c.args.wants;
+      cells = c.judge.ensures.counts.0 ∙ kept.cells;
+      lists = c.judge.ensures.counts.1 ∙ kept.lists;
+      contested = wanted_then t.wanting t.holding kept.tallies c.args.node c.args.wants t.contested c.judge.new.contested
+          kept.contested c.in-Some.variable of
+          (subst (λ (now : TallyData). HoldsOthersAsBefore t.contested c.judge.new.contested c.in-Some.variable
+          (holder_for (is_contested now t.holding c.in-Some.variable))) is c.judge.ensures.holders);
+    })
+
+pub invariant_of-self-in_default : goal.invariant_of-self-in_default
+invariant_of-self-in_default c =
+    let t = c.self.inside in
+    let kept = c.self.invariant in
+    let is = c.set.ensures.tally in
+    let none : get_or t.wanting.group_of c.args.node None ≡ None =
+    sym (ap (λ (tally : TallyData). get_or tally.group_of c.args.node None) is) ∙ sym c.group.ensures ∙ c.in_default.is in
+    subst (λ (now : TallyData). IsKept (record { writers = t.writers; wanting = now; holding = t.holding; contested = t.contested })) (sym is)
+    (record {
+      order = kept.order;
+      nodes = kept.nodes;
+      tallies = wanted_tallies t.wanting t.holding kept.tallies c.args.node c.args.wants;
+      cells = kept.cells;
+      lists = kept.lists;
+      contested = wanted_alone t.wanting t.holding kept.tallies c.args.node c.args.wants t.contested kept.contested none;
+    })

@@ -1,0 +1,88 @@
+// Which writers would start, and which are at work.
+ghost use Rattle.std.specs.Prelude.{◌≡◌, ◌<◌, length, IfOk};
+ghost use Rattle.px_flat.specs.Flat.{plan_of};
+ghost use Rattle.px_claims.specs.Claims.{with_wanting, with_holding, AreAllStarting, AreNobodys, AreOf, AreWinners};
+
+use crate::contest::{judge, winners};
+use crate::order::{Writer, variables, writers};
+use px_flat::Flat;
+use px_links::Links;
+use px_tally::Tally;
+use px_value::NoMemory;
+use std::alloc::Global;
+use std::marker::Model;
+
+/// The nodes of a plan, of which some would start and some are at work. Who of the writers goes is told without a look at
+/// those whose variable is held or not wanted. No call but `new` and `winners` takes memory.
+#[derive(Drop)]
+pub struct Claims {
+    writers: Vec<Writer>,
+    /// The nodes that would start, by the variable that they write.
+    wanting: Tally,
+    /// The nodes at work, by the variable that they write.
+    holding: Tally,
+    /// One list of variables: of each some writer would start, and none is at work.
+    contested: Links,
+}
+
+impl Model for Claims {
+    ghost use Rattle.px_claims.specs.Claims.{ClaimsData};
+
+    ghost Value = { ClaimsData };
+
+    ghost use Rattle.px_claims.specs.Keeping.{claims_data, IsKept};
+
+    ghost view = { claims_data };
+
+    ghost invariant = { IsKept };
+}
+
+impl Claims {
+    /// The nodes of a plan: none would start, and none is at work. An error is want of memory.
+    pub fn new(alloc: Global, flat: &Flat) -> Result<Claims, NoMemory>
+        ensures plan { IfOk result (AreOf (plan_of flat.now)) }
+        ensures nobody { IfOk result (AreNobodys (length (plan_of flat.now))) }
+    {
+        let cells = flat.variable_cells();
+        Ok(Claims {
+            writers: writers(alloc, flat)?,
+            wanting: Tally::new(alloc, cells, variables(alloc, flat)?)?,
+            holding: Tally::new(alloc, cells, variables(alloc, flat)?)?,
+            contested: Links::new(alloc, cells, 1)?,
+        })
+    }
+
+    /// From now on the node would start, or it wouldn't.
+    pub fn want(&mut self, node: u32, wants: bool)
+        requires { node < length self.old.variables }
+        ensures { self.new ≡ with_wanting self.old node wants }
+    {
+        self.wanting.set(node, wants);
+        if let Some(variable) = self.wanting.group(node) {
+            judge(&self.wanting, &self.holding, &mut self.contested, variable);
+        }
+    }
+
+    /// From now on the node is at work, and holds the variable that it writes, or it isn't.
+    pub fn hold(&mut self, node: u32, holds: bool)
+        requires { node < length self.old.variables }
+        ensures { self.new ≡ with_holding self.old node holds }
+    {
+        self.holding.set(node, holds);
+        if let Some(variable) = self.holding.group(node) {
+            judge(&self.wanting, &self.holding, &mut self.contested, variable);
+        }
+    }
+
+    /// The writers that go, each once: of each variable that nobody holds the one of those that would start whose priority
+    /// number is the lowest, and of these the earliest (PLEXIL reference manual, "Assignment Nodes"). The claims are of the
+    /// plan of these tables. It costs a look at each variable for which one goes, and at its writers up to that one.
+    pub fn winners(&self, alloc: Global, _flat: &Flat) -> Result<Vec<u32>, NoMemory>
+        requires plan { AreOf (plan_of _flat.now) self.now }
+        ensures winners { IfOk result (λ winners. AreWinners (plan_of _flat.now) self.now winners.items) }
+        ensures starting { IfOk result (λ winners. AreAllStarting (plan_of _flat.now) self.now winners.items) }
+    {
+        self.contested.each_once();
+        winners(alloc, &self.writers, &self.wanting, &self.contested)
+    }
+}

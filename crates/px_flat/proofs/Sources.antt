@@ -1,0 +1,86 @@
+-- An expression has the same value wherever all its sources are the same.
+use Rattle.std.proofs.Common.{◌≡◌, ℕ, ◌+◌, ◌<◌, List, [], ◌∷◌, ◌++◌, length, take, drop, get_or, refl, ap, sym, ◌∙◌, subst, arith, All}
+use Rattle.std.proofs.lemmas.List.{ext_get_or, get_or_append_left, get_or-append-add, get_or-drop, get_or-take, length-append, length-drop, length-take}
+use Rattle.std.proofs.lemmas.List.Elements.{All-head, All-tail}
+use Rattle.px_value.specs.declared.value.Value.TheVariants.{Unknown}
+use Rattle.px_core.specs.Plan.{Site}
+use Rattle.px_sem.specs.Expressions.{element, unary_value, binary_value}
+use Rattle.px_flat.specs.Layout.{state_cell, outcome_cell, failure_cell, handle_cell, acknowledgement_cell}
+use Rattle.px_flat.specs.Lookups.{lookups_of}
+use Rattle.px_flat.specs.Numbered.{Numbered, EachNumbered, NoneNumbered, MoreNumbered, Literal, Variable, Element, StateOf, OutcomeOf, FailureOf, HandleOf, Acknowledged, Look, Unary, Binary, held, reported_of, numbered_values}
+use Rattle.px_flat.specs.Sources.{Source, Cells, Reports, Present, IsSame, sources_in, sources_in_each, value_in, ReadOnlySources}
+
+module _ (plan : List Site) (one other : Present) (long : length one.cells ≡ length other.cells) where
+  abbrev AreSame : List Source → Type 0
+  AreSame sources = All (IsSame plan one other) sources
+
+  -- what is true of all of two lists is true of each of them
+  front : (xs ys : List Source) → AreSame (xs ++ ys) → AreSame xs
+  front xs ys all k d inside =
+      subst (IsSame plan one other) (get_or_append_left xs ys d k inside)
+      (all k d (omega (arith, inside, length-append xs ys)))
+
+  back : (xs ys : List Source) → AreSame (xs ++ ys) → AreSame ys
+  back xs ys all k d inside =
+      subst (IsSame plan one other) (get_or-append-add xs ys k d)
+      (all (length xs + k) d (omega (arith, inside, length-append xs ys)))
+
+  -- one cell holds the same
+  cell : (at : ℕ) → AreSame (Cells at 1 ∷ []) → held one.cells at ≡ held other.cells at
+  cell at all =
+      let here : at + 0 ≡ at = omega arith in
+      subst (λ at. held one.cells at ≡ held other.cells at) here
+      (All-head (IsSame plan one other) (Cells at 1) [] all 0 (omega arith))
+
+  -- an array's cells hold the same
+  cells : (first size : ℕ) → IsSame plan one other (Cells first size)
+      → take size (drop first one.cells) ≡ take size (drop first other.cells)
+  cells first size same = ext_get_or Unknown (take size (drop first one.cells)) (take size (drop first other.cells))
+      (omega (
+        arith,
+        long,
+        length-take size (drop first one.cells),
+        length-take size (drop first other.cells),
+        length-drop first one.cells,
+        length-drop first other.cells,
+      ))
+      (λ k inside.
+      let below : k < size = omega (arith, inside, length-take size (drop first one.cells)) in
+      get_or-take size (drop first one.cells) k Unknown below ∙ get_or-drop first one.cells k Unknown
+      ∙ same k below
+      ∙ sym (get_or-take size (drop first other.cells) k Unknown below ∙ get_or-drop first other.cells k Unknown))
+
+  mutual
+    pub same_value : (expr : Numbered) → AreSame (sources_in plan expr) → value_in plan one expr ≡ value_in plan other expr
+    same_value (Literal value) all = refl
+    same_value (Variable at) all = cell at all
+    same_value (Element first size index) all =
+        let sources = sources_in plan index in
+        (λ i. element
+        (cells first size (All-head (IsSame plan one other) (Cells first size) sources all) i)
+        (same_value index (All-tail (IsSame plan one other) (Cells first size) sources all) i))
+    same_value (StateOf node) all = cell (state_cell plan node) all
+    same_value (OutcomeOf node) all = cell (outcome_cell plan node) all
+    same_value (FailureOf node) all = cell (failure_cell plan node) all
+    same_value (HandleOf node) all = cell (handle_cell plan node) all
+    same_value (Acknowledged node) all = cell (acknowledgement_cell plan node) all
+    same_value (Look lookup args tolerance) all =
+        let sources = sources_in_each plan args in
+        ap (reported_of one.reports (get_or (lookups_of plan) lookup []))
+        (same_values args (All-tail (IsSame plan one other) (Reports lookup) sources all))
+        ∙ All-head (IsSame plan one other) (Reports lookup) sources all (numbered_values plan other.cells other.reports args)
+    same_value (Unary op arg) all = ap (unary_value op) (same_value arg all)
+    same_value (Binary op left right) all =
+        (λ i. binary_value op
+        (same_value left (front (sources_in plan left) (sources_in plan right) all) i)
+        (same_value right (back (sources_in plan left) (sources_in plan right) all) i))
+
+    pub same_values : (args : EachNumbered) → AreSame (sources_in_each plan args)
+        → numbered_values plan one.cells one.reports args ≡ numbered_values plan other.cells other.reports args
+    same_values NoneNumbered all = refl
+    same_values (MoreNumbered first rest) all =
+        (λ i. same_value first (front (sources_in plan first) (sources_in_each plan rest) all) i
+        ∷ same_values rest (back (sources_in plan first) (sources_in_each plan rest) all) i)
+
+pub read_only_sources : (plan : List Site) → ReadOnlySources plan
+read_only_sources plan expr one other long all = same_value plan one other long expr all
