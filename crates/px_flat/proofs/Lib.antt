@@ -1,6 +1,7 @@
 pub mod Changes
 pub mod Descendants
 pub mod Extending
+pub mod Heads
 pub mod InNumbers
 pub mod Known
 pub mod LookedUp

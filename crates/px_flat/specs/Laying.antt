@@ -1,12 +1,13 @@
 -- A plan's nodes laid out in preorder, row by row.
 use Rattle.std.specs.Prelude.{◌≡◌, ℕ, ◌+◌, List, [], ◌∷◌, ◌++◌, map, Option, Some, None, IsTrue}
+use Rattle.std.specs.Borrow.{Bor}
 use Rattle.px_value.specs.Name.{is_name}
 use Rattle.px_value.specs.Path.{below}
 use Rattle.px_core.specs.declared.node.CoreNode.{CoreNode}
 use Rattle.px_core.specs.declared.node.CoreNode.TheOpen.{CoreNode-F}
 use Rattle.px_core.specs.declared.node.CoreNode.TheViews.{out-CoreNode}
 use Rattle.px_core.specs.declared.node.CoreNode.TheFolds.{fold-CoreNode}
-use Rattle.px_core.specs.Plan.{Tree, NoNode, Branch, in_order, branch, head_of, count_of}
+use Rattle.px_core.specs.Plan.{Tree, Head, NoNode, Branch, in_order, branch, head_of, count_of}
 use Rattle.px_flat.specs.declared.row.Row.{Row}
 use Rattle.px_flat.specs.Row.{head_data}
 use Rattle.px_flat.specs.Rows.{path_at}
@@ -18,6 +19,15 @@ trees nodes = in_order (map (fold-CoreNode (Tree → Tree) branch) nodes)
 -- the tree below a node
 abbrev pub below_it : CoreNode → Tree
 below_it node = trees (out-CoreNode node).children.items
+
+-- the heads of the nodes of a tree in preorder
+abbrev pub heads_in : Tree → List Head
+heads_in NoNode = []
+heads_in (Branch head children rest) = head ∷ (heads_in children ++ heads_in rest)
+
+-- the heads of nodes that a plan lends
+abbrev pub heads_of : List (Bor CoreNode) → List Head
+heads_of nodes = map (λ node. head_of (out-CoreNode node.now)) nodes
 
 -- the row of a node, by its path and the number of its parent
 pub record IsRowAt (node : CoreNode-F CoreNode) (path : List ℕ) (parent : Option ℕ) (row : Row) : Type 0 where

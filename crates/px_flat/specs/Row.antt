@@ -40,7 +40,7 @@ abbrev pub head_data : heads.Head → Head
 head_data head = record {
   name = head.name;
   kind = head.kind;
-  conditions = condition_terms head.conditions;
+  conditions = condition_terms head.conditions.value;
   priority = head.priority;
   variables = map variable_data head.variables.items;
   body = body_data head.body;

@@ -12,6 +12,7 @@ ghost use Rattle.px_flat.specs.Row.{IsRowOf, number_at, site_in};
 ghost use Rattle.px_flat.specs.Within.{IsNodeWithin};
 
 use crate::names::Names;
+use crate::nodes::nodes_of;
 use crate::numbered::NumberedNode;
 use crate::numbering::numbered_nodes;
 use crate::row::{Extent, Row};
@@ -45,8 +46,9 @@ impl Flat {
         requires { IsFit (tree_of plan.now) }
         ensures { IfOk result (λ flat. plan_of flat ≡ sites (tree_of plan.now)) }
     {
-        let names = Names::of(alloc, plan)?;
-        let nodes = numbered_nodes(alloc, &names)?;
+        let lent = nodes_of(alloc, plan)?;
+        let names = Names::of(alloc, plan, &lent)?;
+        let nodes = numbered_nodes(alloc, &names, &lent)?;
         let variable_cells = variable_cells(&names);
         Ok(Flat {
             names,

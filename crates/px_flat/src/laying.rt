@@ -13,6 +13,7 @@ use crate::row::{Head, Row};
 use px_core::{CoreNode, Plan, Variable};
 use px_value::{NoMemory, Path};
 use std::alloc::Global;
+use std::snapshot::Snapshot;
 
 fn copy_each(alloc: Global, variables: &[Variable]) -> Result<Vec<Variable>, NoMemory>
     ensures { IfOk result (λ copies. map variable_data copies.items ≡ map variable_data variables.now) }
@@ -29,7 +30,7 @@ fn head_at(alloc: Global, node: &CoreNode) -> Result<Head, NoMemory>
     ensures named { IfOk result (λ head. IsTrue (is_name head.name)) }
 {
     Ok(Head {
-        conditions: node.conditions.copy(alloc)?,
+        conditions: Snapshot::of(&node.conditions),
         body: node.body.copy(alloc)?,
         variables: copy_each(alloc, &node.variables)?,
         name: node.name.copy(alloc)?,

@@ -2,8 +2,9 @@
 //!
 //! `laying` lays the nodes out row by row (`row`), `ends` finds where the descendants of each end, `extents` which cells
 //! are whose, `slots` where each variable stands, and `lookups` which names are looked up. `names` keeps all this and says
-//! what each name stands for; `numbering` puts numbers in the place of names (`numbered`); `flat` is what callers see, and
-//! `making` has `flatten`. `act` is what a node has under way.
+//! what each name stands for; `numbering` puts numbers in the place of names (`numbered`); both read the conditions and
+//! bodies of the plan's own nodes, which `nodes` lists. `flat` is what callers see, and `making` has `flatten`. `act` is
+//! what a node has under way.
 //!
 //! `specs/Row.antt`, `specs/Extents.antt`, `specs/Lookups.antt` and `specs/Layout.antt` say which numbers and places these
 //! are, `specs/Numbered.antt` what a numbered expression is and its value, `specs/Within.antt` that its numbers lie within
@@ -19,6 +20,7 @@ mod laying;
 mod lookups;
 mod making;
 mod names;
+mod nodes;
 mod numbered;
 mod numbering;
 mod row;

@@ -3,15 +3,13 @@ ghost use Rattle.std.specs.Prelude.{◌≡◌, ◌<◌, ◌^◌, [], fold, map, 
 ghost use Rattle.std.specs.List.{flat_map};
 ghost use Rattle.px_core.specs.Expr.{term_of};
 ghost use Rattle.px_core.specs.Fit.{terms_of_conditions};
-ghost use Rattle.px_core.specs.Plan.{condition_terms, body_data, target_data, pair_data};
+ghost use Rattle.px_core.specs.declared.node.CoreNode.TheViews.{out-CoreNode};
+ghost use Rattle.px_core.specs.Plan.{condition_terms, head_of, body_data, target_data, pair_data};
 ghost use Rattle.px_flat.specs.Lookups.{with_name, lookups_in, lookups_in_target, lookups_in_body, lookups_in_head};
-ghost use Rattle.px_flat.specs.Lookups.{lookups_of};
-ghost use Rattle.px_flat.specs.Row.{head_data};
-ghost use Rattle.px_flat.specs.Rows.{IsLaid, sites_of};
+ghost use Rattle.px_flat.specs.Laying.{heads_of};
 
-use crate::row::{Head, Row};
 use indexmap::IndexSet;
-use px_core::{Body, Conditions, Expr, Pair, Target};
+use px_core::{Body, Conditions, CoreNode, Expr, Pair, Target};
 use px_value::{Name, NoMemory};
 use std::alloc::{AllocError, Global};
 
@@ -120,22 +118,23 @@ fn add_body(alloc: Global, body: &Body, names: &mut IndexSet<Name>) -> Result<()
 }
 
 #[tactic(auto, using(crate::proofs::LookedUp::names_then))]
-fn add_head(alloc: Global, head: &Head, names: &mut IndexSet<Name>) -> Result<(), NoMemory>
-    ensures { OnOk result (names.new.keys ≡ fold with_name names.old.keys (lookups_in_head (head_data head.now))) }
+fn add_node(alloc: Global, node: &CoreNode, names: &mut IndexSet<Name>) -> Result<(), NoMemory>
+    ensures { OnOk result (names.new.keys
+        ≡ fold with_name names.old.keys (lookups_in_head (head_of (out-CoreNode node.now)))) }
 {
-    add_conditions(alloc, &head.conditions, names)?;
-    add_body(alloc, &head.body, names)
+    add_conditions(alloc, &node.conditions, names)?;
+    add_body(alloc, &node.body, names)
 }
 
-/// The lookup names of the plan of these rows; fewer than 2^32, and else there is no memory for their numbers.
-pub fn lookups(alloc: Global, rows: &[Row]) -> Result<IndexSet<Name>, NoMemory>
-    requires { IsLaid rows.now }
-    ensures names { IfOk result (λ names. names.keys ≡ lookups_of (sites_of rows.now)) }
+/// The lookup names of nodes; fewer than 2^32, and else there is no memory for their numbers.
+pub fn lookups(alloc: Global, nodes: &[&CoreNode]) -> Result<IndexSet<Name>, NoMemory>
+    ensures names { IfOk result (λ names. names.keys
+        ≡ fold with_name [] (flat_map lookups_in_head (heads_of nodes.now))) }
     ensures few { IfOk result (λ names. length names.keys < 2 ^ 32) }
 {
     let mut names = IndexSet::new(alloc);
-    for row in rows {
-        add_head(alloc, &row.head, &mut names)?;
+    for node in nodes {
+        add_node(alloc, node, &mut names)?;
     }
     if names.len() > u32::MAX as usize {
         return Err(AllocError);

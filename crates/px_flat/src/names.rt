@@ -4,6 +4,7 @@ ghost use Rattle.px_core.specs.Fit.{IsFit};
 ghost use Rattle.px_core.specs.Plan.{tree_of, sites};
 ghost use Rattle.px_flat.specs.Extents.{AreExtents};
 ghost use Rattle.px_flat.specs.FitPlan.{IsFitPlan};
+ghost use Rattle.px_flat.specs.Laying.{heads_in, heads_of};
 ghost use Rattle.px_flat.specs.Lookups.{lookups_of};
 ghost use Rattle.px_flat.specs.Row.{paths_of};
 ghost use Rattle.px_flat.specs.Rows.{IsLaid, sites_of};
@@ -16,7 +17,7 @@ use crate::lookups::lookups;
 use crate::row::{Extent, Row};
 use crate::slots::{Slot, Slots};
 use indexmap::IndexSet;
-use px_core::{Plan, VarKind};
+use px_core::{CoreNode, Plan, VarKind};
 use px_value::{Name, NoMemory, Path};
 use std::alloc::Global;
 
@@ -69,9 +70,10 @@ impl Names {
     ghost use Rattle.px_flat.specs.Numbered.{node_of, place_of, kind_of, lookup_of};
     ghost use Rattle.px_flat.specs.Slots.{place_data};
 
-    /// The names of a plan.
-    pub fn of(alloc: Global, plan: &Plan) -> Result<Names, NoMemory>
-        requires { IsFit (tree_of plan.now) }
+    /// The names of a plan that has these nodes in preorder.
+    pub fn of(alloc: Global, plan: &Plan, nodes: &[&CoreNode]) -> Result<Names, NoMemory>
+        requires fit { IsFit (tree_of plan.now) }
+        requires nodes { heads_of nodes.now ≡ heads_in (tree_of plan.now) }
         ensures { IfOk result (λ names. plan_in names ≡ sites (tree_of plan.now)) }
     {
         let ends = ends(alloc, plan)?;
@@ -79,7 +81,7 @@ impl Names {
         let extents = extents(alloc, &rows, &ends)?;
         let paths = paths_of(alloc, &rows)?;
         let slots = slots_of(alloc, &rows, &extents)?;
-        let lookups = lookups(alloc, &rows)?;
+        let lookups = lookups(alloc, nodes)?;
         Ok(Names {
             rows,
             extents,

@@ -2,19 +2,19 @@
 ghost use Rattle.std.specs.Prelude.{◌≡◌, map, IfOk};
 ghost use Rattle.std.specs.Option.{option_map};
 ghost use Rattle.px_core.specs.Expr.{term_of};
-ghost use Rattle.px_core.specs.Plan.{condition_terms, body_data, pair_data, target_data};
+ghost use Rattle.px_core.specs.declared.node.CoreNode.TheViews.{out-CoreNode};
+ghost use Rattle.px_core.specs.Plan.{condition_terms, head_of, body_data, pair_data, target_data};
+ghost use Rattle.px_flat.specs.Laying.{heads_of};
 ghost use Rattle.px_flat.specs.Names.{plan_in};
 ghost use Rattle.px_flat.specs.Numbered.{numbered, numbered_target, numbered_body, numbered_conditions, numbered_node};
 ghost use Rattle.px_flat.specs.NumberedData.{expr_data, conditions_data, node_data, AreNumbered};
 ghost use Rattle.px_flat.specs.NumberedData as numbers;
-ghost use Rattle.px_flat.specs.Row.{head_data};
 
 use crate::names::Names;
 use crate::numbered::{
     NumberedBody, NumberedConditions, NumberedExpr, NumberedNode, NumberedTarget,
 };
-use crate::row::Head;
-use px_core::{Body, Conditions, Expr, Pair, Target};
+use px_core::{Body, Conditions, CoreNode, Expr, Pair, Target};
 use px_value::NoMemory;
 use std::alloc::Global;
 
@@ -178,22 +178,28 @@ fn numbered_conditions(
     })
 }
 
-fn numbered_node(alloc: Global, names: &Names, head: &Head) -> Result<NumberedNode, NoMemory>
-    ensures { IfOk result (λ made. node_data made ≡ numbered_node (plan_in names.now) (head_data head.now)) }
+fn numbered_node(alloc: Global, names: &Names, node: &CoreNode) -> Result<NumberedNode, NoMemory>
+    ensures { IfOk result (λ made. node_data made
+        ≡ numbered_node (plan_in names.now) (head_of (out-CoreNode node.now))) }
 {
     Ok(NumberedNode {
-        conditions: numbered_conditions(alloc, names, &head.conditions)?,
-        body: numbered_body(alloc, names, &head.body)?,
+        conditions: numbered_conditions(alloc, names, &node.conditions)?,
+        body: numbered_body(alloc, names, &node.body)?,
     })
 }
 
 /// What each node of a plan computes, in preorder.
-pub fn numbered_nodes(alloc: Global, names: &Names) -> Result<Vec<NumberedNode>, NoMemory>
-    ensures { IfOk result (λ nodes. AreNumbered (plan_in names.now) nodes.items) }
+pub fn numbered_nodes(
+    alloc: Global,
+    names: &Names,
+    nodes: &[&CoreNode],
+) -> Result<Vec<NumberedNode>, NoMemory>
+    requires { heads_of nodes.now ≡ map (λ site. site.head) (plan_in names.now) }
+    ensures { IfOk result (λ made. AreNumbered (plan_in names.now) made.items) }
 {
-    let mut nodes = Vec::with_capacity(alloc, names.rows.len())?;
-    for row in &names.rows {
-        nodes.push(numbered_node(alloc, names, &row.head)?)?;
+    let mut made = Vec::with_capacity(alloc, nodes.len())?;
+    for node in nodes {
+        made.push(numbered_node(alloc, names, node)?)?;
     }
-    Ok(nodes)
+    Ok(made)
 }

@@ -1,20 +1,22 @@
 // A node of the plan, in the tables.
 use px_core::{Body, Conditions, Kind, Variable};
 use px_value::{Name, Path};
+use std::snapshot::Snapshot;
 
 /// All that a node has beside its children.
-#[derive(Debug, Drop)]
+#[derive(Drop)]
 pub struct Head {
     pub name: Name,
     pub kind: Kind,
-    pub conditions: Conditions,
+    /// They have no bytes: contracts alone see them. What computes them is the numbered node.
+    pub conditions: Snapshot<Conditions>,
     pub priority: u32,
     pub variables: Vec<Variable>,
     pub body: Body,
 }
 
 /// A node with its path, and the number of its parent in preorder.
-#[derive(Debug, Drop)]
+#[derive(Drop)]
 pub struct Row {
     pub path: Path,
     /// None for the root.

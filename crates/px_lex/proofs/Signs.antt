@@ -1,11 +1,11 @@
 -- Signs at the front of a text.
-use Rattle.std.proofs.Common.{◌≡◌, ℕ, ◌<◌, ◌≤◌, Bool, true, false, List, [], ◌∷◌, length, take, drop, Some, None, refl, subst, arith, inl, inr}
+use Rattle.std.proofs.Common.{◌≡◌, ℕ, ◌<◌, ◌≤◌, Bool, true, false, List, [], ◌∷◌, length, take, drop, Some, None, refl, sym, ◌∙◌, subst, arith, inl, inr}
 use Rattle.std.specs.Prelude.{nat_le}
 use Rattle.std.specs.Char.{is_ascii}
 use Rattle.std.specs.List.{list_all}
 use Rattle.std.specs.Str.{IsUtf8, IsCharBoundary, bytes_eq}
 use Rattle.std.specs.Cmp.Lexicographic.{bytes_decides}
-use Rattle.std.proofs.lemmas.Bool.{and_parts, cases_Bool, leb-true}
+use Rattle.std.proofs.lemmas.Bool.{and_parts, cases_Bool, false≢true, leb-true}
 use Rattle.std.proofs.lemmas.Bool.Decides.{nat_tests}
 use Rattle.px_value.proofs.General.{none_from}
 use Rattle.px_lex.specs.declared.sign.Sign.{Sign}
@@ -13,7 +13,7 @@ use Rattle.px_lex.specs.declared.token.TokenKind.TheVariants as kinds
 use Rattle.px_lex.specs.Gap.{begins}
 use Rattle.px_lex.specs.Table.{row_of}
 use Rattle.px_lex.specs.Fault.{Bad, is_other, IsFaulty}
-use Rattle.px_lex.specs.Sign.{sign_rows, sign_of, opens_comment, ends_sign}
+use Rattle.px_lex.specs.Sign.{sign_rows, sign_of, ends_pair, opens_comment, ends_sign}
 use Rattle.px_lex.specs.Lexer.{Begins}
 use Rattle.px_lex.proofs.Cuts.{cut_behind}
 
@@ -35,6 +35,18 @@ sign_is_ascii spelling sign h = row_of-all (λ s. list_all is_ascii s) sign_rows
 
 pub sign_is_short : (spelling : List ℕ) (sign : Sign) → sign_of spelling ≡ Some sign → length spelling ≤ 2
 sign_is_short spelling sign h = leb-true (length spelling) 2 (row_of-all is_short sign_rows spelling sign refl h)
+
+abbrev is_one_or_pair : List ℕ → Bool
+is_one_or_pair [] = true
+is_one_or_pair (a ∷ []) = true
+is_one_or_pair (a ∷ b ∷ cs) = ends_pair (a ∷ b ∷ cs)
+
+-- where the second byte ends no sign of two, the two are none
+pub no_pair : (text : List ℕ) → 1 < length text → ends_pair text ≡ false → sign_of (take 2 text) ≡ None
+no_pair [] long h = absurd (omega arith)
+no_pair (a ∷ []) long h = absurd (omega arith)
+no_pair (a ∷ b ∷ cs) long h = none_from (sign_of (a ∷ b ∷ [])) (λ sign found.
+    false≢true (sym h ∙ row_of-all is_one_or_pair sign_rows (a ∷ b ∷ []) sign refl found))
 
 no_longer_sign : (a b c : ℕ) → sign_of (a ∷ b ∷ c ∷ []) ≡ None
 no_longer_sign a b c = none_from (sign_of (a ∷ b ∷ c ∷ [])) (λ sign found. let short : length (a ∷ b ∷ c ∷ []) ≤ 2 = sign_is_short (a ∷ b ∷ c ∷ []) sign found in omega arith)

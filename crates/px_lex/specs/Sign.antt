@@ -1,5 +1,5 @@
 -- The signs and their spellings (PLEXIL reference manual), and where one ends.
-use Rattle.std.specs.Prelude.{ℕ, Bool, true, not, ◌&&◌, ◌||◌, List, [], ◌∷◌, ◌++◌, Option, is_none, codes}
+use Rattle.std.specs.Prelude.{ℕ, Bool, true, false, not, ◌&&◌, ◌||◌, ◌==◌, List, [], ◌∷◌, ◌++◌, Option, is_none, codes}
 use Rattle.std.specs.Str.{bytes_eq}
 use Rattle.px_lex.specs.declared.sign.Sign.{Sign}
 use Rattle.px_lex.specs.declared.sign.Sign.TheVariants as signs
@@ -39,6 +39,12 @@ sign_rows =
 -- the sign that a spelling is
 abbrev pub sign_of : List ℕ → Option Sign
 sign_of spelling = row_of sign_rows spelling
+
+-- whether the second byte is that of some sign of two bytes
+abbrev pub ends_pair : List ℕ → Bool
+ends_pair [] = false
+ends_pair (a ∷ []) = false
+ends_pair (a ∷ b ∷ cs) = (b == 40) || (b == 124) || (b == 38) || (b == 61)
 
 -- whether a spelling opens a comment
 abbrev pub opens_comment : List ℕ → Bool

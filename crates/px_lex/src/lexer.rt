@@ -1,7 +1,7 @@
 // The lexer: a loop over the pieces of a text, each told by its first bytes.
 ghost use Rattle.std.specs.Prelude.{◌≡◌, ◌<◌, false, length, take, IsTrue, IfOk, IfErr, IfSome, IfNone, OnSome};
 ghost use Rattle.px_lex.specs.Gap.{begins};
-ghost use Rattle.px_lex.specs.Sign.{sign_of, opens_comment};
+ghost use Rattle.px_lex.specs.Sign.{sign_of, ends_pair, opens_comment};
 ghost use Rattle.px_lex.specs.Lexer.{Begins, IsFault, Splits, FirstFault};
 ghost use Rattle.px_lex.specs.Fault.{is_other};
 
@@ -15,17 +15,27 @@ use crate::word::word;
 use px_value::{begins_identifier, is_digit};
 use std::alloc::Global;
 
+/// Whether the second byte is that of some sign of two bytes: mostly it isn't, and then the table isn't gone through.
+fn ends_pair(bytes: &[u8]) -> bool
+    ensures value { result ≡ ends_pair bytes.now }
+    ensures long { IsTrue result → 1 < length bytes.now }
+{
+    match bytes {
+        [_, b, ..] => *b == b'(' || *b == b'|' || *b == b'&' || *b == b'=',
+        _ => false,
+    }
+}
+
 /// The sign that the first two bytes are.
 fn sign_of_two(bytes: &[u8]) -> Option<Sign>
     ensures long { OnSome result (1 < length bytes.now) }
     ensures some { IfSome result (λ sign. sign_of (take 2 bytes.now) ≡ Some sign) }
     ensures none { IfNone result (1 < length bytes.now → sign_of (take 2 bytes.now) ≡ None) }
 {
-    if bytes.len() > 1 {
-        sign_of(&bytes[..2])
-    } else {
-        None
+    if ends_pair(bytes) {
+        return sign_of(&bytes[..2]);
     }
+    None
 }
 
 /// The sign at the front of a text, as long as it can be, and what is behind it.

@@ -1,31 +1,25 @@
-use Rattle.std.proofs.Common.{◌≡◌, ◌<◌, [], List, length, fold, ap, sym, ◌∙◌, arith}
+use Rattle.std.proofs.Common.{[], fold, ap, sym, ◌∙◌}
+use Rattle.std.specs.Borrow.{Bor}
 use Rattle.std.specs.List.{flat_map}
 use Rattle.std.proofs.lemmas.List.{take_all}
-use Rattle.px_core.specs.Plan.{Site, no_site}
+use Rattle.std.proofs.lemmas.List.Folds.{flat_map-map}
+use Rattle.px_core.specs.declared.node.CoreNode.{CoreNode}
 use Rattle.px_flat.specs.Lookups.{with_name, lookups_in_head}
-use Rattle.px_flat.specs.Row.{site_in}
-use Rattle.px_flat.specs.Rows.{sites_of, site_of}
 use Rattle.px_flat.proofs.LookedUp.{looked_more}
-use Rattle.px_flat.proofs.Sites.{length-sites_of, site_at_number}
+use Rattle.px_flat.proofs.Trees.{node_head}
 use Rattle.px_flat.proofs.lookups.lookups.Goals as goal
 
-pub loop-row-preserved : goal.loop-row-preserved
-loop-row-preserved c =
-    let rows = c.args.rows.now in
-    let plan : List Site = sites_of rows in
-    let i = c.loop-row.row-index in
-    let row = c.row-item.result in
-    let site : site_in plan i ≡ site_of plan row =
-    site_at_number rows c.requires i no_site row c.loop-row-test.true ∙ ap (site_of plan) (sym c.row-item.is) in
-    let inside : i < length plan = omega (arith, length-sites_of rows, c.loop-row-test.true) in
-    c.in_ok-add_head.ensures
-    ∙ (λ j. fold with_name (c.loop-row.invariant j) (lookups_in_head (sym site j).head))
-    ∙ sym (looked_more (λ (site : Site). lookups_in_head site.head) [] plan i no_site inside)
+pub loop-node-preserved : goal.loop-node-preserved
+loop-node-preserved c =
+    c.in_ok-add_node.ensures
+    ∙ (λ j. fold with_name (c.loop-node.invariant j) (lookups_in_head (node_head (c.node-item.is j).now)))
+    ∙ sym (looked_more (λ (node : Bor CoreNode). lookups_in_head (node_head node.now)) [] c.args.nodes.now
+    c.loop-node.node-index c.node-item.result c.loop-node-test.true)
 
 pub returns-clause-names : goal.returns-clause-names
 returns-clause-names c =
-    let rows = c.args.rows.now in
-    let plan : List Site = sites_of rows in
-    c.loop-row.invariant
-    ∙ ap (λ plan. fold with_name [] (flat_map (λ site. lookups_in_head site.head) plan))
-    (take_all c.loop-row.row-index plan (omega (arith, length-sites_of rows, c.loop-row-test.false)))
+    let nodes = c.args.nodes.now in
+    c.loop-node.invariant
+    ∙ ap (λ nodes. fold with_name [] (flat_map (λ node. lookups_in_head (node_head node.now)) nodes))
+    (take_all c.loop-node.node-index nodes c.loop-node-test.false)
+    ∙ ap (fold with_name []) (sym (flat_map-map lookups_in_head (λ (node : Bor CoreNode). node_head node.now) nodes))

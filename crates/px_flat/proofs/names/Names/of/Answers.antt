@@ -1,11 +1,14 @@
-use Rattle.std.proofs.Common.{◌<◌, [], length, get_or, ap, sym, ◌∙◌, subst, arith}
-use Rattle.px_core.specs.Plan.{Tree, tree_of, count_of}
+use Rattle.std.proofs.Common.{◌<◌, [], length, get_or, fold, ap, sym, ◌∙◌, subst, arith}
+use Rattle.std.specs.List.{flat_map}
+use Rattle.std.proofs.lemmas.List.Folds.{flat_map-map}
+use Rattle.px_core.specs.Plan.{Site, Tree, tree_of, count_of}
 use Rattle.px_flat.specs.Row.{after_last, paths_of}
 use Rattle.px_flat.specs.Extents.{AreExtents}
-use Rattle.px_flat.specs.Lookups.{lookups_of}
+use Rattle.px_flat.specs.Lookups.{lookups_in_head, with_name}
 use Rattle.px_flat.specs.Rows.{sites_of}
 use Rattle.px_flat.specs.Slots.{AreSlots}
 use Rattle.px_flat.proofs.Descendants.{end_is}
+use Rattle.px_flat.proofs.Heads.{heads_are}
 use Rattle.px_flat.proofs.Sites.{length-sites_of}
 use Rattle.px_flat.proofs.Trees.{length-sites_under, length-ends_from}
 use Rattle.px_flat.proofs.names.Names.of.Goals as goal
@@ -43,7 +46,7 @@ extents-requires-clause-ends c = λ i within.
 pub slots_of-requires-clause-fit : goal.slots_of-requires-clause-fit
 slots_of-requires-clause-fit c = record {
   tree = tree_of c.args.plan.now;
-  fit = c.requires;
+  fit = c.requires.fit;
   nodes = ap sites_of c.deref-4.ensures.value ∙ c.in_ok-rows.ensures.sites;
 }
 
@@ -60,11 +63,14 @@ invariant_of-result c =
     let rows = c.in_ok-rows.rows.items in
     record {
       laid = c.in_ok-rows.ensures.laid;
-      fit = ∣ record { tree = tree; fit = c.requires; nodes = c.in_ok-rows.ensures.sites } ∣₁;
+      fit = ∣ record { tree = tree; fit = c.requires.fit; nodes = c.in_ok-rows.ensures.sites } ∣₁;
       extended = subst (λ rows. AreExtents (sites_of rows) c.in_ok-extents.extents.items) c.deref.ensures.value
           c.in_ok-extents.ensures;
       found = c.in_ok-paths.ensures ∙ ap (λ rows. paths_of (sites_of rows)) c.deref-3.ensures.value;
       declared = subst (λ rows. AreSlots (sites_of rows) c.in_ok-slots.slots.items) c.deref-4.ensures.value c.in_ok-slots.ensures;
-      looked = c.in_ok-lookups.ensures.names ∙ ap (λ rows. lookups_of (sites_of rows)) c.deref-6.ensures.value;
+      looked = c.in_ok-lookups.ensures.names
+          ∙ ap (λ heads. fold with_name [] (flat_map lookups_in_head heads))
+          (heads_are c.args.nodes.now tree (sites_of rows) c.requires.nodes c.in_ok-rows.ensures.sites)
+          ∙ ap (fold with_name []) (flat_map-map lookups_in_head (λ (site : Site). site.head) (sites_of rows));
       few = c.in_ok-lookups.ensures.few;
     }
