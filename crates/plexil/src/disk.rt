@@ -75,8 +75,8 @@ impl<R: Files> StdDisk<R> {
         file.flush()
     }
 
-    // Settles the file, and where this disk has made it, that its folder has it.
-    fn settle(&mut self) -> io::Result<()>
+    // Syncs the file, and where this disk has made it, that its folder has it.
+    fn sync_all(&mut self) -> io::Result<()>
         requires { IsTrue (is_some self.old.name) }
         ensures name { self.new.name ≡ self.old.name }
         ensures faults { self.new.faults ≡ self.old.faults }
@@ -140,7 +140,7 @@ impl<R: Files> Disk for StdDisk<R> {
     }
 
     fn sync(&mut self) -> Result<(), DiskFault> {
-        let answer = self.settle();
+        let answer = self.sync_all();
         self.is_lost = answer.is_err();
         counted(&mut self.faults, answer)
     }
@@ -200,7 +200,7 @@ fn read_exactly<F: Read + Seek>(file: &mut Option<F>, at: u64, into: &mut [u8]) 
     }
 }
 
-// Settles that the folder of a file has it. Some file systems can't sync a folder, and refuse it as no fit argument.
+// Makes sure that the folder of a file has it. Some file systems can't sync a folder, and refuse it as no fit argument.
 fn sync_folder<R: Files>(rt: &R, name: &str) -> io::Result<()> {
     let folder = match Path::new(name).parent() {
         Some(folder) if !folder.as_str().is_empty() => folder.as_str(),

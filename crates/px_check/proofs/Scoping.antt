@@ -7,7 +7,7 @@ use Rattle.std.proofs.lemmas.List.{reverse-append, length-reverse, get_or_append
 use Rattle.std.proofs.Math.Seq.{get_or-append_seam}
 use Rattle.indexmap.specs.IndexMap.{IndexMap, get}
 use Rattle.px_check.specs.Scoped.{meanings, meaning_of, nearest_of, IsLinked, IsIndex}
-use Rattle.px_check.specs.declared.scoped.Entry.{Entry}
+use Rattle.px_check.specs.declared.scoped.Shadowing.{Shadowing}
 
 -- one nearest name less is one step on the way down to so many
 pub dropped_one : {X : Type 0} (xs : List X) (n : ℕ) → n < length xs
@@ -18,7 +18,7 @@ dropped_one (x ∷ xs) n h =
     sym (ap (λ k. drop k (x ∷ xs)) more)
 
 module _ {T : Type 0} where
-  pub nearest_within : (name : List ℕ) (es : List (Entry T)) (i : ℕ) → nearest_of name es ≡ Some i → i < length es
+  pub nearest_within : (name : List ℕ) (es : List (Shadowing T)) (i : ℕ) → nearest_of name es ≡ Some i → i < length es
   nearest_within name [] i is = absurd (cc)
   nearest_within name (e ∷ es) i is = by (bytes_eq name e.name) is (nearest_within name es i)
     where
@@ -27,7 +27,7 @@ module _ {T : Type 0} where
       by true here rest = let place : length es ≡ i = cc in omega arith
       by false there rest = let within : i < length es = rest there in omega arith
 
-  pub nowhere : (name : List ℕ) (es : List (Entry T)) → nearest_of name es ≡ None → meaning_of name (meanings es) ≡ None
+  pub nowhere : (name : List ℕ) (es : List (Shadowing T)) → nearest_of name es ≡ None → meaning_of name (meanings es) ≡ None
   nowhere name [] is = refl
   nowhere name (e ∷ es) is = by (bytes_eq name e.name) is refl (nowhere name es)
     where
@@ -37,11 +37,11 @@ module _ {T : Type 0} where
       by true here test rest = absurd (cc)
       by false there test rest = rw test (rest there)
 
-  reverse-cons : (e : Entry T) (es : List (Entry T)) → reverse (e ∷ es) ≡ reverse es ++ e ∷ []
+  reverse-cons : (e : Shadowing T) (es : List (Shadowing T)) → reverse (e ∷ es) ≡ reverse es ++ e ∷ []
   reverse-cons e es = reverse-append (e ∷ []) es
 
   -- the entry at the place of the nearest one has the meaning
-  pub nearest_means : (name : List ℕ) (es : List (Entry T)) (i : ℕ) (x : Entry T) → nearest_of name es ≡ Some i
+  pub nearest_means : (name : List ℕ) (es : List (Shadowing T)) (i : ℕ) (x : Shadowing T) → nearest_of name es ≡ Some i
       → x ≡ get_or (reverse es) i x → Some x.meaning ≡ meaning_of name (meanings es)
   nearest_means name [] i x is at = absurd (cc)
   nearest_means name (e ∷ es) i x is at = by (bytes_eq name e.name) is refl (nearest_means name es i x)
@@ -56,19 +56,19 @@ module _ {T : Type 0} where
           let place : i ≡ length (reverse es) = (let p : i ≡ length es = cc in p ∙ sym (length-reverse es)) in
           let is_e : x ≡ e =
           there ∙ ap (λ k. get_or (reverse es ++ e ∷ []) k x) place ∙ get_or-append_seam (reverse es) e [] x in
-          rw test (ap (λ (y : Entry T). Some y.meaning) is_e)
+          rw test (ap (λ (y : Shadowing T). Some y.meaning) is_e)
       by false below test rest =
           let within : i < length (reverse es) = subst (λ n. i < n) (sym (length-reverse es)) (nearest_within name es i below) in
           rw test (rest below (there ∙ get_or_append_left (reverse es) (e ∷ []) x i within))
 
   -- one entry more
-  pub linked_push : (items news : List (Entry T)) (e : Entry T) → news ≡ items ++ e ∷ []
+  pub linked_push : (items news : List (Shadowing T)) (e : Shadowing T) → news ≡ items ++ e ∷ []
       → e.shadowed ≡ nearest_of e.name (reverse items) → IsLinked (reverse items) → IsLinked (reverse news)
   linked_push items news e is shadows linked =
       let turned : reverse news ≡ e ∷ reverse items = ap reverse is ∙ reverse-append items (e ∷ []) in
       subst IsLinked (sym turned) (shadows, linked)
 
-  pub index_push : {S : Type 0} (old new : IndexMap (List ℕ) ℕ S) (items news : List (Entry T)) (e : Entry T)
+  pub index_push : {S : Type 0} (old new : IndexMap (List ℕ) ℕ S) (items news : List (Shadowing T)) (e : Shadowing T)
       → news ≡ items ++ e ∷ [] → IsIndex old (reverse items)
       → ((name : List ℕ) → get bytes_eq new name
       ≡ cond (bytes_eq e.name name) (Some (length items)) (get bytes_eq old name))
@@ -82,18 +82,18 @@ module _ {T : Type 0} where
       ∙ ap (nearest_of name) (sym turned)
 
   -- one entry less
-  pub linked_pop : (items olds : List (Entry T)) (e : Entry T) → olds ≡ items ++ e ∷ [] → IsLinked (reverse olds)
+  pub linked_pop : (items olds : List (Shadowing T)) (e : Shadowing T) → olds ≡ items ++ e ∷ [] → IsLinked (reverse olds)
       → (e.shadowed ≡ nearest_of e.name (reverse items)) × IsLinked (reverse items)
   linked_pop items olds e is linked =
       let turned : reverse olds ≡ e ∷ reverse items = ap reverse is ∙ reverse-append items (e ∷ []) in
       subst IsLinked turned linked
 
-  index_before : {S : Type 0} (old : IndexMap (List ℕ) ℕ S) (items olds : List (Entry T)) (e : Entry T)
+  index_before : {S : Type 0} (old : IndexMap (List ℕ) ℕ S) (items olds : List (Shadowing T)) (e : Shadowing T)
       → olds ≡ items ++ e ∷ [] → IsIndex old (reverse olds) → IsIndex old (e ∷ reverse items)
   index_before old items olds e is index name =
       index name ∙ ap (nearest_of name) (ap reverse is ∙ reverse-append items (e ∷ []))
 
-  pub index_has : {S : Type 0} (old : IndexMap (List ℕ) ℕ S) (items olds : List (Entry T)) (e : Entry T)
+  pub index_has : {S : Type 0} (old : IndexMap (List ℕ) ℕ S) (items olds : List (Shadowing T)) (e : Shadowing T)
       → olds ≡ items ++ e ∷ [] → IsIndex old (reverse olds) → IsSome (get bytes_eq old e.name)
   index_has old items olds e is index =
       let found : get bytes_eq old e.name ≡ Some (length (reverse items)) =
@@ -102,7 +102,7 @@ module _ {T : Type 0} where
       (nat_list_eq_equiv.refl e.name) in
       rw found refl
 
-  pub index_pop : {S : Type 0} (old new : IndexMap (List ℕ) ℕ S) (items olds : List (Entry T)) (e : Entry T)
+  pub index_pop : {S : Type 0} (old new : IndexMap (List ℕ) ℕ S) (items olds : List (Shadowing T)) (e : Shadowing T)
       → olds ≡ items ++ e ∷ [] → IsLinked (reverse olds) → IsIndex old (reverse olds)
       → ((name : List ℕ) → get bytes_eq new name ≡ cond (bytes_eq e.name name) e.shadowed (get bytes_eq old name))
       → IsIndex new (reverse items)

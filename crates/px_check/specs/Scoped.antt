@@ -4,11 +4,11 @@ use Rattle.std.specs.List.{find}
 use Rattle.std.specs.Option.{option_map}
 use Rattle.std.specs.Str.{bytes_eq}
 use Rattle.indexmap.specs.IndexMap.{IndexMap, get}
-use Rattle.px_check.specs.declared.scoped.Entry.{Entry}
+use Rattle.px_check.specs.declared.scoped.Shadowing.{Shadowing}
 
 module _ {T : Type 0} where
   -- names with meanings, the nearest first
-  abbrev pub meanings : List (Entry T) → List (List ℕ × T)
+  abbrev pub meanings : List (Shadowing T) → List (List ℕ × T)
   meanings = map (λ entry. (entry.name, entry.meaning))
 
   -- what a name means by these, of which the nearest come first
@@ -16,17 +16,17 @@ module _ {T : Type 0} where
   meaning_of name named = option_map (λ one. one.1) (find (λ one. bytes_eq name one.0) named)
 
   -- the place of the nearest entry of a name; the farthest entry has the place 0
-  abbrev pub nearest_of : List ℕ → List (Entry T) → Option ℕ
+  abbrev pub nearest_of : List ℕ → List (Shadowing T) → Option ℕ
   nearest_of name [] = None
   nearest_of name (entry ∷ entries) = if bytes_eq name entry.name then Some (length entries) else nearest_of name entries
 
   -- each entry knows which it shadows
-  abbrev pub IsLinked : List (Entry T) → Type 0
+  abbrev pub IsLinked : List (Shadowing T) → Type 0
   IsLinked [] = Unit {0}
   IsLinked (entry ∷ entries) = (entry.shadowed ≡ nearest_of entry.name entries) × IsLinked entries
 
   -- the index has the place of the nearest entry of each name
-  abbrev pub IsIndex : {S : Type 0} → IndexMap (List ℕ) ℕ S → List (Entry T) → Type 0
+  abbrev pub IsIndex : {S : Type 0} → IndexMap (List ℕ) ℕ S → List (Shadowing T) → Type 0
   IsIndex index entries = (name : List ℕ) → get bytes_eq index name ≡ nearest_of name entries
 
   -- some names more

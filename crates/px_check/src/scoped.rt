@@ -11,7 +11,7 @@ use std::marker::Model;
 
 /// A name with a meaning, and the place of the entry of that name that it shadows.
 #[derive(Debug, Drop)]
-pub struct Entry<T> {
+pub struct Shadowing<T> {
     name: Name,
     meaning: T,
     shadowed: Option<usize>,
@@ -21,7 +21,7 @@ pub struct Entry<T> {
 #[derive(Debug, Drop)]
 pub struct Scoped<T> {
     /// From the farthest to the nearest.
-    entries: Vec<Entry<T>>,
+    entries: Vec<Shadowing<T>>,
     /// The place of the nearest entry of each name.
     index: IndexMap<Name, usize>,
 }
@@ -93,7 +93,7 @@ impl<T: Copy> Scoped<T> {
         self.entries.reserve(1)?;
         let shadowed = self.index.insert(key, self.entries.len())?;
         // There is room.
-        let _ = self.entries.push(Entry {
+        let _ = self.entries.push(Shadowing {
             name: own,
             meaning,
             shadowed,

@@ -2,7 +2,7 @@
 ghost use Rattle.std.specs.Prelude.{◌≡◌, [], OnOk, IfErr};
 ghost use Rattle.px_syntax.specs.Block.{block_of};
 ghost use Rattle.px_syntax.specs.BlockFaults.{block_faults};
-ghost use Rattle.px_syntax.specs.Plan.{plan_of};
+ghost use Rattle.px_syntax.specs.Plan.{tree_of_surface};
 ghost use Rattle.px_syntax.specs.PlanFaults.{faults, outermost, block_cells, passing_fault};
 ghost use Rattle.px_check.specs.Checked.{IsFirst, all_faults};
 ghost use Rattle.px_check.specs.Found.{noted};
@@ -21,8 +21,8 @@ use std::alloc::Global;
 /// An Err names the first fault by its token, and of several at one token that of the least kind, exactly where there
 /// is one; or memory has run out.
 pub fn check(alloc: Global, tree: &Surface) -> Result<(), CheckFault>
-    ensures ok { OnOk result (faults (plan_of tree.now) ≡ []) }
-    ensures fault { IfErr result (IsFirst (faults (plan_of tree.now))) }
+    ensures ok { OnOk result (faults (tree_of_surface tree.now) ≡ []) }
+    ensures fault { IfErr result (IsFirst (faults (tree_of_surface tree.now))) }
 {
     let mut found = Found::new();
     note_tree(alloc, tree, &mut found)?;
@@ -34,7 +34,7 @@ pub fn check(alloc: Global, tree: &Surface) -> Result<(), CheckFault>
 
 // Notes what a tree is at fault for.
 fn note_tree(alloc: Global, tree: &Surface, found: &mut Found) -> Result<(), NoMemory>
-    ensures { OnOk result (found.new ≡ noted found.old (all_faults (plan_of tree.now))) }
+    ensures { OnOk result (found.new ≡ noted found.old (all_faults (tree_of_surface tree.now))) }
 {
     note_declarations(alloc, &tree.declarations, found)?;
     note_blocks(alloc, tree, found)?;
@@ -44,7 +44,7 @@ fn note_tree(alloc: Global, tree: &Surface, found: &mut Found) -> Result<(), NoM
 
 fn note_blocks(alloc: Global, tree: &Surface, found: &mut Found) -> Result<(), NoMemory>
     ensures { OnOk result (found.new ≡ noted found.old
-        (block_faults (outermost (plan_of tree.now)) (plan_of tree.now).label (plan_of tree.now).root)) }
+        (block_faults (outermost (tree_of_surface tree.now)) (tree_of_surface tree.now).label (tree_of_surface tree.now).root)) }
 {
     let globals = Globals::new(alloc, &tree.declarations)?;
     let mut scope = Scope::outermost(alloc, globals);

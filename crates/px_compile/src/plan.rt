@@ -6,7 +6,7 @@ ghost use Rattle.px_core.specs.Plan.{tree_of};
 ghost use Rattle.px_lex.specs.Lexer.{FirstFault, Splits};
 ghost use Rattle.px_lex.specs.declared.token.Token.{Token as TokenData};
 ghost use Rattle.px_plan_parse.specs.Verdict.{IsRefused as IsNoTree};
-ghost use Rattle.px_syntax.specs.Plan.{plan_of};
+ghost use Rattle.px_syntax.specs.Plan.{tree_of_surface};
 ghost use Rattle.px_syntax.specs.PlanFaults.{faults};
 ghost use Rattle.px_expand.specs.Typed.{has_typed_values};
 ghost use Rattle.px_expand.specs.Verdict.{IsChecked, IsExpanded};
@@ -74,7 +74,7 @@ fn no_tokens(fault: LexFault) -> PlanFault
 }
 
 fn tree_in(alloc: Global, text: &str) -> Result<Surface, PlanFault>
-    ensures ok { IfOk result (λ tree. IsSpelled text.now (plan_of tree)) }
+    ensures ok { IfOk result (λ tree. IsSpelled text.now (tree_of_surface tree)) }
     ensures fault { IfErr result (λ fault. IsRefused text.now fault) }
 {
     let tokens = tokens_in(alloc, text)?;
@@ -96,8 +96,8 @@ fn no_tree(fault: ParseFault) -> PlanFault
 }
 
 fn look_for_faults(alloc: Global, tree: &Surface) -> Result<(), PlanFault>
-    ensures ok { OnOk result (faults (plan_of tree.now) ≡ []) }
-    ensures fault { IfErr result (λ fault. AllRefused (plan_of tree.now) fault) }
+    ensures ok { OnOk result (faults (tree_of_surface tree.now) ≡ []) }
+    ensures fault { IfErr result (λ fault. AllRefused (tree_of_surface tree.now) fault) }
 {
     match check(alloc, tree) {
         Ok(()) => Ok(()),
@@ -107,9 +107,9 @@ fn look_for_faults(alloc: Global, tree: &Surface) -> Result<(), PlanFault>
 }
 
 fn core_plan(alloc: Global, tree: &Surface) -> Result<Plan, PlanFault>
-    requires { IsChecked (plan_of tree.now) }
-    ensures ok { IfOk result (λ plan. IsExpanded (plan_of tree.now) plan) }
-    ensures fault { IfErr result (λ fault. AllRefused (plan_of tree.now) fault) }
+    requires { IsChecked (tree_of_surface tree.now) }
+    ensures ok { IfOk result (λ plan. IsExpanded (tree_of_surface tree.now) plan) }
+    ensures fault { IfErr result (λ fault. AllRefused (tree_of_surface tree.now) fault) }
 {
     match expand(alloc, tree) {
         Ok(plan) => Ok(plan),

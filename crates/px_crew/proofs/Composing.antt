@@ -7,10 +7,10 @@ use Rattle.std.proofs.lemmas.List.{map-append, length-map, get_or-map}
 use Rattle.std.proofs.lemmas.List.Elements.{All-append, filter-append, filter_map-append}
 use Rattle.px_core.specs.Plan.{Site}
 use Rattle.px_event.specs.declared.entry.Entry.{Entry}
-use Rattle.px_exec.specs.declared.failed.Failed.{Failed}
+use Rattle.px_exec.specs.declared.closing.Failed.{Failed}
 use Rattle.px_script.specs.Follows.{GoesThrough, HasOnly}
 use Rattle.px_script.specs.Order.{entry_of, thread_entries}
-use Rattle.px_script.specs.Rest.{entries_of}
+use Rattle.px_script.specs.Remainder.{entries_of}
 use Rattle.px_script.specs.declared.todo.Todo.{Todo}
 use Rattle.px_script.specs.declared.worker.Worker.{Worker}
 use Rattle.px_sem.specs.Log.{Log, posted_in}

@@ -10,7 +10,7 @@ use Rattle.px_core.specs.Plan.{Site}
 use Rattle.px_event.specs.declared.cond.Cond.{Cond}
 use Rattle.px_event.specs.declared.entry.Entry.{Entry}
 use Rattle.px_event.specs.declared.event.Event.{Event}
-use Rattle.px_exec.specs.declared.failed.Failed.{Failed}
+use Rattle.px_exec.specs.declared.closing.Failed.{Failed}
 use Rattle.px_script.specs.Follows.{GoesThrough, Follows, IsNextPost, AreStalled, Stops, none, through, stands}
 use Rattle.px_script.specs.Fit.{IsFitScript}
 use Rattle.px_script.specs.Order.{entry_of}

@@ -5,9 +5,9 @@ use Rattle.std.specs.List.{All, Contains}
 use Rattle.std.proofs.lemmas.Bool.{cases_eq}
 use Rattle.std.proofs.lemmas.List.Elements.{All-nil, All-cons, All-head, All-tail, Contains-get_or}
 use Rattle.px_event.specs.declared.entry.Entry.{Entry}
-use Rattle.px_exec.specs.declared.failed.Failed.{Failed}
+use Rattle.px_exec.specs.declared.closing.Failed.{Failed}
 use Rattle.px_script.specs.Follows.{HasOnly}
-use Rattle.px_script.specs.Rest.{entries_of}
+use Rattle.px_script.specs.Remainder.{entries_of}
 use Rattle.px_script.specs.declared.todo.Todo.{Todo}
 use Rattle.px_sem.specs.Log.{posted_in}
 use Rattle.px_sem.specs.declared.log.LogEntry.{LogEntry}

@@ -4,7 +4,7 @@ use Rattle.std.proofs.lemmas.List.{append_assoc, append_cancel_right, map-append
 use Rattle.px_event.specs.declared.entry.Entry.{Entry}
 use Rattle.px_event.specs.declared.reply.Reply.{Reply}
 use Rattle.px_exec.specs.Answers.{logged}
-use Rattle.px_exec.specs.declared.failed.Failed.{Failed}
+use Rattle.px_exec.specs.declared.closing.Failed.{Failed}
 use Rattle.px_exec.specs.declared.fault.PostFault.{PostFault}
 use Rattle.px_exec.specs.declared.fault.PostFault.TheVariants as faults
 use Rattle.px_exec.specs.declared.receipt.Receipt.{Receipt}

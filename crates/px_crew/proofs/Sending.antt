@@ -10,7 +10,7 @@ use Rattle.px_ports.specs.declared.disk.Disk
 use Rattle.px_journal.proofs.journal.Journal.TheSendSync as journals
 use Rattle.px_event.proofs.entry.Entry.TheSendSync as entries
 use Rattle.px_sem.proofs.log.LogEntry.TheSendSync as logs
-use Rattle.px_exec.proofs.failed.Failed.TheSendSync as fails
+use Rattle.px_exec.proofs.closing.Failed.TheSendSync as fails
 use Rattle.px_exec.specs.contracts.exec.Exec as execs
 use Rattle.px_exec.specs.contracts.exec.Exec.TheInside as exec_inside
 use Rattle.px_exec.specs.contracts.exec.Opening as openings

@@ -2,7 +2,7 @@
 use Rattle.std.specs.Prelude.{◌≡◌, ℕ, List, filter, Option}
 use Rattle.std.specs.Option.{option_map}
 use Rattle.px_event.specs.declared.entry.Entry.{Entry}
-use Rattle.px_exec.specs.declared.failed.Failed.{Failed}
+use Rattle.px_exec.specs.declared.closing.Failed.{Failed}
 use Rattle.px_sem.specs.Log.{posted_in}
 use Rattle.px_turn.specs.Histories.{IsFront, is_number, items}
 use Rattle.px_turn.specs.declared.view.Stamped.{Stamped}

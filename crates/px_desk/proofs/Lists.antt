@@ -5,7 +5,7 @@ use Rattle.px_event.specs.declared.entry.Entry.{Entry}
 use Rattle.px_event.specs.declared.reply.Reply.{Reply}
 use Rattle.px_exec.specs.Answers.{logged, Posts, Replies}
 use Rattle.px_exec.specs.Executive.{Executive, Opening, Keeps, KeepsDisk, IsClosed, plan_of, world_of}
-use Rattle.px_exec.specs.declared.failed.Failed.{Failed}
+use Rattle.px_exec.specs.declared.closing.Failed.{Failed}
 use Rattle.px_exec.specs.declared.fault.PostFault.{PostFault}
 use Rattle.px_exec.specs.declared.fault.PostFault.TheVariants as faults
 use Rattle.px_exec.specs.declared.receipt.Receipt.{Receipt}

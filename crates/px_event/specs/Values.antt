@@ -1,11 +1,9 @@
--- Which values may be told to a plan, what `==` answers of two values, and what a value feeds a hasher.
+-- Which values may be told to a plan, and what `==` answers of two values.
 use Rattle.std.specs.Prelude.{Bool, true, false, ◌&&◌}
-use Rattle.std.specs.Hash.{HashWrites}
 use Rattle.std.specs.Str.{is_utf8}
 use Rattle.px_value.specs.Arithmetic.{fits_32_bits}
 use Rattle.px_value.specs.Text.{is_short_text}
 use Rattle.px_value.specs.contracts.value.ValuePartialEq.TheImpl as equality
-use Rattle.px_value.specs.contracts.value.ValueHash.TheImpl as hashing
 use Rattle.px_value.specs.declared.value.Value.{Value}
 use Rattle.px_value.specs.declared.value.Value.TheVariants as values
 
@@ -23,7 +21,3 @@ is_plain_or_unknown value = is_plain value
 -- what `==` answers of two values
 abbrev pub value_eq : Value → Value → Bool
 value_eq = (equality.ghosts).eq
-
--- what a value feeds a hasher
-abbrev pub value_hash_input : Value → HashWrites
-value_hash_input = (hashing.ghosts).hash_input

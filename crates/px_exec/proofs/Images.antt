@@ -28,7 +28,7 @@ pub ready_leaves : {D : Type 0} (members : Disk.Ghosts D) (journal : Journal D) 
 ready_leaves members journal text told history left ready is to = record {
   grows = nothing_passes (members.moments journal.disk);
   each = λ image since.
-      let same : image ≡ told = ready.settled told is image (left_now members.images (members.moments journal.disk) image since) in
+      let same : image ≡ told = ready.synced told is image (left_now members.images (members.moments journal.disk) image since) in
       to image (subst (λ (bytes : List ℕ). Stands bytes text history) (sym same) (ready.stands told is));
 }
 

@@ -15,7 +15,7 @@ use Rattle.px_sem.specs.Log.{Log, is_accepted, accepted, events_of, answer, worl
 use Rattle.px_sem.specs.Run.{run}
 use Rattle.px_sem.specs.Stepper.{State, settled_state}
 use Rattle.px_sem.specs.declared.stepper.Stepper
-use Rattle.px_exec.specs.declared.failed.Failed.{Failed}
+use Rattle.px_exec.specs.declared.closing.Failed.{Failed}
 use Rattle.px_exec.specs.Answers.{answer_now, logged}
 use Rattle.px_exec.specs.Crash.{AddsAtMost}
 use Rattle.px_exec.specs.Executive.{Opening, Executive, Keeps, KeepsDisk, IsOpen, IsClosed, KeepsSinceOpening, plan_of, world_of}

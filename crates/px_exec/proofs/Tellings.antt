@@ -14,7 +14,7 @@ use Rattle.px_sem.specs.Stepper.{State, settled_state}
 use Rattle.px_sem.specs.World.{standing_of}
 use Rattle.px_sem.specs.declared.standing.Standing.{Standing}
 use Rattle.px_sem.specs.declared.stepper.Stepper
-use Rattle.px_exec.specs.declared.failed.Failed.{Failed}
+use Rattle.px_exec.specs.declared.closing.Failed.{Failed}
 use Rattle.px_exec.specs.declared.fault.PostFault.TheVariants as faults
 use Rattle.px_exec.specs.Answers.{answer_now, answered, logged, Replies, Fails, RanOut, Posts}
 use Rattle.px_exec.specs.Crash.{AddsAtMost}

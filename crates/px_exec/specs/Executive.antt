@@ -16,7 +16,7 @@ use Rattle.px_sem.specs.Run.{run}
 use Rattle.px_sem.specs.Stepper.{settled_state}
 use Rattle.px_sem.specs.World.{World}
 use Rattle.px_sem.specs.declared.stepper.Stepper
-use Rattle.px_exec.specs.declared.failed.Failed.{Failed}
+use Rattle.px_exec.specs.declared.closing.Failed.{Failed}
 
 -- what was handed to an opening
 pub record Opening (S D : Type 0) : Type 0 where

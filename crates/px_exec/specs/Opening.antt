@@ -38,7 +38,7 @@ IsWhy plan history (Runaway at) = RunsAwayAt plan history at
 IsWhy plan history NoMemory = Unit {0}
 
 -- A refused opening has its reason, and hands the journal back as it was.
-pub record IsRefused {D : Type 0} (plan : List Site) (journal : Journal D) (history : List Entry)
+pub record IsNotOpened {D : Type 0} (plan : List Site) (journal : Journal D) (history : List Entry)
     (fault : OpenFault D) : Type 0 where
   pub handed_back : fault.journal ≡ journal
   pub why : IsWhy plan history fault.why

@@ -1,5 +1,5 @@
 // The executive, and what it keeps of its opening.
-use crate::failed::Failed;
+use crate::closing::Failed;
 use px_event::Entry;
 use px_journal::Journal;
 use px_ports::Disk;

@@ -8,10 +8,10 @@
 
 mod answering;
 mod asking;
+mod closing;
+mod copies;
 mod exec;
-mod failed;
 mod fault;
-mod logging;
 mod opening;
 mod parts;
 mod posting;

@@ -6,7 +6,7 @@ ghost use Rattle.px_journal.specs.Journal.{IsReady};
 ghost use Rattle.px_sem.specs.Log.{events_of};
 ghost use Rattle.px_sem.specs.Run.{run};
 ghost use Rattle.px_sem.specs.Stepper.{Pending, settled_state};
-ghost use Rattle.px_exec.specs.Opening.{IsWhy, IsRefused, Opens};
+ghost use Rattle.px_exec.specs.Opening.{IsWhy, IsNotOpened, Opens};
 
 use crate::exec::{Exec, Opening};
 use crate::fault::{OpenFault, OpenWhy};
@@ -38,7 +38,7 @@ impl<S: Stepper, D: Disk> Exec<S, D> {
 
         ensures opens { IfOk result (Opens S.Stepper
             (record { stepper = stepper; journal = journal; history = history.items; limit = limit })) }
-        ensures refused { IfErr result (IsRefused (S.state stepper).nodes journal history.items) }
+        ensures refused { IfErr result (IsNotOpened (S.state stepper).nodes journal history.items) }
     {
         let opening = Opening {
             stepper: Snapshot::of(&stepper),

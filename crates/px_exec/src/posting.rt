@@ -6,9 +6,10 @@ ghost use Rattle.px_exec.specs.Crash.{AddsAtMost};
 ghost use Rattle.px_exec.specs.declared.fault.PostFault.TheVariants as faults;
 
 use crate::answering::{Unanswered, answer};
+use crate::closing::{close, closed_after};
+use crate::copies::{log_reply, prepare};
 use crate::exec::Exec;
 use crate::fault::PostFault;
-use crate::logging::{close, closed_after, log_reply, prepare};
 use crate::receipt::Receipt;
 use px_event::{Event, Reply};
 use px_ports::Disk;

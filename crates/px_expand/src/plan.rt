@@ -2,7 +2,7 @@
 ghost use Rattle.std.specs.Prelude.{◌≡◌, ◌≤◌, nat_le, IfOk, IfErr};
 ghost use Rattle.px_core.specs.Plan.{tree_of};
 ghost use Rattle.px_syntax.specs.Block.{block_of};
-ghost use Rattle.px_syntax.specs.Plan.{plan_of};
+ghost use Rattle.px_syntax.specs.Plan.{tree_of_surface};
 ghost use Rattle.px_expand.specs.Core.{core, root_place};
 ghost use Rattle.px_expand.specs.Placed.{place_terms};
 ghost use Rattle.px_expand.specs.Size.{block_nodes, longest};
@@ -29,9 +29,9 @@ pub const NODE_LIMIT: u32 = 4096;
 /// `TooMany` comes exactly where the core plan would have over 4,096 nodes or a path of over 5,000 bytes; `nodes` is the
 /// number of its nodes. It is found before such a plan is made.
 pub fn expand(alloc: Global, tree: &Surface) -> Result<Plan, ExpandFault>
-    requires { IsChecked (plan_of tree.now) }
-    ensures ok { IfOk result (λ plan. IsExpanded (plan_of tree.now) plan) }
-    ensures fault { IfErr result (λ fault. IsRefused (plan_of tree.now) fault) }
+    requires { IsChecked (tree_of_surface tree.now) }
+    ensures ok { IfOk result (λ plan. IsExpanded (tree_of_surface tree.now) plan) }
+    ensures fault { IfErr result (λ fault. IsRefused (tree_of_surface tree.now) fault) }
 {
     let nodes = block_nodes(&tree.root);
     if nodes > NODE_LIMIT || !has_short_paths(alloc, tree)? {
@@ -43,7 +43,7 @@ pub fn expand(alloc: Global, tree: &Surface) -> Result<Plan, ExpandFault>
 /// No path has over 5,000 bytes.
 fn has_short_paths(alloc: Global, tree: &Surface) -> Result<bool, NoMemory>
     requires { block_nodes (block_of tree.now.root) ≤ 4096 }
-    ensures { IfOk result (λ short. short ≡ nat_le (longest (plan_of tree.now)) 5000) }
+    ensures { IfOk result (λ short. short ≡ nat_le (longest (tree_of_surface tree.now)) 5000) }
 {
     let name = named(alloc, &tree.label, Generated::Action(1))?;
     Ok(name.as_str().len() + block_reach(alloc, &tree.root)? <= PATH_LIMIT)
@@ -51,8 +51,8 @@ fn has_short_paths(alloc: Global, tree: &Surface) -> Result<bool, NoMemory>
 
 /// The core plan of a tree with short paths.
 fn core(alloc: Global, tree: &Surface) -> Result<Plan, NoMemory>
-    requires { longest (plan_of tree.now) ≤ PATH_LIMIT }
-    ensures { IfOk result (λ plan. tree_of plan ≡ core (plan_of tree.now)) }
+    requires { longest (tree_of_surface tree.now) ≤ PATH_LIMIT }
+    ensures { IfOk result (λ plan. tree_of plan ≡ core (tree_of_surface tree.now)) }
 {
     let place = root_place(alloc, &tree.label)?;
     let mut scope = Scope::new(alloc);

@@ -121,20 +121,20 @@ module _ (text : List ℕ) (history : List Entry) (entry : Entry) (told : List �
   module _ (images : Images) (old new : List Moment) where
     pub record_leaves : ((image : List ℕ) → images old image → image ≡ told) → Elapses images (Torn (next_gate text history + 1) (length (record_bytes entry ++ 0 ∷ []))) old new
         → LeavesOnly images (WithOrWithout text history entry) old new
-    record_leaves settled elapses = leaves images (WithOrWithout text history entry) (Torn (g + 1) (length behind)) old new elapses
-        (λ before image was torn. inl (torn_record image (subst (λ (b : List ℕ). Torn (g + 1) (length behind) b image) (settled before was) torn)))
+    record_leaves synced elapses = leaves images (WithOrWithout text history entry) (Torn (g + 1) (length behind)) old new elapses
+        (λ before image was torn. inl (torn_record image (subst (λ (b : List ℕ). Torn (g + 1) (length behind) b image) (synced before was) torn)))
 
     pub gate_leaves : ((image : List ℕ) → images old image → image ≡ staged) → Elapses images (Torn (next_gate text history) 1) old new
         → LeavesOnly images (WithOrWithout text history entry) old new
-    gate_leaves settled elapses = leaves images (WithOrWithout text history entry) (Torn g 1) old new elapses
-        (λ before image was torn. torn_gate image (subst (λ (b : List ℕ). Torn g 1 b image) (settled before was) torn))
+    gate_leaves synced elapses = leaves images (WithOrWithout text history entry) (Torn g 1) old new elapses
+        (λ before image was torn. torn_gate image (subst (λ (b : List ℕ). Torn g 1 b image) (synced before was) torn))
 
   -- ---- the two writes as calls
 
-  module _ (images : Images) (was mid : Told) (old half : List Moment) (is : was ≡ Some told) (settled : (image : List ℕ) → images old image → image ≡ told)
+  module _ (images : Images) (was mid : Told) (old half : List Moment) (is : was ≡ Some told) (synced : (image : List ℕ) → images old image → image ≡ told)
       (at : ℕ) (at_is : at ≡ next_gate text history + 1) (bytes : List ℕ) (bytes_are : bytes ≡ record_bytes entry ++ 0 ∷ []) where
     pub first_leaves : (result : Result Unit DiskFault) → Puts images at bytes was mid old half result → LeavesOnly images (WithOrWithout text history entry) old half
-    first_leaves result puts = record_leaves images old half settled
+    first_leaves result puts = record_leaves images old half synced
         (subst (λ (b : List ℕ). Elapses images (Torn (g + 1) (length b)) old half) bytes_are
         (subst (λ (n : ℕ). Elapses images (Torn n (length bytes)) old half) at_is puts.elapses))
 
@@ -150,7 +150,7 @@ module _ (text : List ℕ) (history : List Entry) (entry : Entry) (told : List �
         pub second_leaves : (result : Result Unit DiskFault) → Puts images gate (1 ∷ []) mid then half new result
             → LeavesOnly images (WithOrWithout text history entry) old new
         second_leaves result puts = leaves_on images (WithOrWithout text history entry) old half new (first_leaves (Ok tt) first)
-            (gate_leaves images half new (first.settled staged mid_told) (subst (λ (n : ℕ). Elapses images (Torn n 1) half new) gate_is puts.elapses))
+            (gate_leaves images half new (first.synced staged mid_told) (subst (λ (n : ℕ). Elapses images (Torn n 1) half new) gate_is puts.elapses))
 
         module _ (second : Puts images gate (1 ∷ []) mid then half new (Ok tt)) where
           pub then_told : then ≡ Some (overwritten (next_gate text history) (1 ∷ []) staged)

@@ -119,11 +119,11 @@ module _ (text told content : List ℕ) (short : length text ≤ 1048576) (conte
   opened_stands =
       open_gate (overwritten 0 (1 ∷ []) filled) (written_above 0 (1 ∷ []) filled (omega arith)) refl
 
-  module _ (images : Images) (was mid : Told) (old half : List Moment) (is : was ≡ Some told) (settled : (image : List ℕ) → images old image → image ≡ told) where
+  module _ (images : Images) (was mid : Told) (old half : List Moment) (is : was ≡ Some told) (synced : (image : List ℕ) → images old image → image ≡ told) where
     pub content_leaves : (result : Result Unit DiskFault) → Puts images 1 content was mid old half result
         → LeavesOnly images (λ image. IsTrue (is_nothing image) ⊎ Stands image text []) old half
     content_leaves result puts = leaves images (λ image. IsTrue (is_nothing image) ⊎ Stands image text []) (Torn 1 (length content)) old half puts.elapses
-        (λ before image left torn. inl (torn_content image (subst (λ (b : List ℕ). Torn 1 (length content) b image) (settled before left) torn)))
+        (λ before image left torn. inl (torn_content image (subst (λ (b : List ℕ). Torn 1 (length content) b image) (synced before left) torn)))
 
     module _ (first : Puts images 1 content was mid old half (Ok tt)) where
       mid_told : mid ≡ Some filled
@@ -133,7 +133,7 @@ module _ (text told content : List ℕ) (short : length text ≤ 1048576) (conte
           → LeavesOnly images (λ image. IsTrue (is_nothing image) ⊎ Stands image text []) old new
       opened_leaves then new result puts = leaves_on images (λ image. IsTrue (is_nothing image) ⊎ Stands image text []) old half new (content_leaves (Ok tt) first)
           (leaves images (λ image. IsTrue (is_nothing image) ⊎ Stands image text []) (Torn 0 1) half new puts.elapses
-          (λ before image left torn. torn_gate image (subst (λ (b : List ℕ). Torn 0 1 b image) (first.settled filled mid_told before left) torn)))
+          (λ before image left torn. torn_gate image (subst (λ (b : List ℕ). Torn 0 1 b image) (first.synced filled mid_told before left) torn)))
 
       pub opened_told : (then : Told) (new : List Moment) → Puts images 0 (1 ∷ []) mid then half new (Ok tt) → ForSome then (λ now. Stands now text [])
       opened_told then new puts now now_is =
@@ -146,11 +146,11 @@ pub if_opened : (images : Images) (was mid then : Told) (old half new : List Mom
     → ForSome was (λ told. (image : List ℕ) → images old image → image ≡ told)
     → Puts images 1 content was mid old half (Ok tt) → Puts images 0 (1 ∷ []) mid then half new result
     → OnOk result (ForSome then (λ now. Stands now text []))
-if_opened images was mid then old half new text content (Err fault) short content_is closed settled first second = tt
-if_opened images was mid then old half new text content (Ok unit) short content_is closed settled first second = λ now now_is.
+if_opened images was mid then old half new text content (Err fault) short content_is closed synced first second = tt
+if_opened images was mid then old half new text content (Ok unit) short content_is closed synced first second = λ now now_is.
     let middle = told_before mid then (overwritten 0 (1 ∷ [])) now second.written now_is in
     let told = told_before was mid (overwritten 1 content) (middle.0) first.written (middle.1) in
-    opened_told text (told.0) content short content_is (closed (told.0) (told.1)) images was mid old half (told.1) (settled (told.0) (told.1)) first then new second now now_is
+    opened_told text (told.0) content short content_is (closed (told.0) (told.1)) images was mid old half (told.1) (synced (told.0) (told.1)) first then new second now now_is
 
 -- what was told before is told after
 pub told_after : (was now : Told) (told : List ℕ) → is_some now ≡ is_some was → was ≡ Some told → (after : List ℕ) × (now ≡ Some after)

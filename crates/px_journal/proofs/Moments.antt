@@ -51,21 +51,21 @@ module _ (images : Images) where
       → Writes images at bytes old mid before then (Ok tt) → Syncs images mid new then now result → Puts images at bytes old new before now result
   puts at bytes old mid new before then now (Ok unit) writes syncs = record {
     written = syncs.bytes ∙ writes.written;
-    settled = λ told is image left. syncs.settled told (sym syncs.bytes ∙ is) image left;
+    synced = λ told is image left. syncs.synced told (sym syncs.bytes ∙ is) image left;
     elapses = elapses_on (Torn at (length bytes)) before then now writes.elapses syncs.elapses;
   }
   puts at bytes old mid new before then now (Err fault) writes syncs = record {
     written = tt;
-    settled = tt;
+    synced = tt;
     elapses = elapses_on (Torn at (length bytes)) before then now writes.elapses syncs.elapses;
   }
 
   -- a sync, and calls behind it that only read
-  pub settled_on : (old mid new : Told) (before then now : List Moment) → Syncs images old mid before then (Ok tt) → OnlyReads images mid new then now
+  pub synced_on : (old mid new : Told) (before then now : List Moment) → Syncs images old mid before then (Ok tt) → OnlyReads images mid new then now
       → ForSome new (λ told. (image : List ℕ) → images now image → image ≡ told)
-  settled_on old mid new before then now syncs reads told is image left =
+  synced_on old mid new before then now syncs reads told is image left =
       let from = reads.elapses.each image (left_now then now image reads.elapses.grows left) in
-      from.2 ∙ syncs.settled told (sym (reads.bytes ∙ syncs.bytes) ∙ is) (from.0) (from.1)
+      from.2 ∙ syncs.synced told (sym (reads.bytes ∙ syncs.bytes) ∙ is) (from.0) (from.1)
 
   module _ (left : List ℕ → Type 0) where
     -- what a call makes of the images from before it

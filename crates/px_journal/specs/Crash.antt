@@ -13,7 +13,7 @@ use Rattle.px_journal.specs.Layout.{Stands, is_nothing}
 pub record Puts (images : Images) (at : ℕ) (bytes : List ℕ) (old new : Told) (before now : List Moment)
     (result : Result Unit DiskFault) : Type 0 where
   pub written : OnOk result (new ≡ option_map (overwritten at bytes) old)
-  pub settled : OnOk result (ForSome new (λ told. (image : List ℕ) → images now image → image ≡ told))
+  pub synced : OnOk result (ForSome new (λ told. (image : List ℕ) → images now image → image ≡ told))
   pub elapses : Elapses images (Torn at (length bytes)) before now
 
 -- the bytes are nothing, or they stand for some text and history

@@ -16,15 +16,15 @@ use Rattle.px_journal.specs.declared.journal.Journal.{Journal}
 use Rattle.px_journal.specs.declared.journal.Recovered.{Recovered}
 
 -- a crash now leaves just what a read gives, where the disk tells it
-abbrev pub IsSettled : {D : Type 0} → Disk.Ghosts D → D → Type 0
-IsSettled members disk = ForSome (members.content disk)
+abbrev pub IsSynced : {D : Type 0} → Disk.Ghosts D → D → Type 0
+IsSynced members disk = ForSome (members.content disk)
     (λ told. (image : List ℕ) → members.images (members.moments disk) image → image ≡ told)
 
 -- THE JOURNAL STANDS FOR A TEXT AND A HISTORY, and is ready for the next entry. What it says of the bytes, it says
 -- where the disk tells them: each image that a crash now may leave stands for the text and the history.
 pub record IsReady {D : Type 0} (members : Disk.Ghosts D) (journal : Journal D) (text : List ℕ)
     (history : List Entry) : Type 0 where
-  pub settled : IsSettled members journal.disk
+  pub synced : IsSynced members journal.disk
   pub stands : ForSome (members.content journal.disk) (λ told. Stands told text history)
   pub gate : journal.gate ≡ next_gate text history
   pub count : journal.count ≡ length history
@@ -50,9 +50,9 @@ disk_after (Ok journal) = journal.disk
 disk_after (Err fault) = fault.disk
 
 -- `create` was refused for this reason
-abbrev pub IsRefused : {D : Type 0} → Result (Journal D) (CreateFault D) → CreateWhy → Type 0
-IsRefused (Ok journal) why = ⊥
-IsRefused (Err fault) why = fault.why ≡ why
+abbrev pub FailsBy : {D : Type 0} → Result (Journal D) (CreateFault D) → CreateWhy → Type 0
+FailsBy (Ok journal) why = ⊥
+FailsBy (Err fault) why = fault.why ≡ why
 
 -- the same of `recover`
 abbrev pub disk_recovered : {D : Type 0} → Result (Recovered D) (RecoverFault D) → D
@@ -64,5 +64,5 @@ IsNotRecovered (Ok recovered) why = ⊥
 IsNotRecovered (Err fault) why = fault.why ≡ why
 
 -- each image that a crash now may leave is nothing, or stands for some text and history
-abbrev pub IsWhole : {D : Type 0} → Disk.Ghosts D → D → Type 0
-IsWhole members disk = (image : List ℕ) → members.images (members.moments disk) image → IsNothingOrStands image
+abbrev pub IsUndamaged : {D : Type 0} → Disk.Ghosts D → D → Type 0
+IsUndamaged members disk = (image : List ℕ) → members.images (members.moments disk) image → IsNothingOrStands image

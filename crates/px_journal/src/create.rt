@@ -6,7 +6,7 @@ ghost use Rattle.std.specs.Prelude.{◌≡◌, ◌≤◌, ◌++◌, [], ◌∷�
 ghost use Rattle.std.specs.Option.{ForSome};
 ghost use Rattle.px_journal.specs.Crash.{OldOrNew};
 ghost use Rattle.px_journal.specs.Goes.{LeavesAtMost, Goes};
-ghost use Rattle.px_journal.specs.Journal.{IsReady, IsSettled, IsUntouched, IsRefused, disk_after};
+ghost use Rattle.px_journal.specs.Journal.{IsReady, IsSynced, IsUntouched, FailsBy, disk_after};
 ghost use Rattle.px_journal.specs.Layout.{heading, is_closed, is_nothing, Stands};
 ghost use Rattle.px_journal.specs.declared.fault.CreateWhy.TheVariants as whys;
 
@@ -32,14 +32,14 @@ impl<D: Disk> Journal<D> {
         ensures made { IfOk result (λ journal. IsReady D.Disk journal plan_text.now []) }
         ensures only_nothing { OnOk result (ForSome (D.content disk) (λ told. IsTrue (is_nothing told))) }
 
-        ensures exists { IsRefused result whys.Exists → ForSome (D.content disk) (λ told. IsFalse (is_nothing told)) }
+        ensures exists { FailsBy result whys.Exists → ForSome (D.content disk) (λ told. IsFalse (is_nothing told)) }
         ensures untouched { ForSome (D.content disk) (λ told. IsFalse (is_nothing told)
             → IsUntouched D.Disk disk (disk_after result)) }
-        ensures no_memory { IsRefused result whys.NoMemory → disk_after result ≡ disk }
+        ensures no_memory { FailsBy result whys.NoMemory → disk_after result ≡ disk }
 
         ensures old_or_new { LeavesAtMost D.Disk (OldOrNew (D.images (D.moments disk)) plan_text.now)
             disk (disk_after result) }
-        ensures goes { Goes D.Disk (IsRefused result whys.DiskFault) disk (disk_after result) }
+        ensures goes { Goes D.Disk (FailsBy result whys.DiskFault) disk (disk_after result) }
     {
         let mut disk = disk;
         match write_new(alloc, &mut disk, plan_text) {
@@ -60,7 +60,7 @@ fn write_new<D: Disk>(alloc: Global, disk: &mut D, plan_text: &[u8]) -> Result<V
     requires short { length plan_text.now ≤ 1048576 }
 
     ensures room { IfOk result (λ buffer. 9319 ≤ vec_capacity buffer) }
-    ensures settled { OnOk result (IsSettled D.Disk disk.new) }
+    ensures synced { OnOk result (IsSynced D.Disk disk.new) }
     ensures stands { OnOk result (ForSome (D.content disk.new) (λ told. Stands told plan_text.now [])) }
     ensures only_nothing { OnOk result (ForSome (D.content disk.old) (λ told. IsTrue (is_nothing told))) }
 
@@ -94,11 +94,11 @@ fn behind_master_gate(alloc: Global, plan_text: &[u8]) -> Result<Vec<u8>, NoMemo
     Ok(bytes)
 }
 
-/// Makes sure that the disk's bytes are nothing, by a closed master gate, and settled.
+/// Makes sure that the disk's bytes are nothing, by a closed master gate, and synced.
 fn close_master_gate<D: Disk>(disk: &mut D) -> Result<(), CreateWhy>
     requires { IsTrue (D.is_attached disk.old) }
 
-    ensures settled { OnOk result (IsSettled D.Disk disk.new) }
+    ensures synced { OnOk result (IsSynced D.Disk disk.new) }
     ensures nothing { OnOk result (ForSome (D.content disk.new) (λ told. IsTrue (is_closed told))) }
     ensures only_nothing { OnOk result (ForSome (D.content disk.old) (λ told. IsTrue (is_nothing told))) }
 
@@ -127,10 +127,10 @@ fn close_master_gate<D: Disk>(disk: &mut D) -> Result<(), CreateWhy>
 /// Writes what goes behind the closed master gate, and then opens that gate.
 fn open_behind<D: Disk>(disk: &mut D, content: &[u8]) -> Result<(), DiskFault>
     requires attached { IsTrue (D.is_attached disk.old) }
-    requires settled { IsSettled D.Disk disk.old }
+    requires synced { IsSynced D.Disk disk.old }
     requires closed { ForSome (D.content disk.old) (λ told. IsTrue (is_closed told)) }
 
-    ensures settled { OnOk result (IsSettled D.Disk disk.new) }
+    ensures synced { OnOk result (IsSynced D.Disk disk.new) }
     ensures stands { (text : List ℕ) → length text ≤ 1048576 → content.now ≡ heading text ++ 0 ∷ []
         → OnOk result (ForSome (D.content disk.new) (λ told. Stands told text [])) }
     ensures nothing_or_new { (text : List ℕ) → length text ≤ 1048576 → content.now ≡ heading text ++ 0 ∷ []

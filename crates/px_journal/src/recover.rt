@@ -8,7 +8,7 @@ ghost use Rattle.std.specs.Option.{ForSome};
 ghost use Rattle.px_event.specs.Fit.{is_fit_entry};
 ghost use Rattle.px_journal.specs.Damage.{Damaged};
 ghost use Rattle.px_journal.specs.Goes.{Goes, Reads};
-ghost use Rattle.px_journal.specs.Journal.{IsReady, IsSettled, IsUnwritten, IsNotRecovered, IsWhole, disk_recovered};
+ghost use Rattle.px_journal.specs.Journal.{IsReady, IsSynced, IsUnwritten, IsNotRecovered, IsUndamaged, disk_recovered};
 ghost use Rattle.px_journal.specs.Layout.{is_nothing, next_gate, Stands};
 ghost use Rattle.px_journal.specs.declared.fault.RecoverWhy.TheVariants as whys;
 
@@ -49,11 +49,11 @@ impl<D: Disk> Journal<D> {
         ensures damaged { (at : ℕ) → IsNotRecovered result (whys.Damaged at)
             → ForSome (D.content disk) (λ told. IsFalse (is_nothing told) × Damaged told at) }
         ensures never_whole { (at : ℕ) → IsNotRecovered result (whys.Damaged at)
-            → ForSome (D.content disk) (λ _. IsWhole D.Disk disk → ⊥) }
+            → ForSome (D.content disk) (λ _. IsUndamaged D.Disk disk → ⊥) }
 
         ensures writes_nothing { IsUnwritten D.Disk disk (disk_recovered result) }
         ensures same { ¬ IsNotRecovered result whys.DiskFault → D.content (disk_recovered result) ≡ D.content disk }
-        ensures settled { ¬ IsNotRecovered result whys.DiskFault → IsSettled D.Disk (disk_recovered result) }
+        ensures synced { ¬ IsNotRecovered result whys.DiskFault → IsSynced D.Disk (disk_recovered result) }
         ensures goes { Goes D.Disk (IsNotRecovered result whys.DiskFault) disk (disk_recovered result) }
     {
         let mut disk = disk;
@@ -85,7 +85,7 @@ fn read_journal<D: Disk>(alloc: Global, disk: &mut D) -> Result<Read, RecoverWhy
     ensures stands { IfOk result (λ read. ForSome (D.content disk.old)
         (λ told. Stands told read.plan.items read.history.items)) }
     ensures same { ¬ IsErrOf result whys.DiskFault → D.content disk.new ≡ D.content disk.old }
-    ensures settled { ¬ IsErrOf result whys.DiskFault → IsSettled D.Disk disk.new }
+    ensures synced { ¬ IsErrOf result whys.DiskFault → IsSynced D.Disk disk.new }
 
     ensures no_journal { IsErrOf result whys.NoJournal
         → ForSome (D.content disk.old) (λ told. IsTrue (is_nothing told)) }

@@ -4,7 +4,7 @@ use Rattle.std.specs.Str.{IsUtf8, IsCharBoundary}
 use Rattle.std.proofs.lemmas.Bool.{cases_Bool, eqb-true}
 use Rattle.std.proofs.lemmas.Option.{none-some}
 use Rattle.px_lex.specs.Gap.{begins}
-use Rattle.px_value.specs.Text.{escaped}
+use Rattle.px_value.specs.Text.{unescaped}
 use Rattle.px_lex.specs.String.{is_quote, with_byte, string_from, escape_from, read_string}
 use Rattle.std.specs.Prelude.{nat_le}
 use Rattle.px_lex.specs.Fault.{TooLong, string_fault, IsFaulty}
@@ -45,7 +45,7 @@ mutual
   escape_front : (text content rest : List ℕ) → escape_from text ≡ Some (content, rest) → (front : List ℕ) × (text ≡ front ++ rest)
   escape_front [] content rest h = cc
   escape_front (c ∷ cs) content rest h =
-      let one : (less : List ℕ) × (string_from cs ≡ Some (less, rest)) = inner (escaped c) (string_from cs) content rest h in
+      let one : (less : List ℕ) × (string_from cs ≡ Some (less, rest)) = inner (unescaped c) (string_from cs) content rest h in
       let found : (front : List ℕ) × (cs ≡ front ++ rest) = string_front cs one.0 rest one.1 in
       (c ∷ found.0, ap (λ t. c ∷ t) found.1)
 

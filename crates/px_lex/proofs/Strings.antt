@@ -4,7 +4,7 @@ use Rattle.std.proofs.lemmas.Bool.{cases_lt, lt-ltb, le-ltb, ne_eqb}
 use Rattle.std.proofs.lemmas.Str.{encode_ascii}
 use Rattle.std.proofs.lemmas.Bool.Decides.{nat_tests}
 use lib.Utf8.{encode}
-use Rattle.px_value.specs.Text.{escaped}
+use Rattle.px_value.specs.Text.{unescaped}
 use Rattle.px_lex.specs.String.{with_byte, string_from, escape_from}
 
 -- bytes before what is read of a string
@@ -37,7 +37,7 @@ plain b t quote backslash feed return = rw (ne_eqb b 34 quote, ne_eqb b 92 backs
 high : (b : ℕ) (t : List ℕ) → 128 ≤ b → string_from (b ∷ t) ≡ with_byte (Some b) (string_from t)
 high b t h = plain b t (λ e. omega arith) (λ e. omega arith) (λ e. omega arith) (λ e. omega arith)
 
-no_escape : (b : ℕ) → 128 ≤ b → escaped b ≡ None
+no_escape : (b : ℕ) → 128 ≤ b → unescaped b ≡ None
 no_escape b h = rw (ne_eqb b 34 (λ e. omega arith), ne_eqb b 92 (λ e. omega arith), ne_eqb b 110 (λ e. omega arith), ne_eqb b 116 (λ e. omega arith))
 
 -- the bytes of a character that is not ASCII
@@ -74,8 +74,8 @@ plain_char c t quote backslash feed return = elim (cases_lt c 128) [
 ]
 
 -- a character behind a backslash
-pub escaped_char : (c : ℕ) (t : List ℕ) → escape_from (encode c ++ t) ≡ with_byte (escaped c) (string_from t)
-escaped_char c t = elim (cases_lt c 128) [
+pub unescaped_char : (c : ℕ) (t : List ℕ) → escape_from (encode c ++ t) ≡ with_byte (unescaped c) (string_from t)
+unescaped_char c t = elim (cases_lt c 128) [
   | inl small ↦ rw (encode_ascii c small)
   | inr big ↦ wide_is_no_escape (encode c) t (wide c big) ∙ sym (rw (no_escape c big))
 ]
@@ -85,16 +85,16 @@ escaped_char c t = elim (cases_lt c 128) [
 abbrev Read : Type 0
 Read = Option (List ℕ × List ℕ)
 
-pub no_such_escape : (read : Read) (content old new : List ℕ) (c : ℕ) → read ≡ with_bytes content (escape_from old) → old ≡ encode c ++ new → escaped c ≡ None → read ≡ None
+pub no_such_escape : (read : Read) (content old new : List ℕ) (c : ℕ) → read ≡ with_bytes content (escape_from old) → old ≡ encode c ++ new → unescaped c ≡ None → read ≡ None
 no_such_escape read content old new c so_far next none =
-    so_far ∙ rw (next, escaped_char c new, none) (with_bytes-none content)
+    so_far ∙ rw (next, unescaped_char c new, none) (with_bytes-none content)
 
-escaped_small : (c d : ℕ) → escaped c ≡ Some d → d < 128
-escaped_small c d h = grind (arith, nat_tests)
+unescaped_small : (c d : ℕ) → unescaped c ≡ Some d → d < 128
+unescaped_small c d h = grind (arith, nat_tests)
 
-pub an_escape : (read : Read) (content content' old new : List ℕ) (c d : ℕ) → read ≡ with_bytes content (escape_from old) → old ≡ encode c ++ new → escaped c ≡ Some d → content' ≡ content ++ encode d → read ≡ with_bytes content' (string_from new)
+pub an_escape : (read : Read) (content content' old new : List ℕ) (c d : ℕ) → read ≡ with_bytes content (escape_from old) → old ≡ encode c ++ new → unescaped c ≡ Some d → content' ≡ content ++ encode d → read ≡ with_bytes content' (string_from new)
 an_escape read content content' old new c d so_far next some more =
-    so_far ∙ rw (next, escaped_char c new, some, more, encode_ascii d (escaped_small c d some), with_bytes-append content (d ∷ []) (string_from new))
+    so_far ∙ rw (next, unescaped_char c new, some, more, encode_ascii d (unescaped_small c d some), with_bytes-append content (d ∷ []) (string_from new))
 
 pub the_quote : (read : Read) (content old new : List ℕ) (c : ℕ) → read ≡ with_bytes content (string_from old) → old ≡ encode c ++ new → c ≡ 34 → read ≡ Some (content, new)
 the_quote read content old new c so_far next quote =

@@ -1,6 +1,6 @@
 -- Strings.
 use Rattle.std.specs.Prelude.{ℕ, Bool, ◌||◌, ◌==◌, List, [], ◌∷◌, Option, Some, None, if◌then◌else◌}
-use Rattle.px_value.specs.Text.{escaped}
+use Rattle.px_value.specs.Text.{unescaped}
 
 -- a double quote, a backslash, a raw line end
 abbrev pub is_quote : ℕ → Bool
@@ -31,7 +31,7 @@ abbrev mutual
 
   pub escape_from : List ℕ → Option (List ℕ × List ℕ)
   escape_from [] = None
-  escape_from (c ∷ cs) = with_byte (escaped c) (string_from cs)
+  escape_from (c ∷ cs) = with_byte (unescaped c) (string_from cs)
 
 -- the content of the string at the front of a text, and the text behind it
 abbrev pub read_string : List ℕ → Option (List ℕ × List ℕ)

@@ -1,7 +1,7 @@
 // Strings and their escapes.
 ghost use Rattle.std.specs.Prelude.{◌≡◌, false, string_bytes, IsTrue, IfOk, IfErr};
 ghost use Rattle.std.specs.Option.{option_map};
-ghost use Rattle.px_value.specs.Text.{escaped};
+ghost use Rattle.px_value.specs.Text.{unescaped};
 ghost use Rattle.px_lex.specs.Gap.{begins};
 ghost use Rattle.px_lex.specs.Lexer.{Begins, IsFault};
 ghost use Rattle.px_lex.specs.String.{is_quote, string_from};
@@ -12,8 +12,8 @@ use px_value::{Text, TextFault};
 use std::alloc::{AllocError, Global};
 
 /// What a character behind a backslash stands for.
-fn escaped(c: char) -> Option<char>
-    ensures { result ≡ escaped c }
+fn unescaped(c: char) -> Option<char>
+    ensures { result ≡ unescaped c }
 {
     match c {
         '"' | '\\' => Some(c),
@@ -35,7 +35,7 @@ fn string_from<'a>(alloc: Global, text: &'a str) -> Result<Option<(String, &'a s
     let mut chars = text.chars();
     while let Some(c) = chars.next() {
         if escape {
-            let Some(c) = escaped(c) else {
+            let Some(c) = unescaped(c) else {
                 return Ok(None);
             };
             content.push(c)?;

@@ -18,8 +18,8 @@ use px_core::{Body, Pair, Target};
 use px_eval::{value_of, values_of};
 use px_flat::{Abort, Act, NumberedBody, NumberedExpr, NumberedTarget};
 use px_parts::Parts;
-use px_sem::{Effect, Names};
-use px_value::{Name, NoMemory, Value};
+use px_sem::Effect;
+use px_value::{Name, NoMemory, Series, Value};
 use std::alloc::Global;
 
 // What is kept of the value that an assignment writes over.
@@ -112,14 +112,14 @@ fn sends(
     })
 }
 
-fn names_of(alloc: Global, pairs: &[Pair]) -> Result<Names, NoMemory>
+fn names_of(alloc: Global, pairs: &[Pair]) -> Result<Series<Name>, NoMemory>
     ensures { IfOk result (λ names. names ≡ map (λ pair. pair.name) pairs.now) }
 {
     let mut names = Vec::with_capacity(alloc, pairs.len())?;
     for pair in pairs {
         names.push(pair.name.copy(alloc)?)?;
     }
-    Ok(Names::from(names))
+    Ok(Series::from(names))
 }
 
 // An update is sent.

@@ -66,7 +66,7 @@ impl Stepper for Naive {
     fn begin(&mut self, alloc: Global, event: &Event) -> Result<(), NoMemory> {
         self.parts.mark();
         if let Err(fault) = self.parts.take(alloc, event) {
-            self.parts.roll_back();
+            self.parts.rollback();
             return Err(fault);
         }
         self.begun = Begun::Event;
@@ -89,7 +89,7 @@ impl Stepper for Naive {
     }
 
     fn give_up(&mut self) {
-        self.parts.roll_back();
+        self.parts.rollback();
         self.begun = Begun::Nothing;
     }
 

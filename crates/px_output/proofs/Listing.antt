@@ -4,18 +4,18 @@ use Rattle.std.proofs.lemmas.Grind.{flat_map-append}
 use Rattle.std.proofs.lemmas.List.{take-append-drop, take_more}
 use Rattle.std.specs.List.{flat_map}
 use Rattle.px_value.proofs.General.{cut_at}
-use Rattle.px_output.specs.Printing.{Leaves}
+use Rattle.px_output.specs.Printing.{Buffers}
 use Rattle.px_output.specs.View.{View, OnlyPrints}
-use Rattle.px_output.proofs.Printed.{leaves_none, goes_on, only_same, only_more}
+use Rattle.px_output.proofs.Printed.{buffers_none, goes_on, only_same, only_more}
 
 -- so many lines are told
 pub record IsListed {X : Type 0} (line : X → List ℕ) (xs : List X) (count : ℕ) (old : View) (p : List ℕ) (new : View) (q : List ℕ) : Type 0 where
-  pub leaves : Leaves old p new q (flat_map line (take count xs))
+  pub buffers : Buffers old p new q (flat_map line (take count xs))
   pub only : OnlyPrints old new
 
 module _ {X : Type 0} (line : X → List ℕ) (xs : List X) where
   pub none_listed : (v : View) (p : List ℕ) → IsListed line xs 0 v p v p
-  none_listed v p = record { leaves = leaves_none v p; only = only_same v }
+  none_listed v p = record { buffers = buffers_none v p; only = only_same v }
 
   -- the next item
   module _ (count : ℕ) (x : X) (within : count < length xs) (is : x ≡ get_or xs count x) where
@@ -26,10 +26,10 @@ module _ {X : Type 0} (line : X → List ℕ) (xs : List X) where
         ∙ ap (λ text. flat_map line (take count xs) ++ text) (append-nil (line x))
 
     -- one line more
-    pub one_listed : (old mid new : View) (p q r : List ℕ) → IsListed line xs count old p mid q → Leaves mid q new r (line x) → OnlyPrints mid new
+    pub one_listed : (old mid new : View) (p q r : List ℕ) → IsListed line xs count old p mid q → Buffers mid q new r (line x) → OnlyPrints mid new
         → IsListed line xs (count + 1) old p new r
-    one_listed old mid new p q r t leaves only = record {
-      leaves = rw lines_more (goes_on old mid new p q r (flat_map line (take count xs)) (line x) t.leaves leaves);
+    one_listed old mid new p q r t buffers only = record {
+      buffers = rw lines_more (goes_on old mid new p q r (flat_map line (take count xs)) (line x) t.buffers buffers);
       only = only_more old mid new t.only only;
     }
 

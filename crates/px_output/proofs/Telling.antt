@@ -11,7 +11,7 @@ use Rattle.px_sem.specs.Run.{settled, started, posted, settled_world, run_on, ru
 use Rattle.px_sem.specs.Stepper.{State, fresh, settled_state, with_event}
 use Rattle.px_sem.specs.Text.{start_text, heading_text, settled_text, events_trace, trace}
 use Rattle.px_sem.proofs.Logs.{run_on_none}
-use Rattle.px_output.specs.Printing.{Leaves}
+use Rattle.px_output.specs.Printing.{Buffers}
 use Rattle.px_output.specs.View.{View, OnlyPrints}
 use Rattle.px_output.proofs.Printed.{goes_on, only_more}
 
@@ -41,7 +41,7 @@ run_on_event plan world to count event events is = ap (λ o. run_on plan (settle
 -- So many events of a history are told of its trace, and in which world the stepper is then.
 pub record IsTold (plan : List Site) (history : List Entry) (position : ℕ) (now : State) (old : View) (p : List ℕ) (new : View) (q : List ℕ) : Type 0 where
   pub told : List ℕ
-  pub leaves : Leaves old p new q told
+  pub buffers : Buffers old p new q told
   pub only : OnlyPrints old new
   pub left : trace plan history ≡ told ++ events_trace plan (position + 1) (Some now.world) (drop position history)
   pub runs : run_on plan (Some now.world) (events_of (drop position history)) ≡ run plan (events_of history)
@@ -58,11 +58,11 @@ Settles from now = ((count : ℕ) × (settled from.nodes from.world ≡ Some (no
 
 -- after the start
 pub told_at_start : (plan : List Site) (history : List Entry) (from now : State) (old mid new : View) (p q r : List ℕ)
-    → from ≡ fresh plan → Leaves old p mid q start_text → OnlyPrints old mid → Settles from now
-    → Leaves mid q new r (settled_text from.nodes from.world) → OnlyPrints mid new → IsTold plan history 0 now old p new r
-told_at_start plan history from now old mid new p q r f heads one ((count, s), rests) leaves two = record {
+    → from ≡ fresh plan → Buffers old p mid q start_text → OnlyPrints old mid → Settles from now
+    → Buffers mid q new r (settled_text from.nodes from.world) → OnlyPrints mid new → IsTold plan history 0 now old p new r
+told_at_start plan history from now old mid new p q r f heads one ((count, s), rests) buffers two = record {
   told = start_text ++ settled_text plan (initial_world plan);
-  leaves = goes_on old mid new p q r start_text (settled_text plan (initial_world plan)) heads (rw f at leaves);
+  buffers = goes_on old mid new p q r start_text (settled_text plan (initial_world plan)) heads (rw f at buffers);
   only = only_more old mid new one two;
   left = sym (append_assoc start_text (settled_text plan (initial_world plan)) (events_trace plan 1 (settled_world (started plan)) history))
       ∙ ap (λ o. (start_text ++ settled_text plan (initial_world plan)) ++ events_trace plan 1 (settled_world o) history) start;
@@ -129,12 +129,12 @@ event_left plan history position now begun old new p q entry t n =
 -- after one event more
 pub told_more : (plan : List Site) (history : List Entry) (position : ℕ) (now begun next : State) (old mid headed new : View) (p q r s : List ℕ) (entry : Entry)
     → IsTold plan history position now old p mid q → IsNext plan history position now begun entry
-    → Leaves mid q headed r (heading_text (position + 1) entry) → OnlyPrints mid headed → Settles begun next
-    → Leaves headed r new s (settled_text begun.nodes begun.world) → OnlyPrints headed new
+    → Buffers mid q headed r (heading_text (position + 1) entry) → OnlyPrints mid headed → Settles begun next
+    → Buffers headed r new s (settled_text begun.nodes begun.world) → OnlyPrints headed new
     → IsTold plan history (position + 1) next old p new s
-told_more plan history position now begun next old mid headed new p q r s entry t n heads one ((count, is), rests) leaves two = record {
+told_more plan history position now begun next old mid headed new p q r s entry t n heads one ((count, is), rests) buffers two = record {
   told = t.told ++ (heading ++ steps);
-  leaves = goes_on old mid new p q s t.told (heading ++ steps) t.leaves (goes_on mid headed new q r s heading steps heads leaves);
+  buffers = goes_on old mid new p q s t.told (heading ++ steps) t.buffers (goes_on mid headed new q r s heading steps heads buffers);
   only = only_more old mid new t.only (only_more mid headed new one two);
   left = event_left plan history position now begun old mid p q entry t n
       ∙ ap (λ o. t.told ++ (heading ++ (steps ++ events_trace plan (position + 1 + 1) (settled_world o) behind))) at
@@ -164,9 +164,9 @@ told_more plan history position now begun next old mid headed new p q r s entry 
 -- the end of the history
 pub told_to_end : (plan : List Site) (history : List Entry) (position : ℕ) (now : State) (old new : View) (p q : List ℕ)
     → IsTold plan history position now old p new q → length history ≤ position
-    → (run plan (events_of history) ≡ Some now.world) × Leaves old p new q (trace plan history)
+    → (run plan (events_of history) ≡ Some now.world) × Buffers old p new q (trace plan history)
 told_to_end plan history position now old new p q t end =
     let none : drop position history ≡ [] = drop_all position history end in (
       sym t.runs ∙ ap (λ entries. run_on plan (Some now.world) (events_of entries)) none ∙ run_on_none plan (Some now.world),
-      rw (t.left ∙ ap (λ entries. t.told ++ events_trace plan (position + 1) (Some now.world) entries) none ∙ append-nil t.told) t.leaves,
+      rw (t.left ∙ ap (λ entries. t.told ++ events_trace plan (position + 1) (Some now.world) entries) none ∙ append-nil t.told) t.buffers,
     )

@@ -10,20 +10,20 @@ use Rattle.px_sem.specs.Run.{after_steps, settled}
 use Rattle.px_sem.specs.Text.{step_text, steps_text, quiet_text, settled_text}
 use Rattle.px_sem.proofs.Settles.{IsUnderway, underway_at_once, underway_after_step, underway_within, settles_at, steps_until_quiet, settled_count}
 use Rattle.px_sem.proofs.Texts.{steps_text_none, steps_text_more, steps_text_front, settled_text_is}
-use Rattle.px_output.specs.Printing.{Leaves}
+use Rattle.px_output.specs.Printing.{Buffers}
 use Rattle.px_output.specs.Printing.{run_text}
 use Rattle.px_output.specs.View.{View, OnlyPrints}
-use Rattle.px_output.proofs.Printed.{leaves_none, goes_on, only_same, only_more}
+use Rattle.px_output.proofs.Printed.{buffers_none, goes_on, only_same, only_more}
 
 -- so many steps of a run are printed
 pub record IsTracing (from : State) (old : View) (p : List ℕ) (now : State) (count : ℕ) (new : View) (q : List ℕ) : Type 0 where
   pub underway : IsUnderway from now count
-  pub leaves : Leaves old p new q (steps_text from.nodes from.world count)
+  pub buffers : Buffers old p new q (steps_text from.nodes from.world count)
   pub only : OnlyPrints old new
 
 pub tracing_at_once : (from : State) (old : View) (p : List ℕ) → IsTracing from old p from 0 old p
 tracing_at_once from old p =
-    record { underway = underway_at_once from; leaves = rw (steps_text_none from.nodes from.world) (leaves_none old p); only = only_same old }
+    record { underway = underway_at_once from; buffers = rw (steps_text_none from.nodes from.world) (buffers_none old p); only = only_same old }
 
 -- a step that was taken, with its moves
 pub record IsStepped (now next : State) (shown : List Move) : Type 0 where
@@ -47,12 +47,12 @@ text_more from now next count shown u s =
     ∙ ap (λ ms. steps_text from.nodes from.world count ++ step_text (count + 1) ms) (sym (s.are ∙ made))
 
 pub tracing_more : (from now next : State) (count : ℕ) (shown : List Move) (old mid new : View) (p q r : List ℕ)
-    → IsTracing from old p now count mid q → IsStepped now next shown → Leaves mid q new r (step_text (count + 1) shown) → OnlyPrints mid new
+    → IsTracing from old p now count mid q → IsStepped now next shown → Buffers mid q new r (step_text (count + 1) shown) → OnlyPrints mid new
     → IsTracing from old p next (count + 1) new r
-tracing_more from now next count shown old mid new p q r t s leaves only = record {
+tracing_more from now next count shown old mid new p q r t s buffers only = record {
   underway = stepped_on from now next count shown t.underway s;
-  leaves = rw (text_more from now next count shown t.underway s)
-      (goes_on old mid new p q r (steps_text from.nodes from.world count) (step_text (count + 1) shown) t.leaves leaves);
+  buffers = rw (text_more from now next count shown t.underway s)
+      (goes_on old mid new p q r (steps_text from.nodes from.world count) (step_text (count + 1) shown) t.buffers buffers);
   only = only_more old mid new t.only only;
 }
 
@@ -84,7 +84,7 @@ tracing_within from now next count old new p q made answer t some a s =
 pub tracing_whole : (from now next : State) (count : ℕ) (old new : View) (p q : List ℕ) (made : List Move) (answer : Bool)
     → IsTracing from old p now count new q → IsSome (settled from.nodes from.world)
     → answer ≡ false → Steps now next made answer
-    → (settled from.nodes from.world ≡ Some (next.world, count)) × Leaves old p new q (run_text from.nodes from.world)
+    → (settled from.nodes from.world ≡ Some (next.world, count)) × Buffers old p new q (run_text from.nodes from.world)
 tracing_whole from now next count old new p q made answer t some a s =
     let within = underway_within from now count t.underway some in
     let low = within.0 in
@@ -92,7 +92,7 @@ tracing_whole from now next count old new p q made answer t some a s =
     let at = settles_at from now next count made answer t.underway (omega arith) a s in
     let takes : steps_until_quiet from.nodes from.world ≡ count =
     ap (λ o. unwrap_or o 0) (settled_count from.nodes from.world next.world count at) in
-    (at, rw takes t.leaves)
+    (at, rw takes t.buffers)
 
 -- ---- a world that settles: its steps, and then their number
 

@@ -12,16 +12,16 @@ use Rattle.px_output.specs.declared.printer.PrintFault.TheVariants.{SinkFailed, 
 use Rattle.px_output.specs.View.{View, view, Faulted, OnlyPrints}
 
 -- Of what the buffer held and of the text behind it a front was emitted, and this rest is still to come.
-abbrev pub Leaves : View → List ℕ → View → List ℕ → List ℕ → Type 0
-Leaves old buffer new rest text =
+abbrev pub Buffers : View → List ℕ → View → List ℕ → List ℕ → Type 0
+Buffers old buffer new rest text =
     (front : List ℕ) × (buffer ++ text ≡ front ++ rest) × Emits old.emitted new.emitted front
 
 -- The text is printed, and the buffer holds what of it is still to come. Else a front of it was emitted, because the sink
 -- failed or memory was wanting.
 abbrev pub Prints : {T : Type 0} → View → List ℕ → View → List ℕ → List ℕ → Result T PrintFault → Type 0
-Prints old buffer new rest text (Ok answer) = Leaves old buffer new rest text
-Prints old buffer new rest text (Err SinkFailed) = ((left : List ℕ) × Leaves old buffer new left text) × Faulted old new
-Prints old buffer new rest text (Err NoMemory) = (left : List ℕ) × Leaves old buffer new left text
+Prints old buffer new rest text (Ok answer) = Buffers old buffer new rest text
+Prints old buffer new rest text (Err SinkFailed) = ((left : List ℕ) × Buffers old buffer new left text) × Faulted old new
+Prints old buffer new rest text (Err NoMemory) = (left : List ℕ) × Buffers old buffer new left text
 
 -- A CALL OF A PRINTER prints a text behind what it held, and holds less than a piece then. Where all of it stays below a piece
 -- it is gathered: no call of the host is made, so that only memory can be wanting.

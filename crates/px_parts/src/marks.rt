@@ -26,7 +26,7 @@ impl Parts {
 
     /// Goes back to the world at the mark, and ends it. The moves stay, and so does what was last seen: what goes back is
     /// news.
-    pub fn roll_back(&mut self)
+    pub fn rollback(&mut self)
         requires { AreMarked self.old }
         ensures plan { plan_in self.new ≡ plan_in self.old }
         ensures world { world_in self.new ≡ marked_world self.old }

@@ -2,7 +2,7 @@
 ghost use Rattle.std.specs.Prelude.{◌≡◌, map, None, Some, option_map};
 ghost use Rattle.px_syntax.specs.Expr.{in_turn, term_of};
 ghost use Rattle.px_syntax.specs.Block.{Assign, Braces, Branch as BranchOf, CallInto, Conditions, For, Guarded as GuardedOf, If, Inner, Labelled, Listed, Update, Value, Variables, While, action_of, actions_in_turn, block_of, body_of, branch_of, call_data, else_ifs_in_turn, else_of, guarded_of, initial_data, item_data, pair_data, target_data, variable_data};
-ghost use Rattle.px_syntax.specs.Plan.{declaration_data, plan_of, Command, Lookup};
+ghost use Rattle.px_syntax.specs.Plan.{declaration_data, tree_of_surface, Command, Lookup};
 ghost use Rattle.px_plan_parse.specs.Named.{named_body, written_data, Answer, Calls, Writes};
 
 use crate::named::Assigned;
@@ -206,7 +206,7 @@ pub(crate) fn surface(
     label: Option<Identifier>,
     root: Block,
 ) -> Surface
-    ensures { plan_of result
+    ensures { tree_of_surface result
         ≡ record {
           declarations = map declaration_data declarations.items;
           label = label;

@@ -1,7 +1,7 @@
 // A whole plan.
 ghost use Rattle.std.specs.Prelude.{◌≡◌, ◌≤◌, [], length, IfOk, IfErr};
 ghost use Rattle.px_syntax.specs.Depth.{too_deep};
-ghost use Rattle.px_syntax.specs.Plan.{plan_of};
+ghost use Rattle.px_syntax.specs.Plan.{tree_of_surface};
 ghost use Rattle.px_plan_parse.specs.Verdict.{IsNoPlan, IsPlan, IsRefused};
 
 use crate::block::{block, label};
@@ -18,7 +18,7 @@ use std::alloc::Global;
 /// and the tokens spell no plan. It names the first token such that no plan begins with those up to and including it, or
 /// the number of tokens where the end comes too early.
 pub fn parse(alloc: Global, tokens: &[Token]) -> Result<Surface, ParseFault>
-    ensures ok { IfOk result (λ surface. IsPlan tokens.now (plan_of surface)) }
+    ensures ok { IfOk result (λ surface. IsPlan tokens.now (tree_of_surface surface)) }
     ensures shallow { IfOk result (λ surface. too_deep tokens.now ≡ []) }
     ensures fault { IfErr result (λ fault. IsRefused tokens.now fault) }
 {
@@ -31,7 +31,7 @@ pub fn parse(alloc: Global, tokens: &[Token]) -> Result<Surface, ParseFault>
 /// { global } [ ID ":" ] block, up to the last token.
 fn whole(alloc: Global, tokens: &[Token]) -> Result<Surface, ParseFault>
     requires { too_deep tokens.now ≡ [] }
-    ensures ok { IfOk result (λ surface. IsPlan tokens.now (plan_of surface)) }
+    ensures ok { IfOk result (λ surface. IsPlan tokens.now (tree_of_surface surface)) }
     ensures fault { IfErr result (λ fault. IsNoPlan tokens.now fault) }
 {
     let (declarations, behind_declarations) = declarations(alloc, tokens)?;

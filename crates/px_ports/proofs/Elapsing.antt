@@ -5,27 +5,27 @@ use Rattle.std.proofs.lemmas.Bool.{cases_lt}
 use Rattle.std.proofs.lemmas.List.{take_at, take_all, length_push}
 use Rattle.px_ports.specs.Moment.{overwritten, Torn, Elapses, Stays}
 use Rattle.px_ports.specs.Disk.{NoShorter, Writes, Syncs}
-use Rattle.px_ports.specs.Replay.{read_after, LeftByWrite, Leaves, read_of, images_of, picked}
+use Rattle.px_ports.specs.Replay.{read_after, LeftByWrite, MayLeave, read_of, images_of, picked}
 use Rattle.px_ports.specs.ReplayLaws.{Torn-same, length-overwritten, picked-left, read_of-left}
 use Rattle.px_ports.specs.declared.disk.DiskFault.{DiskFault}
 use Rattle.px_ports.specs.declared.moment.Moment.{Moment}
-use Rattle.px_ports.specs.declared.moment.Moment.TheVariants.{Began, Wrote, FailedToWrite, Settled}
+use Rattle.px_ports.specs.declared.moment.Moment.TheVariants.{Began, Wrote, FailedToWrite, Synced}
 use Rattle.px_ports.specs.declared.pick.Pick.{Pick}
 use Rattle.px_ports.proofs.Replays.{read_of-push}
 
-Leaves-append : (left : List ℕ → Type 0) (read : List ℕ) (moments more : List Moment) (image : List ℕ)
-    → Leaves left read (moments ++ more) image → Leaves (Leaves left read moments) (read_after read moments) more image
-Leaves-append left read [] more image is = is
-Leaves-append left read (Began bytes ∷ moments) more image is = Leaves-append (λ image. image ≡ bytes) bytes moments more image is
-Leaves-append left read (Wrote at bytes ∷ moments) more image is =
-    Leaves-append (LeftByWrite left at (length bytes) (overwritten at bytes read)) (overwritten at bytes read) moments more image is
-Leaves-append left read (FailedToWrite at n ∷ moments) more image is = Leaves-append (LeftByWrite left at n read) read moments more image is
-Leaves-append left read (Settled ∷ moments) more image is = Leaves-append (λ image. image ≡ read) read moments more image is
+MayLeave-append : (left : List ℕ → Type 0) (read : List ℕ) (moments more : List Moment) (image : List ℕ)
+    → MayLeave left read (moments ++ more) image → MayLeave (MayLeave left read moments) (read_after read moments) more image
+MayLeave-append left read [] more image is = is
+MayLeave-append left read (Began bytes ∷ moments) more image is = MayLeave-append (λ image. image ≡ bytes) bytes moments more image is
+MayLeave-append left read (Wrote at bytes ∷ moments) more image is =
+    MayLeave-append (LeftByWrite left at (length bytes) (overwritten at bytes read)) (overwritten at bytes read) moments more image is
+MayLeave-append left read (FailedToWrite at n ∷ moments) more image is = MayLeave-append (LeftByWrite left at n read) read moments more image is
+MayLeave-append left read (Synced ∷ moments) more image is = MayLeave-append (λ image. image ≡ read) read moments more image is
 
 -- what a crash leaves after one moment more
 images_of-push : (moments : List Moment) (moment : Moment) (image : List ℕ) → images_of (moments ++ moment ∷ []) image
-    → Leaves (images_of moments) (read_of moments) (moment ∷ []) image
-images_of-push moments moment image is = Leaves-append (λ image. image ≡ []) [] moments (moment ∷ []) image is
+    → MayLeave (images_of moments) (read_of moments) (moment ∷ []) image
+images_of-push moments moment image is = MayLeave-append (λ image. image ≡ []) [] moments (moment ∷ []) image is
 
 abbrev Comes : (List ℕ → List ℕ → Type 0) → List Moment → List ℕ → Type 0
 Comes step moments image = (before : List ℕ) × images_of moments before × step before image
@@ -38,7 +38,7 @@ module _ (step : List ℕ → List ℕ → Type 0) (stays : (file : List ℕ) �
   })
 
   pub elapses_push : (moments later : List Moment) (moment : Moment) → later ≡ moments ++ moment ∷ []
-      → ((image : List ℕ) → Leaves (images_of moments) (read_of moments) (moment ∷ []) image → Comes step moments image) → Elapses images_of step moments later
+      → ((image : List ℕ) → MayLeave (images_of moments) (read_of moments) (moment ∷ []) image → Comes step moments image) → Elapses images_of step moments later
   elapses_push moments later moment is comes = subst (Elapses images_of step moments) (sym is) (record {
     grows = take_at moments (moment ∷ []) (length moments) refl;
     each = λ image left. each image left.0 left.1 left.2 left.3;
@@ -89,15 +89,15 @@ module _ (moments later : List Moment) where
         (λ full. elapses_same (Torn at (length bytes)) (Torn-same at (length bytes)) moments later full.1) is;
   }
 
-  pub syncs_ok : later ≡ moments ++ Settled ∷ [] → Syncs images_of (Some (read_of moments)) (Some (read_of later)) moments later (Ok tt)
+  pub syncs_ok : later ≡ moments ++ Synced ∷ [] → Syncs images_of (Some (read_of moments)) (Some (read_of later)) moments later (Ok tt)
   syncs_ok is = record {
-    bytes = ap Some (read_of-push moments later Settled is);
-    settled = λ told same image left.
+    bytes = ap Some (read_of-push moments later Synced is);
+    synced = λ told same image left.
         let read : read_of moments ≡ told = cc in
-        images_of-push moments Settled image (subst (λ (ms : List Moment). images_of ms image) is left) ∙ read;
+        images_of-push moments Synced image (subst (λ (ms : List Moment). images_of ms image) is left) ∙ read;
     tells = refl;
-    no_shorter = no_shorter_same (read_of moments) (read_of later) (read_of-push moments later Settled is);
-    elapses = elapses_push Stays (λ file. refl) moments later Settled is (λ image read. (read_of moments, read_of-left moments, read));
+    no_shorter = no_shorter_same (read_of moments) (read_of later) (read_of-push moments later Synced is);
+    elapses = elapses_push Stays (λ file. refl) moments later Synced is (λ image read. (read_of moments, read_of-left moments, read));
   }
 
 -- the picked image is one that a crash may leave

@@ -4,14 +4,14 @@ use Rattle.std.specs.Prelude.{Result, Ok, Err, is_ok, if◌then◌else◌}
 use Rattle.px_ports.specs.Moment.{overwritten}
 use Rattle.px_ports.specs.Replay.{read_after, read_of}
 use Rattle.px_ports.specs.declared.moment.Moment.{Moment}
-use Rattle.px_ports.specs.declared.moment.Moment.TheVariants.{Began, Wrote, FailedToWrite, Settled}
+use Rattle.px_ports.specs.declared.moment.Moment.TheVariants.{Began, Wrote, FailedToWrite, Synced}
 
 read_after-append : (read : List ℕ) (moments more : List Moment) → read_after read (moments ++ more) ≡ read_after (read_after read moments) more
 read_after-append read [] more = refl
 read_after-append read (Began bytes ∷ moments) more = read_after-append bytes moments more
 read_after-append read (Wrote at bytes ∷ moments) more = read_after-append (overwritten at bytes read) moments more
 read_after-append read (FailedToWrite at n ∷ moments) more = read_after-append read moments more
-read_after-append read (Settled ∷ moments) more = read_after-append read moments more
+read_after-append read (Synced ∷ moments) more = read_after-append read moments more
 
 -- what a read gives after one moment more
 pub read_of-push : (moments later : List Moment) (moment : Moment) → later ≡ moments ++ moment ∷ [] → read_of later ≡ read_after (read_of moments) (moment ∷ [])

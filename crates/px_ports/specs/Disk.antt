@@ -53,12 +53,12 @@ pub record Writes (images : Images) (at : ℕ) (bytes : List ℕ) (old new : Tol
   pub no_shorter : NoShorter old new
   pub elapses : Elapses images (Torn at (length bytes)) before now
 
--- at Ok the one image is what a read gives; whatever the answer, each image is one from before: `settled` is the
+-- at Ok the one image is what a read gives; whatever the answer, each image is one from before: `synced` is the
 -- guarantee that synced bytes are not lost
 pub record Syncs (images : Images) (old new : Told)
     (before now : List Moment) (result : Result Unit DiskFault) : Type 0 where
   pub bytes : OnOk result (new ≡ old)
-  pub settled : OnOk result (ForSome old (λ told. (image : List ℕ) → images now image → image ≡ told))
+  pub synced : OnOk result (ForSome old (λ told. (image : List ℕ) → images now image → image ≡ told))
   pub tells : is_some new ≡ is_some old
   -- also where the sync failed
   pub no_shorter : NoShorter old new

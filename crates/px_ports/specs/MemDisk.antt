@@ -3,7 +3,7 @@ use Rattle.std.specs.Prelude.{◌≡◌, ℕ, Bool, true, false, List, [], ◌�
 use Rattle.px_ports.specs.Calls.{CallsState, call_fails, after_call}
 use Rattle.px_ports.specs.Contents.{ContentsState, Adds, AddsIfRoom}
 use Rattle.px_ports.specs.declared.disk.DiskFault.{DiskFault}
-use Rattle.px_ports.specs.declared.moment.Moment.TheVariants.{Began, Wrote, FailedToWrite, Settled}
+use Rattle.px_ports.specs.declared.moment.Moment.TheVariants.{Began, Wrote, FailedToWrite, Synced}
 
 pub record MemDiskState : Type 0 where
   pub bound : Option (List ℕ)
@@ -49,6 +49,6 @@ pub record WritesNext (at : ℕ) (bytes : List ℕ) (old new : MemDiskState) (re
 -- at Ok the sync is the next moment; a failed one adds none
 pub record SyncsNext (old new : MemDiskState) (result : Result Unit DiskFault) : Type 0 where
   pub calls : CallsNext old new result
-  pub settled : OnOk result (Adds Settled old.contents new.contents)
+  pub synced : OnOk result (Adds Synced old.contents new.contents)
   pub failed : OnErr result (new.contents.moments ≡ old.contents.moments)
   pub same : new ≡ record old { calls = new.calls; contents = new.contents }

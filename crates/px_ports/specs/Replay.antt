@@ -3,7 +3,7 @@ use Rattle.std.specs.Prelude.{◌≡◌, ◌≤◌, ℕ, Bool, true, false, List
 use Rattle.std.specs.List.{filter}
 use Rattle.px_ports.specs.Moment.{Images, overwritten, Torn}
 use Rattle.px_ports.specs.declared.moment.Moment.{Moment}
-use Rattle.px_ports.specs.declared.moment.Moment.TheVariants.{Began, Wrote, FailedToWrite, Settled}
+use Rattle.px_ports.specs.declared.moment.Moment.TheVariants.{Began, Wrote, FailedToWrite, Synced}
 use Rattle.px_ports.specs.declared.pick.Pick.{Pick}
 use Rattle.px_ports.specs.declared.pick.Pick.TheVariants.{Stable, Reads, Fill}
 
@@ -13,7 +13,7 @@ read_after read [] = read
 read_after read (Began bytes ∷ more) = read_after bytes more
 read_after read (Wrote at bytes ∷ more) = read_after (overwritten at bytes read) more
 read_after read (FailedToWrite at n ∷ more) = read_after read more
-read_after read (Settled ∷ more) = read_after read more
+read_after read (Synced ∷ more) = read_after read more
 
 -- an image from before a write of n bytes, torn, and no longer than what a read gives after it
 abbrev pub LeftByWrite : (List ℕ → Type 0) → ℕ → ℕ → List ℕ → List ℕ → Type 0
@@ -21,13 +21,13 @@ LeftByWrite left at n read image =
     (before : List ℕ) × left before × Torn at n before image × (length image ≤ length read)
 
 -- what a crash leaves after these moments, where it left this before them and a read gave these bytes
-abbrev pub Leaves : (List ℕ → Type 0) → List ℕ → List Moment → List ℕ → Type 0
-Leaves left read [] = left
-Leaves left read (Began bytes ∷ more) = Leaves (λ image. image ≡ bytes) bytes more
-Leaves left read (Wrote at bytes ∷ more) =
-    Leaves (LeftByWrite left at (length bytes) (overwritten at bytes read)) (overwritten at bytes read) more
-Leaves left read (FailedToWrite at n ∷ more) = Leaves (LeftByWrite left at n read) read more
-Leaves left read (Settled ∷ more) = Leaves (λ image. image ≡ read) read more
+abbrev pub MayLeave : (List ℕ → Type 0) → List ℕ → List Moment → List ℕ → Type 0
+MayLeave left read [] = left
+MayLeave left read (Began bytes ∷ more) = MayLeave (λ image. image ≡ bytes) bytes more
+MayLeave left read (Wrote at bytes ∷ more) =
+    MayLeave (LeftByWrite left at (length bytes) (overwritten at bytes read)) (overwritten at bytes read) more
+MayLeave left read (FailedToWrite at n ∷ more) = MayLeave (LeftByWrite left at n read) read more
+MayLeave left read (Synced ∷ more) = MayLeave (λ image. image ≡ read) read more
 
 -- a write was asked for, also one that failed
 abbrev pub is_write : Moment → Bool
@@ -44,7 +44,7 @@ abbrev pub read_of : List Moment → List ℕ
 read_of moments = read_after [] moments
 
 abbrev pub images_of : Images
-images_of moments = Leaves (λ image. image ≡ []) [] moments
+images_of moments = MayLeave (λ image. image ≡ []) [] moments
 
 -- what a write makes of the picked image: nothing, what it wrote, or this byte over all that it wrote
 abbrev pub picked_write : Pick → ℕ → List ℕ → List ℕ → List ℕ
@@ -59,7 +59,7 @@ picked_after pick image read (Began bytes ∷ more) = picked_after pick bytes by
 picked_after pick image read (Wrote at bytes ∷ more) =
     picked_after pick (picked_write pick at bytes image) (overwritten at bytes read) more
 picked_after pick image read (FailedToWrite at n ∷ more) = picked_after pick image read more
-picked_after pick image read (Settled ∷ more) = picked_after pick read read more
+picked_after pick image read (Synced ∷ more) = picked_after pick read read more
 
 -- the picked image: the bytes of the last sync, what a read gives, or that with each byte written since replaced
 abbrev pub picked : Pick → List Moment → List ℕ

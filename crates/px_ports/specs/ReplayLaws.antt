@@ -4,9 +4,9 @@ use Rattle.std.specs.Option.{ForSome}
 use Rattle.std.proofs.Common.{arith, get_or, subst}
 use Rattle.std.proofs.lemmas.List.{length-append, length-take, length-drop, length-replicate, get_or-take, get_or-drop, get_or_append_left, get_or-append_right}
 use Rattle.px_ports.specs.Moment.{overwritten, Torn}
-use Rattle.px_ports.specs.Replay.{read_after, LeftByWrite, Leaves, read_of, images_of, picked_write, picked_after, picked}
+use Rattle.px_ports.specs.Replay.{read_after, LeftByWrite, MayLeave, read_of, images_of, picked_write, picked_after, picked}
 use Rattle.px_ports.specs.declared.moment.Moment.{Moment}
-use Rattle.px_ports.specs.declared.moment.Moment.TheVariants.{Began, Wrote, FailedToWrite, Settled}
+use Rattle.px_ports.specs.declared.moment.Moment.TheVariants.{Began, Wrote, FailedToWrite, Synced}
 use Rattle.px_ports.specs.declared.pick.Pick.{Pick}
 use Rattle.px_ports.specs.declared.pick.Pick.TheVariants.{Stable, Reads, Fill}
 
@@ -62,7 +62,7 @@ picked_write-short (Fill byte) at bytes image read short =
     omega (arith, length-overwritten at bytes read, length-overwritten at (replicate (length bytes) byte) image, length-replicate (length bytes) byte)
 
 picked_after-left : (pick : Pick) (left : List ℕ → Type 0) (image read : List ℕ) (moments : List Moment) → left image → length image ≤ length read
-    → Leaves left read moments (picked_after pick image read moments)
+    → MayLeave left read moments (picked_after pick image read moments)
 picked_after-left pick left image read [] is short = is
 picked_after-left pick left image read (Began bytes ∷ more) is short =
     picked_after-left pick (λ image. image ≡ bytes) bytes bytes more refl (omega arith)
@@ -73,7 +73,7 @@ picked_after-left pick left image read (Wrote at bytes ∷ more) is short =
     (image, is, picked_write-torn pick at bytes image, fits) fits
 picked_after-left pick left image read (FailedToWrite at n ∷ more) is short =
     picked_after-left pick (LeftByWrite left at n read) image read more (image, is, Torn-same at n image, short) short
-picked_after-left pick left image read (Settled ∷ more) is short =
+picked_after-left pick left image read (Synced ∷ more) is short =
     picked_after-left pick (λ image. image ≡ read) read read more refl (omega arith)
 
 -- the picked image is one that a crash may leave
@@ -85,27 +85,27 @@ read_after-picked read [] = refl
 read_after-picked read (Began bytes ∷ more) = read_after-picked bytes more
 read_after-picked read (Wrote at bytes ∷ more) = read_after-picked (overwritten at bytes read) more
 read_after-picked read (FailedToWrite at n ∷ more) = read_after-picked read more
-read_after-picked read (Settled ∷ more) = read_after-picked read more
+read_after-picked read (Synced ∷ more) = read_after-picked read more
 
 -- and so is what a read gives
 pub read_of-left : (moments : List Moment) → images_of moments (read_of moments)
 read_of-left moments = subst (images_of moments) (read_after-picked [] moments) (picked-left Reads moments)
 
-Leaves-short : (left : List ℕ → Type 0) (read : List ℕ) (moments : List Moment) → ((image : List ℕ) → left image → length image ≤ length read)
-    → (image : List ℕ) → Leaves left read moments image → length image ≤ length (read_after read moments)
-Leaves-short left read [] short image is = short image is
-Leaves-short left read (Began bytes ∷ more) short image is =
-    Leaves-short (λ image. image ≡ bytes) bytes more (λ same e. rw e (omega arith)) image is
-Leaves-short left read (Wrote at bytes ∷ more) short image is =
-    Leaves-short (LeftByWrite left at (length bytes) (overwritten at bytes read)) (overwritten at bytes read) more (λ other by. by.3) image is
-Leaves-short left read (FailedToWrite at n ∷ more) short image is =
-    Leaves-short (LeftByWrite left at n read) read more (λ other by. by.3) image is
-Leaves-short left read (Settled ∷ more) short image is =
-    Leaves-short (λ image. image ≡ read) read more (λ same e. rw e (omega arith)) image is
+MayLeave-short : (left : List ℕ → Type 0) (read : List ℕ) (moments : List Moment) → ((image : List ℕ) → left image → length image ≤ length read)
+    → (image : List ℕ) → MayLeave left read moments image → length image ≤ length (read_after read moments)
+MayLeave-short left read [] short image is = short image is
+MayLeave-short left read (Began bytes ∷ more) short image is =
+    MayLeave-short (λ image. image ≡ bytes) bytes more (λ same e. rw e (omega arith)) image is
+MayLeave-short left read (Wrote at bytes ∷ more) short image is =
+    MayLeave-short (LeftByWrite left at (length bytes) (overwritten at bytes read)) (overwritten at bytes read) more (λ other by. by.3) image is
+MayLeave-short left read (FailedToWrite at n ∷ more) short image is =
+    MayLeave-short (LeftByWrite left at n read) read more (λ other by. by.3) image is
+MayLeave-short left read (Synced ∷ more) short image is =
+    MayLeave-short (λ image. image ≡ read) read more (λ same e. rw e (omega arith)) image is
 
 -- no image is longer than what a read gives
 pub images_of-short : (moments : List Moment) (image : List ℕ) → images_of moments image → length image ≤ length (read_of moments)
-images_of-short moments image is = Leaves-short (λ image. image ≡ []) [] moments (λ same e. rw e (omega arith)) image is
+images_of-short moments image is = MayLeave-short (λ image. image ≡ []) [] moments (λ same e. rw e (omega arith)) image is
 
 -- the same as the laws of the trait say it
 pub reads_are_left : (moments : List Moment) → ForSome (Some (read_of moments)) (λ told. images_of moments told)

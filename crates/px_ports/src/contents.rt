@@ -3,7 +3,7 @@ ghost use Rattle.std.specs.Prelude.{◌≡◌, ◌≤◌, [], ◌∷◌, length,
 ghost use Rattle.px_ports.specs.Contents.{Adds, AddsIfRoom};
 ghost use Rattle.px_ports.specs.Moment.{overwritten};
 ghost use Rattle.px_ports.specs.Replay.{read_of, picked_write, picked};
-ghost use Rattle.px_ports.specs.declared.moment.Moment.TheVariants.{Began, Wrote, FailedToWrite, Settled};
+ghost use Rattle.px_ports.specs.declared.moment.Moment.TheVariants.{Began, Wrote, FailedToWrite, Synced};
 
 use crate::moment::{Bytes, Moment};
 use crate::pick::Pick;
@@ -32,7 +32,7 @@ impl Model for Contents {
 }
 
 impl Contents {
-    /// These bytes, all of them settled.
+    /// These bytes, all of them synced.
     pub fn new(alloc: Global, bytes: Vec<u8>) -> Result<Contents, NoMemory>
         ensures { IfOk result (λ contents. contents.moments ≡ Began bytes.items ∷ []) }
     {
@@ -69,12 +69,12 @@ impl Contents {
         let _ = self.moments.push(Moment::FailedToWrite { at, length });
     }
 
-    /// Settles what a read gives.
-    pub fn settle(&mut self) -> Result<(), NoMemory>
-        ensures ok { OnOk result (Adds Settled self.old self.new) }
+    /// Syncs what a read gives.
+    pub fn sync(&mut self) -> Result<(), NoMemory>
+        ensures ok { OnOk result (Adds Synced self.old self.new) }
         ensures err { OnErr result (self.new.moments ≡ self.old.moments) }
     {
-        self.moments.push(Moment::Settled)?;
+        self.moments.push(Moment::Synced)?;
         Ok(())
     }
 
@@ -102,7 +102,7 @@ fn replay(alloc: Global, pick: Pick, moments: &[Moment]) -> Result<Vec<u8>, NoMe
                 overwrite(&mut read, *at as usize, bytes.as_slice())?;
             }
             Moment::FailedToWrite { .. } => {}
-            Moment::Settled => image = read.to_vec(alloc)?,
+            Moment::Synced => image = read.to_vec(alloc)?,
         }
     }
     Ok(image)

@@ -84,7 +84,7 @@ pub trait Disk {
         ensures counted { writes self.old ≤ writes self.new }
         ensures cause { CountsFaults (faults self.old) (faults self.new) result };
 
-    /// Settles what a read gives: after `Ok` a crash leaves just that. After a fault a read may give something else, and
+    /// Syncs what a read gives: after `Ok` a crash leaves just that. After a fault a read may give something else, and
     /// a crash leaves an image from before.
     fn sync(&mut self) -> Result<(), DiskFault>
         requires { IsTrue (is_attached self.old) }

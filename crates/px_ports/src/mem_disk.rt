@@ -39,7 +39,7 @@ impl Model for MemDisk {
 }
 
 impl MemDisk {
-    /// A disk with these bytes, all of them settled, that is bound to no name. Its device calls are numbered from 1: the
+    /// A disk with these bytes, all of them synced, that is bound to no name. Its device calls are numbered from 1: the
     /// listed ones fail, and after `stop_after` of them each does.
     pub fn new(
         alloc: Global,
@@ -148,7 +148,7 @@ impl Disk for MemDisk {
         ensures next { SyncsNext self.old self.new result }
     {
         self.calls.next()?;
-        if self.contents.settle().is_err() {
+        if self.contents.sync().is_err() {
             return Err(self.calls.fault());
         }
         Ok(())

@@ -40,12 +40,12 @@ impl Bytes {
 /// What happened to the bytes of a disk at a moment.
 #[derive(Drop)]
 pub enum Moment {
-    /// The disk began, with these bytes, all of them settled.
+    /// The disk began, with these bytes, all of them synced.
     Began(Bytes),
     /// These bytes were written at this place.
     Wrote { at: u64, bytes: Bytes },
     /// A write of so many bytes at this place failed.
     FailedToWrite { at: u64, length: u64 },
-    /// A sync settled the bytes that a read gives.
-    Settled,
+    /// A sync synced the bytes that a read gives.
+    Synced,
 }

@@ -3,9 +3,8 @@ use Rattle.std.proofs.Common.{◌≡◌, ℕ, Bool, true, false, not, ◌==◌, 
 use Rattle.std.specs.List.{list_all, flat_map}
 use Rattle.std.proofs.lemmas.Bool.{and_parts, and_from, cases_Bool, eqb-true}
 use Rattle.std.proofs.lemmas.Bool.Decides.{nat_tests}
-use Rattle.px_value.specs.Text.{escaped as escape_of}
+use Rattle.px_value.specs.Text.{escaped, unescaped}
 use Rattle.px_lex.specs.String.{is_quote, is_backslash, is_line_end, string_from, escape_from, with_byte}
-use Rattle.px_print.specs.Quoted.{escaped}
 
 -- a byte that can stand in a string, as an escape or by itself
 abbrev pub is_spelled : ℕ → Bool
@@ -36,7 +35,7 @@ before (Some b) None content rest h = cc
 before (Some b) (Some r) content rest h =
     record { first = b; less = r.0; byte_is = refl; read_is = ap (λ t. Some (r.0, t)) (ap rest_of h); content_is = sym (ap content_of h) }
 
-escape_spelled : (c b : ℕ) → escape_of c ≡ Some b → is_spelled b ≡ true
+escape_spelled : (c b : ℕ) → unescaped c ≡ Some b → is_spelled b ≡ true
 escape_spelled c b h = grind (arith, nat_tests)
 
 plain_spelled : (c : ℕ) → is_line_end c ≡ false → is_spelled c ≡ true
@@ -70,7 +69,7 @@ mutual
   all_escaped : (cs content rest : List ℕ) → escape_from cs ≡ Some (content, rest) → list_all is_spelled content ≡ true
   all_escaped [] content rest h = cc
   all_escaped (c ∷ cs) content rest h =
-      let b = before (escape_of c) (string_from cs) content rest h in
+      let b = before (unescaped c) (string_from cs) content rest h in
       one_more b.first b.less content b.content_is (escape_spelled c b.first b.byte_is) (all_spelled cs b.less rest b.read_is)
 
 -- ---- what is read

@@ -26,7 +26,7 @@ use Rattle.px_lex.specs.Word.{is_real_type}
 use Rattle.px_lex.proofs.Numbers.{numeral_some}
 use Rattle.px_lex.proofs.Signs.{row_of-all}
 use Rattle.px_syntax.specs.Form.{kind_at, one, sign, keyword}
-use Rattle.px_print.specs.Quoted.{escaped, quoted}
+use Rattle.px_value.specs.Text.{escaped, quoted}
 use Rattle.px_print.proofs.Printing.{Prints, prints_token}
 use Rattle.px_print.proofs.Strings.{is_spelled, all_spelled, read_all}
 

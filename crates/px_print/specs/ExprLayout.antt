@@ -21,7 +21,7 @@ use Rattle.px_syntax.specs.declared.word.UnaryFunction.{UnaryFunction}
 use Rattle.px_syntax.specs.declared.word.UnaryFunction.TheVariants as unary_functions
 use Rattle.px_syntax.specs.Expr.{Term, Terms, Literal, Enumerated, Variable, Element, Attribute, Look, UnaryCall, BinaryCall, Unary, Binary, NoTerms, More}
 use Rattle.px_syntax.specs.ExprGrammar.{attribute_word}
-use Rattle.px_print.specs.Quoted.{quoted}
+use Rattle.px_value.specs.Text.{quoted}
 use Rattle.px_print.specs.Texts.{◌then◌}
 
 -- ---- words

@@ -1,5 +1,4 @@
 pub mod Texts
-pub mod Quoted
 pub mod ExprLayout
 pub mod BlockLayout
 pub mod Layout

@@ -3,7 +3,7 @@ ghost use Rattle.std.specs.Prelude.{◌≡◌, List, []};
 ghost use Rattle.px_lex.specs.Lexer.{Splits};
 ghost use Rattle.px_lex.specs.declared.token.Token.{Token as AnyToken};
 ghost use Rattle.px_syntax.specs.Depth.{too_deep};
-ghost use Rattle.px_syntax.specs.Plan.{plan_of};
+ghost use Rattle.px_syntax.specs.Plan.{tree_of_surface};
 ghost use Rattle.px_print.specs.Layout.{layout};
 ghost use Rattle.px_print.specs.Unnumbered.{IsSame};
 ghost use Rattle.px_print.specs.Reading.{IsAnswered, IsReadAs, IsWritten};
@@ -14,13 +14,13 @@ use px_syntax::Surface;
 /// where none of the layout's tokens is too deep, what `px_plan_parse::parse` promises of them is that it answers the
 /// tree, apart from these numbers, or want of memory.
 pub fn plan_to_text(tree: &Surface)
-    ensures splits { IsWritten (plan_of tree.now) → IsReadAs (layout (plan_of tree.now)) (plan_of tree.now) }
-    ensures parsed { (tokens : List AnyToken) → IsWritten (plan_of tree.now) → Splits (layout (plan_of tree.now)) tokens
-        → too_deep tokens ≡ [] → IsAnswered (plan_of tree.now) tokens }
+    ensures splits { IsWritten (tree_of_surface tree.now) → IsReadAs (layout (tree_of_surface tree.now)) (tree_of_surface tree.now) }
+    ensures parsed { (tokens : List AnyToken) → IsWritten (tree_of_surface tree.now) → Splits (layout (tree_of_surface tree.now)) tokens
+        → too_deep tokens ≡ [] → IsAnswered (tree_of_surface tree.now) tokens }
 {}
 
 /// Trees that are the same, apart from the numbers of tokens, have one layout. So what is laid out and read is laid out
 /// alike again.
 pub fn one_layout(tree: &Surface, other: &Surface)
-    ensures { IsSame (plan_of tree.now) (plan_of other.now) → layout (plan_of tree.now) ≡ layout (plan_of other.now) }
+    ensures { IsSame (tree_of_surface tree.now) (tree_of_surface other.now) → layout (tree_of_surface tree.now) ≡ layout (tree_of_surface other.now) }
 {}

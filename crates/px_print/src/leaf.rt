@@ -5,7 +5,6 @@ ghost use Rattle.px_print.specs.Texts.{◌then◌};
 ghost use Rattle.px_print.specs.ExprLayout.{literal_text, node_text, tolerance_text};
 
 use crate::append::push_all;
-use crate::string::push_quoted;
 use crate::word::attribute_word;
 use itoa::Buffer;
 use px_syntax::{Attribute, Identifier, Literal, NodeReference, Tolerance};
@@ -26,7 +25,7 @@ pub(crate) fn push_literal(value: &Literal, out: &mut Vec<u8>) -> Result<(), NoM
         Literal::Integer(number) => push_all(out, &[Buffer::new().format(*number)]),
         Literal::Boolean(true) => push_all(out, &["true"]),
         Literal::Boolean(false) => push_all(out, &["false"]),
-        Literal::Text(content) => push_quoted(content, out),
+        Literal::Text(content) => content.push_quoted(out),
     }
 }
 

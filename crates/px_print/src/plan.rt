@@ -1,7 +1,7 @@
 // A whole plan: its declarations, and its root.
 ghost use Rattle.std.specs.Prelude.{◌≡◌, ◌++◌, [], codes, map, IfOk, OnOk};
 ghost use Rattle.std.specs.List.{flat_map, join_by};
-ghost use Rattle.px_syntax.specs.Plan.{declaration_data, plan_of};
+ghost use Rattle.px_syntax.specs.Plan.{declaration_data, tree_of_surface};
 ghost use Rattle.px_print.specs.BlockLayout.{line};
 ghost use Rattle.px_print.specs.Layout.{answer_text, declaration_text, layout, name_text, parameter_text, parameters_text};
 
@@ -17,7 +17,7 @@ use std::alloc::Global;
 /// Lays a plan's tree out as text, with a line for each declaration, item and simple action (docs/LANGUAGE.md,
 /// "Layout").
 pub fn print(alloc: Global, tree: &Surface) -> Result<Vec<u8>, NoMemory>
-    ensures { IfOk result (λ bytes. bytes.items ≡ layout (plan_of tree.now)) }
+    ensures { IfOk result (λ bytes. bytes.items ≡ layout (tree_of_surface tree.now)) }
 {
     let mut out = Vec::new(alloc);
     push_declarations(&tree.declarations, &mut out)?;

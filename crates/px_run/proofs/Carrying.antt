@@ -3,11 +3,14 @@ use Rattle.std.proofs.Common.{◌≡◌, inl, inr, ℕ, List, Option, Some, None
 use Rattle.px_output.specs.View.{View}
 use Rattle.px_ports.specs.declared.disk.Disk
 use Rattle.px_session.specs.Session.{IsBoundAtMost}
-use Rattle.px_session.proofs.Leaving.{untouched_at_once}
-use Rattle.px_words.specs.Words.{Command, TraceStart, DryRun, Check, Run, Resume, Trace, journal_of}
+use Rattle.px_session.proofs.Sessions.{untouched_at_once}
+use Rattle.px_words.specs.Words.{Command, TraceStart, DryRun, Check, Run, Resume, Trace, journal_operand}
 use Rattle.px_run.specs.Course.{Untouched, Due, EndsIn}
 use Rattle.px_run.specs.Ending.{usage}
-use Rattle.px_run.specs.Finishing.{Performed, Runs, Resumes, Traces}
+use Rattle.px_run.specs.Resume.{ResumeCarries}
+use Rattle.px_run.specs.Run.{RunCarries}
+use Rattle.px_run.specs.Top.{Performed}
+use Rattle.px_run.specs.Trace.{TraceCarries}
 use Rattle.px_run.specs.Headline.{TraceStartCalls, DryRunCalls, CheckCalls, CommandCallsFor, IsBoundFor}
 use Rattle.px_run.specs.Stops.{Performs}
 use Rattle.px_run.specs.declared.ending.End.{End}
@@ -54,12 +57,12 @@ module _ {D : Type 0} (members : Disk.Ghosts D) (before now : View) (disk : D) (
 -- ---- a command with a journal
 
 module _ {D : Type 0} (members : Disk.Ghosts D) (before now : View) (disk : D) (carried : Carried D) where
-  bound_for : (asked : Command) (journal : List ℕ) → journal_of asked ≡ Some journal → IsBoundAtMost members journal carried.disk → IsBoundFor members (Some asked) carried.disk
+  bound_for : (asked : Command) (journal : List ℕ) → journal_operand asked ≡ Some journal → IsBoundAtMost members journal carried.disk → IsBoundFor members (Some asked) carried.disk
   bound_for asked journal is (inl bound) = inr (journal, is, bound)
   bound_for asked journal is (inr unbound) = inl unbound
 
   pub run_performed : (words : Option Command) (plan script journal : List ℕ) (limit : ℕ) → words ≡ Some (Run plan script journal limit)
-      → Runs members plan script journal limit before now disk carried → Performed members words before now disk carried
+      → RunCarries members plan script journal limit before now disk carried → Performed members words before now disk carried
   run_performed words plan script journal limit is c = rw is (record {
     course = c.course;
     performs = c.performs;
@@ -69,7 +72,7 @@ module _ {D : Type 0} (members : Disk.Ghosts D) (before now : View) (disk : D) (
   })
 
   pub resume_performed : (words : Option Command) (script journal : List ℕ) (limit : ℕ) → words ≡ Some (Resume script journal limit)
-      → Resumes members script journal limit before now disk carried → Performed members words before now disk carried
+      → ResumeCarries members script journal limit before now disk carried → Performed members words before now disk carried
   resume_performed words script journal limit is c = rw is (record {
     course = c.course;
     performs = c.performs;
@@ -79,7 +82,7 @@ module _ {D : Type 0} (members : Disk.Ghosts D) (before now : View) (disk : D) (
   })
 
   pub trace_performed : (words : Option Command) (journal : List ℕ) → words ≡ Some (Trace journal)
-      → Traces members journal before now disk carried → Performed members words before now disk carried
+      → TraceCarries members journal before now disk carried → Performed members words before now disk carried
   trace_performed words journal is c = rw is (record {
     course = c.course;
     performs = c.performs;

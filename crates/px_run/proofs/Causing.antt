@@ -9,21 +9,21 @@ use Rattle.px_output.specs.View.{View}
 use Rattle.px_ports.specs.Host.{Emits, Rose}
 use Rattle.px_ports.specs.declared.disk.Disk
 use Rattle.px_script.specs.Follows.{AreStalled}
-use Rattle.px_script.specs.Rest.{rest}
+use Rattle.px_script.specs.Remainder.{rest}
 use Rattle.px_script.specs.declared.todo.Todo.{Todo}
 use Rattle.px_sem.specs.Log.{events_of}
 use Rattle.px_sem.specs.Run.{run, started}
 use Rattle.px_sem.specs.World.{World}
 use Rattle.px_session.specs.Session.{Session}
-use Rattle.px_words.specs.Words.{Command, TraceStart, DryRun, Check, Run, Resume, Trace, plan_of, script_of, journal_of, runs_plan, command}
-use Rattle.px_run.specs.Causes.{HasPlan, HasScript, HasJournal, Runs, ReadsScript, Starts, OperandIsRefused, FailsToRead, StallsBehind, StallsOver, TakesUp, Cause}
+use Rattle.px_words.specs.Words.{Command, TraceStart, DryRun, Check, Run, Resume, Trace, plan_operand, script_operand, journal_operand, runs_plan, command}
+use Rattle.px_run.specs.Causes.{HasPlan, HasScript, HasJournal, AsksForRun, ReadsScript, Starts, OperandIsRefused, FailsToRead, StallsBehind, StallsOver, TakesUp, Cause}
 use Rattle.px_run.specs.Course.{Course, Untouched, TakenUp, GoneOn, Due, EndsIn, AfterFile}
 use Rattle.px_run.specs.Ending.{Ending, of_start, start_ending, nodes_ending, session_ending, stalled_ending, runaway_at_start}
-use Rattle.px_run.specs.File.{FileKind, Seen, Content, Longer, Unreadable, Shows, Refuses, with_text, Reads}
+use Rattle.px_run.specs.Reading.{FileKind, Seen, Content, Longer, Unreadable, Shows, Refuses, with_text, Reads}
 use Rattle.px_run.specs.Headline.{DryRunOf, TraceStartCalls, DryRunCalls, CommandCallsFor, Delivers, Headline}
 use Rattle.px_run.specs.Journaled.{IsSession, DueBehind, SessionCalls, NewCalls, RunCallsBy, RunCalls, HasNoJournal, CannotRun, AfterJournal, ResumeCalls, TraceCalls}
 use Rattle.px_run.specs.Kinds.{plan_file, script_file}
-use Rattle.px_run.proofs.FileKinds.{IsKind, plan_kind, script_kind, text_kind}
+use Rattle.px_run.proofs.Kinds.{IsKind, plan_kind, script_kind, text_kind}
 use Rattle.px_run.proofs.SeenFiles.{WhereDue}
 use Rattle.px_run.proofs.Starting.{some_start}
 
@@ -86,7 +86,7 @@ module _ {D : Type 0} (members : Disk.Ghosts D) (words : List (List ℕ)) (befor
       let same : name ≡ other = cc in (threads, subst (λ n. Reads (script_file (sites tree)) before now n threads) same reads)
 
   -- without a script there is none to be read
-  no_script : (tree : Tree) → option_and_then script_of (command words) ≡ None → ReadsScript words before now tree
+  no_script : (tree : Tree) → option_and_then script_operand (command words) ≡ None → ReadsScript words before now tree
   no_script tree none name has = absurd (let both = sym none ∙ has in cc)
 
   -- ---- sessions
@@ -113,20 +113,20 @@ module _ {D : Type 0} (members : Disk.Ghosts D) (words : List (List ℕ)) (befor
 
   -- ---- a plan that is to be run
 
-  module _ (plan : List ℕ) (runs : Runs words) (has : HasPlan words plan) where
+  module _ (plan : List ℕ) (runs : AsksForRun words) (has : HasPlan words plan) where
     started_so : (tree : Tree) (IsSuch : Option (World × ℕ) → Type 0) → Reads plan_file before now plan tree → ReadsScript words before now tree
         → IsSuch (started (sites tree)) → Starts words before now IsSuch
     started_so tree IsSuch reads scripts such = (runs, (plan, tree, has, reads, (scripts, such)))
 
     -- the start, without a journal
-    start_caused : (tree : Tree) (found : Option (World × ℕ)) → option_and_then journal_of (command words) ≡ None → Reads plan_file before now plan tree → ReadsScript words before now tree
+    start_caused : (tree : Tree) (found : Option (World × ℕ)) → option_and_then journal_operand (command words) ≡ None → Reads plan_file before now plan tree → ReadsScript words before now tree
         → started (sites tree) ≡ found → Cause members words before now old new (of_start (sites tree) found).status
     start_caused tree None no_journal reads scripts is = Cause.runaway (started_so tree (λ found. found ≡ None) reads scripts is)
     start_caused tree (Some settled) no_journal reads scripts is =
         Cause.done (started_so tree (λ found. IsSome found) reads scripts (rw is refl)) (λ (name, has). absurd (let both = sym no_journal ∙ has in cc))
 
-    trace_start_caused : (course : Course) (due : Due) → option_and_then script_of (command words) ≡ None
-        → option_and_then journal_of (command words) ≡ None → TraceStartCalls plan before now course due
+    trace_start_caused : (course : Course) (due : Due) → option_and_then script_operand (command words) ≡ None
+        → option_and_then journal_operand (command words) ≡ None → TraceStartCalls plan before now course due
         → AreCaused due
     trace_start_caused course due none no_journal after =
         after_plan plan (λ tree. EndsIn Untouched (start_ending tree)) course due has
@@ -145,7 +145,7 @@ module _ {D : Type 0} (members : Disk.Ghosts D) (words : List (List ℕ)) (befor
         after_operand (List Todo) (script_file (sites tree)) 4 HasScript script Untouched Next course due (script_kind (sites tree)) asks
         (λ r. Cause.script_refused (inl (plan, tree, has, reads, r))) (λ fails. Cause.read_fault (inr (inl (plan, tree, has, reads, fails)))) behind after
 
-    dry_run_caused : (script : List ℕ) (course : Course) (due : Due) → HasScript words script → option_and_then journal_of (command words) ≡ None
+    dry_run_caused : (script : List ℕ) (course : Course) (due : Due) → HasScript words script → option_and_then journal_operand (command words) ≡ None
         → DryRunCalls plan script before now course due → AreCaused due
     dry_run_caused script course due asks no_journal after =
         after_plan plan (λ tree. AfterFile (script_file (sites tree)) before now script Untouched (DryRunOf (sites tree))) course due has
@@ -198,7 +198,7 @@ module _ {D : Type 0} (members : Disk.Ghosts D) (words : List (List ℕ)) (befor
 
   -- ---- a journal that is to be taken up
 
-  module _ (no_plan : option_and_then plan_of (command words) ≡ None) (journal : HasJournal words) where
+  module _ (no_plan : option_and_then plan_operand (command words) ≡ None) (journal : HasJournal words) where
     no_journal_caused : (ending : Ending) → HasNoJournal members old ending → IsCaused ending
     no_journal_caused _ (HasNoJournal.nothing told) =
         λ emits. Cause.journal_refused (inr (no_plan, journal, _, inl (HasNoJournal.nothing told), refl))
@@ -234,7 +234,7 @@ module _ {D : Type 0} (members : Disk.Ghosts D) (words : List (List ℕ)) (befor
     after_journal Next _ _ behind (AfterJournal.not_run text first ending told cannot) = not_run_caused text first ending told cannot
     after_journal Next _ _ behind (AfterJournal.opened text first tree course due told compiled runs next) = behind text first tree told compiled runs next
 
-    trace_caused : (course : Course) (due : Due) → option_and_then script_of (command words) ≡ None → TraceCalls members old new course due → AreCaused due
+    trace_caused : (course : Course) (due : Due) → option_and_then script_operand (command words) ≡ None → TraceCalls members old new course due → AreCaused due
     trace_caused course due none calls =
         after_journal (λ text first tree. EndsIn (TakenUp text first) (session_ending (sites tree) first [])) course due
         (λ text first tree told compiled runs ends. ended tree first due (done_by text first tree told compiled runs (no_script tree none)) ends.1) calls
@@ -262,25 +262,25 @@ module _ {D : Type 0} (members : Disk.Ghosts D) (words : List (List ℕ)) (befor
       → AreCaused due
   caused_by None course due none (same, (untouched, is)) = rw is (λ emits. Cause.no_command none)
   caused_by (Some (TraceStart plan)) course due asks (same, calls) =
-      trace_start_caused plan (ap (option_map runs_plan) asks) (ap (option_and_then plan_of) asks) course due (ap (option_and_then script_of) asks)
-      (ap (option_and_then journal_of) asks) calls
+      trace_start_caused plan (ap (option_map runs_plan) asks) (ap (option_and_then plan_operand) asks) course due (ap (option_and_then script_operand) asks)
+      (ap (option_and_then journal_operand) asks) calls
   caused_by (Some (DryRun plan script)) course due asks (same, calls) =
-      dry_run_caused plan (ap (option_map runs_plan) asks) (ap (option_and_then plan_of) asks) script course due (ap (option_and_then script_of) asks)
-      (ap (option_and_then journal_of) asks) calls
+      dry_run_caused plan (ap (option_map runs_plan) asks) (ap (option_and_then plan_operand) asks) script course due (ap (option_and_then script_operand) asks)
+      (ap (option_and_then journal_operand) asks) calls
   caused_by (Some (Check plan)) course due asks (same, calls) =
-      after_plan plan (λ tree. EndsIn Untouched (nodes_ending tree)) course due (ap (option_and_then plan_of) asks)
+      after_plan plan (λ tree. EndsIn Untouched (nodes_ending tree)) course due (ap (option_and_then plan_operand) asks)
       (λ tree reads ends. checked tree due reads ends.1) calls
     where
       checked : (tree : Tree) (d : Due) → Reads plan_file before now plan tree → d ≡ Some (nodes_ending tree) → AreCaused d
-      checked tree d reads is = rw is (λ emits. Cause.checked (ap (option_map runs_plan) asks) (plan, tree, ap (option_and_then plan_of) asks, reads, tt))
+      checked tree d reads is = rw is (λ emits. Cause.checked (ap (option_map runs_plan) asks) (plan, tree, ap (option_and_then plan_operand) asks, reads, tt))
   caused_by (Some (Run plan script journal limit)) course due asks calls =
-      run_is_caused plan (ap (option_map runs_plan) asks) (ap (option_and_then plan_of) asks) script journal limit course due asks
-      (ap (option_and_then script_of) asks) (journal, ap (option_and_then journal_of) asks) calls
+      run_is_caused plan (ap (option_map runs_plan) asks) (ap (option_and_then plan_operand) asks) script journal limit course due asks
+      (ap (option_and_then script_operand) asks) (journal, ap (option_and_then journal_operand) asks) calls
   caused_by (Some (Resume script journal limit)) course due asks calls =
-      resume_caused (ap (option_and_then plan_of) asks) (journal, ap (option_and_then journal_of) asks) script journal limit course due asks
-      (ap (option_and_then script_of) asks) calls
+      resume_caused (ap (option_and_then plan_operand) asks) (journal, ap (option_and_then journal_operand) asks) script journal limit course due asks
+      (ap (option_and_then script_operand) asks) calls
   caused_by (Some (Trace journal)) course due asks calls =
-      trace_caused (ap (option_and_then plan_of) asks) (journal, ap (option_and_then journal_of) asks) course due (ap (option_and_then script_of) asks) calls
+      trace_caused (ap (option_and_then plan_operand) asks) (journal, ap (option_and_then journal_operand) asks) course due (ap (option_and_then script_operand) asks) calls
 
   pub caused : (course : Course) (ending : Ending) → CommandCallsFor members (command words) before now old new course (Some ending) → IsCaused ending
   caused course ending calls = caused_by (command words) course (Some ending) refl calls

@@ -9,23 +9,23 @@ use Rattle.px_journal.proofs.Creating.{nothing_or_not}
 use Rattle.px_output.specs.View.{View, Faulted}
 use Rattle.px_ports.specs.Host.{Files, Rose}
 use Rattle.px_ports.specs.declared.disk.Disk
-use Rattle.px_script.specs.Rest.{rest}
+use Rattle.px_script.specs.Remainder.{rest}
 use Rattle.px_script.specs.declared.todo.Todo.{Todo}
 use Rattle.px_sem.specs.Log.{events_of}
 use Rattle.px_sem.specs.Run.{run, started}
 use Rattle.px_sem.specs.World.{World}
 use Rattle.px_session.specs.Session.{Session}
-use Rattle.px_words.specs.Words.{Command, TraceStart, DryRun, Check, Run, Resume, Trace, plan_of, script_of, journal_of, runs_plan, command}
-use Rattle.px_run.specs.Causes.{HasPlan, HasScript, HasJournal, Runs, FailsToRead, status_behind, IsSound, IsComplete, IsRefused}
+use Rattle.px_words.specs.Words.{Command, TraceStart, DryRun, Check, Run, Resume, Trace, plan_operand, script_operand, journal_operand, runs_plan, command}
+use Rattle.px_run.specs.Causes.{HasPlan, HasScript, HasJournal, AsksForRun, FailsToRead, status_behind, IsSound, IsComplete, RefusesFiles}
 use Rattle.px_run.specs.Course.{Course, Untouched, TakenUp, Due, EndsIn, AfterFile}
 use Rattle.px_run.specs.Ending.{Ending, of_start, start_ending, nodes_ending, session_ending, runaway_at_start}
-use Rattle.px_run.specs.File.{FileKind, with_text, Holds, HoldsNone}
+use Rattle.px_run.specs.Reading.{FileKind, with_text, Holds, HoldsNone}
 use Rattle.px_run.specs.Headline.{CommandCallsFor, Delivers, Headline}
 use Rattle.px_run.specs.Journaled.{DueBehind, NewCalls, RunCallsBy, JournalRefuses, AfterJournal}
 use Rattle.px_run.specs.Kinds.{plan_file, script_file}
 use Rattle.px_run.proofs.Causing.{dry_run_status}
 use Rattle.px_run.proofs.Excluding.{none_or_some, same_text, same_first, same_tree, never_refused, one_status}
-use Rattle.px_run.proofs.FileKinds.{IsKind, plan_kind, script_kind, text_kind, holds_text, held, none_held}
+use Rattle.px_run.proofs.Kinds.{IsKind, plan_kind, script_kind, text_kind, holds_text, held, none_held}
 use Rattle.px_run.proofs.SeenFiles.{WhereDue}
 
 -- where no fault of the sink was counted, the status is that of the ending, or 10
@@ -60,13 +60,13 @@ module _ {D : Type 0} (members : Disk.Ghosts D) (words : List (List ℕ)) (befor
   one_script_asked : (one other : List ℕ) → HasScript words one → HasScript words other → one ≡ other
   one_script_asked one other first second = let both = sym first ∙ second in cc
 
-  plan_or_none : (plan : List ℕ) → HasPlan words plan → option_and_then plan_of (command words) ≡ None → ⊥
+  plan_or_none : (plan : List ℕ) → HasPlan words plan → option_and_then plan_operand (command words) ≡ None → ⊥
   plan_or_none plan has none = let both = sym none ∙ has in cc
 
-  script_or_none : (script : List ℕ) → HasScript words script → option_and_then script_of (command words) ≡ None → ⊥
+  script_or_none : (script : List ℕ) → HasScript words script → option_and_then script_operand (command words) ≡ None → ⊥
   script_or_none script has none = let both = sym none ∙ has in cc
 
-  journal_or_none : HasJournal words → option_and_then journal_of (command words) ≡ None → ⊥
+  journal_or_none : HasJournal words → option_and_then journal_operand (command words) ≡ None → ⊥
   journal_or_none (journal, has) none = let both = sym none ∙ has in cc
 
   -- ---- sessions whose disk doesn't fail
@@ -137,17 +137,17 @@ module _ {D : Type 0} (members : Disk.Ghosts D) (words : List (List ℕ)) (befor
 
       plan_refused_by : HoldsNone plan_file files plan → (asked : Option Command) (course : Course) (ending : Ending) → command words ≡ asked
           → Calls asked course ending → ending.status ≡ 3
-      plan_refused_by none None course ending is calls = absurd (plan_or_none plan has (ap (option_and_then plan_of) is))
+      plan_refused_by none None course ending is calls = absurd (plan_or_none plan has (ap (option_and_then plan_operand) is))
       plan_refused_by none (Some (TraceStart other)) course ending is (same, calls) =
-          without_plan Tree plan_file plan_kind _ other (ap (option_and_then plan_of) is) course ending calls none
+          without_plan Tree plan_file plan_kind _ other (ap (option_and_then plan_operand) is) course ending calls none
       plan_refused_by none (Some (DryRun other script)) course ending is (same, calls) =
-          without_plan Tree plan_file plan_kind _ other (ap (option_and_then plan_of) is) course ending calls none
+          without_plan Tree plan_file plan_kind _ other (ap (option_and_then plan_operand) is) course ending calls none
       plan_refused_by none (Some (Check other)) course ending is (same, calls) =
-          without_plan Tree plan_file plan_kind _ other (ap (option_and_then plan_of) is) course ending calls none
+          without_plan Tree plan_file plan_kind _ other (ap (option_and_then plan_operand) is) course ending calls none
       plan_refused_by none (Some (Run other script journal limit)) course ending is calls =
-          without_plan (List ℕ × Tree) (with_text plan_file) text_of_kind _ other (ap (option_and_then plan_of) is) course ending calls none
-      plan_refused_by none (Some (Resume script journal limit)) course ending is calls = absurd (plan_or_none plan has (ap (option_and_then plan_of) is))
-      plan_refused_by none (Some (Trace journal)) course ending is calls = absurd (plan_or_none plan has (ap (option_and_then plan_of) is))
+          without_plan (List ℕ × Tree) (with_text plan_file) text_of_kind _ other (ap (option_and_then plan_operand) is) course ending calls none
+      plan_refused_by none (Some (Resume script journal limit)) course ending is calls = absurd (plan_or_none plan has (ap (option_and_then plan_operand) is))
+      plan_refused_by none (Some (Trace journal)) course ending is calls = absurd (plan_or_none plan has (ap (option_and_then plan_operand) is))
 
       module _ (tree : Tree) (holds : Holds plan_file files plan tree) (script_readable : ¬ FailsToRead HasScript words before now) where
         abbrev source : List ℕ × Tree
@@ -159,22 +159,22 @@ module _ {D : Type 0} (members : Disk.Ghosts D) (words : List (List ℕ)) (befor
         -- a script that is none
         script_refused_by : (name : List ℕ) → HasScript words name → HoldsNone (script_file (sites tree)) files name → (asked : Option Command)
             (course : Course) (ending : Ending) → command words ≡ asked → Calls asked course ending → ending.status ≡ 4
-        script_refused_by name asks none None course ending is calls = absurd (script_or_none name asks (ap (option_and_then script_of) is))
+        script_refused_by name asks none None course ending is calls = absurd (script_or_none name asks (ap (option_and_then script_operand) is))
         script_refused_by name asks none (Some (TraceStart other)) course ending is calls =
-            absurd (script_or_none name asks (ap (option_and_then script_of) is))
+            absurd (script_or_none name asks (ap (option_and_then script_operand) is))
         script_refused_by name asks none (Some (DryRun other script)) course ending is (same, calls) =
-            without_script (sites tree) script_readable Untouched _ script (ap (option_and_then script_of) is) course ending
-            (behind_plan Tree plan_file plan_kind _ other (ap (option_and_then plan_of) is) course ending calls tree holds) name asks none
+            without_script (sites tree) script_readable Untouched _ script (ap (option_and_then script_operand) is) course ending
+            (behind_plan Tree plan_file plan_kind _ other (ap (option_and_then plan_operand) is) course ending calls tree holds) name asks none
         script_refused_by name asks none (Some (Check other)) course ending is calls =
-            absurd (script_or_none name asks (ap (option_and_then script_of) is))
+            absurd (script_or_none name asks (ap (option_and_then script_operand) is))
         script_refused_by name asks none (Some (Run other script journal limit)) course ending is calls =
-            without_script (sites tree) script_readable Untouched _ script (ap (option_and_then script_of) is) course ending
-            (behind_plan (List ℕ × Tree) (with_text plan_file) text_of_kind _ other (ap (option_and_then plan_of) is) course ending calls source source_holds)
+            without_script (sites tree) script_readable Untouched _ script (ap (option_and_then script_operand) is) course ending
+            (behind_plan (List ℕ × Tree) (with_text plan_file) text_of_kind _ other (ap (option_and_then plan_operand) is) course ending calls source source_holds)
             name asks none
         script_refused_by name asks none (Some (Resume script journal limit)) course ending is calls =
-            absurd (plan_or_none plan has (ap (option_and_then plan_of) is))
+            absurd (plan_or_none plan has (ap (option_and_then plan_operand) is))
         script_refused_by name asks none (Some (Trace journal)) course ending is calls =
-            absurd (plan_or_none plan has (ap (option_and_then plan_of) is))
+            absurd (plan_or_none plan has (ap (option_and_then plan_operand) is))
 
         module _ (scripts : (name : List ℕ) → HasScript words name → (threads : List Todo) × Holds (script_file (sites tree)) files name threads) where
           -- the calls of a run behind its files
@@ -198,49 +198,49 @@ module _ {D : Type 0} (members : Disk.Ghosts D) (words : List (List ℕ)) (befor
 
             complete_by : (asked : Option Command) (course : Course) (ending : Ending) → command words ≡ asked → Calls asked course ending
                 → OrStalled (status_behind asked tree) ending.status
-            complete_by None course ending is calls = absurd (plan_or_none plan has (ap (option_and_then plan_of) is))
+            complete_by None course ending is calls = absurd (plan_or_none plan has (ap (option_and_then plan_operand) is))
             complete_by (Some (TraceStart other)) course ending is (same, calls) =
                 inl (ending_is course Untouched ending (start_ending tree)
-                (behind_plan Tree plan_file plan_kind _ other (ap (option_and_then plan_of) is) course ending calls tree holds))
+                (behind_plan Tree plan_file plan_kind _ other (ap (option_and_then plan_operand) is) course ending calls tree holds))
             complete_by (Some (DryRun other script)) course ending is (same, calls) =
-                let asks : HasScript words script = ap (option_and_then script_of) is in
+                let asks : HasScript words script = ap (option_and_then script_operand) is in
                 inl (dry_run_status tree (scripts script asks).0 course (Some ending)
                 (behind_script (sites tree) script_readable Untouched _ script asks course ending
-                (behind_plan Tree plan_file plan_kind _ other (ap (option_and_then plan_of) is) course ending calls tree holds)
+                (behind_plan Tree plan_file plan_kind _ other (ap (option_and_then plan_operand) is) course ending calls tree holds)
                 (scripts script asks).0 (scripts script asks).1))
             complete_by (Some (Check other)) course ending is (same, calls) =
                 inl (ending_is course Untouched ending (nodes_ending tree)
-                (behind_plan Tree plan_file plan_kind _ other (ap (option_and_then plan_of) is) course ending calls tree holds))
+                (behind_plan Tree plan_file plan_kind _ other (ap (option_and_then plan_operand) is) course ending calls tree holds))
             complete_by (Some (Run other script name limit)) course ending is calls =
-                let asks : HasScript words script = ap (option_and_then script_of) is in
-                start_sound (name, ap (option_and_then journal_of) is) holds.0 limit (scripts script asks).0 course ending (started (sites tree))
-                (run_behind other script name limit course ending (ap (option_and_then plan_of) is) asks calls)
-            complete_by (Some (Resume script name limit)) course ending is calls = absurd (plan_or_none plan has (ap (option_and_then plan_of) is))
-            complete_by (Some (Trace name)) course ending is calls = absurd (plan_or_none plan has (ap (option_and_then plan_of) is))
+                let asks : HasScript words script = ap (option_and_then script_operand) is in
+                start_sound (name, ap (option_and_then journal_operand) is) holds.0 limit (scripts script asks).0 course ending (started (sites tree))
+                (run_behind other script name limit course ending (ap (option_and_then plan_operand) is) asks calls)
+            complete_by (Some (Resume script name limit)) course ending is calls = absurd (plan_or_none plan has (ap (option_and_then plan_operand) is))
+            complete_by (Some (Trace name)) course ending is calls = absurd (plan_or_none plan has (ap (option_and_then plan_operand) is))
 
           -- a start that doesn't settle
-          runs_away_by : Runs words → started (sites tree) ≡ None → (asked : Option Command) (course : Course) (ending : Ending) → command words ≡ asked
+          runs_away_by : AsksForRun words → started (sites tree) ≡ None → (asked : Option Command) (course : Course) (ending : Ending) → command words ≡ asked
               → Calls asked course ending → ending.status ≡ 6
-          runs_away_by runs none None course ending is calls = absurd (plan_or_none plan has (ap (option_and_then plan_of) is))
+          runs_away_by runs none None course ending is calls = absurd (plan_or_none plan has (ap (option_and_then plan_operand) is))
           runs_away_by runs none (Some (TraceStart other)) course ending is (same, calls) =
               ending_is course Untouched ending (start_ending tree)
-              (behind_plan Tree plan_file plan_kind _ other (ap (option_and_then plan_of) is) course ending calls tree holds)
+              (behind_plan Tree plan_file plan_kind _ other (ap (option_and_then plan_operand) is) course ending calls tree holds)
               ∙ ap (λ found. (of_start (sites tree) found).status) none
           runs_away_by runs none (Some (DryRun other script)) course ending is (same, calls) =
-              let asks : HasScript words script = ap (option_and_then script_of) is in
+              let asks : HasScript words script = ap (option_and_then script_operand) is in
               dry_run_status tree (scripts script asks).0 course (Some ending)
               (behind_script (sites tree) script_readable Untouched _ script asks course ending
-              (behind_plan Tree plan_file plan_kind _ other (ap (option_and_then plan_of) is) course ending calls tree holds)
+              (behind_plan Tree plan_file plan_kind _ other (ap (option_and_then plan_operand) is) course ending calls tree holds)
               (scripts script asks).0 (scripts script asks).1)
               ∙ ap (λ found. (of_start (sites tree) found).status) none
           runs_away_by runs none (Some (Check other)) course ending is calls = absurd (let both = sym runs ∙ ap (option_map runs_plan) is in cc)
           runs_away_by runs none (Some (Run other script name limit)) course ending is calls =
-              let asks : HasScript words script = ap (option_and_then script_of) is in
+              let asks : HasScript words script = ap (option_and_then script_operand) is in
               ending_is course Untouched ending runaway_at_start
               (subst (λ found. RunCallsBy members (sites tree) holds.0 limit (scripts script asks).0 old new course (Some ending) found) none
-              (run_behind other script name limit course ending (ap (option_and_then plan_of) is) asks calls))
-          runs_away_by runs none (Some (Resume script name limit)) course ending is calls = absurd (plan_or_none plan has (ap (option_and_then plan_of) is))
-          runs_away_by runs none (Some (Trace name)) course ending is calls = absurd (plan_or_none plan has (ap (option_and_then plan_of) is))
+              (run_behind other script name limit course ending (ap (option_and_then plan_operand) is) asks calls))
+          runs_away_by runs none (Some (Resume script name limit)) course ending is calls = absurd (plan_or_none plan has (ap (option_and_then plan_operand) is))
+          runs_away_by runs none (Some (Trace name)) course ending is calls = absurd (plan_or_none plan has (ap (option_and_then plan_operand) is))
 
           module _ (has_journal : HasJournal words) (starts : IsSome (started (sites tree)))
               (journal : IsSound members words old new (λ bytes. IsFalse (is_nothing bytes))) where
@@ -253,20 +253,20 @@ module _ {D : Type 0} (members : Disk.Ghosts D) (words : List (List ℕ)) (befor
                 new_refused steady (sites tree) text limit threads course (Some ending) bytes content something calls
 
             exists_by : (asked : Option Command) (course : Course) (ending : Ending) → command words ≡ asked → Calls asked course ending → ending.status ≡ 5
-            exists_by None course ending is calls = absurd (plan_or_none plan has (ap (option_and_then plan_of) is))
-            exists_by (Some (TraceStart other)) course ending is calls = absurd (journal_or_none has_journal (ap (option_and_then journal_of) is))
-            exists_by (Some (DryRun other script)) course ending is calls = absurd (journal_or_none has_journal (ap (option_and_then journal_of) is))
-            exists_by (Some (Check other)) course ending is calls = absurd (journal_or_none has_journal (ap (option_and_then journal_of) is))
+            exists_by None course ending is calls = absurd (plan_or_none plan has (ap (option_and_then plan_operand) is))
+            exists_by (Some (TraceStart other)) course ending is calls = absurd (journal_or_none has_journal (ap (option_and_then journal_operand) is))
+            exists_by (Some (DryRun other script)) course ending is calls = absurd (journal_or_none has_journal (ap (option_and_then journal_operand) is))
+            exists_by (Some (Check other)) course ending is calls = absurd (journal_or_none has_journal (ap (option_and_then journal_operand) is))
             exists_by (Some (Run other script name limit)) course ending is calls =
-                let asks : HasScript words script = ap (option_and_then script_of) is in
+                let asks : HasScript words script = ap (option_and_then script_operand) is in
                 start_refused holds.0 limit (scripts script asks).0 course ending (started (sites tree)) starts
-                (run_behind other script name limit course ending (ap (option_and_then plan_of) is) asks calls)
-            exists_by (Some (Resume script name limit)) course ending is calls = absurd (plan_or_none plan has (ap (option_and_then plan_of) is))
-            exists_by (Some (Trace name)) course ending is calls = absurd (plan_or_none plan has (ap (option_and_then plan_of) is))
+                (run_behind other script name limit course ending (ap (option_and_then plan_operand) is) asks calls)
+            exists_by (Some (Resume script name limit)) course ending is calls = absurd (plan_or_none plan has (ap (option_and_then plan_operand) is))
+            exists_by (Some (Trace name)) course ending is calls = absurd (plan_or_none plan has (ap (option_and_then plan_operand) is))
 
   -- ---- a journal
 
-  module _ (no_plan : option_and_then plan_of (command words) ≡ None) (has_journal : HasJournal words) (bytes : List ℕ)
+  module _ (no_plan : option_and_then plan_operand (command words) ≡ None) (has_journal : HasJournal words) (bytes : List ℕ)
       (content : members.content old ≡ Some bytes) (steady : ¬ Rose (members.faults old) (members.faults new)) where
     -- that is taken up
     module _ (text : List ℕ) (first : List Entry) (tree : Tree) (stands : Stands bytes text first) (compiled : IsCompiled text tree)
@@ -289,14 +289,14 @@ module _ {D : Type 0} (members : Disk.Ghosts D) (words : List (List ℕ)) (befor
           → (files : Files) × (before.files ≡ Some files) × ((threads : List Todo) × Holds (script_file (sites tree)) files name threads))
           → ¬ FailsToRead HasScript words before now → (asked : Option Command) (course : Course) (ending : Ending) → command words ≡ asked
           → Calls asked course ending → OrStalled 0 ending.status
-      taken_up_by scripts readable None course ending is calls = absurd (journal_or_none has_journal (ap (option_and_then journal_of) is))
-      taken_up_by scripts readable (Some (TraceStart plan)) course ending is calls = absurd (plan_or_none plan (ap (option_and_then plan_of) is) no_plan)
-      taken_up_by scripts readable (Some (DryRun plan script)) course ending is calls = absurd (plan_or_none plan (ap (option_and_then plan_of) is) no_plan)
-      taken_up_by scripts readable (Some (Check plan)) course ending is calls = absurd (plan_or_none plan (ap (option_and_then plan_of) is) no_plan)
+      taken_up_by scripts readable None course ending is calls = absurd (journal_or_none has_journal (ap (option_and_then journal_operand) is))
+      taken_up_by scripts readable (Some (TraceStart plan)) course ending is calls = absurd (plan_or_none plan (ap (option_and_then plan_operand) is) no_plan)
+      taken_up_by scripts readable (Some (DryRun plan script)) course ending is calls = absurd (plan_or_none plan (ap (option_and_then plan_operand) is) no_plan)
+      taken_up_by scripts readable (Some (Check plan)) course ending is calls = absurd (plan_or_none plan (ap (option_and_then plan_operand) is) no_plan)
       taken_up_by scripts readable (Some (Run plan script name limit)) course ending is calls =
-          absurd (plan_or_none plan (ap (option_and_then plan_of) is) no_plan)
+          absurd (plan_or_none plan (ap (option_and_then plan_operand) is) no_plan)
       taken_up_by scripts readable (Some (Resume script name limit)) course ending is calls =
-          let asks : HasScript words script = ap (option_and_then script_of) is in
+          let asks : HasScript words script = ap (option_and_then script_operand) is in
           let (files, told, (threads, holds)) = scripts script asks in
           let (session, gone_on, (so, behind)) =
           behind_script files told (sites tree) readable (TakenUp text first) _ script asks course ending (taken_up _ course (Some ending) calls) threads holds in
@@ -308,20 +308,20 @@ module _ {D : Type 0} (members : Disk.Ghosts D) (words : List (List ℕ)) (befor
       script_refused_behind : (name : List ℕ) (files : Files) → HasScript words name → before.files ≡ Some files
           → HoldsNone (script_file (sites tree)) files name → ¬ FailsToRead HasScript words before now → (asked : Option Command) (course : Course)
           (ending : Ending) → command words ≡ asked → Calls asked course ending → ending.status ≡ 4
-      script_refused_behind name files asks told none readable None course ending is calls = absurd (script_or_none name asks (ap (option_and_then script_of) is))
+      script_refused_behind name files asks told none readable None course ending is calls = absurd (script_or_none name asks (ap (option_and_then script_operand) is))
       script_refused_behind name files asks told none readable (Some (TraceStart plan)) course ending is calls =
-          absurd (plan_or_none plan (ap (option_and_then plan_of) is) no_plan)
+          absurd (plan_or_none plan (ap (option_and_then plan_operand) is) no_plan)
       script_refused_behind name files asks told none readable (Some (DryRun plan script)) course ending is calls =
-          absurd (plan_or_none plan (ap (option_and_then plan_of) is) no_plan)
+          absurd (plan_or_none plan (ap (option_and_then plan_operand) is) no_plan)
       script_refused_behind name files asks told none readable (Some (Check plan)) course ending is calls =
-          absurd (plan_or_none plan (ap (option_and_then plan_of) is) no_plan)
+          absurd (plan_or_none plan (ap (option_and_then plan_operand) is) no_plan)
       script_refused_behind name files asks told none readable (Some (Run plan script journal limit)) course ending is calls =
-          absurd (plan_or_none plan (ap (option_and_then plan_of) is) no_plan)
+          absurd (plan_or_none plan (ap (option_and_then plan_operand) is) no_plan)
       script_refused_behind name files asks told none readable (Some (Resume script journal limit)) course ending is calls =
-          without_script files told (sites tree) readable (TakenUp text first) _ script (ap (option_and_then script_of) is) course ending
+          without_script files told (sites tree) readable (TakenUp text first) _ script (ap (option_and_then script_operand) is) course ending
           (taken_up _ course (Some ending) calls) name asks none
       script_refused_behind name files asks told none readable (Some (Trace journal)) course ending is calls =
-          absurd (script_or_none name asks (ap (option_and_then script_of) is))
+          absurd (script_or_none name asks (ap (option_and_then script_operand) is))
 
     -- that is refused
     module _ (why : Ending) (refuses : JournalRefuses members old why) where
@@ -337,16 +337,16 @@ module _ {D : Type 0} (members : Disk.Ghosts D) (words : List (List ℕ)) (befor
 
       journal_refused_by : (asked : Option Command) (course : Course) (ending : Ending) → command words ≡ asked → Calls asked course ending
           → ending.status ≡ why.status
-      journal_refused_by None course ending is calls = absurd (journal_or_none has_journal (ap (option_and_then journal_of) is))
-      journal_refused_by (Some (TraceStart plan)) course ending is calls = absurd (plan_or_none plan (ap (option_and_then plan_of) is) no_plan)
-      journal_refused_by (Some (DryRun plan script)) course ending is calls = absurd (plan_or_none plan (ap (option_and_then plan_of) is) no_plan)
-      journal_refused_by (Some (Check plan)) course ending is calls = absurd (plan_or_none plan (ap (option_and_then plan_of) is) no_plan)
-      journal_refused_by (Some (Run plan script name limit)) course ending is calls = absurd (plan_or_none plan (ap (option_and_then plan_of) is) no_plan)
+      journal_refused_by None course ending is calls = absurd (journal_or_none has_journal (ap (option_and_then journal_operand) is))
+      journal_refused_by (Some (TraceStart plan)) course ending is calls = absurd (plan_or_none plan (ap (option_and_then plan_operand) is) no_plan)
+      journal_refused_by (Some (DryRun plan script)) course ending is calls = absurd (plan_or_none plan (ap (option_and_then plan_operand) is) no_plan)
+      journal_refused_by (Some (Check plan)) course ending is calls = absurd (plan_or_none plan (ap (option_and_then plan_operand) is) no_plan)
+      journal_refused_by (Some (Run plan script name limit)) course ending is calls = absurd (plan_or_none plan (ap (option_and_then plan_operand) is) no_plan)
       journal_refused_by (Some (Resume script name limit)) course ending is calls = never_taken_up _ course (Some ending) calls
       journal_refused_by (Some (Trace name)) course ending is calls = never_taken_up _ course (Some ending) calls
 
   module _ (status : ℕ) (headline : Headline members words before now old new status) where
-    journal_complete : (text : List ℕ) (first : List Entry) (tree : Tree) → option_and_then plan_of (command words) ≡ None → HasJournal words
+    journal_complete : (text : List ℕ) (first : List Entry) (tree : Tree) → option_and_then plan_operand (command words) ≡ None → HasJournal words
         → IsCompiled text tree → IsSome (run (sites tree) (events_of first))
         → ((name : List ℕ) → HasScript words name
         → (files : Files) × (before.files ≡ Some files) × ((threads : List Todo) × Holds (script_file (sites tree)) files name threads))
@@ -358,7 +358,7 @@ module _ {D : Type 0} (members : Disk.Ghosts D) (words : List (List ℕ)) (befor
         (λ course ending calls. taken_up_by no_plan has_journal bytes content steady text first tree stands compiled runs scripts readable
         (command words) course ending refl calls)
 
-    script_behind : (name : List ℕ) (files : Files) (text : List ℕ) (first : List Entry) (tree : Tree) → option_and_then plan_of (command words) ≡ None
+    script_behind : (name : List ℕ) (files : Files) (text : List ℕ) (first : List Entry) (tree : Tree) → option_and_then plan_operand (command words) ≡ None
         → HasJournal words → HasScript words name → before.files ≡ Some files → IsCompiled text tree
         → IsSome (run (sites tree) (events_of first)) → HoldsNone (script_file (sites tree)) files name
         → IsSound members words old new (λ bytes. Stands bytes text first) → ¬ FailsToRead HasScript words before now → ¬ Faulted before now
@@ -377,7 +377,7 @@ module _ {D : Type 0} (members : Disk.Ghosts D) (words : List (List ℕ)) (befor
       journal = journal_complete;
     }
 
-    pub refused : IsRefused members words before now old new status
+    pub refused : RefusesFiles members words before now old new status
     refused = record {
       plan = λ plan files has told none readable sound.
           sound_status members words before now old new (λ s. s ≡ 3) status headline sound

@@ -17,8 +17,8 @@ use Rattle.px_run.specs.declared.ending.Stop.TheVariants as stops
 use Rattle.px_run.specs.declared.finishing.Carried.{Carried}
 use Rattle.px_run.specs.Course.{Course, Untouched, TakenUp, Due, AfterFile}
 use Rattle.px_run.specs.Ending.{Ending}
-use Rattle.px_run.specs.File.{FileKind, with_text}
-use Rattle.px_run.specs.Finishing.{Performed}
+use Rattle.px_run.specs.Reading.{FileKind, with_text}
+use Rattle.px_run.specs.Top.{Performed}
 use Rattle.px_run.specs.Headline.{CommandCallsFor, Delivers, Headline}
 use Rattle.px_run.specs.Journaled.{AfterJournal}
 use Rattle.px_run.specs.Kinds.{plan_file, script_file}

@@ -21,7 +21,7 @@ use Rattle.px_script.specs.declared.stall.Stall.{Stall}
 use Rattle.px_script.specs.declared.todo.Todo.{Todo}
 use Rattle.px_sem.specs.Log.{Log, accepted}
 use Rattle.px_sem.specs.declared.stepper.Stepper
-use Rattle.px_session.specs.Posted.{Posts, WasDue}
+use Rattle.px_session.specs.Posting.{Posts, WasDue}
 use Rattle.px_session.specs.Session.{Session}
 use Rattle.px_session.specs.declared.posting.Posted.{Posted}
 use Rattle.px_run.specs.Course.{Due}
@@ -43,7 +43,7 @@ opening_stands members exec text session same_text same_first tells ready image 
     let told = told_of (members.content exec.opening.journal.disk) tells in
     subst (λ (t : List ℕ). Stands image t session.first) (sym same_text)
     (subst (λ (h : List Entry). Stands image text h) (sym same_first)
-    (subst (λ (bytes : List ℕ). Stands bytes text exec.opening.history) (sym (ready.settled told.0 told.1 image left)) (ready.stands told.0 told.1)))
+    (subst (λ (bytes : List ℕ). Stands bytes text exec.opening.history) (sym (ready.synced told.0 told.1 image left)) (ready.stands told.0 told.1)))
 
 -- the text that is printed of a log that goes on from a history, by the history and the log that are shown
 pub prints_session : (Text : List Entry → Log → List ℕ) (mid new : View) (shown history first : List Entry) (shown_log log : Log) (r : Result Unit PrintFault)

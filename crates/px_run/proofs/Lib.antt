@@ -3,9 +3,9 @@ pub mod Causing
 pub mod Completing
 pub mod Delivering
 pub mod Excluding
-pub mod FileKinds
+pub mod Kinds
 pub mod Finished
-pub mod Once
+pub mod OverStops
 pub mod Performing
 pub mod Preparing
 pub mod SeenFiles

@@ -9,7 +9,7 @@ use Rattle.px_output.specs.declared.printer.PrintFault.{PrintFault}
 use Rattle.px_output.specs.declared.printer.PrintFault.TheVariants.{SinkFailed, NoMemory}
 use Rattle.px_run.specs.Course.{Course, Due, AfterFile}
 use Rattle.px_run.specs.Ending.{Ending, runaway_at_start}
-use Rattle.px_run.specs.File.{FileKind, Reads}
+use Rattle.px_run.specs.Reading.{FileKind, Reads}
 use Rattle.px_run.specs.Stops.{number_of, status_of, stop_of, stop_of_start, StopsReading, Performs, ending_of}
 use Rattle.px_run.specs.declared.ending.End.{End}
 use Rattle.px_run.specs.declared.ending.Stop.{Stop}

@@ -12,11 +12,11 @@ use Rattle.px_sem.specs.World.{World}
 use Rattle.px_sem.specs.declared.settling.StepFault.{StepFault}
 use Rattle.px_sem.specs.declared.settling.StepFault.TheVariants as steps
 use Rattle.px_sem.specs.declared.stepper.Stepper
-use Rattle.px_session.proofs.Leaving.{untouched_at_once}
+use Rattle.px_session.proofs.Sessions.{untouched_at_once}
 use Rattle.px_run.specs.Course.{Untouched, AfterFile}
 use Rattle.px_run.specs.Ending.{Ending, runaway_at_start}
-use Rattle.px_run.specs.File.{FileKind, Seen, Content, Longer, Unreadable, Refuses, with_text, Reads}
-use Rattle.px_run.specs.Finishing.{IsPrepared, IsNotPrepared, Runs, RunsPrepared}
+use Rattle.px_run.specs.Reading.{FileKind, Seen, Content, Longer, Unreadable, Refuses, with_text, Reads}
+use Rattle.px_run.specs.Run.{IsPrepared, IsNotPrepared, RunCarries, PreparedCarries}
 use Rattle.px_run.specs.Journaled.{NewCalls, RunCallsBy, RunCalls}
 use Rattle.px_run.specs.Kinds.{plan_file, script_file}
 use Rattle.px_run.specs.Stops.{StopsReading, stop_of_start, ending_of}
@@ -120,8 +120,8 @@ module _ {D : Type 0} (members : Disk.Ghosts D) (plan script name : List ℕ) (l
   -- a plan that has started was run
   pub prepared_runs : {S : Type 0} (runs : Stepper.Ghosts S) (ready : Prepared S) (carried : Carried D) → OnlyReads old mid → KeepsFiles mid new
       → IsPrepared runs plan script old mid ready
-      → RunsPrepared members (runs.state ready.stepper).nodes ready.text.items name limit ready.script.threads mid new disk carried
-      → Runs members plan script name limit old new disk carried
+      → PreparedCarries members (runs.state ready.stepper).nodes ready.text.items name limit ready.script.threads mid new disk carried
+      → RunCarries members plan script name limit old new disk carried
   prepared_runs runs ready carried only keeps is_ready of_nodes = record {
     course = done.course;
     performs = performs_since old mid new (NewCalls members (sites tree) ready.text.items limit threads disk carried.disk done.course)
@@ -143,8 +143,8 @@ module _ {D : Type 0} (members : Disk.Ghosts D) (plan script name : List ℕ) (l
       threads : List Todo
       threads = ready.script.threads
 
-      done : RunsPrepared members (sites tree) ready.text.items name limit threads mid new disk carried
-      done = subst (λ (nodes : List Site). RunsPrepared members nodes ready.text.items name limit threads mid new disk carried) is_ready.nodes of_nodes
+      done : PreparedCarries members (sites tree) ready.text.items name limit threads mid new disk carried
+      done = subst (λ (nodes : List Site). PreparedCarries members nodes ready.text.items name limit threads mid new disk carried) is_ready.nodes of_nodes
 
       start : (found : World × ℕ) × (started (sites tree) ≡ Some found)
       start = start_settles (sites tree) (runs.state ready.stepper).world
@@ -152,7 +152,7 @@ module _ {D : Type 0} (members : Disk.Ghosts D) (plan script name : List ℕ) (l
 
   -- where none has, the disk is as it was
   pub not_prepared_runs : (stop : Stop) → OnlyReads old mid → members.bound_to disk ≡ None → IsNotPrepared plan script old mid stop
-      → Runs members plan script name limit old mid disk (record { result = Err stop; disk = disk })
+      → RunCarries members plan script name limit old mid disk (record { result = Err stop; disk = disk })
   not_prepared_runs (stops.Refused refusal) only unbound calls = record {
     course = Untouched;
     performs = (

@@ -8,25 +8,27 @@ use Rattle.px_event.specs.declared.entry.Entry.{Entry}
 use Rattle.px_exec.proofs.Keeping.{told_of}
 use Rattle.px_exec.specs.Executive.{plan_of, IsTextOf, TellsBytes}
 use Rattle.px_journal.specs.Crash.{LeavesOnly}
-use Rattle.px_journal.specs.Journal.{IsSettled, IsUntouched}
+use Rattle.px_journal.specs.Journal.{IsSynced, IsUntouched}
 use Rattle.px_journal.specs.Layout.{Stands}
 use Rattle.px_journal.proofs.Moments.{grows_on, grows_length, left_before_or_after}
 use Rattle.px_output.specs.View.{View, OnlyReads}
 use Rattle.px_ports.specs.declared.disk.Disk
 use Rattle.px_ports.specs.declared.moment.Moment.{Moment}
-use Rattle.px_script.specs.Rest.{rest}
+use Rattle.px_script.specs.Remainder.{rest}
 use Rattle.px_script.specs.declared.script.Script.{Script}
 use Rattle.px_script.specs.declared.todo.Todo.{Todo}
 use Rattle.px_sem.specs.declared.stepper.Stepper
-use Rattle.px_session.specs.Opened.{Reopens, IsNotReopened, IsReopenWhy}
+use Rattle.px_session.specs.Reopening.{Reopens, IsNotReopened, IsReopenWhy}
 use Rattle.px_session.specs.Session.{Session, unposted, IsFront, LeavesFronts}
 use Rattle.px_session.specs.declared.fault.ReopenFault.{ReopenFault}
 use Rattle.px_session.specs.declared.fault.ReopenWhy.{ReopenWhy}
 use Rattle.px_session.specs.declared.fault.ReopenWhy.TheVariants as reopening
 use Rattle.px_session.specs.declared.reopening.Reopened.{Reopened}
-use Rattle.px_run.specs.Course.{Course, Settled, Unread, TakenUp, GoneOn, Due, AfterFile, Leaves}
+use Rattle.px_run.specs.Course.{Course, Synced, Unread, TakenUp, GoneOn, Due, AfterFile, Leaves}
 use Rattle.px_run.specs.Ending.{Ending, session_ending, runaway_at_start, no_journal, journal_damaged, journal_plan, journal_runaway}
-use Rattle.px_run.specs.Finishing.{IsLeft, ComesBack, Carries, Finishes, Resumes, Traces}
+use Rattle.px_run.specs.Finishing.{ComesBack, Carries, Finishes}
+use Rattle.px_run.specs.Resume.{IsLeft, ResumeCarries}
+use Rattle.px_run.specs.Trace.{TraceCarries}
 use Rattle.px_run.specs.Journaled.{IsSession, DueBehind, HasNoJournal, CannotRun, AfterJournal, ResumeCalls, TraceCalls}
 use Rattle.px_run.specs.Kinds.{script_file}
 use Rattle.px_run.specs.Stops.{Performs, StopsReading, stop_of, stop_of_reopen, ending_of}
@@ -37,7 +39,7 @@ use Rattle.px_run.specs.declared.ending.Stop.TheVariants as stops
 use Rattle.px_run.specs.declared.finishing.Carried.{Carried}
 use Rattle.px_output.specs.Printing.{Prints}
 use Rattle.px_output.specs.declared.printer.PrintFault.{PrintFault}
-use Rattle.px_session.proofs.Leaving.{one_history}
+use Rattle.px_session.proofs.Sessions.{one_history}
 use Rattle.px_run.proofs.Finished.{due_behind_since, opening_stands}
 use Rattle.px_run.proofs.Performing.{performs_since, printed, broken_off}
 use Rattle.px_run.proofs.SeenFiles.{shows_later}
@@ -78,11 +80,11 @@ front_unposted text first bytes stands = record {
 
 -- a journal of this text and history was read, and no more
 left_taken_up : {D : Type 0} (members : Disk.Ghosts D) (text : List ℕ) (first : List Entry) (old new : D) → IsUntouched members old new
-    → TellsBytes members old → IsSettled members new → ForSome (members.content new) (λ told. Stands told text first)
+    → TellsBytes members old → IsSynced members new → ForSome (members.content new) (λ told. Stands told text first)
     → Leaves members old new (TakenUp text first)
-left_taken_up members text first old new untouched tells settled stands = (
+left_taken_up members text first old new untouched tells synced stands = (
   untouched,
-  one_history members new text first settled stands,
+  one_history members new text first synced stands,
   fronts_since members (unposted text first) old new new untouched stands_now
       (record {
         grows = take_all (length (members.moments new)) (members.moments new) (omega arith);
@@ -94,7 +96,7 @@ left_taken_up members text first old new untouched tells settled stands = (
     told = told_of (members.content new) (ap is_some untouched.content ∙ tells)
 
     stands_now : (image : List ℕ) → members.images (members.moments new) image → Stands image text first
-    stands_now image left = subst (λ (b : List ℕ). Stands b text first) (sym (settled told.0 told.1 image left)) (stands told.0 told.1)
+    stands_now image left = subst (λ (b : List ℕ). Stands b text first) (sym (synced told.0 told.1 image left)) (stands told.0 told.1)
 
 -- ---- a journal that is not taken up
 
@@ -115,12 +117,12 @@ module _ {D : Type 0} (members : Disk.Ghosts D) (journal : List ℕ) (Next : D �
       still : fault.why ≢ reopening.DiskFault → IsUntouched members old fault.disk
       still other = record { content = refused.same other; unwritten = refused.unwritten }
 
-      refused_as : (why : ReopenWhy) → fault.why ≡ why → why ≢ reopening.DiskFault → Performs view view (Calls fault.disk Settled) (Err (stop_of_reopen why))
+      refused_as : (why : ReopenWhy) → fault.why ≡ why → why ≢ reopening.DiskFault → Performs view view (Calls fault.disk Synced) (Err (stop_of_reopen why))
           → Carries members journal Calls view view old (record { result = Err (stop_of_reopen fault.why); disk = fault.disk })
       refused_as why is other performs = record {
-        course = Settled;
-        performs = subst (λ (w : ReopenWhy). Performs view view (Calls fault.disk Settled) (Err (stop_of_reopen w))) (sym is) performs;
-        leaves = λ tells. (still (λ e. other (sym is ∙ e)), refused.settled (λ e. other (sym is ∙ e)));
+        course = Synced;
+        performs = subst (λ (w : ReopenWhy). Performs view view (Calls fault.disk Synced) (Err (stop_of_reopen w))) (sym is) performs;
+        leaves = λ tells. (still (λ e. other (sym is ∙ e)), refused.synced (λ e. other (sym is ∙ e)));
         bound = refused.bound;
         back = back;
       }
@@ -133,7 +135,7 @@ module _ {D : Type 0} (members : Disk.Ghosts D) (journal : List ℕ) (Next : D �
         course = TakenUp text first;
         performs = subst (λ (w : ReopenWhy). Performs view view (Calls fault.disk (TakenUp text first)) (Err (stop_of_reopen w))) (sym is) performs;
         leaves = λ tells.
-            left_taken_up members text first old fault.disk (still (λ e. other (sym is ∙ e))) tells (refused.settled (λ e. other (sym is ∙ e)))
+            left_taken_up members text first old fault.disk (still (λ e. other (sym is ∙ e))) tells (refused.synced (λ e. other (sym is ∙ e)))
             (λ told here. stands told (sym (refused.same (λ e. other (sym is ∙ e))) ∙ here));
         bound = refused.bound;
         back = back;
@@ -188,12 +190,12 @@ module _ {S D : Type 0} (runs : Stepper.Ghosts S) (members : Disk.Ghosts D) (scr
 
   -- the script is refused, or can't be read
   pub resume_refused : (stop : Stop) (disk : D) → disk ≡ reopened.exec.opening.journal.disk → StopsReading (script_file (sites tree)) before mid script stop
-      → Resumes members script journal limit before mid old (record { result = Err stop; disk = disk })
+      → ResumeCarries members script journal limit before mid old (record { result = Err stop; disk = disk })
   resume_refused stop disk here stopped = record {
     course = taken_up;
     performs = by stop stopped;
     leaves = λ tells. subst (λ (d : D). Leaves members old d taken_up) (sym here)
-        (left_taken_up members r.text reopened.exec.opening.history old reopened.exec.opening.journal.disk r.untouched tells (r.ready).settled (r.ready).stands);
+        (left_taken_up members r.text reopened.exec.opening.history old reopened.exec.opening.journal.disk r.untouched tells (r.ready).synced (r.ready).stands);
     bound = inl (ap members.bound_to here ∙ r.bound);
     back = reopened_back runs members journal limit old reopened r disk here _;
   }
@@ -214,7 +216,7 @@ module _ {S D : Type 0} (runs : Stepper.Ghosts S) (members : Disk.Ghosts D) (scr
       → IsLeft (sites tree) script history before mid script_left
       → ((other : List ℕ) → mid.read_faults other ≤ now.read_faults other)
       → ((text : List ℕ) → IsTextOf members reopened.exec text → Finishes members runs text reopened.exec script_left.threads mid now carried)
-      → Resumes members script journal limit before now old carried
+      → ResumeCarries members script journal limit before now old carried
   resume_finished history script_left carried same left later finishes = record {
     course = GoneOn f.session;
     performs = performs_since before mid now _ (ResumeCalls members script limit before now old carried.disk (GoneOn f.session)) carried.result only goes_on f.performs;
@@ -273,20 +275,20 @@ module _ {S D : Type 0} (runs : Stepper.Ghosts S) (members : Disk.Ghosts D) (jou
   due_trace = AfterJournal.opened r.text reopened.exec.opening.history (tree_of reopened.plan) traced_course (Some traced_ending) r.stands r.compiled r.settles (refl, refl)
 
   traced : (result : Result End Stop) → Performs before now (TraceCalls members old disk traced_course) result
-      → Traces members journal before now old (record { result = result; disk = disk })
+      → TraceCarries members journal before now old (record { result = result; disk = disk })
   traced result performs = record {
     course = traced_course;
     performs = performs;
     leaves = λ tells. subst (λ (d : D). Leaves members old d traced_course) (sym here)
-        (left_taken_up members r.text reopened.exec.opening.history old reopened.exec.opening.journal.disk r.untouched tells (r.ready).settled (r.ready).stands);
+        (left_taken_up members r.text reopened.exec.opening.history old reopened.exec.opening.journal.disk r.untouched tells (r.ready).synced (r.ready).stands);
     bound = inl (ap members.bound_to here ∙ r.bound);
     back = reopened_back runs members journal limit old reopened r disk here _;
   }
 
-  pub trace_printed : Prints {T = Unit} before [] now [] traced_ending.text (Ok tt) → Traces members journal before now old (record { result = Ok ends.Done; disk = disk })
+  pub trace_printed : Prints {T = Unit} before [] now [] traced_ending.text (Ok tt) → TraceCarries members journal before now old (record { result = Ok ends.Done; disk = disk })
   trace_printed prints = traced (Ok ends.Done) (printed before now (TraceCalls members old disk traced_course) ends.Done traced_ending due_trace refl prints)
 
   pub trace_broken_off : (fault : PrintFault) → Prints {T = Unit} before [] now [] traced_ending.text (Err fault)
-      → Traces members journal before now old (record { result = Err (stop_of fault); disk = disk })
+      → TraceCarries members journal before now old (record { result = Err (stop_of fault); disk = disk })
   trace_broken_off fault prints =
       traced (Err (stop_of fault)) (broken_off before now (TraceCalls members old disk traced_course) traced_ending fault (Err (stop_of fault)) due_trace refl prints)

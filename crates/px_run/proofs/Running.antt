@@ -15,11 +15,11 @@ use Rattle.px_ports.specs.Moment.{Images, LeftSince}
 use Rattle.px_ports.specs.declared.disk.Disk
 use Rattle.px_ports.specs.declared.moment.Moment.{Moment}
 use Rattle.px_script.specs.Follows.{Follows}
-use Rattle.px_script.specs.Rest.{rest}
+use Rattle.px_script.specs.Remainder.{rest}
 use Rattle.px_script.specs.declared.todo.Todo.{Todo}
 use Rattle.px_sem.specs.Run.{run}
 use Rattle.px_sem.specs.declared.stepper.Stepper
-use Rattle.px_session.specs.Opened.{LeavesNew, Creates, IsCreateWhy, IsNotCreated}
+use Rattle.px_session.specs.Creating.{LeavesNew, Creates, IsCreateWhy, IsNotCreated}
 use Rattle.px_session.specs.Session.{Session, unposted, longest_of, IsEnd, IsFront, HasOneHistory, LeavesFronts}
 use Rattle.px_run.specs.Course.{Untouched, HalfMade, Made, Due}
 use Rattle.px_run.specs.Finishing.{Carries, Finishes}

@@ -6,7 +6,7 @@ use Rattle.px_syntax.specs.declared.fault.PlanFault.TheVariants as plans
 use Rattle.px_output.specs.View.{View, OnlyPrints, OnlyReads, KeepsFiles}
 use Rattle.px_run.specs.Course.{Course, Due, AfterFile}
 use Rattle.px_run.specs.Ending.{Ending}
-use Rattle.px_run.specs.File.{FileKind, Seen, Content, Longer, Unreadable, Shows, Reads}
+use Rattle.px_run.specs.Reading.{FileKind, Seen, Content, Longer, Unreadable, Shows, Reads}
 use Rattle.px_run.specs.Kinds.{plan_file}
 use Rattle.px_run.specs.Stops.{stop_of_plan, StopsReading}
 use Rattle.px_run.specs.declared.ending.Stop.{Stop}

@@ -13,7 +13,7 @@ use Rattle.px_sem.specs.Run.{started, settled_world, run}
 use Rattle.px_sem.specs.Stepper.{State, settled_state}
 use Rattle.px_sem.specs.Text.{text_of}
 use Rattle.px_sem.specs.World.{World}
-use Rattle.px_words.specs.Limit.{event_limit}
+use Rattle.px_words.specs.Limited.{event_limit}
 use Rattle.px_run.specs.Course.{Untouched}
 use Rattle.px_run.specs.Ending.{runaway_at_start, start_ending, of_start, log_ending}
 use Rattle.px_run.specs.Headline.{IsDryRun, DryRunOf}

@@ -12,28 +12,28 @@ use Rattle.px_sem.specs.Log.{Log, IsLegal, events_of}
 use Rattle.px_sem.specs.World.{World}
 use Rattle.px_sem.specs.Run.{run, started}
 use Rattle.px_script.specs.Follows.{AreStalled}
-use Rattle.px_script.specs.Rest.{rest}
+use Rattle.px_script.specs.Remainder.{rest}
 use Rattle.px_script.specs.declared.stall.Stall.{Stall}
 use Rattle.px_script.specs.declared.todo.Todo.{Todo}
-use Rattle.px_words.specs.Words.{Command, Run, Resume, plan_of, script_of, journal_of, runs_plan, command}
+use Rattle.px_words.specs.Words.{Command, Run, Resume, plan_operand, script_operand, journal_operand, runs_plan, command}
 use Rattle.px_run.specs.Ending.{Ending, nodes_ending, start_ending, stalled_ending}
-use Rattle.px_run.specs.File.{FileKind, Reads, IsRefusedAs, Holds, HoldsNone}
+use Rattle.px_run.specs.Reading.{FileKind, Reads, IsRefusedAs, Holds, HoldsNone}
 use Rattle.px_run.specs.Journaled.{JournalRefuses}
 use Rattle.px_run.specs.Kinds.{plan_file, script_file}
 
 -- the words ask for a command with this plan; with this script; with this journal
 abbrev pub HasPlan : List (List ℕ) → List ℕ → Type 0
-HasPlan words plan = option_and_then plan_of (command words) ≡ Some plan
+HasPlan words plan = option_and_then plan_operand (command words) ≡ Some plan
 
 abbrev pub HasScript : List (List ℕ) → List ℕ → Type 0
-HasScript words name = option_and_then script_of (command words) ≡ Some name
+HasScript words name = option_and_then script_operand (command words) ≡ Some name
 
 abbrev pub HasJournal : List (List ℕ) → Type 0
-HasJournal words = (name : List ℕ) × (option_and_then journal_of (command words) ≡ Some name)
+HasJournal words = (name : List ℕ) × (option_and_then journal_operand (command words) ≡ Some name)
 
 -- they ask for a run of a plan; for its check alone
-abbrev pub Runs : List (List ℕ) → Type 0
-Runs words = option_map runs_plan (command words) ≡ Some true
+abbrev pub AsksForRun : List (List ℕ) → Type 0
+AsksForRun words = option_map runs_plan (command words) ≡ Some true
 
 abbrev pub OnlyChecks : List (List ℕ) → Type 0
 OnlyChecks words = option_map runs_plan (command words) ≡ Some false
@@ -50,7 +50,7 @@ ReadsScript words old new tree =
 -- the plan is to be run and its file spells one, the script is read, and the start of the plan is such
 abbrev pub Starts : List (List ℕ) → View → View → (Option (World × ℕ) → Type 0) → Type 0
 Starts words old new IsSuch =
-    Runs words × ReadsPlan words old new (λ tree. ReadsScript words old new tree × IsSuch (started (sites tree)))
+    AsksForRun words × ReadsPlan words old new (λ tree. ReadsScript words old new tree × IsSuch (started (sites tree)))
 
 -- the file that the command has as this operand is refused
 abbrev pub OperandIsRefused : {A : Type 0} → FileKind A → (List (List ℕ) → List ℕ → Type 0) → List (List ℕ) → View → View → Type 0
@@ -74,14 +74,14 @@ pub record StallsBehind (before now : View) (script : List ℕ) (plan : List Sit
 module _ {D : Type 0} (members : Disk.Ghosts D) where
   -- the command has a journal and no plan, and the disk stands for the text of a plan and for a history, which are such
   abbrev pub TakesUp : List (List ℕ) → D → (Tree → List Entry → Type 0) → Type 0
-  TakesUp words disk IsSuch = (option_and_then plan_of (command words) ≡ None) × HasJournal words × (text : List ℕ) × (first : List Entry) × (tree : Tree)
+  TakesUp words disk IsSuch = (option_and_then plan_operand (command words) ≡ None) × HasJournal words × (text : List ℕ) × (first : List Entry) × (tree : Tree)
       × ForSome (members.content disk) (λ told. Stands told text first) × IsCompiled text tree × IsSuch tree first
 
   -- the disk is refused: a journal stands where one was to be made, or none that can be taken up where one was to be read
   abbrev pub JournalIsRefused : List (List ℕ) → View → View → D → Type 0
   JournalIsRefused words before now disk =
       (Starts words before now (λ start. IsSome start) × HasJournal words × ForSome (members.content disk) (λ told. IsFalse (is_nothing told)))
-      ⊎ ((option_and_then plan_of (command words) ≡ None) × HasJournal words
+      ⊎ ((option_and_then plan_operand (command words) ≡ None) × HasJournal words
       × (ending : Ending) × JournalRefuses members disk ending × (ending.status ≡ 5))
 
   -- the disk is nothing
@@ -124,7 +124,7 @@ module _ {D : Type 0} (members : Disk.Ghosts D) where
         → Cause words before now old new 7
     sink_fault : Faulted before now → Cause words before now old new 8
     disk_fault :
-        HasJournal words → (option_and_then plan_of (command words) ≡ None) ⊎ Starts words before now (λ start. IsSome start)
+        HasJournal words → (option_and_then plan_operand (command words) ≡ None) ⊎ Starts words before now (λ start. IsSome start)
         → Rose (members.faults old) (members.faults new) → Cause words before now old new 9
     no_memory : Cause words before now old new 10
     -- lines of a script are left, and each thread that has some stands at a wait that isn't met
@@ -161,7 +161,7 @@ module _ {D : Type 0} (members : Disk.Ghosts D) where
         → (status ≡ 10) ⊎ ((status ≡ status_behind (command words) tree) ⊎ (status ≡ 11))
     -- a journal that is taken up
     pub journal :
-        (text : List ℕ) (first : List Entry) (tree : Tree) → option_and_then plan_of (command words) ≡ None → HasJournal words
+        (text : List ℕ) (first : List Entry) (tree : Tree) → option_and_then plan_operand (command words) ≡ None → HasJournal words
         → IsCompiled text tree → IsSome (run (sites tree) (events_of first))
         → ((name : List ℕ) → HasScript words name
         → (files : Files) × (before.files ≡ Some files) × ((threads : List Todo) × Holds (script_file (sites tree)) files name threads))
@@ -171,7 +171,7 @@ module _ {D : Type 0} (members : Disk.Ghosts D) where
 
   -- A plan or a journal that is refused, or a script behind one that is not, and no fault: the command is refused so, or
   -- memory is wanting.
-  pub record IsRefused (words : List (List ℕ)) (before now : View) (old new : D) (status : ℕ) : Type 0 where
+  pub record RefusesFiles (words : List (List ℕ)) (before now : View) (old new : D) (status : ℕ) : Type 0 where
     pub plan :
         (plan : List ℕ) (files : Files) → HasPlan words plan → before.files ≡ Some files → HoldsNone plan_file files plan
         → ¬ FailsToRead HasPlan words before now → ¬ Faulted before now → (status ≡ 10) ⊎ (status ≡ 3)
@@ -182,7 +182,7 @@ module _ {D : Type 0} (members : Disk.Ghosts D) where
         → (status ≡ 10) ⊎ (status ≡ 4)
     -- a plan that is to be run, whose start doesn't settle
     pub runaway :
-        (plan : List ℕ) (files : Files) (tree : Tree) → HasPlan words plan → Runs words → before.files ≡ Some files
+        (plan : List ℕ) (files : Files) (tree : Tree) → HasPlan words plan → AsksForRun words → before.files ≡ Some files
         → Holds plan_file files plan tree
         → ((name : List ℕ) → HasScript words name → (threads : List Todo) × Holds (script_file (sites tree)) files name threads)
         → started (sites tree) ≡ None
@@ -198,12 +198,12 @@ module _ {D : Type 0} (members : Disk.Ghosts D) where
         → (status ≡ 10) ⊎ (status ≡ 5)
     -- a journal that is none that can be taken up: 5, or 6 where the start of its plan runs away
     pub journal :
-        (why : Ending) → option_and_then plan_of (command words) ≡ None → HasJournal words → JournalRefuses members old why
+        (why : Ending) → option_and_then plan_operand (command words) ≡ None → HasJournal words → JournalRefuses members old why
         → ((bytes : List ℕ) × (members.content old ≡ Some bytes)) → ¬ Rose (members.faults old) (members.faults new)
         → ¬ Faulted before now → (status ≡ 10) ⊎ (status ≡ why.status)
     -- a script behind a journal that is taken up
     pub script_behind_journal :
-        (name : List ℕ) (files : Files) (text : List ℕ) (first : List Entry) (tree : Tree) → option_and_then plan_of (command words) ≡ None
+        (name : List ℕ) (files : Files) (text : List ℕ) (first : List Entry) (tree : Tree) → option_and_then plan_operand (command words) ≡ None
         → HasJournal words → HasScript words name → before.files ≡ Some files → IsCompiled text tree
         → IsSome (run (sites tree) (events_of first)) → HoldsNone (script_file (sites tree)) files name
         → IsSound words old new (λ bytes. Stands bytes text first)

@@ -2,13 +2,13 @@
 use Rattle.std.specs.Prelude.{◌≡◌, ℕ, List, Option, Some, None, IsTrue, IsFalse}
 use Rattle.std.specs.Option.{ForSome}
 use Rattle.px_event.specs.declared.entry.Entry.{Entry}
-use Rattle.px_journal.specs.Journal.{IsSettled, IsUnwritten, IsUntouched}
+use Rattle.px_journal.specs.Journal.{IsSynced, IsUnwritten, IsUntouched}
 use Rattle.px_journal.specs.Layout.{is_nothing}
 use Rattle.px_ports.specs.declared.disk.Disk
-use Rattle.px_session.specs.Opened.{LeavesNew}
+use Rattle.px_session.specs.Creating.{LeavesNew}
 use Rattle.px_session.specs.Session.{Session, unposted, HasOneHistory, LeavesFronts}
 use Rattle.px_run.specs.Ending.{Ending}
-use Rattle.px_run.specs.File.{FileKind, Seen, Shows, Spells, Refuses}
+use Rattle.px_run.specs.Reading.{FileKind, Seen, Shows, Spells, Refuses}
 use Rattle.px_output.specs.View.{View}
 
 -- what is due: an ending, or nothing where memory ran out before there was one
@@ -20,7 +20,7 @@ pub data Course : Type 0 where
   -- nothing was written
   Untouched : Course
   -- the same, and a crash leaves just what a read gives
-  Settled : Course
+  Synced : Course
   -- nothing was written, but a call of the disk has failed, behind which a read may give something else
   Unread : Course
   -- the journal of this text was to be made, and a call of the disk failed on the way; one that stood there was not touched
@@ -36,7 +36,7 @@ module _ {D : Type 0} (members : Disk.Ghosts D) where
   -- WHAT EACH COURSE LEAVES OF THE DISK
   abbrev pub Leaves : D → D → Course → Type 0
   Leaves old new Untouched = IsUntouched members old new
-  Leaves old new Settled = IsUntouched members old new × IsSettled members new
+  Leaves old new Synced = IsUntouched members old new × IsSynced members new
   Leaves old new Unread = IsUnwritten members old new
   Leaves old new (HalfMade text) =
       LeavesNew members text old new × ForSome (members.content old) (λ told. IsFalse (is_nothing told) → IsUntouched members old new)

@@ -9,8 +9,8 @@ use Rattle.px_script.specs.Order.{InFileOrder}
 use Rattle.px_script.specs.declared.todo.Todo.{Todo}
 use Rattle.px_sem.specs.Log.{Log, IsLegal, posted_in}
 use Rattle.px_sem.specs.Run.{started}
-use Rattle.px_words.specs.Limit.{event_limit}
-use Rattle.px_words.specs.Words.{Command, TraceStart, DryRun, Check, Run, Resume, Trace, command, journal_of}
+use Rattle.px_words.specs.Limited.{event_limit}
+use Rattle.px_words.specs.Words.{Command, TraceStart, DryRun, Check, Run, Resume, Trace, command, journal_operand}
 use Rattle.px_run.specs.Course.{Course, Untouched, Due, EndsIn, AfterFile, Leaves}
 use Rattle.px_run.specs.Ending.{Ending, usage, nodes_ending, start_ending, log_ending, runaway_at_start}
 use Rattle.px_run.specs.Journaled.{RunCalls, ResumeCalls, TraceCalls}
@@ -61,7 +61,7 @@ module _ {D : Type 0} (members : Disk.Ghosts D) where
     where
       asked_journal : Option Command → Option (List ℕ)
       asked_journal None = None
-      asked_journal (Some asked) = journal_of asked
+      asked_journal (Some asked) = journal_operand asked
 
 -- the whole text, under its own status; a front of it, where the sink failed or took nothing; or a front of it, for want of
 -- memory

@@ -10,20 +10,20 @@ use Rattle.px_journal.specs.Layout.{is_nothing, Stands}
 use Rattle.px_ports.specs.Host.{Rose}
 use Rattle.px_ports.specs.declared.disk.Disk
 use Rattle.px_script.specs.Follows.{Follows, GoesThroughAll, AreStalled, IsNextPost}
-use Rattle.px_script.specs.Rest.{rest}
+use Rattle.px_script.specs.Remainder.{rest}
 use Rattle.px_script.specs.declared.stall.Stall.{Stall}
 use Rattle.px_script.specs.declared.todo.Todo.{Todo}
 use Rattle.px_sem.specs.Log.{IsLegal, events_of}
 use Rattle.px_sem.specs.Run.{run, started}
 use Rattle.px_sem.specs.World.{World}
-use Rattle.px_session.specs.Posted.{WasDue}
+use Rattle.px_session.specs.Posting.{WasDue}
 use Rattle.px_session.specs.Session.{Session, history_of}
 use Rattle.px_syntax.specs.declared.fault.PlanFault.{PlanFault}
 use Rattle.px_syntax.specs.declared.fault.PlanFault.TheVariants.{NoMemory as PlanOutOfMemory}
 use Rattle.px_output.specs.View.{View}
-use Rattle.px_run.specs.Course.{Course, Untouched, Settled, Unread, HalfMade, Made, TakenUp, GoneOn, Due, EndsIn, AfterFile}
+use Rattle.px_run.specs.Course.{Course, Untouched, Synced, Unread, HalfMade, Made, TakenUp, GoneOn, Due, EndsIn, AfterFile}
 use Rattle.px_run.specs.Ending.{Ending, session_ending, stalled_ending, runaway_at_start, disk_fault, journal_exists, no_journal, journal_damaged, journal_plan, journal_runaway}
-use Rattle.px_run.specs.File.{with_text}
+use Rattle.px_run.specs.Reading.{with_text}
 use Rattle.px_run.specs.Kinds.{plan_file, script_file}
 
 -- A SESSION OF A SCRIPT over a text and the history at its opening, behind which the script has these threads left: its log
@@ -114,9 +114,9 @@ module _ {D : Type 0} (members : Disk.Ghosts D) where
   -- what is due where a journal is read first: it is refused, or its plan and its history go on; or the disk fails, or
   -- memory runs out
   pub data AfterJournal (old new : D) (Next : List ℕ → List Entry → Tree → Course → Due → Type 0) : Course → Due → Type 0 where
-    no_memory : AfterJournal old new Next Settled None
+    no_memory : AfterJournal old new Next Synced None
     disk_fails : Rose (members.faults old) (members.faults new) → AfterJournal old new Next Unread (Some disk_fault)
-    no_journal_there : (ending : Ending) → HasNoJournal old ending → AfterJournal old new Next Settled (Some ending)
+    no_journal_there : (ending : Ending) → HasNoJournal old ending → AfterJournal old new Next Synced (Some ending)
     not_run :
         (text : List ℕ) (first : List Entry) (ending : Ending) → StandsFor old text first → CannotRun text first ending
         → AfterJournal old new Next (TakenUp text first) (Some ending)

@@ -1,11 +1,15 @@
 pub mod PlanRefusal
 pub mod Ending
-pub mod File
+pub mod Reading
 pub mod Kinds
 pub mod Course
 pub mod Stops
 pub mod Journaled
 pub mod Headline
 pub mod Finishing
+pub mod Run
+pub mod Resume
+pub mod Trace
+pub mod Top
 pub mod Causes
 pub mod OverStops

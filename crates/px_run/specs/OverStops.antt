@@ -10,7 +10,7 @@ use Rattle.px_ports.specs.declared.disk.Disk
 use Rattle.px_script.specs.Sound.{IsSoundFor}
 use Rattle.px_script.specs.declared.todo.Todo.{Todo}
 use Rattle.px_run.specs.Causes.{HasScript}
-use Rattle.px_run.specs.File.{Reads}
+use Rattle.px_run.specs.Reading.{Reads}
 use Rattle.px_run.specs.Headline.{Headline}
 use Rattle.px_run.specs.Kinds.{script_file}
 

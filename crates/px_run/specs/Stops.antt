@@ -21,7 +21,7 @@ use Rattle.px_output.specs.declared.printer.PrintFault.{PrintFault}
 use Rattle.px_output.specs.declared.printer.PrintFault.TheVariants as faults
 use Rattle.px_run.specs.Course.{Due}
 use Rattle.px_run.specs.Ending.{Ending, usage, plan_too_long, plan_at_fault, script_too_long, script_at_fault, runaway_at_start, read_fault, journal_exists, no_journal, journal_damaged, journal_plan, journal_runaway, disk_fault}
-use Rattle.px_run.specs.File.{FileKind, Seen, Longer, Unreadable, Shows, Refuses}
+use Rattle.px_run.specs.Reading.{FileKind, Seen, Longer, Unreadable, Shows, Refuses}
 use Rattle.px_output.specs.View.{View, Faulted, EmitsPart}
 
 abbrev pub number_of : Status → ℕ

@@ -51,7 +51,7 @@ fn dry_run_plan<H: Host, S: Stepper>(
 {
     let entries = fetch_script(alloc, script, plan, host)?.into_entries(alloc)?;
     let mut stepper = start::<S>(alloc, plan)?;
-    let session = post_each(&mut stepper, alloc, EVENT_LIMIT, entries)?;
-    print_log(alloc, &mut stepper, &session.history, &session.log, host)?;
+    let posted = post_each(&mut stepper, alloc, EVENT_LIMIT, entries)?;
+    print_log(alloc, &mut stepper, &posted.history, &posted.log, host)?;
     Ok(End::Done)
 }

@@ -4,7 +4,7 @@ ghost use Rattle.std.specs.List.{list_all};
 ghost use Rattle.px_core.specs.Fit.{IsFit};
 ghost use Rattle.px_core.specs.Plan.{tree_of, sites};
 ghost use Rattle.px_script.specs.Fit.{IsFitScript};
-ghost use Rattle.px_run.specs.File.{Content, Shows, Reads, with_text};
+ghost use Rattle.px_run.specs.Reading.{Content, Shows, Reads, with_text};
 ghost use Rattle.px_run.specs.Kinds.{plan_file, script_file};
 ghost use Rattle.px_run.specs.Stops.{StopsFetching, StopsReading};
 ghost use Rattle.px_output.specs.View.{view, OnlyReads};

@@ -4,7 +4,7 @@ ghost use Rattle.std.specs.Prelude.{◌≡◌, ◌≤◌, None, IfOk, IfErr};
 ghost use Rattle.px_core.specs.Fit.{IsFit};
 ghost use Rattle.px_core.specs.Plan.{tree_of, sites};
 ghost use Rattle.px_output.specs.View.{view, KeepsFiles, OnlyReads};
-ghost use Rattle.px_run.specs.Finishing.{Resumes, IsLeft};
+ghost use Rattle.px_run.specs.Resume.{ResumeCarries, IsLeft};
 ghost use Rattle.px_run.specs.Kinds.{script_file};
 ghost use Rattle.px_run.specs.Stops.{StopsReading};
 
@@ -36,7 +36,7 @@ pub fn resume<H: Host, D: Disk + Send, S: Stepper + Send, P: Pace, R: Threads + 
     requires unbound { D.bound_to disk ≡ None }
     requires least { 1 ≤ limit }
     requires most { limit ≤ 100000 }
-    ensures resumes { Resumes D.Disk script.now journal.now limit (view H.Host host.old) (view H.Host host.new) disk result }
+    ensures resumes { ResumeCarries D.Disk script.now journal.now limit (view H.Host host.old) (view H.Host host.new) disk result }
     ensures keeps { KeepsFiles (view H.Host host.old) (view H.Host host.new) }
 {
     let Reopened { plan, exec } = match reopen::<S, D>(alloc, disk, journal, limit) {

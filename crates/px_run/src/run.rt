@@ -5,7 +5,7 @@ ghost use Rattle.px_output.specs.View.{view, KeepsFiles, OnlyReads};
 ghost use Rattle.px_script.specs.Fit.{IsFitScript};
 ghost use Rattle.px_sem.specs.Run.{run};
 ghost use Rattle.px_sem.specs.Stepper.{Pending};
-ghost use Rattle.px_run.specs.Finishing.{IsPrepared, IsNotPrepared, Runs, RunsPrepared};
+ghost use Rattle.px_run.specs.Run.{IsPrepared, IsNotPrepared, RunCarries, PreparedCarries};
 
 use crate::ending::Stop;
 use crate::finishing::{Carried, finish};
@@ -43,7 +43,7 @@ pub fn run<H: Host, D: Disk + Send, S: Stepper + Send, P: Pace, R: Threads + Wai
     requires unbound { D.bound_to disk ≡ None }
     requires least { 1 ≤ limit }
     requires most { limit ≤ 100000 }
-    ensures runs { Runs D.Disk plan.now script.now journal.now limit (view H.Host host.old) (view H.Host host.new) disk result }
+    ensures runs { RunCarries D.Disk plan.now script.now journal.now limit (view H.Host host.old) (view H.Host host.new) disk result }
     ensures keeps { KeepsFiles (view H.Host host.old) (view H.Host host.new) }
 {
     match prepare::<H, S>(alloc, plan, script, host) {
@@ -95,7 +95,7 @@ fn run_prepared<H: Host, D: Disk + Send, S: Stepper + Send, P: Pace, R: Threads 
     requires nothing { (S.state prepared.stepper).pending ≡ Pending.Nothing }
     requires started { run (S.state prepared.stepper).nodes [] ≡ Some (S.state prepared.stepper).world }
 
-    ensures runs { RunsPrepared D.Disk (S.state prepared.stepper).nodes prepared.text.items journal.now limit prepared.script.threads
+    ensures runs { PreparedCarries D.Disk (S.state prepared.stepper).nodes prepared.text.items journal.now limit prepared.script.threads
         (view H.Host host.old) (view H.Host host.new) disk result }
     ensures keeps { KeepsFiles (view H.Host host.old) (view H.Host host.new) }
 {

@@ -3,8 +3,8 @@ ghost use Rattle.std.specs.Prelude.{◌≡◌, ◌≤◌, None, map};
 ghost use Rattle.std.specs.String.{string_bytes};
 ghost use Rattle.px_output.specs.View.{view, OnlyPrints, KeepsFiles};
 ghost use Rattle.px_words.specs.Words.{command};
-ghost use Rattle.px_run.specs.Causes.{Cause, IsComplete, IsRefused, IsHandedBack};
-ghost use Rattle.px_run.specs.Finishing.{Performed};
+ghost use Rattle.px_run.specs.Causes.{Cause, IsComplete, RefusesFiles, IsHandedBack};
+ghost use Rattle.px_run.specs.Top.{Performed};
 ghost use Rattle.px_run.specs.Headline.{Headline, Delivers, IsBoundFor};
 ghost use Rattle.px_run.specs.Stops.{number_of, ending_of};
 
@@ -75,7 +75,7 @@ pub fn plexil<H: Host, D: Disk + Send, P: Pace, R: Threads + Wait + Sync>(
         (view H.Host host.old) (view H.Host host.new) disk result.disk result.status }
     ensures complete { IsComplete D.Disk (map string_bytes words.now)
         (view H.Host host.old) (view H.Host host.new) disk result.disk result.status }
-    ensures refused { IsRefused D.Disk (map string_bytes words.now)
+    ensures refused { RefusesFiles D.Disk (map string_bytes words.now)
         (view H.Host host.old) (view H.Host host.new) disk result.disk result.status }
 {
     plexil_with::<H, D, Naive, P, R>(rt, alloc, words, host, disk, pace)
@@ -101,7 +101,7 @@ fn plexil_with<H: Host, D: Disk + Send, S: Stepper + Send, P: Pace, R: Threads +
         (view H.Host host.old) (view H.Host host.new) disk result.disk result.status }
     ensures complete { IsComplete D.Disk (map string_bytes words.now)
         (view H.Host host.old) (view H.Host host.new) disk result.disk result.status }
-    ensures refused { IsRefused D.Disk (map string_bytes words.now)
+    ensures refused { RefusesFiles D.Disk (map string_bytes words.now)
         (view H.Host host.old) (view H.Host host.new) disk result.disk result.status }
 {
     ended::<H, D, S, P, R>(rt, alloc, words, host, disk, pace)

@@ -1,7 +1,7 @@
 // The command `trace`: reads a journal, and prints the trace of its history.
 ghost use Rattle.std.specs.Prelude.{◌≡◌, None};
 ghost use Rattle.px_output.specs.View.{view, KeepsFiles};
-ghost use Rattle.px_run.specs.Finishing.{Traces};
+ghost use Rattle.px_run.specs.Trace.{TraceCarries};
 
 use crate::ending::End;
 use crate::finishing::Carried;
@@ -21,7 +21,7 @@ pub fn trace<H: Host, D: Disk, S: Stepper>(
     disk: D,
 ) -> Carried<D>
     requires unbound { D.bound_to disk ≡ None }
-    ensures traces { Traces D.Disk journal.now (view H.Host host.old) (view H.Host host.new) disk result }
+    ensures traces { TraceCarries D.Disk journal.now (view H.Host host.old) (view H.Host host.new) disk result }
     ensures keeps { KeepsFiles (view H.Host host.old) (view H.Host host.new) }
 {
     let Reopened { plan, exec } = match reopen::<S, D>(alloc, disk, journal, EVENT_LIMIT) {

@@ -15,9 +15,7 @@ use Rattle.px_script.specs.declared.line.What.{What}
 use Rattle.px_script.specs.declared.line.What.TheVariants as whats
 use Rattle.px_script.specs.declared.todo.Todo.{Todo}
 use Rattle.px_script.specs.declared.script.Script.{Script}
-use Rattle.px_script.specs.LineEquality.{line_eq}
-use Rattle.px_script.specs.TodoEquality.{todo_eq}
-use Rattle.px_script.specs.Equality.{script_eq}
+use Rattle.px_script.specs.Equality.{line_eq, todo_eq, script_eq}
 
 abbrev cond_eq : Cond → Cond → Bool
 cond_eq = (cond_equality.ghosts).eq

@@ -9,7 +9,7 @@ use Rattle.px_script.specs.declared.fault.FaultKind.{FaultKind}
 use Rattle.px_script.specs.declared.fault.FaultKind.TheVariants.{TooManyLines}
 use Rattle.px_script.specs.Fit.{rise_above, is_fit_line, are_fit_lines, IsFitScript}
 use Rattle.px_script.specs.ParsedLine.{parsed_line}
-use Rattle.px_script.specs.Rest.{has_a_line}
+use Rattle.px_script.specs.Remainder.{has_a_line}
 use Rattle.px_script.specs.Script.{Threads, Said, said_from, thread_behind, done_at, lines_of_thread, lines_before, fault_in, by_faults, threads_of, reading, script}
 use Rattle.px_script.specs.Text.{lines_of}
 use Rattle.px_script.specs.declared.line.Line.{Line}
@@ -19,7 +19,7 @@ use Rattle.px_script.specs.declared.parsed_line.ParsedLine.{ParsedLine}
 use Rattle.px_script.specs.declared.parsed_line.ParsedLine.TheVariants.{Nothing, Posts, Waits, Thread, Faulty}
 use Rattle.px_script.proofs.FitLines.{Of, IsFitParsedLine, AllFit, all_fit}
 use Rattle.px_script.proofs.Reading.{fault_after}
-use Rattle.px_script.proofs.Rests.{rise-filter, list_all-filter, fit_from}
+use Rattle.px_script.proofs.Remainders.{rise-filter, list_all-filter, fit_from}
 use Rattle.px_script.proofs.SaidLines.{say, done_number, AllBelow, below_said, said_later, count_is, lines_push}
 use Rattle.px_script.proofs.Texts.{few_lines}
 

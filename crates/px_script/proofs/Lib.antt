@@ -15,7 +15,7 @@ pub mod FitLines
 pub mod SaidLines
 pub mod Fitness
 pub mod Reading
-pub mod Rests
+pub mod Remainders
 pub mod Kept
 pub mod Scripts
 pub mod OwnPosts

@@ -3,7 +3,7 @@ use Rattle.std.proofs.Common.{◌≡◌, ℕ, ◌-◌, ◌≤◌, Bool, true, fa
 use Rattle.std.specs.Prelude.{if◌then◌else◌}
 use Rattle.std.proofs.lemmas.List.{take_rest}
 use Rattle.std.proofs.lemmas.Bool.{cases_Bool, eqb-true}
-use Rattle.px_value.specs.Text.{escaped}
+use Rattle.px_value.specs.Text.{unescaped}
 use Rattle.px_lex.specs.String.{is_quote, is_backslash, is_line_end, with_byte, string_from, escape_from, read_string}
 use Rattle.px_lex.specs.Gap.{begins}
 use Rattle.px_script.specs.Place.{behind_byte}
@@ -41,7 +41,7 @@ inside_on false false false c cs content rest h = inner (Some c) (string_from cs
 pub goes_on : (quoting : Quoting) (c : ℕ) (cs content rest : List ℕ) → (quoting ≡ Outside → ⊥)
     → read_behind quoting (c ∷ cs) ≡ Some (content, rest) → (less : List ℕ) × (read_behind (behind_byte quoting c) cs ≡ Some (less, rest))
 goes_on Outside c cs content rest within h = absurd (within refl)
-goes_on Escaped c cs content rest within h = inner (escaped c) (string_from cs) content rest h
+goes_on Escaped c cs content rest within h = inner (unescaped c) (string_from cs) content rest h
 goes_on Inside c cs content rest within h = inside_on (is_quote c) (is_backslash c) (is_line_end c) c cs content rest h
 
 -- the same of a list that is there, by its first byte and what is behind it

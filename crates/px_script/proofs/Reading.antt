@@ -18,7 +18,7 @@ use Rattle.px_script.specs.declared.fault.ScriptFault.{ScriptFault}
 use Rattle.px_script.specs.declared.fault.ScriptFault.TheVariants.{NoMemory}
 use Rattle.px_script.specs.Fault.{number_of}
 use Rattle.px_script.specs.ParsedLine.{parsed_line}
-use Rattle.px_script.specs.Rest.{has_a_line}
+use Rattle.px_script.specs.Remainder.{has_a_line}
 use Rattle.px_script.specs.Script.{Reading, Threads, Fault, Said, said_from, done_at, lines_of_thread, lines_before, fault_in, threads_of, by_faults, reading, IsFaultOf}
 use Rattle.px_script.specs.ThreadLine.{is_thread}
 use Rattle.px_script.specs.Threads.{lines_in, with_line, todos_from}

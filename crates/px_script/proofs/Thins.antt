@@ -9,12 +9,12 @@ use Rattle.std.proofs.lemmas.Bool.{ltb-true, and_parts, and_from, cases_Bool}
 use Rattle.px_event.specs.declared.entry.Entry.{Entry}
 use Rattle.px_script.specs.Fit.{rise_above}
 use Rattle.px_script.specs.Order.{entry_of}
-use Rattle.px_script.specs.Rest.{entries_of, lines_above}
+use Rattle.px_script.specs.Remainder.{entries_of, lines_above}
 use Rattle.px_script.specs.declared.line.Line.{Line}
 use Rattle.px_script.specs.declared.line.What.{What}
 use Rattle.px_script.specs.declared.line.What.TheVariants as whats
 use Rattle.px_script.proofs.OwnPosts.{posts_of}
-use Rattle.px_script.proofs.Rests.{line_of, numbers_of, rise_from, rise-filter}
+use Rattle.px_script.proofs.Remainders.{line_of, numbers_of, rise_from, rise-filter}
 use Rattle.px_script.proofs.Walks.{line_at}
 use Rattle.px_sem.specs.Log.{Log, is_accepted, posted_in, accepted}
 

@@ -3,12 +3,11 @@ pub mod Fault
 pub mod Fit
 pub mod Follows
 pub mod Kinds
-pub mod LineEquality
 pub mod NodeLine
 pub mod Order
 pub mod ParsedLine
 pub mod Place
-pub mod Rest
+pub mod Remainder
 pub mod Script
 pub mod SetLine
 pub mod Setting
@@ -17,6 +16,5 @@ pub mod Telling
 pub mod Text
 pub mod ThreadLine
 pub mod Threads
-pub mod TodoEquality
 pub mod Value
 pub mod WaitLine

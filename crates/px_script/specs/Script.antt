@@ -15,7 +15,7 @@ use Rattle.px_script.specs.declared.parsed_line.ParsedLine.{ParsedLine}
 use Rattle.px_script.specs.declared.parsed_line.ParsedLine.TheVariants.{Nothing, Posts, Waits, Thread, Faulty}
 use Rattle.px_script.specs.Fault.{number_of}
 use Rattle.px_script.specs.ParsedLine.{parsed_line}
-use Rattle.px_script.specs.Rest.{has_a_line}
+use Rattle.px_script.specs.Remainder.{has_a_line}
 
 -- a script's threads, or its first faulty line with the number of its fault
 pub data Reading : Type 0 where

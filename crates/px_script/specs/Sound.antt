@@ -4,7 +4,7 @@ use Rattle.std.specs.List.{Contains}
 use Rattle.px_event.specs.declared.entry.Entry.{Entry}
 use Rattle.px_script.specs.Fit.{rise_above}
 use Rattle.px_script.specs.Order.{all_entries}
-use Rattle.px_script.specs.Rest.{entries_of}
+use Rattle.px_script.specs.Remainder.{entries_of}
 use Rattle.px_script.specs.declared.todo.Todo.{Todo}
 
 -- THE HISTORY IS SOUND FOR THE SCRIPT: each entry is the post of its thread's line of this number, and the numbers of each

@@ -5,7 +5,7 @@ ghost use Rattle.px_event.specs.declared.entry.Entry.{Entry};
 ghost use Rattle.px_script.specs.Equality.{script_eq};
 ghost use Rattle.px_script.specs.Fit.{IsFitScript};
 ghost use Rattle.px_script.specs.Follows.{Follows, IsNextPost};
-ghost use Rattle.px_script.specs.Rest.{rest, IsAhead};
+ghost use Rattle.px_script.specs.Remainder.{rest, IsAhead};
 ghost use Rattle.px_script.specs.Script.{Threads, script};
 ghost use Rattle.px_script.specs.Sound.{IsSoundFor};
 ghost use Rattle.px_script.specs.declared.script.Script.{Script as AnyScript};

@@ -8,9 +8,8 @@ ghost use Rattle.px_script.specs.Order.{entry_of, thread_entries, all_entries, I
 use crate::line::{Line, What};
 use crate::script::Script;
 use crate::todo::Todo;
-use crate::todos::Todos;
 use px_event::Entry;
-use px_value::NoMemory;
+use px_value::{NoMemory, Series};
 use std::alloc::Global;
 
 impl Script {
@@ -27,7 +26,7 @@ impl Script {
 }
 
 /// What all threads post, one thread after another.
-fn all_entries(alloc: Global, threads: Todos) -> Result<Vec<Entry>, NoMemory>
+fn all_entries(alloc: Global, threads: Series<Todo>) -> Result<Vec<Entry>, NoMemory>
     ensures { IfOk result (λ entries. entries.items ≡ all_entries threads) }
 {
     let mut entries = Vec::new(alloc);

@@ -1,14 +1,13 @@
 // The lines of each thread, as they are read.
 ghost use Rattle.std.specs.Prelude.{◌≡◌, [], length, filter, replicate, IsTrue, IfOk, OnOk};
-ghost use Rattle.px_script.specs.Rest.{has_a_line};
+ghost use Rattle.px_script.specs.Remainder.{has_a_line};
 ghost use Rattle.px_script.specs.ThreadLine.{is_thread};
 ghost use Rattle.px_script.specs.Threads.{lines_in, with_line, todos_from};
 
-use crate::left::push_todo;
 use crate::line::Line;
-use crate::lines::Lines;
+use crate::remainder::push_todo;
 use crate::todo::Todo;
-use px_value::NoMemory;
+use px_value::{NoMemory, Series};
 use std::alloc::Global;
 use std::array;
 
@@ -19,7 +18,7 @@ pub(crate) const THREADS: usize = 8;
 #[derive(Drop)]
 pub(crate) struct ThreadLines {
     /// Those of thread 1 first.
-    lines: [Lines; THREADS],
+    lines: [Series<Line>; THREADS],
 }
 
 impl ThreadLines {
@@ -28,7 +27,7 @@ impl ThreadLines {
         ensures { result.lines ≡ replicate 8 [] }
     {
         ThreadLines {
-            lines: array::from_fn(|_| Lines::from(Vec::new(alloc))),
+            lines: array::from_fn(|_| Series::from(Vec::new(alloc))),
         }
     }
 

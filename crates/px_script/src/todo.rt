@@ -1,5 +1,6 @@
 // What one thread has to do.
-use crate::lines::Lines;
+use crate::line::Line;
+use px_value::Series;
 
 /// A thread's lines.
 #[derive(Drop, PartialEq, Eq)]
@@ -7,5 +8,5 @@ pub struct Todo {
     /// From 1 to 8.
     pub thread: u8,
     /// From 1 to 100,000, by rising number.
-    pub lines: Lines,
+    pub lines: Series<Line>,
 }

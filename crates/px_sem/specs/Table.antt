@@ -96,13 +96,13 @@ abbrev pub executing_rows : Kind → Guards → List Row
 executing_rows kind g = stop_rows_of kind g ++ end_row kind g ∷ []
 
 -- the end of winding down, of the kinds that have one
-abbrev pub settle_rows : Kind → Guards → List Row
-settle_rows kinds.List g = (g.children_rest, both_kept IterationEnded g) ∷ []
-settle_rows kinds.Command g = (g.handle_known, by_post IterationEnded g) ∷ []
-settle_rows kind g = []
+abbrev pub wind_down_rows : Kind → Guards → List Row
+wind_down_rows kinds.List g = (g.children_rest, both_kept IterationEnded g) ∷ []
+wind_down_rows kinds.Command g = (g.handle_known, by_post IterationEnded g) ∷ []
+wind_down_rows kind g = []
 
 abbrev pub finishing_rows : Kind → Guards → List Row
-finishing_rows kind g = stop_rows g ++ settle_rows kind g
+finishing_rows kind g = stop_rows g ++ wind_down_rows kind g
 
 abbrev pub failing_rows : Guards → List Row
 failing_rows g =

@@ -24,7 +24,7 @@ use Rattle.px_sem.specs.World.{World, initial_world, standing_of}
 use Rattle.px_sem.specs.Events.{take}
 use Rattle.px_sem.specs.Log.{Log, events_of, accepted}
 use Rattle.px_sem.specs.Run.{after_steps, settling_count, started, posted, settled_world, run}
-use Rattle.px_value.specs.Text.{escape_letter}
+use Rattle.px_value.specs.Text.{quoted}
 use Rattle.px_sem.specs.Step.{moves}
 
 -- a line
@@ -33,20 +33,12 @@ line text = text ++ codes "\n"
 
 -- ---- values
 
--- a byte of a string between quotes: its escape, where it has one
-abbrev pub escaped : ℕ → List ℕ
-escaped byte = of (escape_letter byte)
-  where
-    of : Option ℕ → List ℕ
-    of None = byte ∷ []
-    of (Some letter) = codes "\\" ++ letter ∷ []
-
 abbrev pub value_text : Value → List ℕ
 value_text values.Unknown = codes "UNKNOWN"
 value_text (values.Boolean true) = codes "true"
 value_text (values.Boolean false) = codes "false"
 value_text (values.Integer number) = signed_decimal number
-value_text (values.Text text) = codes "\"" ++ flat_map escaped text ++ codes "\""
+value_text (values.Text text) = quoted text
 value_text (values.State state) = state_word state
 value_text (values.Outcome outcome) = outcome_word outcome
 value_text (values.Failure failure) = failure_word failure

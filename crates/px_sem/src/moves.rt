@@ -1,7 +1,6 @@
 // What one node does in one micro step.
-use crate::names::Names;
 use px_event::Values;
-use px_value::{Failure, Name, NodeState, Outcome, Path, Value};
+use px_value::{Failure, Name, NodeState, Outcome, Path, Series, Value};
 
 /// What a move does beside the change of state.
 #[derive(Debug, Drop)]
@@ -26,7 +25,7 @@ pub enum Effect {
     },
     /// An update is sent: as many values as names.
     Updated {
-        names: Names,
+        names: Series<Name>,
         values: Values,
     },
 }

@@ -14,7 +14,7 @@ use std::alloc::Global;
 
 /// What posts have come to.
 #[derive(Debug, Drop)]
-pub struct Session {
+pub struct Posted {
     /// The accepted entries, in order.
     pub history: Vec<Entry>,
     /// All entries with their replies, in order.
@@ -56,16 +56,16 @@ pub fn post_each<S: Stepper>(
     alloc: Global,
     limit: u32,
     entries: Vec<Entry>,
-) -> Result<Session, NoMemory>
+) -> Result<Posted, NoMemory>
     requires nothing { (S.state stepper.old).pending ≡ Pending.Nothing }
     requires started { run (S.state stepper.old).nodes [] ≡ Some (S.state stepper.old).world }
     requires fit { IsTrue (list_all is_fit_entry entries.items) }
-    ensures each { IfOk result (λ session. map (λ logged. logged.entry) session.log.items ≡ entries.items) }
-    ensures legal { IfOk result (λ session. AnswersEach (S.state stepper.old).nodes limit [] session.log.items) }
-    ensures history { IfOk result (λ session. session.history.items ≡ accepted session.log.items) }
-    ensures within { IfOk result (λ session. length session.history.items ≤ limit) }
-    ensures runs { IfOk result (λ session.
-        run (S.state stepper.old).nodes (events_of session.history.items) ≡ Some (S.state stepper.new).world) }
+    ensures each { IfOk result (λ posted. map (λ logged. logged.entry) posted.log.items ≡ entries.items) }
+    ensures legal { IfOk result (λ posted. AnswersEach (S.state stepper.old).nodes limit [] posted.log.items) }
+    ensures history { IfOk result (λ posted. posted.history.items ≡ accepted posted.log.items) }
+    ensures within { IfOk result (λ posted. length posted.history.items ≤ limit) }
+    ensures runs { IfOk result (λ posted.
+        run (S.state stepper.old).nodes (events_of posted.history.items) ≡ Some (S.state stepper.new).world) }
     ensures rest { S.state stepper.new
         ≡ settled_state (S.state stepper.old).nodes (S.state stepper.new).world }
     ensures part { OnErr result
@@ -82,5 +82,5 @@ pub fn post_each<S: Stepper>(
         }
         log.push(LogEntry { entry, reply })?;
     }
-    Ok(Session { history, log })
+    Ok(Posted { history, log })
 }

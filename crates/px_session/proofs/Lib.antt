@@ -1,4 +1,4 @@
-pub mod Leaving
-pub mod Closing
-pub mod Making
-pub mod Taking
+pub mod Sessions
+pub mod Posted
+pub mod Created
+pub mod Reopened

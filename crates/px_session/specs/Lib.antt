@@ -1,5 +1,6 @@
 pub mod Session
-pub mod Attached
-pub mod Whys
-pub mod Opened
-pub mod Posted
+pub mod Attaching
+pub mod Fault
+pub mod Creating
+pub mod Reopening
+pub mod Posting

@@ -4,10 +4,11 @@ use Rattle.std.specs.Option.{ForSome}
 use Rattle.px_event.specs.declared.entry.Entry.{Entry}
 use Rattle.px_journal.specs.Crash.{LeavesOnly}
 use Rattle.px_journal.specs.Layout.{Stands}
+use Rattle.px_journal.specs.declared.journal.Journal.{Journal}
 use Rattle.px_ports.specs.Moment.{LeftSince}
 use Rattle.px_ports.specs.declared.disk.Disk
 use Rattle.px_sem.specs.Log.{Log, accepted}
-use Rattle.px_exec.specs.Executive.{StandsWithin}
+use Rattle.px_exec.specs.Executive.{Executive, StandsWithin}
 
 -- A SESSION: the plan's text, the history at its opening, the log since, and the entry whose append failed, where one did.
 pub record Session : Type 0 where
@@ -41,6 +42,16 @@ IsEnd session bytes =
 -- the bytes stand for a front of it that has all that was there at first
 abbrev pub IsFront : Session → List ℕ → Type 0
 IsFront session bytes = StandsWithin session.text session.first (longest_of session) bytes
+
+-- the executive is of this opening, and no post has reached it
+pub record IsOpening {S D : Type 0} (journal : Journal D) (history : List Entry) (limit : ℕ) (exec : Executive S D) : Type 0 where
+  pub opened : exec.opening.journal ≡ journal
+  pub untouched : exec.journal ≡ journal
+  pub first : exec.opening.history ≡ history
+  pub now : exec.history ≡ history
+  pub most : exec.opening.limit ≡ limit
+  pub log : exec.log ≡ []
+  pub failed : exec.failed ≡ None
 
 module _ {D : Type 0} (members : Disk.Ghosts D) where
   -- ONE HISTORY: what a read gives, and each image that a crash now may leave, stands for it

@@ -1,6 +1,6 @@
 // The disk of a session, bound to its journal's name.
 ghost use Rattle.std.specs.Prelude.{◌≡◌, None, IfOk, IfErr};
-ghost use Rattle.px_session.specs.Attached.{IsAttached, IsNotAttached};
+ghost use Rattle.px_session.specs.Attaching.{IsAttached, IsNotAttached};
 
 use px_ports::{Disk, DiskFault};
 

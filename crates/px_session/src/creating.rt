@@ -2,7 +2,7 @@
 ghost use Rattle.std.specs.Prelude.{◌≡◌, ◌≤◌, ℕ, [], None, Some, length, IfOk, IfErr};
 ghost use Rattle.px_sem.specs.Run.{run};
 ghost use Rattle.px_sem.specs.Stepper.{Pending};
-ghost use Rattle.px_session.specs.Opened.{Creates, IsNotCreated};
+ghost use Rattle.px_session.specs.Creating.{Creates, IsNotCreated};
 
 use crate::attaching::attached;
 use px_exec::{Exec, OpenFault};

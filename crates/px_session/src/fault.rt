@@ -1,6 +1,6 @@
 // Why no session goes on over a journal.
 ghost use Rattle.std.specs.Prelude.{◌≡◌};
-ghost use Rattle.px_session.specs.Whys.{of_recover, of_plan, of_start, of_open};
+ghost use Rattle.px_session.specs.Fault.{of_recover, of_plan, of_start, of_open};
 
 use px_exec::OpenWhy;
 use px_journal::RecoverWhy;

@@ -3,7 +3,8 @@
 //! `create` makes a journal and `reopen` takes one up, each on a disk that is bound to the journal's name; both give an
 //! executive that has run the history. `post_rest` lets the threads of a script post what they have left, and hands the
 //! disk back. No host is asked here, and nothing printed. `specs/Session.antt` says what a session leaves of the disk at
-//! every moment, `specs/Opened.antt` what opens one, and `specs/Posted.antt` what its posts come to.
+//! every moment, `specs/Creating.antt` and `specs/Reopening.antt` what opens one, and `specs/Posting.antt` what its posts come
+//! to.
 #![tactic(auto)]
 
 mod attaching;

@@ -4,7 +4,7 @@ ghost use Rattle.px_crew.specs.Crew.{failed_entry, Ends};
 ghost use Rattle.px_exec.specs.Executive.{Executive, plan_of};
 ghost use Rattle.px_script.specs.Fit.{IsFitScript};
 ghost use Rattle.px_script.specs.declared.todo.Todo.{Todo};
-ghost use Rattle.px_session.specs.Posted.{Posts};
+ghost use Rattle.px_session.specs.Posting.{Posts};
 
 use px_crew::{Worked, work_together};
 use px_event::Entry;

@@ -9,7 +9,8 @@ ghost use Rattle.px_journal.specs.Journal.{IsReady};
 ghost use Rattle.px_sem.specs.Log.{events_of};
 ghost use Rattle.px_sem.specs.Run.{run};
 ghost use Rattle.px_sem.specs.Stepper.{Pending};
-ghost use Rattle.px_session.specs.Opened.{IsOpening, IsRunWhy, Reopens, IsNotReopened};
+ghost use Rattle.px_session.specs.Reopening.{IsRunWhy, Reopens, IsNotReopened};
+ghost use Rattle.px_session.specs.Session.{IsOpening};
 
 use crate::attaching::attached;
 use crate::fault::{ReopenFault, ReopenWhy};

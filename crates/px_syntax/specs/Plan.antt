@@ -21,8 +21,8 @@ pub record PlanTree : Type 0 where
   pub label : Option Identifier
   pub root : BlockTree
 
-abbrev pub plan_of : Surface → PlanTree
-plan_of surface =
+abbrev pub tree_of_surface : Surface → PlanTree
+tree_of_surface surface =
     record {
       declarations = map declaration_data surface.declarations.items;
       label = surface.label;

@@ -1,7 +1,7 @@
 // The rows of the transition table, state by state and in their order; the first whose guard holds decides.
 ghost use Rattle.std.specs.Prelude.{◌≡◌};
 ghost use Rattle.px_sem.specs.Table.{is_from_above, skipped, first_row, dest};
-ghost use Rattle.px_sem.specs.Table.{empty_stop_rows, stop_rows, stop_rows_of, end_row, settle_rows};
+ghost use Rattle.px_sem.specs.Table.{empty_stop_rows, stop_rows, stop_rows_of, end_row, wind_down_rows};
 ghost use Rattle.px_sem.specs.Table.{inactive_rows, waiting_rows, executing_rows, finishing_rows, failing_rows};
 ghost use Rattle.px_sem.specs.Table.{iteration_ended_rows, finished_rows};
 
@@ -82,7 +82,7 @@ fn from_executing(kind: Kind, g: &Guards) -> Option<Arrival>
 fn from_finishing(kind: Kind, g: &Guards) -> Option<Arrival>
     ensures { result ≡ first_row (finishing_rows kind g.now) }
 {
-    stop(g).or(settle(kind, g))
+    stop(g).or(wind_down(kind, g))
 }
 
 fn stop_of(kind: Kind, g: &Guards) -> Option<Arrival>
@@ -158,8 +158,8 @@ fn end_row(kind: Kind, g: &Guards) -> Row
 }
 
 // The end of winding down, of the kinds that have one.
-fn settle(kind: Kind, g: &Guards) -> Option<Arrival>
-    ensures { result ≡ first_row (settle_rows kind g.now) }
+fn wind_down(kind: Kind, g: &Guards) -> Option<Arrival>
+    ensures { result ≡ first_row (wind_down_rows kind g.now) }
 {
     match kind {
         Kind::List => first_row(&[(g.children_rest, both_kept(IterationEnded, g))]),

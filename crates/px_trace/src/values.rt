@@ -1,6 +1,6 @@
 // The texts of values.
-ghost use Rattle.std.specs.Prelude.{◌≡◌, ◌++◌, codes, flat_map, map, OnOk, OnErr};
-ghost use Rattle.px_sem.specs.Text.{escaped, value_text, arguments_text, parted};
+ghost use Rattle.std.specs.Prelude.{◌≡◌, ◌++◌, map, OnOk, OnErr};
+ghost use Rattle.px_sem.specs.Text.{value_text, arguments_text, parted};
 ghost use Rattle.px_trace.specs.Appending.{Keeps};
 
 use crate::append::push_all;
@@ -17,7 +17,7 @@ pub(crate) fn push_value(value: &Value, out: &mut Vec<u8>) -> Result<(), NoMemor
         Value::Boolean(true) => push_all(out, &["true"]),
         Value::Boolean(false) => push_all(out, &["false"]),
         Value::Integer(number) => push_all(out, &[Buffer::new().format(*number)]),
-        Value::Text(text) => push_quoted(text.as_str().as_bytes(), out),
+        Value::Text(text) => text.push_quoted(out),
         Value::State(state) => push_all(out, &[state.word()]),
         Value::Outcome(outcome) => push_all(out, &[outcome.word()]),
         Value::Failure(failure) => push_all(out, &[failure.word()]),
@@ -48,36 +48,4 @@ fn push_parted(values: &[Value], out: &mut Vec<u8>) -> Result<(), NoMemory>
         }
     }
     Ok(())
-}
-
-fn push_quoted(bytes: &[u8], out: &mut Vec<u8>) -> Result<(), NoMemory>
-    ensures ok { OnOk result (out.new.items ≡ out.old.items ++ value_text (Value.Text bytes.now)) }
-    ensures err { OnErr result (Keeps out.old.items out.new.items) }
-{
-    push_all(out, &["\""])?;
-    push_escaped(bytes, out)?;
-    push_all(out, &["\""])
-}
-
-fn push_escaped(bytes: &[u8], out: &mut Vec<u8>) -> Result<(), NoMemory>
-    ensures ok { OnOk result (out.new.items ≡ out.old.items ++ flat_map escaped bytes.now) }
-    ensures err { OnErr result (Keeps out.old.items out.new.items) }
-{
-    for byte in bytes {
-        push_byte(*byte, out)?;
-    }
-    Ok(())
-}
-
-fn push_byte(byte: u8, out: &mut Vec<u8>) -> Result<(), NoMemory>
-    ensures ok { OnOk result (out.new.items ≡ out.old.items ++ escaped byte) }
-    ensures err { OnErr result (out.new.items ≡ out.old.items) }
-{
-    match byte {
-        b'"' => push_all(out, &["\\\""]),
-        b'\\' => push_all(out, &["\\\\"]),
-        b'\n' => push_all(out, &["\\n"]),
-        b'\t' => push_all(out, &["\\t"]),
-        _ => out.extend_from_slice(&[byte]),
-    }
 }

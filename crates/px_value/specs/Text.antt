@@ -1,5 +1,6 @@
 -- What a text value holds, and how it is spelled between quotes.
-use Rattle.std.specs.Prelude.{ℕ, Bool, nat_le, nat_eq, List, [], ◌∷◌, length, Option, Some, None, if◌then◌else◌}
+use Rattle.std.specs.Prelude.{ℕ, Bool, nat_le, nat_eq, List, [], ◌∷◌, ◌++◌, length, Option, Some, None, codes, if◌then◌else◌}
+use Rattle.std.specs.List.{flat_map}
 
 -- a text value has at most 1,024 bytes
 abbrev pub is_short_text : List ℕ → Bool
@@ -15,8 +16,8 @@ abbrev pub byte_in : List (ℕ × ℕ) → ℕ → Option ℕ
 byte_in [] letter = None
 byte_in (row ∷ rows) letter = if nat_eq letter row.1 then Some row.0 else byte_in rows letter
 
-abbrev pub escaped : ℕ → Option ℕ
-escaped letter = byte_in escapes letter
+abbrev pub unescaped : ℕ → Option ℕ
+unescaped letter = byte_in escapes letter
 
 -- the letter that stands for a byte behind a backslash, where the byte has one
 abbrev pub letter_in : List (ℕ × ℕ) → ℕ → Option ℕ
@@ -25,3 +26,15 @@ letter_in (row ∷ rows) byte = if nat_eq byte row.0 then Some row.1 else letter
 
 abbrev pub escape_letter : ℕ → Option ℕ
 escape_letter byte = letter_in escapes byte
+
+-- how a byte is spelled between quotes: behind a backslash its letter, where it has one; else by itself
+abbrev pub escaped_as : ℕ → Option ℕ → List ℕ
+escaped_as byte None = byte ∷ []
+escaped_as byte (Some letter) = codes "\\" ++ (letter ∷ [])
+
+abbrev pub escaped : ℕ → List ℕ
+escaped byte = escaped_as byte (escape_letter byte)
+
+-- the spelling of a string: its content between quotes
+abbrev pub quoted : List ℕ → List ℕ
+quoted content = codes "\"" ++ (flat_map escaped content ++ codes "\"")

@@ -1,7 +1,7 @@
 //! The values that plans compute with, and the names of what they speak of.
 //!
-//! `enums`, `name`, `path`, `text` and `value` are the types; `truth`, `comparison`, `arithmetic`
-//! and `cells` are the operations, each a table of `specs/`; `laws` has what the tables mean.
+//! `enums`, `name`, `path`, `text` and `value` are the types, and `series` lists of items; `truth`, `comparison`,
+//! `arithmetic` and `cells` are the operations, each a table of `specs/`; `laws` has what the tables mean.
 #![tactic(auto)]
 
 mod arithmetic;
@@ -11,6 +11,7 @@ mod enums;
 pub mod laws;
 mod name;
 mod path;
+mod series;
 mod text;
 mod truth;
 mod value;
@@ -24,6 +25,7 @@ pub use name::{
     is_name,
 };
 pub use path::{PATH_LIMIT, Path, PathFault, is_path};
+pub use series::Series;
 pub use text::{TEXT_LIMIT, Text, TextFault};
 pub use truth::{and, not, or, xor};
 pub use value::Value;

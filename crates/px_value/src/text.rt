@@ -1,11 +1,11 @@
 // The texts that a plan computes with.
-ghost use Rattle.std.specs.Prelude.{◌≡◌, ◌++◌, false, IsTrue, IfOk, IsErrOf, nat_eq};
+ghost use Rattle.std.specs.Prelude.{◌≡◌, ◌++◌, false, length, take, flat_map, IsTrue, IfOk, OnOk, OnErr, IsErrOf, nat_eq};
 ghost use Rattle.std.specs.Cmp.{partial_equiv_from_equiv};
 ghost use Rattle.std.specs.Cmp.Lexicographic.{pointwise, nat_list_eq_equiv};
 ghost use Rattle.std.specs.Cmp.Rules.{hashing};
 ghost use Rattle.std.specs.Hash as fed;
 ghost use Rattle.std.proofs.Common.{rules};
-ghost use Rattle.px_value.specs.Text.{is_short_text};
+ghost use Rattle.px_value.specs.Text.{escape_letter, escaped, is_short_text, quoted};
 ghost use Rattle.px_value.specs.declared.text.TextFault.TheVariants.{NoMemory as OutOfMemory};
 
 use std::alloc::{AllocError, Global};
@@ -87,6 +87,18 @@ impl Text {
         })
     }
 
+    /// Appends the text between quotes, with its escapes. Where memory runs out a part of it may be there, behind all that
+    /// was there before.
+    pub fn push_quoted(&self, out: &mut Vec<u8>) -> Result<(), AllocError>
+        ensures ok { OnOk result (out.new.items ≡ out.old.items ++ quoted self.now) }
+        ensures err { OnErr result (take (length out.old.items) out.new.items ≡ out.old.items) }
+    {
+        out.push(b'"')?;
+        push_escaped(self.as_str().as_bytes(), out)?;
+        out.push(b'"')?;
+        Ok(())
+    }
+
     /// This text followed by the other one.
     pub(crate) fn followed_by(&self, alloc: Global, other: &Text) -> Result<Text, AllocError>
         requires { IsTrue (is_short_text (self.now ++ other.now)) }
@@ -97,6 +109,31 @@ impl Text {
         Ok(Text {
             text: ArcStr::from_string(text)?,
         })
+    }
+}
+
+fn push_escaped(bytes: &[u8], out: &mut Vec<u8>) -> Result<(), AllocError>
+    ensures ok { OnOk result (out.new.items ≡ out.old.items ++ flat_map escaped bytes.now) }
+    ensures err { OnErr result (take (length out.old.items) out.new.items ≡ out.old.items) }
+{
+    for byte in bytes {
+        match escape_letter(*byte) {
+            Some(letter) => out.extend_from_slice(&[b'\\', letter])?,
+            None => out.extend_from_slice(&[*byte])?,
+        }
+    }
+    Ok(())
+}
+
+/// The letter that stands for a byte behind a backslash, where it has one.
+fn escape_letter(byte: u8) -> Option<u8>
+    ensures { result ≡ escape_letter byte }
+{
+    match byte {
+        b'"' | b'\\' => Some(byte),
+        b'\n' => Some(b'n'),
+        b'\t' => Some(b't'),
+        _ => None,
     }
 }
 

@@ -4,7 +4,7 @@ use Rattle.std.specs.Borrow.{Bor}
 use Rattle.std.specs.Option.{option_copied, MatchOption}
 use Rattle.std.specs.Str.Pattern.{FindsTextPrefix}
 use Rattle.std.proofs.lemmas.Bool.{cases_Bool, eqb-true, eq-eqb}
-use Rattle.px_words.specs.Limit.{behind_text}
+use Rattle.px_words.specs.Limited.{behind_text}
 
 is_behind : (text rest : List ℕ) → behind_text text (text ++ rest) ≡ Some rest
 is_behind [] rest = refl

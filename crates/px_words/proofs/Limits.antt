@@ -6,7 +6,7 @@ use Rattle.std.specs.Str.Parse.{digits_value}
 use Rattle.std.proofs.lemmas.Bool.{and_parts, leb-true}
 use Rattle.px_core.specs.Plan.{is_same}
 use Rattle.px_words.specs.Asked.{asked}
-use Rattle.px_words.specs.Limit.{event_limit, is_digits, is_limit, IsLimit, count_of, behind_text, Limited, with_limit, with_operand, limited_by, limited_by_next, behind_option, limited}
+use Rattle.px_words.specs.Limited.{event_limit, is_digits, is_limit, IsLimit, count_of, behind_text, Limited, with_limit, with_operand, limited_by, limited_by_next, behind_option, limited}
 use Rattle.px_words.specs.Operands.{is_option, operands, of_two, of_three}
 use Rattle.px_words.specs.Words.{Command, Run, Resume, HasFitLimit, run_of, resume_of}
 use Rattle.px_words.specs.declared.command.Command.{Command as Asked}

@@ -8,7 +8,7 @@ use Rattle.std.proofs.lemmas.Bool.{cases_Bool, and_parts, leb-true}
 use Rattle.std.proofs.lemmas.Str.Parse.{without_leading_plus_none}
 use Rattle.px_value.specs.Name.{is_digit}
 use Rattle.px_value.proofs.Digits.{all_digits}
-use Rattle.px_words.specs.Limit.{event_limit, is_digits, is_limit, count_of}
+use Rattle.px_words.specs.Limited.{event_limit, is_digits, is_limit, count_of}
 
 -- digits are a numeral, which begins with no sign
 pub record IsPlain (ds : List ℕ) : Type 0 where

@@ -6,7 +6,7 @@ use Rattle.std.specs.Option.{option_map}
 use Rattle.std.proofs.lemmas.Bool.{cases_Bool}
 use Rattle.std.proofs.lemmas.List.{take-map, drop-map}
 use Rattle.px_core.specs.Plan.{is_same}
-use Rattle.px_words.specs.Limit.{event_limit, Limited, with_limit, with_operand, with_front, behind_option, limited}
+use Rattle.px_words.specs.Limited.{event_limit, Limited, with_limit, with_operand, with_front, behind_option, limited}
 use Rattle.px_words.specs.Operands.{is_option, operands, before_option, from_option}
 
 -- ---- words that lie in memory

@@ -1,5 +1,5 @@
 pub mod Operands
-pub mod Limit
+pub mod Limited
 pub mod Words
 pub mod Asked
 pub mod Listed

@@ -3,7 +3,7 @@ use Rattle.std.specs.Prelude.{ℕ, List, ◌++◌, map}
 use Rattle.std.specs.String.{string_bytes}
 use Rattle.px_words.specs.declared.operands.Operands.{Operands}
 use Rattle.px_words.specs.declared.limited.Limited.{Limited as HasLimit}
-use Rattle.px_words.specs.Limit.{Limited, with_limit}
+use Rattle.px_words.specs.Limited.{Limited, with_limit}
 
 abbrev pub listed : Operands → List (List ℕ)
 listed operands =

@@ -2,7 +2,7 @@
 use Rattle.std.specs.Prelude.{ℕ, Bool, true, false, List, [], ◌∷◌, Option, Some, None, codes, if◌then◌else◌}
 use Rattle.std.specs.Option.{option_and_then}
 use Rattle.px_core.specs.Plan.{is_same}
-use Rattle.px_words.specs.Limit.{Limited, IsLimit, limited}
+use Rattle.px_words.specs.Limited.{Limited, IsLimit, limited}
 use Rattle.px_words.specs.Operands.{operands, of_one, of_two, of_three}
 
 -- what the program can do
@@ -15,29 +15,29 @@ pub data Command : Type 0 where
   Trace : (journal : List ℕ) → Command
 
 -- the operands PLAN, SCRIPT and JOURNAL of a command, where it has them
-abbrev pub plan_of : Command → Option (List ℕ)
-plan_of (TraceStart plan) = Some plan
-plan_of (DryRun plan script) = Some plan
-plan_of (Check plan) = Some plan
-plan_of (Run plan script journal limit) = Some plan
-plan_of (Resume script journal limit) = None
-plan_of (Trace journal) = None
+abbrev pub plan_operand : Command → Option (List ℕ)
+plan_operand (TraceStart plan) = Some plan
+plan_operand (DryRun plan script) = Some plan
+plan_operand (Check plan) = Some plan
+plan_operand (Run plan script journal limit) = Some plan
+plan_operand (Resume script journal limit) = None
+plan_operand (Trace journal) = None
 
-abbrev pub script_of : Command → Option (List ℕ)
-script_of (TraceStart plan) = None
-script_of (DryRun plan script) = Some script
-script_of (Check plan) = None
-script_of (Run plan script journal limit) = Some script
-script_of (Resume script journal limit) = Some script
-script_of (Trace journal) = None
+abbrev pub script_operand : Command → Option (List ℕ)
+script_operand (TraceStart plan) = None
+script_operand (DryRun plan script) = Some script
+script_operand (Check plan) = None
+script_operand (Run plan script journal limit) = Some script
+script_operand (Resume script journal limit) = Some script
+script_operand (Trace journal) = None
 
-abbrev pub journal_of : Command → Option (List ℕ)
-journal_of (TraceStart plan) = None
-journal_of (DryRun plan script) = None
-journal_of (Check plan) = None
-journal_of (Run plan script journal limit) = Some journal
-journal_of (Resume script journal limit) = Some journal
-journal_of (Trace journal) = Some journal
+abbrev pub journal_operand : Command → Option (List ℕ)
+journal_operand (TraceStart plan) = None
+journal_operand (DryRun plan script) = None
+journal_operand (Check plan) = None
+journal_operand (Run plan script journal limit) = Some journal
+journal_operand (Resume script journal limit) = Some journal
+journal_operand (Trace journal) = Some journal
 
 -- the limit of a command, where it has one, is one that a history may have
 abbrev pub HasFitLimit : Command → Type 0

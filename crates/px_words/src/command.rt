@@ -2,7 +2,7 @@
 ghost use Rattle.std.specs.Prelude.{◌≡◌, map};
 ghost use Rattle.std.specs.Option.{option_map, option_and_then, ForSome};
 ghost use Rattle.std.specs.String.{string_bytes};
-ghost use Rattle.px_words.specs.Limit.{limited};
+ghost use Rattle.px_words.specs.Limited.{limited};
 ghost use Rattle.px_words.specs.Operands.{operands, of_one, of_two};
 ghost use Rattle.px_words.specs.Words.{TraceStart, DryRun, Check, Trace, HasFitLimit, run_of, resume_of, command};
 

@@ -2,7 +2,7 @@
 ghost use Rattle.std.specs.Prelude.{◌≡◌};
 ghost use Rattle.std.specs.List.{list_all};
 ghost use Rattle.px_value.specs.Name.{is_digit};
-ghost use Rattle.px_words.specs.Limit.{is_digits, is_limit, count_of};
+ghost use Rattle.px_words.specs.Limited.{is_digits, is_limit, count_of};
 
 use crate::limited::EVENT_LIMIT;
 use px_value::is_digit;

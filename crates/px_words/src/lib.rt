@@ -4,7 +4,7 @@
 //! numbers in them.
 //!
 //! `specs/Words.antt` says which words ask for which command, `specs/Operands.antt` what the operands are, and
-//! `specs/Limit.antt` what the option `--events` is.
+//! `specs/Limited.antt` what the option `--events` is.
 #![tactic(auto)]
 
 mod command;

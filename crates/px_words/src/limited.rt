@@ -2,7 +2,7 @@
 ghost use Rattle.std.specs.Prelude.{◌≡◌, ◌++◌, map, codes};
 ghost use Rattle.std.specs.Option.{option_map, option_copied};
 ghost use Rattle.std.specs.String.{string_bytes};
-ghost use Rattle.px_words.specs.Limit.{event_limit, count_of, behind_text, with_limit, with_front, limited_by, behind_option, limited};
+ghost use Rattle.px_words.specs.Limited.{event_limit, count_of, behind_text, with_limit, with_front, limited_by, behind_option, limited};
 
 use crate::count::count_of;
 use crate::operands::{Operands, around_dashes, split_at_option};

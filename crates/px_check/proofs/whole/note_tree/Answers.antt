@@ -1,6 +1,6 @@
 use Rattle.std.proofs.Common.{◌++◌, List, map, flat_map, ap, ◌∙◌}
 use Rattle.px_syntax.specs.BlockFaults.{block_faults}
-use Rattle.px_syntax.specs.Plan.{plan_of, declaration_data}
+use Rattle.px_syntax.specs.Plan.{tree_of_surface, declaration_data}
 use Rattle.px_syntax.specs.PlanFaults.{global_faults, outermost, passing_fault, block_cells}
 use Rattle.px_syntax.specs.Scope.{commands_in, lookups_in}
 use Rattle.px_syntax.specs.declared.plan.Declaration.{Declaration}
@@ -10,7 +10,7 @@ use Rattle.px_check.proofs.whole.note_tree.Goals as goal
 
 pub returns : goal.returns
 returns c =
-    let plan = plan_of c.args.tree.now in
+    let plan = tree_of_surface c.args.tree.now in
     let before = global_faults (flat_map commands_in plan.declarations) ++ global_faults (flat_map lookups_in plan.declarations) in
     noted_then c.args.found.now c.note_blocks.new.found c.note_cells.new.found
     (before ++ block_faults (outermost plan) plan.label plan.root) (passing_fault 0 (block_cells plan.root))

@@ -1,5 +1,5 @@
 use Rattle.px_compile.proofs.Labels.{labels_named}
-use Rattle.px_syntax.specs.Plan.{plan_of}
+use Rattle.px_syntax.specs.Plan.{tree_of_surface}
 use Rattle.px_compile.proofs.plan.compile.Goals as goal
 
 pub core_plan-requires : goal.core_plan-requires
@@ -8,6 +8,6 @@ core_plan-requires c =
     record {
       faultless = c.in_ok-look_for_faults.ensures.ok;
       labels =
-          labels_named c.in_ok-text.text.now spelled.tokens (plan_of c.in_ok-tree.tree) spelled.split.split
+          labels_named c.in_ok-text.text.now spelled.tokens (tree_of_surface c.in_ok-tree.tree) spelled.split.split
           spelled.spelled.spelled;
     }

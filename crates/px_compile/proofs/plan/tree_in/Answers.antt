@@ -2,7 +2,7 @@ use Rattle.std.proofs.Common.{◌≡◌, List, [], subst}
 use Rattle.std.proofs.lemmas.Str.{is_utf8-from_IsUtf8}
 use Rattle.px_lex.specs.declared.token.Token.{Token}
 use Rattle.px_syntax.specs.Depth.{too_deep}
-use Rattle.px_syntax.specs.Plan.{plan_of}
+use Rattle.px_syntax.specs.Plan.{tree_of_surface}
 use Rattle.px_plan_parse.specs.Verdict as parsing
 use Rattle.px_compile.proofs.plan.tree_in.Goals as goal
 
@@ -13,7 +13,7 @@ returns-in-Ok-clause-ok c =
       split = record { text = is_utf8-from_IsUtf8 c.args.text.now c.utf8.text; split = c.in_ok-tokens.ensures.ok };
       shallow = subst (λ (tokens : List Token). too_deep tokens ≡ []) c.deref.ensures.value c.in-Ok.ensures.shallow;
       spelled =
-          subst (λ (tokens : List Token). parsing.IsPlan tokens (plan_of c.in-Ok.tree)) c.deref.ensures.value
+          subst (λ (tokens : List Token). parsing.IsPlan tokens (tree_of_surface c.in-Ok.tree)) c.deref.ensures.value
           c.in-Ok.ensures.ok;
     }
 

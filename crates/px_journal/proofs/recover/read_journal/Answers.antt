@@ -1,7 +1,7 @@
 use Rattle.std.proofs.Common.{Err, ◌∙◌, ap}
 use Rattle.px_ports.specs.Moment.{Stays}
 use Rattle.px_journal.specs.declared.fault.RecoverWhy.TheVariants as whys
-use Rattle.px_journal.proofs.Moments.{elapses_on, settled_on}
+use Rattle.px_journal.proofs.Moments.{elapses_on, synced_on}
 use Rattle.px_journal.proofs.Walking.{err_is}
 use Rattle.px_journal.proofs.recover.read_journal.Goals as goal
 
@@ -22,8 +22,8 @@ returns-clause-writes_nothing g c = record {
   elapses = elapses_on g.D.Disk.images Stays _ _ _ c.sync.ensures.syncs.elapses c.read_stable.ensures.reads.only.elapses;
 }
 
-pub returns-in_err-plan-clause-settled : goal.returns-in_err-plan-clause-settled
-returns-in_err-plan-clause-settled g c = λ other. settled_on g.D.Disk.images _ _ _ _ _ _ c.in_ok-sync.ensures.syncs c.read_stable.ensures.reads.only
+pub returns-in_err-plan-clause-synced : goal.returns-in_err-plan-clause-synced
+returns-in_err-plan-clause-synced g c = λ other. synced_on g.D.Disk.images _ _ _ _ _ _ c.in_ok-sync.ensures.syncs c.read_stable.ensures.reads.only
 
-pub returns-clause-settled : goal.returns-clause-settled
-returns-clause-settled g c = λ other. settled_on g.D.Disk.images _ _ _ _ _ _ c.in_ok-sync.ensures.syncs c.read_stable.ensures.reads.only
+pub returns-clause-synced : goal.returns-clause-synced
+returns-clause-synced g c = λ other. synced_on g.D.Disk.images _ _ _ _ _ _ c.in_ok-sync.ensures.syncs c.read_stable.ensures.reads.only

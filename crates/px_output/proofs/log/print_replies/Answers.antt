@@ -16,7 +16,7 @@ returns-in_err-reply-clause-prints g c =
     let logged = c.logged-item.result in
     fails Unit (view g.H.Host c.args.host.now) (view g.H.Host c.loop-logged.host) (view g.H.Host c.reply.new.host) c.args.printer.now
     c.loop-logged.printer c.reply.new.self _ (log_lines (take count log)) (line_of logged) (log_lines (drop (count + 1) log)) _ _ _
-    c.from_residual.ensures.1 c.loop-logged.invariant.leaves c.loop-logged.invariant.only c.in_err-reply.ensures.prints
+    c.from_residual.ensures.1 c.loop-logged.invariant.buffers c.loop-logged.invariant.only c.in_err-reply.ensures.prints
     (lines_left line_of log count logged c.loop-logged-test.true c.logged-item.is)
 
 pub loop-logged-preserved : goal.loop-logged-preserved

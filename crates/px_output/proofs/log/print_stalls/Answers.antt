@@ -16,7 +16,7 @@ returns-in_err-stall-clause-prints g c =
     let stall = c.stall-item.result in
     fails Unit (view g.H.Host c.args.host.now) (view g.H.Host c.loop-stall.host) (view g.H.Host c.stall.new.host) c.args.printer.now
     c.loop-stall.printer c.stall.new.self _ (stall_lines (take count stalls)) (wait_line stall) (stall_lines (drop (count + 1) stalls)) _ _ _
-    c.from_residual.ensures.1 c.loop-stall.invariant.leaves c.loop-stall.invariant.only c.in_err-stall.ensures.prints
+    c.from_residual.ensures.1 c.loop-stall.invariant.buffers c.loop-stall.invariant.only c.in_err-stall.ensures.prints
     (lines_left wait_line stalls count stall c.loop-stall-test.true c.stall-item.is)
 
 pub loop-stall-preserved : goal.loop-stall-preserved

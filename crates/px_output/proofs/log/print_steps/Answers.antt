@@ -14,7 +14,7 @@ returns-in_err-step-clause-prints g c =
     let from : State = g.S.Stepper.state c.args.stepper.now in
     let more = run_left from (g.S.Stepper.state c.loop-count.stepper) c.loop-count.count c.loop-count.invariant.underway c.requires.settles in
     wants_memory (view g.H.Host c.args.host.now) (view g.H.Host c.loop-count.host) c.args.printer.now c.loop-count.printer _
-    (steps_text from.nodes from.world c.loop-count.count) more.0 _ _ c.from_residual.ensures.1 c.loop-count.invariant.leaves more.1
+    (steps_text from.nodes from.world c.loop-count.count) more.0 _ _ c.from_residual.ensures.1 c.loop-count.invariant.buffers more.1
 
 pub overflow_add-count : goal.overflow_add-count
 overflow_add-count g c =
@@ -37,7 +37,7 @@ returns-in_err-step-2-clause-prints g c =
     c.requires.settles in
     fails Unit (view g.H.Host c.args.host.now) (view g.H.Host c.loop-count.host) (view g.H.Host c.step-in-loop-count.new.host) c.args.printer.now c.loop-count.printer
     c.step-in-loop-count.new.self _ (steps_text from.nodes from.world c.loop-count.count) _ more.0 _ _ _ c.from_residual-in_err-step-2.ensures.1
-    c.loop-count.invariant.leaves c.loop-count.invariant.only c.in_err-step-2.ensures.prints more.1
+    c.loop-count.invariant.buffers c.loop-count.invariant.only c.in_err-step-2.ensures.prints more.1
 
 pub loop-count-smaller : goal.loop-count-smaller
 loop-count-smaller g c =

@@ -6,7 +6,7 @@ use Rattle.px_sem.specs.Run.{settled, started, posted, settled_world}
 use Rattle.px_sem.specs.Stepper.{State, with_event}
 use Rattle.px_sem.specs.Text.{start_text, heading_text, settled_text, events_trace}
 use Rattle.px_sem.specs.World.{initial_world}
-use Rattle.px_output.specs.Printing.{Leaves, Prints}
+use Rattle.px_output.specs.Printing.{Buffers, Prints}
 use Rattle.px_output.specs.View.{view}
 use Rattle.px_output.proofs.Printed.{goes_on, only_more, wants_memory, fails, fails_first}
 use Rattle.px_output.proofs.Telling.{IsNext, run_starts, start_is, told_at_start, next_settles, event_left, told_more, told_to_end}
@@ -64,7 +64,7 @@ returns-in_err-heading-clause-prints g c =
     fails Unit (view g.H.Host c.args.host.now) (view g.H.Host c.loop-entry.host) (view g.H.Host c.heading.new.host) c.args.printer.now
     c.loop-entry.printer c.heading.new.self _ told.told (heading_text (index + 1) entry)
     (settled_text begun.nodes begun.world ++ events_trace plan (index + 1 + 1) (settled_world (posted plan now.world entry.event)) (drop (index + 1) history))
-    _ _ _ c.from_residual-in_err-heading.ensures.1 told.leaves told.only
+    _ _ _ c.from_residual-in_err-heading.ensures.1 told.buffers told.only
     (subst (λ k. Prints {T = Unit} (view g.H.Host c.loop-entry.host) c.loop-entry.printer (view g.H.Host c.heading.new.host) c.heading.new.self
     (heading_text (k + 1) entry) (Err c.in_err-heading.field-0.0)) c.loop-entry.invariant.counted c.in_err-heading.ensures.prints)
     (event_left plan history index now begun (view g.H.Host c.args.host.now) (view g.H.Host c.loop-entry.host) c.args.printer.now
@@ -89,7 +89,7 @@ returns-in_err-begin-clause-prints g c =
     wants_memory (view g.H.Host c.args.host.now) (view g.H.Host c.heading.new.host) c.args.printer.now c.heading.new.self _
     (told.told ++ heading) later _ _ c.from_residual-in_err-begin.ensures.1
     (goes_on (view g.H.Host c.args.host.now) (view g.H.Host c.loop-entry.host) (view g.H.Host c.heading.new.host) c.args.printer.now
-    c.loop-entry.printer c.heading.new.self told.told heading told.leaves (subst (λ k. Leaves (view g.H.Host c.loop-entry.host) c.loop-entry.printer (view g.H.Host c.heading.new.host) c.heading.new.self
+    c.loop-entry.printer c.heading.new.self told.told heading told.buffers (subst (λ k. Buffers (view g.H.Host c.loop-entry.host) c.loop-entry.printer (view g.H.Host c.heading.new.host) c.heading.new.self
     (heading_text (k + 1) entry)) c.loop-entry.invariant.counted c.in_ok-heading.ensures.prints))
     (event_left plan history index now begun (view g.H.Host c.args.host.now) (view g.H.Host c.loop-entry.host) c.args.printer.now
     c.loop-entry.printer entry told next ∙ sym (append_assoc told.told heading later))
@@ -132,7 +132,7 @@ returns-in_err-print_settling-2-clause-prints g c =
     c.args.printer.now c.heading.new.self c.print_settling-in-loop-entry.new.printer _ (told.told ++ heading) steps later _ _ _
     c.from_residual-in_err-print_settling-2.ensures.1
     (goes_on (view g.H.Host c.args.host.now) (view g.H.Host c.loop-entry.host) (view g.H.Host c.heading.new.host) c.args.printer.now
-    c.loop-entry.printer c.heading.new.self told.told heading told.leaves (subst (λ k. Leaves (view g.H.Host c.loop-entry.host) c.loop-entry.printer (view g.H.Host c.heading.new.host) c.heading.new.self
+    c.loop-entry.printer c.heading.new.self told.told heading told.buffers (subst (λ k. Buffers (view g.H.Host c.loop-entry.host) c.loop-entry.printer (view g.H.Host c.heading.new.host) c.heading.new.self
     (heading_text (k + 1) entry)) c.loop-entry.invariant.counted c.in_ok-heading.ensures.prints))
     (only_more (view g.H.Host c.args.host.now) (view g.H.Host c.loop-entry.host) (view g.H.Host c.heading.new.host) told.only c.in_ok-heading.ensures.only)
     c.in_err-print_settling-2.ensures.prints
@@ -157,7 +157,7 @@ loop-entry-preserved g c =
       told = told_more plan history index now begun (g.S.Stepper.state c.print_settling-in-loop-entry.new.stepper) (view g.H.Host c.args.host.now)
           (view g.H.Host c.loop-entry.host) (view g.H.Host c.heading.new.host) (view g.H.Host c.print_settling-in-loop-entry.new.host)
           c.args.printer.now c.loop-entry.printer c.heading.new.self c.print_settling-in-loop-entry.new.printer entry told next
-          (subst (λ k. Leaves (view g.H.Host c.loop-entry.host) c.loop-entry.printer (view g.H.Host c.heading.new.host) c.heading.new.self
+          (subst (λ k. Buffers (view g.H.Host c.loop-entry.host) c.loop-entry.printer (view g.H.Host c.heading.new.host) c.heading.new.self
           (heading_text (k + 1) entry)) c.loop-entry.invariant.counted c.in_ok-heading.ensures.prints) c.in_ok-heading.ensures.only
           (c.in_ok-print_settling-2.ensures.settled, c.in_ok-print_settling-2.ensures.rest)
           c.in_ok-print_settling-2.ensures.prints c.in_ok-print_settling-2.ensures.only;

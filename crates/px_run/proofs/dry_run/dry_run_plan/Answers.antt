@@ -34,12 +34,12 @@ returns-in_err-stepper-clause-performs g c =
     c.in_ok-fetch_script.ensures.ok c.in_ok-fetch_script.ensures.only c.from_residual-in_err-stepper.ensures.1
     (λ is. DryRunOf.runaway (c.in_err-stepper.ensures.runaway (ap Err is)))
 
-pub returns-in_err-session-clause-performs : goal.returns-in_err-session-clause-performs
-returns-in_err-session-clause-performs g c =
+pub returns-in_err-posted-clause-performs : goal.returns-in_err-posted-clause-performs
+returns-in_err-posted-clause-performs g c =
     memory_stopped (view g.H.Host c.args.host.now) (view g.H.Host c.fetch_script.new.host)
     (AfterFile (script_file (sites (tree_of c.args.plan.now))) (view g.H.Host c.args.host.now) (view g.H.Host c.fetch_script.new.host) c.args.script.now Untouched
-    (DryRunOf (sites (tree_of c.args.plan.now))) Untouched) c.from_residual-in_err-session.result
-    c.from_residual-in_err-session.ensures.1 AfterFile.no_memory c.in_ok-fetch_script.ensures.only
+    (DryRunOf (sites (tree_of c.args.plan.now))) Untouched) c.from_residual-in_err-posted.result
+    c.from_residual-in_err-posted.ensures.1 AfterFile.no_memory c.in_ok-fetch_script.ensures.only
 
 pub post_each-requires-clause-started : goal.post_each-requires-clause-started
 post_each-requires-clause-started g c =
@@ -47,40 +47,40 @@ post_each-requires-clause-started g c =
 
 pub print_log-requires-clause-events : goal.print_log-requires-clause-events
 print_log-requires-clause-events g c =
-    rw (c.deref.ensures.value, c.in_ok-session.ensures.history)
-    (fit_accepted c.in_ok-session.session.log.items (rw c.in_ok-session.ensures.each c.in_ok-entries.ensures.fit))
+    rw (c.deref.ensures.value, c.in_ok-posted.ensures.history)
+    (fit_accepted c.in_ok-posted.posted.log.items (rw c.in_ok-posted.ensures.each c.in_ok-entries.ensures.fit))
 
 pub returns-in_err-print_log-clause-performs : goal.returns-in_err-print_log-clause-performs
 returns-in_err-print_log-clause-performs g c =
     let tree = tree_of c.args.plan.now in
-    let session = c.in_ok-session.session in
+    let posted = c.in_ok-posted.posted in
     let mid = view g.H.Host c.fetch_script.new.host in
     let new = view g.H.Host c.print_log.new.host in
     let threads = c.in_ok-fetch_script.field-0.threads in
-    let due = posted_all tree threads (g.S.Stepper.state c.in_ok-stepper.stepper) session.log.items
+    let due = posted_all tree threads (g.S.Stepper.state c.in_ok-stepper.stepper) posted.log.items
     c.in_ok-entries.entries.items c.in_ok-stepper.ensures.settled c.in_ok-stepper.ensures.rest c.in_ok-entries.ensures.order
-    c.in_ok-session.ensures.each c.in_ok-session.ensures.legal in
-    let nodes = ap (λ (s : State). s.nodes) c.in_ok-session.ensures.rest
+    c.in_ok-posted.ensures.each c.in_ok-posted.ensures.legal in
+    let nodes = ap (λ (s : State). s.nodes) c.in_ok-posted.ensures.rest
     ∙ nodes_at_rest (sites tree) (g.S.Stepper.state c.in_ok-stepper.stepper) c.in_ok-stepper.ensures.rest in
     broken_off_behind (List Todo) (script_file (sites tree)) (view g.H.Host c.args.host.now) mid new c.args.script.now threads Untouched
-    (DryRunOf (sites tree)) Untouched (log_ending (sites tree) session.log.items) c.in_err-print_log.field-0.0 _ c.in_ok-fetch_script.ensures.ok c.in_ok-fetch_script.ensures.only
+    (DryRunOf (sites tree)) Untouched (log_ending (sites tree) posted.log.items) c.in_err-print_log.field-0.0 _ c.in_ok-fetch_script.ensures.ok c.in_ok-fetch_script.ensures.only
     c.in_err-print_log.ensures.only due c.from_residual-in_err-print_log.ensures.1
-    (prints_log mid new (g.S.Stepper.state c.post_each.new.stepper).nodes (sites tree) c.deref.result.now session.history.items c.deref-2.result.now session.log.items (Err c.in_err-print_log.field-0.0)
-    nodes c.deref.ensures.value c.deref-2.ensures.value c.in_ok-session.ensures.history c.in_err-print_log.ensures.prints)
+    (prints_log mid new (g.S.Stepper.state c.post_each.new.stepper).nodes (sites tree) c.deref.result.now posted.history.items c.deref-2.result.now posted.log.items (Err c.in_err-print_log.field-0.0)
+    nodes c.deref.ensures.value c.deref-2.ensures.value c.in_ok-posted.ensures.history c.in_err-print_log.ensures.prints)
 
 pub returns-clause-performs : goal.returns-clause-performs
 returns-clause-performs g c =
     let tree = tree_of c.args.plan.now in
-    let session = c.in_ok-session.session in
+    let posted = c.in_ok-posted.posted in
     let mid = view g.H.Host c.fetch_script.new.host in
     let new = view g.H.Host c.print_log.new.host in
     let threads = c.in_ok-fetch_script.field-0.threads in
-    let due = posted_all tree threads (g.S.Stepper.state c.in_ok-stepper.stepper) session.log.items
+    let due = posted_all tree threads (g.S.Stepper.state c.in_ok-stepper.stepper) posted.log.items
     c.in_ok-entries.entries.items c.in_ok-stepper.ensures.settled c.in_ok-stepper.ensures.rest c.in_ok-entries.ensures.order
-    c.in_ok-session.ensures.each c.in_ok-session.ensures.legal in
-    let nodes = ap (λ (s : State). s.nodes) c.in_ok-session.ensures.rest
+    c.in_ok-posted.ensures.each c.in_ok-posted.ensures.legal in
+    let nodes = ap (λ (s : State). s.nodes) c.in_ok-posted.ensures.rest
     ∙ nodes_at_rest (sites tree) (g.S.Stepper.state c.in_ok-stepper.stepper) c.in_ok-stepper.ensures.rest in
     printed_behind (List Todo) (script_file (sites tree)) (view g.H.Host c.args.host.now) mid new c.args.script.now threads Untouched
-    (DryRunOf (sites tree)) Untouched ends.Done (log_ending (sites tree) session.log.items) c.in_ok-fetch_script.ensures.ok c.in_ok-fetch_script.ensures.only c.in_ok-print_log.ensures.only due refl
-    (prints_log mid new (g.S.Stepper.state c.post_each.new.stepper).nodes (sites tree) c.deref.result.now session.history.items c.deref-2.result.now session.log.items (Ok tt)
-    nodes c.deref.ensures.value c.deref-2.ensures.value c.in_ok-session.ensures.history c.in_ok-print_log.ensures.prints)
+    (DryRunOf (sites tree)) Untouched ends.Done (log_ending (sites tree) posted.log.items) c.in_ok-fetch_script.ensures.ok c.in_ok-fetch_script.ensures.only c.in_ok-print_log.ensures.only due refl
+    (prints_log mid new (g.S.Stepper.state c.post_each.new.stepper).nodes (sites tree) c.deref.result.now posted.history.items c.deref-2.result.now posted.log.items (Ok tt)
+    nodes c.deref.ensures.value c.deref-2.ensures.value c.in_ok-posted.ensures.history c.in_ok-print_log.ensures.prints)

@@ -1,4 +1,4 @@
-use Rattle.px_run.proofs.Once.{once, once_after}
+use Rattle.px_run.proofs.OverStops.{once, once_after}
 use Rattle.px_run.proofs.laws.once_over_stops.Goals as goal
 
 pub returns-clause-one_call : goal.returns-clause-one_call

@@ -1,5 +1,5 @@
 use Rattle.std.proofs.Common.{refl, sym}
-use Rattle.px_run.specs.File.{Content}
+use Rattle.px_run.specs.Reading.{Content}
 use Rattle.px_run.proofs.reading.fetch_script.Goals as goal
 
 pub returns-in-Ok-clause-ok : goal.returns-in-Ok-clause-ok

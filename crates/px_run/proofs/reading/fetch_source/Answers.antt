@@ -1,6 +1,6 @@
 use Rattle.std.proofs.Common.{refl, sym}
 use Rattle.px_output.specs.View.{view}
-use Rattle.px_run.specs.File.{Content}
+use Rattle.px_run.specs.Reading.{Content}
 use Rattle.px_run.proofs.SeenFiles.{plan_refused}
 use Rattle.px_run.proofs.reading.fetch_source.Goals as goal
 

@@ -1,8 +1,8 @@
 use Rattle.std.proofs.Common.{[], refl, subst}
 use Rattle.px_exec.proofs.Growing.{some_run}
 use Rattle.px_output.specs.View.{view}
-use Rattle.px_script.proofs.Rests.{rest_whole}
-use Rattle.px_session.specs.Opened.{Creates, IsNotCreated}
+use Rattle.px_script.proofs.Remainders.{rest_whole}
+use Rattle.px_session.specs.Creating.{Creates, IsNotCreated}
 use Rattle.px_run.proofs.Running.{made_runs, not_made_runs}
 use Rattle.px_run.proofs.run.run_prepared.Goals as goal
 

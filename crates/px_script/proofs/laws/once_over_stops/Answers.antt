@@ -1,4 +1,4 @@
-use Rattle.px_script.proofs.Rests.{rest_whole, rest_twice, rest_ahead}
+use Rattle.px_script.proofs.Remainders.{rest_whole, rest_twice, rest_ahead}
 use Rattle.px_script.proofs.laws.once_over_stops.Goals as goal
 
 pub returns : goal.returns

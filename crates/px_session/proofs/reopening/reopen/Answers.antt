@@ -1,5 +1,5 @@
 use Rattle.std.proofs.Common.{refl}
-use Rattle.px_session.proofs.Taking.{not_recovered, not_run, taken_up}
+use Rattle.px_session.proofs.Reopened.{not_recovered, not_run, taken_up}
 use Rattle.px_session.proofs.reopening.reopen.Goals as goal
 
 pub returns-in-Ok-recover-clause-refused : goal.returns-in-Ok-recover-clause-refused
@@ -7,7 +7,7 @@ returns-in-Ok-recover-clause-refused g c =
     let read = c.in-Ok-recover.recovered in
     let told = c.in-Ok-recover.ensures in
     not_run g.D.Disk c.args.name.now c.args.disk c.in-Ok.disk c.in-Ok.ensures.attached read.journal.disk told.writes_nothing told.goes
-    read.plan.items read.history.items c.run_recovered.result (λ failed. failed) told.stands (told.same (λ none. none)) (told.read).settled
+    read.plan.items read.history.items c.run_recovered.result (λ failed. failed) told.stands (told.same (λ none. none)) (told.read).synced
     c.run_recovered.ensures.handed_back c.run_recovered.ensures.why
 
 pub returns-in-Err-recover-clause-refused : goal.returns-in-Err-recover-clause-refused
@@ -15,7 +15,7 @@ returns-in-Err-recover-clause-refused g c =
     let fault = c.in-Err-recover.field-0 in
     let told = c.in-Err-recover.ensures in
     not_recovered g.D.Disk c.args.name.now c.args.disk c.in-Ok.disk c.in-Ok.ensures.attached fault.disk told.writes_nothing told.goes
-    fault.why c.into.result c.into.ensures told.no_journal told.damaged told.goes.faults told.same told.settled
+    fault.why c.into.result c.into.ensures told.no_journal told.damaged told.goes.faults told.same told.synced
 
 pub returns-in-Ok-recover-clause-reopened : goal.returns-in-Ok-recover-clause-reopened
 returns-in-Ok-recover-clause-reopened g c =

@@ -2,7 +2,7 @@ use Rattle.std.proofs.Common.{◌≡◌, ℕ, List, ◌++◌, ◌∷◌, [], Som
 use Rattle.std.specs.Str.{bytes_eq}
 use Rattle.indexmap.specs.IndexMap.{get}
 use Rattle.px_check.specs.Scoped.{nearest_of}
-use Rattle.px_check.specs.declared.scoped.Entry.{Entry}
+use Rattle.px_check.specs.declared.scoped.Shadowing.{Shadowing}
 use Rattle.px_check.proofs.Scoping.{linked_push, index_push}
 use Rattle.px_check.proofs.scoped.Scoped.push.Goals as goal
 
@@ -10,7 +10,7 @@ pub invariant_of-self-2 : goal.invariant_of-self-2
 invariant_of-self-2 g c =
     let items = c.self.inside.entries.items in
     let old = c.self.inside.index in
-    let entry : Entry g.row.T.Denot =
+    let entry : Shadowing g.row.T.Denot =
     record { name = c.in_ok-own.own; meaning = c.args.meaning; shadowed = c.in_ok-shadowed.shadowed } in
     let pushed : c.push.new.self.items ≡ items ++ entry ∷ [] = search rules in
     let same : c.in_ok-key.key ≡ c.in_ok-own.own = c.in_ok-key.ensures.copy ∙ sym c.in_ok-own.ensures.copy in

@@ -18,7 +18,7 @@ put-requires-clause-within g c = λ told is.
 pub returns-in_err-put-clause-whole_or_not : goal.returns-in_err-put-clause-whole_or_not
 returns-in_err-put-clause-whole_or_not g c = λ text history ready told is.
     first_leaves text history c.args.entry.now told (ready.stands told is) c.requires.fit (omega (arith, ready.count, c.requires.room))
-    g.D.Disk.images _ _ _ _ is (ready.settled told is) _ (omega (arith, ready.gate)) _ (c.deref.ensures.value ∙ c.fill.ensures.bytes) _ c.put.ensures.puts
+    g.D.Disk.images _ _ _ _ is (ready.synced told is) _ (omega (arith, ready.gate)) _ (c.deref.ensures.value ∙ c.fill.ensures.bytes) _ c.put.ensures.puts
 
 pub returns-in_err-put-clause-keeps : goal.returns-in_err-put-clause-keeps
 returns-in_err-put-clause-keeps g c = λ told is.
@@ -36,13 +36,13 @@ put-requires-2-clause-within g c = λ mid mid_is.
     let first = c.in_ok-put.ensures.puts in
     let was = told_before _ _ _ mid first.written mid_is in
     let within = mid_within text history c.args.entry.now (was.0) (ready.stands (was.0) (was.1)) c.requires.fit (omega (arith, ready.count, c.requires.room))
-    g.D.Disk.images _ _ _ _ (was.1) (ready.settled (was.0) (was.1)) _ (omega (arith, ready.gate)) _ (c.deref.ensures.value ∙ c.fill.ensures.bytes) first in
+    g.D.Disk.images _ _ _ _ (was.1) (ready.synced (was.0) (was.1)) _ (omega (arith, ready.gate)) _ (c.deref.ensures.value ∙ c.fill.ensures.bytes) first in
     omega (arith, ready.gate, within mid mid_is)
 
 pub returns-in_err-put-2-clause-whole_or_not : goal.returns-in_err-put-2-clause-whole_or_not
 returns-in_err-put-2-clause-whole_or_not g c = λ text history ready told is.
     second_leaves text history c.args.entry.now told (ready.stands told is) c.requires.fit (omega (arith, ready.count, c.requires.room))
-    g.D.Disk.images _ _ _ _ is (ready.settled told is) _ (omega (arith, ready.gate)) _ (c.deref.ensures.value ∙ c.fill.ensures.bytes) c.in_ok-put.ensures.puts
+    g.D.Disk.images _ _ _ _ is (ready.synced told is) _ (omega (arith, ready.gate)) _ (c.deref.ensures.value ∙ c.fill.ensures.bytes) c.in_ok-put.ensures.puts
     _ _ _ ready.gate _ c.put-2.ensures.puts
 
 pub returns-in_err-put-2-clause-keeps : goal.returns-in_err-put-2-clause-keeps
@@ -56,7 +56,7 @@ returns-in_err-put-2-clause-keeps g c = λ told is.
 pub returns-clause-whole_or_not : goal.returns-clause-whole_or_not
 returns-clause-whole_or_not g c = λ text history ready told is.
     second_leaves text history c.args.entry.now told (ready.stands told is) c.requires.fit (omega (arith, ready.count, c.requires.room))
-    g.D.Disk.images _ _ _ _ is (ready.settled told is) _ (omega (arith, ready.gate)) _ (c.deref.ensures.value ∙ c.fill.ensures.bytes) c.in_ok-put.ensures.puts
+    g.D.Disk.images _ _ _ _ is (ready.synced told is) _ (omega (arith, ready.gate)) _ (c.deref.ensures.value ∙ c.fill.ensures.bytes) c.in_ok-put.ensures.puts
     _ _ _ ready.gate _ c.put-2.ensures.puts
 
 pub returns-clause-keeps : goal.returns-clause-keeps
@@ -82,12 +82,12 @@ returns-clause-kept g c = λ text history ready.
     let first = c.in_ok-put.ensures.puts in
     let second = c.in_ok-put-2.ensures.puts in
     record {
-      settled = second.settled;
+      synced = second.synced;
       stands = λ now now_is.
           let mid = told_before _ _ _ now second.written now_is in
           let was = told_before _ _ _ (mid.0) first.written (mid.1) in
           then_stands text history c.args.entry.now (was.0) (ready.stands (was.0) (was.1)) c.requires.fit (omega (arith, ready.count, c.requires.room))
-          g.D.Disk.images _ _ _ _ (was.1) (ready.settled (was.0) (was.1)) _ (omega (arith, ready.gate)) _ (c.deref.ensures.value ∙ c.fill.ensures.bytes) first
+          g.D.Disk.images _ _ _ _ (was.1) (ready.synced (was.0) (was.1)) _ (omega (arith, ready.gate)) _ (c.deref.ensures.value ∙ c.fill.ensures.bytes) first
           _ _ _ ready.gate second now now_is;
       gate =
           let place = next_place text history c.args.entry.now c.args.self.now.gate c.fill.new.buffer.items ready.gate c.fill.ensures.bytes in

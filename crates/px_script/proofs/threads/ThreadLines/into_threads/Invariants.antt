@@ -1,5 +1,5 @@
 use Rattle.std.proofs.Common.{◌≡◌, length, filter}
-use Rattle.px_script.specs.Rest.{has_a_line}
+use Rattle.px_script.specs.Remainder.{has_a_line}
 use Rattle.px_script.specs.Threads.{todos_from}
 use Rattle.px_script.proofs.threads.ThreadLines.into_threads.Given as goal
 

@@ -1,8 +1,0 @@
-use Rattle.std.proofs.Common.{refl, ◌∙◌}
-use Rattle.px_ports.specs.declared.moment.Moment.TheVariants.{Settled}
-use Rattle.px_ports.proofs.Replays.{read_of-kept}
-use Rattle.px_ports.proofs.contents.Contents.settle.Goals as goal
-
-pub invariant_of-self-2 : goal.invariant_of-self-2
-invariant_of-self-2 c =
-    c.self.invariant ∙ read_of-kept c.push.result c.self.inside.moments.items c.push.new.self.items (Settled) refl c.push.ensures.items

@@ -1,0 +1,11 @@
+-- What `trace` has come to.
+use Rattle.std.specs.Prelude.{ℕ, List}
+use Rattle.px_output.specs.View.{View}
+use Rattle.px_ports.specs.declared.disk.Disk
+use Rattle.px_run.specs.Journaled.{TraceCalls}
+use Rattle.px_run.specs.declared.finishing.Carried.{Carried}
+use Rattle.px_run.specs.Finishing.{Carries}
+
+module _ {D : Type 0} (members : Disk.Ghosts D) where
+  abbrev pub TraceCarries : List ℕ → View → View → D → Carried D → Type 0
+  TraceCarries journal before now old carried = Carries journal (λ new. TraceCalls members old new) before now old carried

@@ -1,6 +1,0 @@
-use Rattle.std.proofs.Common.{rules}
-use Rattle.px_script.proofs.Rests.{rest_fit}
-use Rattle.px_script.proofs.left.rest.Goals as goal
-
-pub returns-clause-fit : goal.returns-clause-fit
-returns-clause-fit c = rest_fit c.args.script c.args.history.now (record { threads = c.into.result }) (search rules)

@@ -1,7 +1,0 @@
-use Rattle.std.proofs.Common.{◌≡◌}
-use Rattle.px_script.specs.Rest.{rest}
-use Rattle.px_script.proofs.left.threads_left.Given as goal
-
--- what is left of the threads so far
-abbrev pub invariant-loop-thread : goal.invariant-loop-thread
-invariant-loop-thread l = l.left.items ≡ rest l.yielded l.history

@@ -1,0 +1,79 @@
+-- From what the calls of a journal leave of a disk to what a session leaves.
+use Rattle.std.proofs.Common.{◌≡◌, inl, inr, ⊎_elim, ℕ, List, [], ◌++◌, Some, length, take, refl, sym, ◌∙◌, subst, append-nil}
+use Rattle.std.specs.Option.{ForSome}
+use Rattle.px_event.specs.declared.entry.Entry.{Entry}
+use Rattle.px_journal.specs.Crash.{OldOrNew}
+use Rattle.px_journal.specs.Journal.{IsSynced, IsUnwritten, IsUntouched}
+use Rattle.px_journal.specs.Layout.{Stands}
+use Rattle.px_journal.proofs.Moments.{grows_on, left_now, left_before_or_after, elapses_none, elapses_on}
+use Rattle.px_ports.specs.Moment.{LeftSince, Stays}
+use Rattle.px_ports.specs.declared.disk.Disk
+use Rattle.px_session.specs.Creating.{LeavesNew}
+use Rattle.px_session.specs.Session.{unposted, HasOneHistory}
+
+module _ {D : Type 0} (members : Disk.Ghosts D) where
+  pub untouched_at_once : (disk : D) → IsUntouched members disk disk
+  untouched_at_once disk = record {
+    content = refl;
+    unwritten = record { writes = refl; elapses = elapses_none members.images (members.moments disk) };
+  }
+
+  pub unwritten_on : (old mid new : D) → IsUnwritten members old mid → IsUnwritten members mid new → IsUnwritten members old new
+  unwritten_on old mid new first second = record {
+    writes = second.writes ∙ first.writes;
+    elapses = elapses_on members.images Stays (members.moments old) (members.moments mid) (members.moments new) first.elapses second.elapses;
+  }
+
+  pub untouched_on : (old mid new : D) → IsUntouched members old mid → IsUntouched members mid new → IsUntouched members old new
+  untouched_on old mid new first second = record {
+    content = second.content ∙ first.content;
+    unwritten = unwritten_on old mid new first.unwritten second.unwritten;
+  }
+
+  -- what a crash at a moment of a reading call may leave is an image from before
+  from_before : (old new : D) → IsUntouched members old new → (image : List ℕ) → LeftSince members.images (members.moments new) (length (members.moments old)) image
+      → members.images (members.moments old) image
+  from_before old new untouched image since =
+      let from = ((untouched.unwritten).elapses).each image since in
+      subst (members.images (members.moments old)) (sym (from.2)) (from.1)
+
+  pub new_read : (text : List ℕ) (old new : D) → IsUntouched members old new → LeavesNew members text old new
+  new_read text old new untouched = record {
+    grows = ((untouched.unwritten).elapses).grows;
+    each = λ told is. record {
+      grows = ((untouched.unwritten).elapses).grows;
+      each = λ image since. inl (from_before old new untouched image since);
+    };
+  }
+
+  -- a call that writes nothing, and then one that makes a journal
+  pub new_on : (text : List ℕ) (old mid new : D) → IsUntouched members old mid → LeavesNew members text mid new → LeavesNew members text old new
+  new_on text old mid new untouched leaves = record {
+    grows = all;
+    each = λ told is. record {
+      grows = all;
+      each = λ image since. ⊎_elim
+          (λ early. inl (from_before old mid untouched image early))
+          (λ late. older image ((leaves.each told (untouched.content ∙ is)).each image late))
+          (left_before_or_after members.images (members.moments mid) (members.moments new) (length (members.moments old)) image leaves.grows since);
+    };
+  }
+    where
+      all : take (length (members.moments old)) (members.moments new) ≡ members.moments old
+      all = grows_on (members.moments old) (members.moments mid) (members.moments new) ((untouched.unwritten).elapses).grows leaves.grows
+
+      older : (image : List ℕ) → OldOrNew (members.images (members.moments mid)) text image → OldOrNew (members.images (members.moments old)) text image
+      older image = ⊎_elim
+          (λ was. inl (from_before old mid untouched image (left_now members.images (members.moments old) (members.moments mid) image ((untouched.unwritten).elapses).grows was)))
+          (λ new. inr new)
+
+  -- a disk that is synced, and stands for a text and a history
+  pub one_history : (disk : D) (text : List ℕ) (history : List Entry) → IsSynced members disk
+      → ForSome (members.content disk) (λ told. Stands told text history) → HasOneHistory members (unposted text history) disk
+  one_history disk text history synced stands = record {
+    read = λ told is. inl (all told is);
+    left = λ told is image left. inl (subst (λ (b : List ℕ). Stands b text (history ++ [])) (sym (synced told is image left)) (all told is));
+  }
+    where
+      all : (told : List ℕ) → members.content disk ≡ Some told → Stands told text (history ++ [])
+      all told is = subst (Stands told text) (sym (append-nil history)) (stands told is)
