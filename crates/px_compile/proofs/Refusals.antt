@@ -34,7 +34,7 @@ use Rattle.px_compile.specs.Compiled.{IsSplit, IsSpelled, IsCompiled, IsRefused}
 one_split : (bytes : List ℕ) (a b : List Token) → IsSplit bytes a → IsSplit bytes b → a ≡ b
 one_split bytes a b s t = one_way bytes a b s.split t.split
 
-one_tree : (bytes : List ℕ) (a b : PlanTree) → IsSpelled bytes a → IsSpelled bytes b → a ≡ b
+pub one_tree : (bytes : List ℕ) (a b : PlanTree) → IsSpelled bytes a → IsSpelled bytes b → a ≡ b
 one_tree bytes a b s t =
     let same = one_split bytes s.tokens t.tokens s.split t.split in
     t.spelled.only a (subst (λ (tokens : List Token). parsing.IsPlan tokens a) same s.spelled).spelled

@@ -1,4 +1,4 @@
--- WHAT `compile` PROMISES.
+-- WHAT `compile` AND `compile_tree` PROMISE.
 use Rattle.std.specs.Prelude.{◌≡◌, ◌≢◌, ℕ, true, false, List, []}
 use Rattle.std.specs.Str.{is_utf8, IsValidUpTo}
 use Rattle.px_lex.specs.declared.fault.LexFault.TheVariants as lex_faults

@@ -1,4 +1,4 @@
-//! The plan that the bytes of a text spell.
+//! The plan that the bytes of a text spell, and its tree.
 //!
 //! `plan` puts the stages together: text, tokens, tree, faults, core plan. `specs/Compiled.antt` says what they are to
 //! answer, and `laws` that this is one answer.
@@ -7,4 +7,4 @@
 pub mod laws;
 mod plan;
 
-pub use plan::{TEXT_LIMIT, compile};
+pub use plan::{TEXT_LIMIT, compile, compile_tree};

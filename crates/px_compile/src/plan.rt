@@ -1,8 +1,8 @@
-// The plan of a text.
+// The plan of a text, and its tree.
 ghost use Rattle.std.specs.Prelude.{◌≡◌, ℕ, ◌≤◌, true, List, [], length, IfOk, IfErr, OnOk, IsTrue};
 ghost use Rattle.std.specs.Str.{is_utf8};
 ghost use Rattle.px_core.specs.Fit.{IsFit};
-ghost use Rattle.px_core.specs.Plan.{tree_of};
+ghost use Rattle.px_core.specs.Plan.{Tree, tree_of};
 ghost use Rattle.px_lex.specs.Lexer.{FirstFault, Splits};
 ghost use Rattle.px_lex.specs.declared.token.Token.{Token as TokenData};
 ghost use Rattle.px_plan_parse.specs.Verdict.{IsRefused as IsNoTree};
@@ -39,6 +39,30 @@ pub fn compile(alloc: Global, bytes: &[u8]) -> Result<Plan, PlanFault>
     let tree = tree_in(alloc, text)?;
     look_for_faults(alloc, &tree)?;
     core_plan(alloc, &tree)
+}
+
+/// The tree of the plan that the bytes of a text spell, exactly where `compile` gives the plan; else the same error.
+pub fn compile_tree(alloc: Global, bytes: &[u8]) -> Result<Surface, PlanFault>
+    requires { length bytes.now ≤ 1048576 }
+    ensures ok { IfOk result (λ tree. IsSpelled bytes.now (tree_of_surface tree)) }
+    ensures compiled { IfOk result (λ tree. (plan : Tree) × IsCompiled bytes.now plan) }
+    ensures fault { IfErr result (λ fault. IsRefused bytes.now fault) }
+{
+    let text = text_in(bytes)?;
+    let tree = tree_in(alloc, text)?;
+    look_for_faults(alloc, &tree)?;
+    let plan = core_plan(alloc, &tree);
+    match plan {
+        Ok(plan) => {
+            // By name: the proof then doesn't follow each shape that a plan may have on the way out.
+            drop(plan);
+            Ok(tree)
+        }
+        Err(fault) => {
+            drop(tree);
+            Err(fault)
+        }
+    }
 }
 
 fn text_in(bytes: &[u8]) -> Result<&str, PlanFault>

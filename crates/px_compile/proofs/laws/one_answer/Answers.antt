@@ -1,5 +1,8 @@
-use Rattle.px_compile.proofs.Refusals.{one_plan, no_refusal, one_refusal}
+use Rattle.px_compile.proofs.Refusals.{one_tree, one_plan, no_refusal, one_refusal}
 use Rattle.px_compile.proofs.laws.one_answer.Goals as goal
+
+pub returns-clause-one_tree : goal.returns-clause-one_tree
+returns-clause-one_tree c = λ a b s t. one_tree c.args.bytes.now a b s t
 
 pub returns-clause-one_plan : goal.returns-clause-one_plan
 returns-clause-one_plan c = λ a b s t. one_plan c.args.bytes.now a b s t
