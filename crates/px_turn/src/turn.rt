@@ -16,7 +16,8 @@ use std::alloc::{AllocFailed, Global};
 use std::marker::Model;
 use std::snapshot::Snapshot;
 use std::sync::Wait;
-use std::thread::yield_now;
+use std::thread::{Parker, yield_now};
+use std::time::Duration;
 
 /// A caller's token. It has no bytes.
 pub type Seat<T> = atomic_table::Seat<Option<T>, View<T, <T as Listed>::Item>>;
@@ -44,6 +45,11 @@ impl<T: Listed> Model for Turn<T> {
 pub struct Refused<T> {
     pub value: T,
 }
+
+// How often at most a seat naps before it takes a ticket, and how long it naps each time, in milliseconds.
+const NAPS: u32 = 16;
+
+const NAP: u64 = 1;
 
 // How often a seat lets other threads go on before it sleeps.
 const YIELDS: u32 = 20;
@@ -120,9 +126,29 @@ impl<T: Listed> Turn<T> {
         ensures value { IsShown T.list T.goes_on (view seat.old) (view seat.new).seen result }
         ensures turn { view seat.new ≡ entered (view seat.new).ticket (view seat.new).seen (view seat.old) }
     {
+        self.stand_by(rt);
         let ticket = self.table.shared.fetch_add::<TakeTicket>(seat, TICKET, 1);
         self.wait(rt, seat, ticket);
         self.table.shared.exchange(seat, SLOT, None).unwrap()
+    }
+
+    // Stands by for a while where others have tickets: a turn that is handed to another thread for each entry costs more
+    // than the entry. A seat whose naps are over takes its place behind them.
+    fn stand_by<R: Wait>(&self, rt: &R) {
+        // Nobody unparks it: `sleep` would ask callers for a clock.
+        let parker = Parker::new();
+        let nap = Duration::from_millis(NAP);
+        for _ in 0..NAPS {
+            if self.is_free() {
+                return;
+            }
+            parker.park_timeout(rt, nap);
+        }
+    }
+
+    // Whether nobody had a ticket just now.
+    fn is_free(&self) -> bool {
+        self.table.shared.peek(SERVING) == self.table.shared.peek(TICKET)
     }
 
     // Waits until the seat's ticket is served: lets other threads go on for a while, and then sleeps.
