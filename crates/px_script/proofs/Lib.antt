@@ -23,3 +23,4 @@ pub mod Walks
 pub mod Thins
 pub mod Sounds
 pub mod TellingKinds
+pub mod Soaks

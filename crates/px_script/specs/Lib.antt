@@ -18,3 +18,4 @@ pub mod ThreadLine
 pub mod Threads
 pub mod Value
 pub mod WaitLine
+pub mod Soak

@@ -20,6 +20,7 @@ pub struct Worker<S> {
     pub seat: S,
     /// How many of its thread's lines are passed.
     pub at: u32,
+    /// Whether it goes on, after its last walk.
     pub end: WorkEnd,
 }
 
