@@ -23,7 +23,7 @@ use Rattle.px_run.specs.Reading.{FileKind, Seen, Content, Longer, Unreadable, Sh
 use Rattle.px_run.specs.Headline.{DryRunOf, TraceStartCalls, DryRunCalls, CommandCallsFor, Delivers, Headline}
 use Rattle.px_run.specs.Journaled.{IsSession, DueBehind, SessionCalls, NewCalls, RunCallsBy, RunCalls, HasNoJournal, CannotRun, AfterJournal, ResumeCalls, TraceCalls}
 use Rattle.px_run.specs.Kinds.{plan_file, script_file}
-use Rattle.px_run.proofs.Kinds.{IsKind, plan_kind, script_kind, text_kind}
+use Rattle.px_run.proofs.FileKinds.{IsKind, plan_kind, script_kind, text_kind}
 use Rattle.px_run.proofs.SeenFiles.{WhereDue}
 use Rattle.px_run.proofs.Starting.{some_start}
 

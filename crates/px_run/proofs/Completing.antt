@@ -25,7 +25,7 @@ use Rattle.px_run.specs.Journaled.{DueBehind, NewCalls, RunCallsBy, JournalRefus
 use Rattle.px_run.specs.Kinds.{plan_file, script_file}
 use Rattle.px_run.proofs.Causing.{dry_run_status}
 use Rattle.px_run.proofs.Excluding.{none_or_some, same_text, same_first, same_tree, never_refused, one_status}
-use Rattle.px_run.proofs.Kinds.{IsKind, plan_kind, script_kind, text_kind, holds_text, held, none_held}
+use Rattle.px_run.proofs.FileKinds.{IsKind, plan_kind, script_kind, text_kind, holds_text, held, none_held}
 use Rattle.px_run.proofs.SeenFiles.{WhereDue}
 
 -- where no fault of the sink was counted, the status is that of the ending, or 10

@@ -21,7 +21,7 @@ use Rattle.px_sem.specs.Run.{posted, started, settled_world, run_on, run}
 use Rattle.px_sem.specs.World.{World}
 use Rattle.px_run.specs.Ending.{Ending, no_journal, journal_damaged, journal_plan, journal_runaway}
 use Rattle.px_run.specs.Journaled.{JournalRefuses, HasNoJournal, CannotRun}
-use Rattle.px_run.proofs.Kinds.{no_refused_plan}
+use Rattle.px_run.proofs.FileKinds.{no_refused_plan}
 
 -- ---- runs
 

@@ -3,7 +3,7 @@ pub mod Causing
 pub mod Completing
 pub mod Delivering
 pub mod Excluding
-pub mod Kinds
+pub mod FileKinds
 pub mod Finished
 pub mod OverStops
 pub mod Performing

@@ -21,7 +21,7 @@ use Rattle.px_script.specs.declared.todo.Todo.{Todo}
 use Rattle.px_sem.specs.Log.{accepted}
 use Rattle.px_sem.specs.Run.{started}
 use Rattle.px_sem.specs.World.{World}
-use Rattle.px_session.proofs.Posted.{ReadsAreLeft}
+use Rattle.px_session.proofs.Closed.{ReadsAreLeft}
 use Rattle.px_session.specs.Creating.{LeavesNew}
 use Rattle.px_session.specs.Session.{Session, unsure, longest_of, IsFront, LeavesFronts}
 use Rattle.px_words.specs.Words.{Command, TraceStart, DryRun, Check, Run, Resume, Trace, script_operand, command}

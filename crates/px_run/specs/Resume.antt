@@ -24,4 +24,4 @@ pub record IsLeft (plan : List Site) (name : List ℕ) (history : List Entry) (b
 module _ {D : Type 0} (members : Disk.Ghosts D) where
   abbrev pub ResumeCarries : List ℕ → List ℕ → ℕ → View → View → D → Carried D → Type 0
   ResumeCarries script journal limit before now old carried =
-      Carries journal (λ new. ResumeCalls members script limit before now old new) before now old carried
+      Carries members journal (λ new. ResumeCalls members script limit before now old new) before now old carried

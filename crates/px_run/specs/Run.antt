@@ -44,9 +44,9 @@ IsNotPrepared plan script before now stops.NoMemory = Unit {0}
 module _ {D : Type 0} (members : Disk.Ghosts D) where
   abbrev pub RunCarries : List ℕ → List ℕ → List ℕ → ℕ → View → View → D → Carried D → Type 0
   RunCarries plan script journal limit before now old carried =
-      Carries journal (λ new. RunCalls members plan script limit before now old new) before now old carried
+      Carries members journal (λ new. RunCalls members plan script limit before now old new) before now old carried
 
   -- the same of a plan that has started, behind a script that was read
   abbrev pub PreparedCarries : List Site → List ℕ → List ℕ → ℕ → List Todo → View → View → D → Carried D → Type 0
   PreparedCarries plan text journal limit threads before now old carried =
-      Carries journal (λ new. NewCalls members plan text limit threads old new) before now old carried
+      Carries members journal (λ new. NewCalls members plan text limit threads old new) before now old carried

@@ -16,4 +16,4 @@ module _ {D : Type 0} (members : Disk.Ghosts D) where
     pub performs : Performs before now (CommandCallsFor members asked before now old carried.disk course) carried.result
     pub leaves : TellsBytes members old → Leaves members old carried.disk course
     pub bound : IsBoundFor members asked carried.disk
-    pub back : ComesBack old carried
+    pub back : ComesBack members old carried

@@ -8,4 +8,4 @@ use Rattle.px_run.specs.Finishing.{Carries}
 
 module _ {D : Type 0} (members : Disk.Ghosts D) where
   abbrev pub TraceCarries : List ℕ → View → View → D → Carried D → Type 0
-  TraceCarries journal before now old carried = Carries journal (λ new. TraceCalls members old new) before now old carried
+  TraceCarries journal before now old carried = Carries members journal (λ new. TraceCalls members old new) before now old carried

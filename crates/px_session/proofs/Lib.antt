@@ -1,4 +1,4 @@
 pub mod Sessions
-pub mod Posted
+pub mod Closed
 pub mod Created
-pub mod Reopened
+pub mod TakenUp

@@ -1,5 +1,5 @@
 use Rattle.std.proofs.Common.{◌∙◌, ap}
-use Rattle.px_session.proofs.Posted.{closes}
+use Rattle.px_session.proofs.Closed.{closes}
 use Rattle.px_session.proofs.posting.close.Goals as goal
 
 pub returns : goal.returns

@@ -1,5 +1,5 @@
 use Rattle.std.proofs.Common.{refl}
-use Rattle.px_session.proofs.Reopened.{not_recovered, not_run, taken_up}
+use Rattle.px_session.proofs.TakenUp.{not_recovered, not_run, taken_up}
 use Rattle.px_session.proofs.reopening.reopen.Goals as goal
 
 pub returns-in-Ok-recover-clause-refused : goal.returns-in-Ok-recover-clause-refused

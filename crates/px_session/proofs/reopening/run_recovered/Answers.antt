@@ -2,7 +2,7 @@ use Rattle.std.proofs.Common.{subst}
 use Rattle.px_compile.specs.Compiled.{IsCompiled}
 use Rattle.px_core.specs.Plan.{tree_of}
 use Rattle.px_session.specs.Reopening.{IsRunWhy}
-use Rattle.px_session.proofs.Reopened.{not_opened}
+use Rattle.px_session.proofs.TakenUp.{not_opened}
 use Rattle.px_session.proofs.reopening.run_recovered.Goals as goal
 
 pub returns-in-Ok-open-clause-compiled : goal.returns-in-Ok-open-clause-compiled
