@@ -47,6 +47,8 @@ mod runaways;
 mod running;
 #[cfg(test)]
 mod side_by_side;
+#[cfg(test)]
+mod two_seats;
 
 use bytes::{bytes_of, digits_of};
 use row::Row;
