@@ -6,8 +6,8 @@ ghost use Rattle.px_syntax.specs.declared.fault.PlanFault.{PlanFault};
 ghost use Rattle.px_syntax.specs.declared.fault.PlanFault.TheVariants.{NoMemory};
 ghost use Rattle.px_compile.specs.Compiled.{IsCompiled, IsRefused, IsSpelled};
 
-/// No bytes spell two trees or two plans; none that spell a plan are refused, but for want of memory; and none are refused
-/// in two ways.
+/// No bytes spell two trees or two plans; none that spell a plan are refused, and none are refused in two ways, want of
+/// memory apart.
 pub fn one_answer(bytes: &[u8])
     ensures one_tree { (a b : PlanTree) → IsSpelled bytes.now a → IsSpelled bytes.now b → a ≡ b }
     ensures one_plan { (a b : Tree) → IsCompiled bytes.now a → IsCompiled bytes.now b → a ≡ b }
