@@ -1,0 +1,10 @@
+pub mod Climbing
+pub mod Conditions
+pub mod Freshness
+pub mod Layers
+pub mod Listening
+pub mod Marking
+pub mod OneList
+pub mod Pushing
+pub mod Refreshing
+pub mod Seeing

@@ -1,0 +1,80 @@
+-- What is to be looked at, while touched sources are gone through.
+use Rattle.std.proofs.Common.{◌≡◌, ℕ, Bool, true, false, nat_eq, List, length, get_or, ◌⊎◌, inl, inr, refl, ap, sym, ◌∙◌, All, None}
+use Rattle.std.specs.List.{list_any}
+use Rattle.std.proofs.lemmas.Bool.Decides.{eqb_tells}
+use Rattle.std.proofs.lemmas.List.Folds.{list_any_none}
+use Rattle.px_links.specs.Links.{LinksData, HoldsOthersAsBefore, first_of, is_absent, SameCounts}
+use Rattle.px_listen.specs.Listening.{ListenData, dependents_of, is_dependent}
+use Rattle.px_cached.specs.Noticing.{IsNoticed}
+use Rattle.px_cached.proofs.OneList.{none_noted, noted_then}
+
+pub bool_cases : (b : Bool) → (b ≡ true) ⊎ (b ≡ false)
+bool_cases true = inl refl
+bool_cases false = inr refl
+
+-- what is in a list all of which is noted is noted
+pub noted_in : (stale : LinksData) (parts : List ℕ) (part : ℕ) → All (λ part. is_absent stale part ≡ false) parts
+    → list_any (nat_eq part) parts ≡ true → is_absent stale part ≡ false
+noted_in stale parts part all is = elim (bool_cases (is_absent stale part)) [
+  | inr noted ↦ noted
+  | inl absent ↦
+      let none : list_any (nat_eq part) parts ≡ false =
+      list_any_none (nat_eq part) parts (λ k d inside. elim (eqb_tells part (get_or parts k d)) [
+        | inl same ↦
+            let noted : is_absent stale part ≡ false = ap (is_absent stale) same.1 ∙ all k d inside in
+            absurd (cc)
+        | inr apart ↦ apart.0
+      ]) in
+      absurd (cc)
+]
+
+pub record IsSoFar (listeners : ListenData) (first_touched touched first_stale stale : LinksData) : Type 0 where
+  pub marked : (source part : ℕ) → is_absent first_touched source ≡ false → is_dependent listeners source part ≡ true
+      → (is_absent touched source ≡ false) ⊎ (is_absent stale part ≡ false)
+  pub still : (part : ℕ) → is_absent first_stale part ≡ false → is_absent stale part ≡ false
+  pub touched_counts : SameCounts first_touched touched
+  pub stale_counts : SameCounts first_stale stale
+
+module _ (listeners : ListenData) (first_touched first_stale : LinksData) where
+  pub starts : IsSoFar listeners first_touched first_touched first_stale first_stale
+  starts = record {
+    marked = λ source part noted depends. inl noted;
+    still = λ part noted. noted;
+    touched_counts = (refl, refl);
+    stale_counts = (refl, refl);
+  }
+
+  module _ (touched stale : LinksData) (so_far : IsSoFar listeners first_touched touched first_stale stale) where
+    pub goes_on : (source : ℕ) (then_touched then_stale : LinksData) → HoldsOthersAsBefore touched then_touched source None
+        → SameCounts touched then_touched
+        → All (λ part. is_absent then_stale part ≡ false) (dependents_of listeners source)
+        → ((part : ℕ) → is_absent stale part ≡ false → is_absent then_stale part ≡ false)
+        → SameCounts stale then_stale
+        → IsSoFar listeners first_touched then_touched first_stale then_stale
+    goes_on source then_touched then_stale holders counts noted still stale_counts = record {
+      marked = λ other part was depends. elim (so_far.marked other part was depends) [
+        | inr marked ↦ inr (still part marked)
+        | inl left ↦ elim (noted_then touched then_touched source holders other left) [
+          | inr stays ↦ inl stays
+          | inl same ↦ inr (noted_in then_stale (dependents_of listeners source) part noted
+              (ap (λ source. is_dependent listeners source part) (sym same) ∙ depends))
+        ]
+      ];
+      still = λ part was. still part (so_far.still part was);
+      touched_counts = (counts.0 ∙ so_far.touched_counts.0, counts.1 ∙ so_far.touched_counts.1);
+      stale_counts = (stale_counts.0 ∙ so_far.stale_counts.0, stale_counts.1 ∙ so_far.stale_counts.1);
+    }
+
+    pub ends : length touched.lists ≡ 1 → first_of touched 0 ≡ None → IsNoticed listeners first_touched touched first_stale stale
+    ends one none = record {
+      none = none_noted touched one none;
+      marked = λ source part was depends. elim (so_far.marked source part was depends) [
+        | inr marked ↦ marked
+        | inl left ↦
+            let absent : is_absent touched source ≡ true = none_noted touched one none source in
+            absurd (cc)
+      ];
+      still = so_far.still;
+      touched_counts = so_far.touched_counts;
+      stale_counts = so_far.stale_counts;
+    }

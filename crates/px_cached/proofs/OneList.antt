@@ -1,0 +1,89 @@
+-- Numbers that are noted in linked cells of one list.
+use Rattle.std.proofs.Common.{◌≡◌, ℕ, ◌<◌, Bool, true, false, nat_eq, List, [], ◌∷◌, length, set, drop, slice_get, Some, None, ◌⊎◌, inl, inr, refl, ap, sym, ◌∙◌, subst, arith, if◌then◌else◌}
+use Rattle.std.specs.Prelude.{is_none}
+use Rattle.std.specs.List.{position}
+use Rattle.std.proofs.lemmas.Bool.{eq-eqb}
+use Rattle.std.proofs.lemmas.Bool.Decides.{eqb_tells}
+use Rattle.px_links.specs.Links.{LinksData, HoldsOthersAsBefore, first_of, holder_of, is_absent, popped}
+use Rattle.px_links.specs.Lists.{has, nth}
+
+-- where the list is empty nothing is noted
+none_in : (lists : List (List ℕ)) → length lists ≡ 1 → slice_get (nth lists 0) 0 ≡ None
+    → (cell : ℕ) → is_none (position (λ list. has list cell) lists) ≡ true
+none_in [] long none cell = absurd (omega arith)
+none_in ([] ∷ []) long none cell = refl
+none_in ((first ∷ list) ∷ []) long none cell = absurd (cc)
+none_in (list ∷ (other ∷ lists)) long none cell = absurd (omega arith)
+
+pub none_noted : (links : LinksData) → length links.lists ≡ 1 → first_of links 0 ≡ None
+    → (cell : ℕ) → is_absent links cell ≡ true
+none_noted links long none cell = none_in links.lists long none cell
+
+-- without its first one it is shorter
+shorter_in : (lists : List (List ℕ)) (cell : ℕ) → length lists ≡ 1 → slice_get (nth lists 0) 0 ≡ Some cell
+    → length (nth (set lists 0 (drop 1 (nth lists 0))) 0) < length (nth lists 0)
+shorter_in [] cell long first = absurd (omega arith)
+shorter_in ([] ∷ []) cell long first = absurd (cc)
+shorter_in ((head ∷ list) ∷ []) cell long first = omega arith
+shorter_in (list ∷ (other ∷ lists)) cell long first = absurd (omega arith)
+
+pub shorter : (links : LinksData) (cell : ℕ) → length links.lists ≡ 1 → first_of links 0 ≡ Some cell
+    → length (nth (popped links 0).lists 0) < length (nth links.lists 0)
+shorter links cell long first = shorter_in links.lists cell long first
+
+-- ---- one is noted
+
+module _ (old new : LinksData) (cell list : ℕ)
+    (holders : HoldsOthersAsBefore old new cell (if is_absent old cell then Some list else holder_of old cell)) where
+  here : holder_of new cell ≡ (if is_absent old cell then Some list else holder_of old cell)
+  here = holders cell
+      ∙ ap (λ b. if b then (if is_absent old cell then Some list else holder_of old cell) else holder_of old cell)
+      (eq-eqb cell cell refl)
+
+  elsewhere : (other : ℕ) → nat_eq cell other ≡ false → holder_of new other ≡ holder_of old other
+  elsewhere other apart = holders other
+      ∙ ap (λ b. if b then (if is_absent old cell then Some list else holder_of old cell) else holder_of old other) apart
+
+  pub now_noted : is_absent new cell ≡ false
+  now_noted = ap is_none here ∙ by (is_absent old cell) refl
+    where
+      by : (b : Bool) → is_absent old cell ≡ b → is_none (if b then Some list else holder_of old cell) ≡ false
+      by true is = refl
+      by false is = is
+
+  pub still_noted : (other : ℕ) → is_absent old other ≡ false → is_absent new other ≡ false
+  still_noted other noted = elim (eqb_tells cell other) [
+    | inl same ↦ subst (λ other. is_absent new other ≡ false) same.1 now_noted
+    | inr apart ↦ ap is_none (elsewhere other apart.0) ∙ noted
+  ]
+
+  pub holders_then : (other : ℕ) → (holder_of new other ≡ holder_of old other)
+      ⊎ ((is_absent old other ≡ true) × (holder_of new other ≡ Some list))
+  holders_then other = elim (eqb_tells cell other) [
+    | inl same ↦ subst (λ other. (holder_of new other ≡ holder_of old other)
+        ⊎ ((is_absent old other ≡ true) × (holder_of new other ≡ Some list))) same.1 (by (is_absent old cell) refl)
+    | inr apart ↦ inl (elsewhere other apart.0)
+  ]
+    where
+      by : (b : Bool) → is_absent old cell ≡ b → (holder_of new cell ≡ holder_of old cell)
+          ⊎ ((is_absent old cell ≡ true) × (holder_of new cell ≡ Some list))
+      by true is = inr (is, here ∙ ap (λ b. if b then Some list else holder_of old cell) is)
+      by false is = inl (here ∙ ap (λ b. if b then Some list else holder_of old cell) is)
+
+-- ---- one is no longer noted
+
+module _ (old new : LinksData) (cell : ℕ) (holders : HoldsOthersAsBefore old new cell None) where
+  others_stay : (other : ℕ) → nat_eq cell other ≡ false → is_absent new other ≡ is_absent old other
+  others_stay other apart = ap is_none (holders other ∙ ap (λ b. if b then None else holder_of old other) apart)
+
+  pub absent_then : (other : ℕ) → is_absent new other ≡ true → (other ≡ cell) ⊎ (is_absent old other ≡ true)
+  absent_then other absent = elim (eqb_tells cell other) [
+    | inl same ↦ inl (sym same.1)
+    | inr apart ↦ inr (sym (others_stay other apart.0) ∙ absent)
+  ]
+
+  pub noted_then : (other : ℕ) → is_absent old other ≡ false → (other ≡ cell) ⊎ (is_absent new other ≡ false)
+  noted_then other noted = elim (eqb_tells cell other) [
+    | inl same ↦ inl (sym same.1)
+    | inr apart ↦ inr (others_stay other apart.0 ∙ noted)
+  ]

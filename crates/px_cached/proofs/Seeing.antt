@@ -1,0 +1,128 @@
+-- What is kept is sound in what is present, where what was not touched is as it was seen; and then it is fresh.
+use Rattle.std.proofs.Common.{◌≡◌, ℕ, ◌+◌, ◌/◌, ◌<◌, Bool, true, false, not, List, ◌++◌, length, map, get_or, Option, None, ◌⊎◌, inl, inr, ap, sym, ◌∙◌, subst, arith, All}
+use Rattle.std.proofs.lemmas.List.{get_or_append_left, get_or-append-add, get_or-map, length-append}
+use Rattle.px_value.specs.Truth.{truth_of}
+use Rattle.px_core.specs.declared.conditions.ConditionKind.{ConditionKind}
+use Rattle.px_core.specs.Plan.{Site}
+use Rattle.px_flat.specs.NumberedData.{expr_data}
+use Rattle.px_flat.specs.Sources.{Source, Present, IsSame, sources_in}
+use Rattle.px_flat.proofs.Sources.{read_only_sources}
+use Rattle.px_links.specs.Links.{LinksData, is_absent}
+use Rattle.px_listen.specs.Listening.{ListenData}
+use Rattle.px_cached.specs.declared.looking.Kept.{Kept}
+use Rattle.px_cached.specs.declared.part.Part.{Part}
+use Rattle.px_cached.specs.declared.part.Part.TheVariants as parts
+use Rattle.px_cached.specs.Conditions.{condition_in, number_of, source_number, truth_in}
+use Rattle.px_cached.specs.Laying.{IsRead, IsStretch}
+use Rattle.px_cached.specs.Looking.{AreRight, IsRight, IsSound, Tells}
+use Rattle.px_cached.specs.Network.{part_at, truth_at}
+use Rattle.px_cached.specs.Noticing.{IsNoticed}
+use Rattle.px_cached.specs.Reading.{AreListening, sources_at}
+use Rattle.px_cached.proofs.Conditions.{condition_back, node_back, number_below}
+use Rattle.px_cached.proofs.Freshness.{fresh_part}
+use Rattle.px_cached.proofs.Layers.{spells_inside}
+use Rattle.px_cached.proofs.Marking.{bool_cases}
+
+-- what is true of all sources is true of a stretch of them
+all_in_stretch : (P : Source → Type 0) (some all : List Source) → IsStretch some all → All P all → All P some
+all_in_stretch P some all is each k d inside =
+    let before = is.0 in
+    let after = is.1 in
+    subst P
+    (ap (λ all. get_or all (length before + k) d) is.2 ∙ get_or-append-add before (some ++ after) k d
+    ∙ get_or_append_left some after d k inside)
+    (each (length before + k) d (omega (
+      arith,
+      inside,
+      ap length is.2,
+      length-append before (some ++ after),
+      length-append some after,
+    )))
+
+module _ (plan : List Site) (seen present : Present) (long : length seen.cells ≡ length present.cells) (network : List Part)
+    (listeners : ListenData) (listening : AreListening plan network listeners) (touched then_touched stale then_stale : LinksData)
+    (noticed : IsNoticed listeners touched then_touched stale then_stale)
+    (same : (node : ℕ) (kind : ConditionKind) → node < length plan
+    → All (λ source. not (is_absent touched (source_number plan source)) ≡ false → IsSame plan seen present source)
+    (sources_in plan (condition_in plan node kind))) where
+  -- what is not to be looked at has no touched source
+  untouched : (part : ℕ) → part < length network → is_absent then_stale part ≡ true
+      → All (λ source. not (is_absent touched (source_number plan source)) ≡ false) (sources_at plan (part_at network part))
+  untouched part there absent k d inside =
+      let source : Source = get_or (sources_at plan (part_at network part)) k d in
+      elim (bool_cases (is_absent touched (source_number plan source))) [
+        | inl is ↦ ap not is
+        | inr noted ↦
+            let marked : is_absent then_stale part ≡ false =
+            noticed.marked (source_number plan source) part noted (listening.each part there k d inside) in
+            absurd (cc)
+      ]
+
+  was_absent : (part : ℕ) → is_absent then_stale part ≡ true → is_absent stale part ≡ true
+  was_absent part absent = elim (bool_cases (is_absent stale part)) [
+    | inl is ↦ is
+    | inr noted ↦
+        let still : is_absent then_stale part ≡ false = noticed.still part noted in
+        absurd (cc)
+  ]
+
+  right_by : (truth : Option Bool) (p : Part) → IsRead plan p
+      → All (λ source. not (is_absent touched (source_number plan source)) ≡ false) (sources_at plan p)
+      → IsRight plan seen truth p → IsRight plan present truth p
+  right_by truth (parts.Joined joint left other) read none right = tt
+  right_by truth (parts.Whole expr) read none right =
+      let node = read.1.0 in
+      let kind = read.1.1 in
+      let sources : List Source = sources_in plan (expr_data expr) in
+      let each = all_in_stretch
+      (λ source. not (is_absent touched (source_number plan source)) ≡ false → IsSame plan seen present source)
+      sources (sources_in plan (condition_in plan node kind)) read.1.2.1 (same node kind read.1.2.0) in
+      right ∙ ap truth_of (read_only_sources plan (expr_data expr) seen present long
+      (λ k d inside. each k d inside (none k d inside)))
+
+  pub right_present : ((part : ℕ) → part < length network → IsRead plan (part_at network part))
+      → (truths : List (Option Bool)) → AreRight plan seen network truths stale → AreRight plan present network truths then_stale
+  right_present read truths right part there absent =
+      right_by (truth_at truths part) (part_at network part) (read part there) (untouched part there absent)
+      (right part there (was_absent part absent))
+
+-- ---- the truth of a condition
+
+module _ (plan : List Site) (seen : Present) (kept : Kept) (sound : IsSound plan seen kept) (node : ℕ) (kind : ConditionKind)
+    (there : node < length plan) where
+  abbrev root : ℕ
+  root = get_or kept.network.roots.items (number_of node kind) 0
+
+  pub condition_inside : number_of node kind < length kept.network.roots.items
+  condition_inside = omega (arith, number_below (length plan) node kind there, sound.laid.count)
+
+  pub root_inside : root < length kept.network.parts.items
+  root_inside =
+      let rooted = sound.laid.rooted (number_of node kind) (number_below (length plan) node kind there) in
+      spells_inside kept.network.parts.items root _ rooted.0
+
+  pub condition_kept : (truths : List (Option Bool))
+      → get_or (map (truth_at truths) kept.network.roots.items) (number_of node kind) None ≡ truth_at truths root
+  condition_kept truths = get_or-map (truth_at truths) kept.network.roots.items (number_of node kind) 0 None condition_inside
+
+  pub condition_fresh : ((part : ℕ) → is_absent kept.stale part ≡ true)
+      → get_or (map (truth_at kept.truths.items) kept.network.roots.items) (number_of node kind) None
+      ≡ truth_in plan seen (condition_in plan node kind)
+  condition_fresh none =
+      let rooted = sound.laid.rooted (number_of node kind) (number_below (length plan) node kind there) in
+      condition_kept kept.truths.items
+      ∙ fresh_part plan seen kept.network.parts.items kept.truths.items sound.agree
+      (λ part inside. sound.right part inside (none part)) root _ rooted.0
+      ∙ ap (truth_in plan seen) (condition_back plan node kind)
+
+  pub condition_told : (truths : List (Option Bool)) (before after : LinksData) (list : ℕ)
+      → Tells kept.network.above.items kept.truths.items truths before after list
+      → (get_or (map (truth_at truths) kept.network.roots.items) (number_of node kind) None
+      ≡ get_or (map (truth_at kept.truths.items) kept.network.roots.items) (number_of node kind) None)
+      ⊎ (is_absent after node ≡ false)
+  condition_told truths before after list tells =
+      let rooted = sound.laid.rooted (number_of node kind) (number_below (length plan) node kind there) in
+      elim (tells.changed root (number_of node kind / 8) rooted.1) [
+        | inl same ↦ inl (condition_kept truths ∙ same ∙ sym (condition_kept kept.truths.items))
+        | inr noted ↦ inr (ap (is_absent after) (sym (node_back node kind)) ∙ noted)
+      ]

@@ -1,0 +1,61 @@
+use Rattle.std.proofs.Common.{◌≡◌, ℕ, ◌<◌, true, length, map, get_or, None, inl, inr, ap, sym, ◌∙◌, subst}
+use Rattle.std.proofs.lemmas.Result.{IfOk-weaker}
+use Rattle.px_flat.specs.declared.flat.Flat.{Flat}
+use Rattle.px_flat.specs.Flat.{plan_of}
+use Rattle.px_links.specs.Links.{is_absent}
+use Rattle.px_cached.specs.declared.laying.Network.{Network}
+use Rattle.px_cached.specs.Cached.{CachedData, AreFresh, is_touched, kept_truth, present_in}
+use Rattle.px_cached.specs.Conditions.{number_of}
+use Rattle.px_cached.specs.Keeping.{cached_data}
+use Rattle.px_cached.specs.Looking.{IsSound}
+use Rattle.px_cached.specs.Network.{truth_at}
+use Rattle.px_cached.proofs.Seeing.{condition_fresh, condition_told}
+use Rattle.px_cached.proofs.cached.Cached.refresh.Goals as goal
+
+pub returns-clause-seen : goal.returns-clause-seen
+returns-clause-seen c = record {
+  seen = ap (λ (cached : CachedData). cached.seen) c.self.view_is ∙ c.see.ensures.seen.seen;
+  untouched = λ source. ap (λ (cached : CachedData). is_touched cached source) c.self.view_is ∙ c.see.ensures.seen.untouched source;
+}
+
+pub returns-clause-fresh : goal.returns-clause-fresh
+returns-clause-fresh c =
+    let t = c.self.inside in
+    let present = present_in c.args.cells.now c.args.reports.now in
+    let kept = c.refresh.new.self in
+    let same : c.args.flat.now ≡ t.flat.value =
+    c.requires.plan ∙ sym c.see.ensures.flat ∙ sym (ap (λ (cached : CachedData). cached.flat) c.self.view_is) in
+    let sound = subst (λ (flat : Flat). IsSound (plan_of flat) present kept) same c.refresh.ensures.sound in
+    IfOk-weaker c.refresh.result (λ _. (part : ℕ) → is_absent kept.stale part ≡ true)
+    (λ _. AreFresh (cached_data (record {
+      flat = t.flat;
+      kept = kept;
+      listeners = t.listeners;
+      touched = t.touched;
+      seen_cells = t.seen_cells;
+      seen_reports = t.seen_reports;
+    })) present)
+    (λ _ none node kind there. condition_fresh (plan_of t.flat.value) present kept sound node kind there none)
+    c.refresh.ensures.none
+
+pub returns-clause-told : goal.returns-clause-told
+returns-clause-told c =
+    let t = c.self.inside in
+    let truths = c.refresh.new.self.truths.items in
+    let told = c.refresh.ensures.told in
+    let same : c.args.self.now.flat ≡ t.flat.value =
+    sym c.see.ensures.flat ∙ sym (ap (λ (cached : CachedData). cached.flat) c.self.view_is) in
+    record {
+      changed = λ node kind there. elim (condition_told (plan_of t.flat.value)
+          (present_in t.seen_cells.value t.seen_reports.value) t.kept c.self.invariant.sound node kind
+          (subst (λ (flat : Flat). node < length (plan_of flat)) same there) truths c.args.changed.now c.refresh.new.changed
+          c.args.list told) [
+            | inl stays ↦ inl
+                (ap (λ (network : Network). get_or (map (truth_at truths) network.roots.items) (number_of node kind) None) c.refresh.ensures.network
+                ∙ stays ∙ ap (λ (cached : CachedData). kept_truth cached node kind) c.self.view_is
+                ∙ ap (λ truths. get_or truths (number_of node kind) None) c.see.ensures.truths)
+            | inr noted ↦ inr noted
+          ];
+      holders = told.holders;
+      counts = told.counts;
+    }

@@ -1,0 +1,10 @@
+use Rattle.std.proofs.Common.{◌≡◌, ℕ, ◌<◌, false, length, get_or}
+use Rattle.px_links.specs.Links.{is_absent, SameCounts}
+use Rattle.px_cached.proofs.noticing.note.Given as goal
+
+abbrev pub invariant-loop-part : goal.invariant-loop-part
+invariant-loop-part l = record {
+  noted : (k d : ℕ) → k < length l.yielded → is_absent l.stale (get_or l.fn.dependents k d) ≡ false;
+  still : (part : ℕ) → is_absent l.initial.stale part ≡ false → is_absent l.stale part ≡ false;
+  counts : SameCounts l.initial.stale l.stale;
+}

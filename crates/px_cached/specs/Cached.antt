@@ -1,0 +1,66 @@
+-- What kept conditions are to contracts.
+use Rattle.std.specs.Prelude.{◌≡◌, ℕ, ◌<◌, Bool, true, false, not, List, length, slice_index_or, Option, Some, None, All, ◌⊎◌}
+use Rattle.px_core.specs.declared.conditions.ConditionKind.{ConditionKind}
+use Rattle.px_core.specs.Plan.{Site}
+use Rattle.px_cells.specs.Cells.{CellsData}
+use Rattle.px_flat.specs.declared.flat.Flat.{Flat}
+use Rattle.px_flat.specs.Flat.{plan_of}
+use Rattle.px_flat.specs.Sources.{Present, IsSame, sources_in}
+use Rattle.px_links.specs.Links.{LinksData, holder_of, is_absent, SameCounts}
+use Rattle.px_lookup.specs.Reports.{ReportsData}
+use Rattle.px_cached.specs.Conditions.{condition_in, number_of, source_number, truth_in}
+
+-- the plan's tables, the truth of each condition as it is kept, the cells and reports in which it was last looked at, and
+-- the sources that were touched since
+pub record CachedData : Type 0 where
+  pub flat : Flat
+  pub truths : List (Option Bool)
+  pub seen : Present
+  pub touched : LinksData
+
+abbrev pub plan_in : CachedData → List Site
+plan_in cached = plan_of cached.flat
+
+abbrev pub kept_truth : CachedData → ℕ → ConditionKind → Option Bool
+kept_truth cached node kind = slice_index_or cached.truths (number_of node kind) None
+
+abbrev pub is_touched : CachedData → ℕ → Bool
+is_touched cached source = not (is_absent cached.touched source)
+
+-- what cells and reports hold
+abbrev pub present_in : CellsData → ReportsData → Present
+present_in cells reports = record { cells = cells.contents.values; reports = reports.reports }
+
+-- this source is touched, and each that was
+pub record IsTouched (old new : CachedData) (source : ℕ) : Type 0 where
+  pub flat : new.flat ≡ old.flat
+  pub truths : new.truths ≡ old.truths
+  pub seen : new.seen ≡ old.seen
+  pub this : is_touched new source ≡ true
+  pub others : (other : ℕ) → is_touched old other ≡ true → is_touched new other ≡ true
+
+-- each source of a condition that was not touched is as it was seen: what `refresh` needs
+abbrev pub IsSeenBut : CachedData → Present → Type 0
+IsSeenBut cached present = (node : ℕ) (kind : ConditionKind) → node < length (plan_in cached)
+    → All (λ source. is_touched cached (source_number (plan_in cached) source) ≡ false
+    → IsSame (plan_in cached) cached.seen present source)
+    (sources_in (plan_in cached) (condition_in (plan_in cached) node kind))
+
+-- all is seen, and nothing was touched since
+pub record IsSeen (cached : CachedData) (present : Present) : Type 0 where
+  pub seen : cached.seen ≡ present
+  pub untouched : (source : ℕ) → is_touched cached source ≡ false
+
+-- each kept truth is the one made from scratch
+abbrev pub AreFresh : CachedData → Present → Type 0
+AreFresh cached present = (node : ℕ) (kind : ConditionKind) → node < length (plan_in cached)
+    → kept_truth cached node kind ≡ truth_in (plan_in cached) present (condition_in (plan_in cached) node kind)
+
+-- A node with a condition that changed is in some list. A node that was in none may be in this one, and each other one is
+-- held as before.
+pub record TellsChanged (old new : CachedData) (before after : LinksData) (list : ℕ) : Type 0 where
+  pub changed : (node : ℕ) (kind : ConditionKind) → node < length (plan_in old)
+      → (kept_truth new node kind ≡ kept_truth old node kind) ⊎ (is_absent after node ≡ false)
+  pub holders : (node : ℕ) → (holder_of after node ≡ holder_of before node)
+      ⊎ ((is_absent before node ≡ true) × (holder_of after node ≡ Some list))
+  pub counts : SameCounts before after

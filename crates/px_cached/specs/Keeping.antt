@@ -1,0 +1,26 @@
+-- What every table of kept conditions keeps.
+use Rattle.std.specs.Prelude.{◌≡◌, length, map}
+use Rattle.px_flat.specs.Flat.{plan_of}
+use Rattle.px_flat.specs.Layout.{all_cells}
+use Rattle.px_cached.specs.declared.cached.Cached.TheInside.{Inside}
+use Rattle.px_cached.specs.Cached.{CachedData, present_in}
+use Rattle.px_cached.specs.Conditions.{all_sources}
+use Rattle.px_cached.specs.Looking.{IsSound}
+use Rattle.px_cached.specs.Network.{truth_at}
+use Rattle.px_cached.specs.Reading.{AreListening}
+
+abbrev pub cached_data : Inside → CachedData
+cached_data c = record {
+  flat = c.flat.value;
+  truths = map (truth_at c.kept.truths.items) c.kept.network.roots.items;
+  seen = present_in c.seen_cells.value c.seen_reports.value;
+  touched = c.touched;
+}
+
+-- the kept truths are sound in what was seen, and each part depends on each of its sources
+pub record IsKept (c : Inside) : Type 0 where
+  pub sound : IsSound (plan_of c.flat.value) (present_in c.seen_cells.value c.seen_reports.value) c.kept
+  pub listening : AreListening (plan_of c.flat.value) c.kept.network.parts.items c.listeners
+  pub touched_cells : c.touched.cells ≡ all_sources (plan_of c.flat.value)
+  pub touched_lists : length c.touched.lists ≡ 1
+  pub seen_sized : length c.seen_cells.value.contents.values ≡ all_cells (plan_of c.flat.value)

@@ -1,0 +1,9 @@
+pub mod Cached
+pub mod Carrying
+pub mod Conditions
+pub mod Keeping
+pub mod Laying
+pub mod Looking
+pub mod Network
+pub mod Noticing
+pub mod Reading

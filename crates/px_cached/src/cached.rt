@@ -1,0 +1,140 @@
+// The truth of each condition, kept.
+ghost use Rattle.std.specs.Prelude.{◌≡◌, ◌<◌, ◌≤◌, length, IfOk, OnOk};
+ghost use Rattle.px_flat.specs.Flat.{plan_of};
+ghost use Rattle.px_flat.specs.Layout.{all_cells};
+ghost use Rattle.px_cached.specs.Cached.{AreFresh, IsSeen, IsSeenBut, IsTouched, TellsChanged, kept_truth, plan_in, present_in};
+ghost use Rattle.px_cached.specs.Conditions.{all_sources};
+
+use crate::kinds::place_of;
+use crate::looking::Kept;
+use crate::noticing::{NOTED, notice};
+use crate::reading::listeners;
+use px_cells::Cells;
+use px_core::ConditionKind;
+use px_flat::Flat;
+use px_links::Links;
+use px_listen::Listeners;
+use px_lookup::Reports;
+use px_value::NoMemory;
+use std::alloc::Global;
+use std::marker::Model;
+use std::snapshot::Snapshot;
+
+/// The truth of each condition of a plan's nodes, as it was when it was last looked at. No call but `new` and `refresh`
+/// takes memory.
+#[derive(Drop)]
+pub struct Cached {
+    flat: Snapshot<Flat>,
+    kept: Kept,
+    /// Of each source the parts that are evaluated whole and read it.
+    listeners: Listeners,
+    /// One list of sources.
+    touched: Links,
+    seen_cells: Snapshot<Cells>,
+    seen_reports: Snapshot<Reports>,
+}
+
+impl Model for Cached {
+    ghost use Rattle.std.specs.Coded.{codes};
+    ghost use Rattle.px_flat.specs.contracts.flat.Flat as tables;
+    ghost use Rattle.px_cached.specs.Cached.{CachedData};
+
+    ghost Value = { CachedData };
+
+    ghost coded = { Prim.hlevel (codes, tables.the_row.coded) };
+
+    ghost use Rattle.px_cached.specs.Keeping.{cached_data, IsKept};
+
+    ghost view = { cached_data };
+
+    ghost invariant = { IsKept };
+}
+
+impl Cached {
+    /// The conditions of a plan, none of which was looked at so far, with these cells and reports as those that were seen:
+    /// what is written from now on is to be touched. An error is want of memory.
+    pub fn new(
+        alloc: Global,
+        flat: &Flat,
+        cells: &Cells,
+        reports: &Reports,
+    ) -> Result<Cached, NoMemory>
+        requires { length cells.now.contents.values ≡ all_cells (plan_of flat.now) }
+        ensures flat { IfOk result (λ made. made.flat ≡ flat.now) }
+        ensures seen { IfOk result (λ made. IsSeen made (present_in cells.now reports.now)) }
+    {
+        let kept = Kept::of(alloc, flat)?;
+        let listeners = listeners(alloc, flat, &kept.network.parts)?;
+        let touched = Links::new(alloc, flat.all_cells() + flat.lookups(), 1)?;
+        Ok(Cached {
+            flat: Snapshot::of(flat),
+            kept,
+            listeners,
+            touched,
+            seen_cells: Snapshot::of(cells),
+            seen_reports: Snapshot::of(reports),
+        })
+    }
+
+    /// From now on the source is touched: the first cell of a variable, a cell of a node, or, numbered behind all cells, a
+    /// lookup name.
+    pub fn touch(&mut self, source: u32)
+        requires { source < all_sources (plan_in self.old) }
+        ensures { IsTouched self.old self.new source }
+    {
+        self.touched.push_back_absent(NOTED, source);
+    }
+
+    /// Looks again at what reads a touched source, and at the way up as far as something changes. Each node with a condition
+    /// that changed is put behind the others of that list of `changed`, where it is in no list yet. The answer is at how
+    /// many parts was looked, or the most that it can say.
+    ///
+    /// Ok: each condition is kept with its truth in these cells and reports. `NoMemory`: some conditions may not be, and
+    /// are looked at by the next call.
+    pub fn refresh(
+        &mut self,
+        alloc: Global,
+        flat: &Flat,
+        cells: &Cells,
+        reports: &Reports,
+        changed: &mut Links,
+        list: u32,
+    ) -> Result<u32, NoMemory>
+        requires plan { flat.now ≡ self.old.flat }
+        requires cells { length cells.now.contents.values ≡ all_cells (plan_of flat.now) }
+        requires seen { IsSeenBut self.old (present_in cells.now reports.now) }
+        requires list { list < length changed.old.lists }
+        requires nodes { length (plan_of flat.now) ≤ changed.old.cells }
+        ensures flat { self.new.flat ≡ self.old.flat }
+        ensures seen { IsSeen self.new (present_in cells.now reports.now) }
+        ensures fresh { OnOk result (AreFresh self.new (present_in cells.now reports.now)) }
+        ensures told { TellsChanged self.old self.new changed.old changed.new list }
+    {
+        self.see(flat, cells, reports);
+        self.kept
+            .refresh(alloc, flat, cells, reports, changed, list)
+    }
+
+    // What depends on touched sources is to be looked at, and these cells and reports are those that were seen.
+    fn see(&mut self, _flat: &Flat, cells: &Cells, reports: &Reports)
+        requires plan { _flat.now ≡ self.old.flat }
+        requires cells { length cells.now.contents.values ≡ all_cells (plan_of _flat.now) }
+        requires seen { IsSeenBut self.old (present_in cells.now reports.now) }
+        ensures flat { self.new.flat ≡ self.old.flat }
+        ensures truths { self.new.truths ≡ self.old.truths }
+        ensures seen { IsSeen self.new (present_in cells.now reports.now) }
+    {
+        notice(&mut self.touched, &self.listeners, &mut self.kept.stale);
+        self.seen_cells = Snapshot::of(cells);
+        self.seen_reports = Snapshot::of(reports);
+    }
+
+    /// The kept truth of a condition; None is UNKNOWN.
+    pub fn condition(&self, node: u32, kind: ConditionKind) -> Option<bool>
+        requires { node < length (plan_in self.now) }
+        ensures { result ≡ kept_truth self.now node kind }
+    {
+        let part = self.kept.network.roots[8 * node as usize + place_of(kind)];
+        self.kept.truths[part as usize]
+    }
+}
