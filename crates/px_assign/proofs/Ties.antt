@@ -66,10 +66,10 @@ goes_alike plan a b distinct within_a within_b = λ i.
 -- ---- variables
 
 -- the first cell of a target's variable
-abbrev first_of : List Site → TargetData → ℕ
+abbrev pub first_of : List Site → TargetData → ℕ
 first_of plan target = (place_of plan target.owner target.name).first
 
-written_is : (plan : List Site) (body : BodyData)
+pub written_is : (plan : List Site) (body : BodyData)
     → written (numbered_body plan body) ≡ option_map (first_of plan) (target_of body)
 written_is plan Nothing = refl
 written_is plan (Assign target value) = refl

@@ -7,7 +7,7 @@ use Rattle.px_sem.specs.World.{World}
 use Rattle.px_flat.specs.declared.flat.Flat.{Flat}
 use Rattle.px_flat.specs.Flat.{plan_of}
 use Rattle.px_flat.specs.Row.{parent_number}
-use Rattle.px_micro.specs.declared.asked.Asked.{Asked}
+use Rattle.px_told.specs.declared.asks.Asks.{Asks}
 use Rattle.px_micro.specs.Above.{asked_of, asked_below, AreRight, IsChain}
 use Rattle.px_micro.proofs.Ancestors.{IsUnder, placed}
 use Rattle.px_micro.proofs.Seeing.{asked_under}
@@ -63,7 +63,7 @@ asked_by_parent flat now node parent here number =
     ap (asked_below (plan_of flat) now) (sym found.is) ∙ asked_under (plan_of flat) now node found.under
 
 -- what is known stays right where more is known of one node
-pub still_right : (plan : List Site) (now : World) (old new : ℕ → Option Asked) (key : ℕ) (asked : Asked) (test : ℕ → Bool)
+pub still_right : (plan : List Site) (now : World) (old new : ℕ → Option Asks) (key : ℕ) (asked : Asks) (test : ℕ → Bool)
     → AreRight plan now old → asked ≡ asked_below plan now key
     → ((node : ℕ) → new node ≡ cond (test node) (Some asked) (old node))
     → ((node : ℕ) → test node ≡ true → key ≡ node) → AreRight plan now new

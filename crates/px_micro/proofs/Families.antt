@@ -1,5 +1,5 @@
 -- Descendants and children, by number.
-use Rattle.std.proofs.Common.{◌≡◌, ℕ, zero, suc, ◌<◌, ◌≤◌, Bool, true, false, ◌||◌, ◌⊎◌, nat_lt, cond, List, [], ◌∷◌, length, drop, take_while, refl, ap, sym, ◌∙◌, subst, arith, inl, inr, length-drop}
+use Rattle.std.proofs.Common.{◌≡◌, ℕ, zero, suc, ◌<◌, ◌≤◌, Bool, true, false, ◌||◌, ◌⊎◌, nat_lt, cond, List, [], ◌∷◌, length, drop, take_while, refl, ap, sym, ◌∙◌, subst, arith, inl, inr, length-drop, Some}
 use Rattle.std.specs.List.{list_any}
 use Rattle.std.specs.Cmp.Lexicographic.{same_text}
 use Rattle.std.proofs.lemmas.Bool.{and_parts, and_from, or_cases, or_left, or_right, ltb-true, lt-ltb}
@@ -8,7 +8,7 @@ use Rattle.px_core.specs.Plan.{Site, is_same, is_child_of}
 use Rattle.px_core.proofs.Paths.{same-self}
 use Rattle.px_flat.specs.declared.flat.Flat.{Flat}
 use Rattle.px_flat.specs.Flat.{plan_of}
-use Rattle.px_flat.specs.Row.{site_in, is_below, after_last}
+use Rattle.px_flat.specs.Row.{site_in, is_below, after_last, parent_number}
 use Rattle.px_flat.proofs.Known.{IsSound}
 use Rattle.px_flat.proofs.Tables.{flat_sound}
 use Rattle.px_micro.proofs.Ancestors.{IsUnder, placed}
@@ -59,13 +59,13 @@ end_within plan node here =
 -- ---- parents
 
 -- the number of a node by its path
-same_node : (plan : List Site) (a b : ℕ) → IsSound plan → a < length plan → b < length plan
+pub same_node : (plan : List Site) (a b : ℕ) → IsSound plan → a < length plan → b < length plan
     → is_same (site_in plan a).path (site_in plan b).path ≡ true → a ≡ b
 same_node plan a b sound here there same =
     sound.distinct a b here there (same_text (site_in plan a).path (site_in plan b).path (sym same))
 
 -- what is below a node's parent is above the node, and so is the parent
-above_parent : (plan : List Site) (node other : ℕ) (under : IsUnder plan other) → IsBelow plan node under.parent
+pub above_parent : (plan : List Site) (node other : ℕ) (under : IsUnder plan other) → IsBelow plan node under.parent
     → IsBelow plan node other
 above_parent plan node other under below =
     ap (list_any (is_same (site_in plan node).path)) under.above
@@ -80,11 +80,11 @@ parent_above plan node under =
     (same-self (site_in plan under.parent).path)
 
 -- what is above a node is its parent, or above its parent
-record IsParentOr (plan : List Site) (node other : ℕ) : Type 0 where
-  under : IsUnder plan other
-  either : (under.parent ≡ node) ⊎ IsBelow plan node under.parent
+pub record IsParentOr (plan : List Site) (node other : ℕ) : Type 0 where
+  pub under : IsUnder plan other
+  pub either : (under.parent ≡ node) ⊎ IsBelow plan node under.parent
 
-parent_or : (flat : Flat) (node other : ℕ) → node < length (plan_of flat) → other < length (plan_of flat)
+pub parent_or : (flat : Flat) (node other : ℕ) → node < length (plan_of flat) → other < length (plan_of flat)
     → IsBelow (plan_of flat) node other → IsParentOr (plan_of flat) node other
 parent_or flat node other here there below = elim (placed flat other there) [
   | inl top ↦
@@ -122,10 +122,33 @@ below_below flat node middle other (suc few) here mid there small upper lower =
 -- ---- children
 
 -- the parent of a child
-child_parent : (plan : List Site) (node other : ℕ) (under : IsUnder plan other) → IsSound plan → node < length plan
+pub child_parent : (plan : List Site) (node other : ℕ) (under : IsUnder plan other) → IsSound plan → node < length plan
     → other < length plan → is_child_of (site_in plan node).path (site_in plan other) ≡ true → under.parent ≡ node
 child_parent plan node other under sound here there child =
     same_node plan under.parent node sound (omega (arith, under.before, there)) here (rw under.above at child)
+
+-- a child by its path is a child by its number
+pub child_is : (flat : Flat) (node child : ℕ) → node < length (plan_of flat) → child < length (plan_of flat)
+    → is_child_of (site_in (plan_of flat) node).path (site_in (plan_of flat) child) ≡ true
+    → parent_number (plan_of flat) child ≡ Some node
+child_is flat node child here there is = elim (placed flat child there) [
+  | inl top ↦ absurd (cc (rw top.above at is))
+  | inr under ↦ under.number ∙ ap Some (child_parent (plan_of flat) node child under (flat_sound flat) here there is)
+]
+
+-- and the other way round
+pub is_child : (flat : Flat) (node child : ℕ) → child < length (plan_of flat)
+    → parent_number (plan_of flat) child ≡ Some node
+    → is_child_of (site_in (plan_of flat) node).path (site_in (plan_of flat) child) ≡ true
+is_child flat node child there is = elim (placed flat child there) [
+  | inl top ↦ absurd (cc (sym top.number ∙ is))
+  | inr under ↦
+      let plan : List Site = plan_of flat in
+      let same : Some under.parent ≡ Some node = sym under.number ∙ is in
+      let parent : under.parent ≡ node = cc same in
+      rw under.above (ap (λ n. is_same (site_in plan n).path (site_in plan node).path) parent
+      ∙ same-self (site_in plan node).path)
+]
 
 -- a child is below its parent
 pub child_below : (flat : Flat) (node other : ℕ) → node < length (plan_of flat) → other < length (plan_of flat)

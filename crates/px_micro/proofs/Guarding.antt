@@ -11,11 +11,12 @@ use Rattle.px_flat.specs.Numbered.{ConditionsNumbered, numbered_conditions}
 use Rattle.px_flat.specs.Row.{site_in}
 use Rattle.px_parts.specs.declared.parts.Parts.{Parts}
 use Rattle.px_tables.specs.Reading.{read_by}
-use Rattle.px_micro.specs.declared.asked.Asked.{Asked}
+use Rattle.px_told.specs.declared.asks.Asks.{Asks}
 use Rattle.px_micro.specs.Above.{asked_of}
 use Rattle.px_micro.specs.Guarded.{guards_at, guards_in, ready_in}
 use Rattle.px_parts.specs.Parts.{AreStanding, plan_in, world_in, record_of, value_in}
-use Rattle.px_micro.specs.Truths.{Truths, truths_in}
+use Rattle.px_micro.specs.declared.truths.Truths.{Truths}
+use Rattle.px_micro.specs.Truths.{truths_in}
 use Rattle.px_micro.proofs.Seeing.{record_is, truths_by, truths_are}
 
 -- whether a node is ready, by its kind
@@ -50,13 +51,13 @@ guards_are parts node here =
     (sym (ready_is plan now site))
 
 -- what is read of a node, by what is asked of it and by its numbered conditions
-abbrev looked : Parts → ℕ → Asked → Truths → Guards
+abbrev looked : Parts → ℕ → Asks → Truths → Guards
 looked parts node asked truths =
     guards_in (site_in (plan_in parts) node).head.kind (record_of parts node)
     (parent_state (world_in parts) (site_in (plan_in parts) node)) asked
     (each_child is_at_rest (plan_in parts) (world_in parts) (site_in (plan_in parts) node).path) truths
 
-pub reads_are : (parts : Parts) (node : ℕ) (state : NodeState) (asked : Asked) (conditions : ConditionsNumbered)
+pub reads_are : (parts : Parts) (node : ℕ) (state : NodeState) (asked : Asks) (conditions : ConditionsNumbered)
     → AreStanding parts → node < length (plan_in parts) → asked ≡ asked_of (plan_in parts) (world_in parts) node
     → conditions ≡ numbered_conditions (plan_in parts) (site_in (plan_in parts) node).head.conditions
     → read_by state (looked parts node asked (truths_by (value_in parts) conditions)) ≡ read_by state (guards_at parts node)

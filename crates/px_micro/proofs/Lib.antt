@@ -13,6 +13,7 @@ pub mod Initial
 pub mod Lists
 pub mod Meaning
 pub mod Moved
+pub mod Passing
 pub mod Quiet
 pub mod Resting
 pub mod Room

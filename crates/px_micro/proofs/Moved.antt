@@ -15,7 +15,7 @@ use Rattle.px_sem.specs.declared.guards.Arrival.{Arrival}
 use Rattle.px_sem.specs.Conflicts.{transition}
 use Rattle.px_sem.specs.Effects.{initial_values, is_initializing, move_kind, write_to, written}
 use Rattle.px_sem.specs.Expressions.{outcome_value, failure_value}
-use Rattle.px_sem.specs.Step.{micro, move_of, moves, record_after, step_writes}
+use Rattle.px_sem.specs.Step.{micro, record_after, step_writes}
 use Rattle.px_sem.specs.World.{World, NodeRecord}
 use Rattle.px_flat.specs.declared.act.Abort.TheVariants as aborts
 use Rattle.px_flat.specs.declared.act.Act.{Act}
@@ -42,7 +42,7 @@ use Rattle.px_micro.proofs.Arriving.{Said, said_in, said_after, handle_after, ac
 use Rattle.px_micro.proofs.Beginning.{begins, begun_as, begun_variables, initial_small}
 use Rattle.px_micro.proofs.Blocks.{values_in-same, begun_length}
 use Rattle.px_micro.proofs.Firsts.{firsts_all}
-use Rattle.px_micro.proofs.Goers.{gone, nodes_are, stays}
+use Rattle.px_micro.proofs.Goers.{nodes_are, stays}
 use Rattle.px_micro.proofs.Hits.{hit_by, find-map, found_has}
 use Rattle.px_micro.proofs.Seeing.{record_is}
 use Rattle.px_micro.proofs.Writing.{IsWriteOf, written_in, writes_inside, writes_small, written_variables}
@@ -509,9 +509,3 @@ stand_after parts made ready = record {
       ready.stand.all_acts;
   nodes = λ node here. (node_after parts made node ready here).node_is;
 }
-
-pub moves_after : (parts : Parts) (made : Turns) → AreReady parts made
-    → made.moves.items ≡ moves (plan_in parts) (world_in parts)
-moves_after parts made ready =
-    ready.turns.moves
-    ∙ sym (gone (plan_in parts) (world_in parts) (move_of (plan_in parts) (world_in parts)) (goers made) ready.going)

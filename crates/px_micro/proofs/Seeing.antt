@@ -13,10 +13,12 @@ use Rattle.px_flat.proofs.Sites.{found_site}
 use Rattle.px_flat.proofs.Tables.{flat_sound}
 use Rattle.px_flat.proofs.Worlds.{record_at-world_of}
 use Rattle.px_parts.specs.declared.parts.Parts.{Parts}
-use Rattle.px_micro.specs.declared.asked.Asked.{Asked}
-use Rattle.px_micro.specs.Above.{asked_by, asked_of, asked_below, asks_at, asks_in, asked_too}
+use Rattle.px_told.specs.declared.asks.Asks.{Asks}
+use Rattle.px_told.specs.Asking.{either}
+use Rattle.px_micro.specs.Above.{asked_by, asked_of, asked_below, asks_at, asks_in}
 use Rattle.px_parts.specs.Parts.{plan_in, world_in, record_of, value_in, AreStanding}
-use Rattle.px_micro.specs.Truths.{Truths, truths_in}
+use Rattle.px_micro.specs.declared.truths.Truths.{Truths}
+use Rattle.px_micro.specs.Truths.{truths_in}
 use Rattle.px_micro.proofs.Ancestors.{IsTop, IsUnder}
 
 -- the record of a node
@@ -59,7 +61,7 @@ truths_are parts node conditions stand here are =
     })
 
 -- what a node asks
-abbrev asks_of : List Site → World → NodeRecord → ConditionTerms → Asked
+abbrev asks_of : List Site → World → NodeRecord → ConditionTerms → Asks
 asks_of plan now r conditions =
     asks_in r (truth_of (value plan now conditions.exit)) (truth_of (value plan now conditions.invariant))
     (truth_of (value plan now conditions.end))
@@ -78,7 +80,7 @@ asks_are parts node truths here are =
 
 -- what is asked of the children of a node
 pub asked_below_is : (plan : List Site) (now : World) (node : ℕ)
-    → asked_too (asks_at plan now (site_in plan node).path) (asked_of plan now node) ≡ asked_below plan now node
+    → either (asks_at plan now (site_in plan node).path) (asked_of plan now node) ≡ asked_below plan now node
 asked_below_is plan now node = refl
 
 pub asked_under : (plan : List Site) (now : World) (node : ℕ) (under : IsUnder plan node)

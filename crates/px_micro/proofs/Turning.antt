@@ -1,5 +1,5 @@
 -- The turns of one more node that goes.
-use Rattle.std.proofs.Common.{◌≡◌, List, [], ◌∷◌, ◌++◌, fold, map, append-nil, ap, sym, ◌∙◌, subst, Option}
+use Rattle.std.proofs.Common.{◌≡◌, Bool, true, false, List, [], ◌∷◌, ◌++◌, fold, map, append-nil, refl, ap, sym, ◌∙◌, subst, Option}
 use Rattle.std.specs.List.{filter_map, flat_map, cons_option, All}
 use Rattle.std.specs.Option.{option_map}
 use Rattle.std.proofs.lemmas.Grind.{flat_map-append}
@@ -18,7 +18,7 @@ use Rattle.px_micro.specs.declared.sight.Going.{Going}
 use Rattle.px_micro.specs.declared.turns.Turn.{Turn}
 use Rattle.px_micro.specs.declared.turns.Turns.{Turns}
 use Rattle.px_parts.specs.Parts.{plan_in, world_in}
-use Rattle.px_micro.specs.Turns.{in_cells, effects_in, initial_in, with_write, IsTurn, AreTurns, IsAdded}
+use Rattle.px_micro.specs.Turns.{in_cells, effects_in, initial_in, moves_told, with_write, IsTurn, AreTurns, IsAdded}
 
 pub turns_more : (parts : Parts) (going : List Going) (one : Going) (old new : Turns) → AreTurns parts going old
     → IsAdded parts one old new → AreTurns parts (going ++ one ∷ []) new
@@ -35,15 +35,24 @@ turns_more parts going one old new are added = record {
       ∙ (λ i. are.goers i ++ added.goes i ∷ []);
   each = subst (All (IsTurn parts)) (sym added.turns)
       (All-push (IsTurn parts) old.turns.items added.turn are.each added.is);
-  moves = added.moves ∙ ap (λ before. before ++ told one ∷ []) are.moves
-      ∙ sym (map-append told going (one ∷ []));
 }
   where
     written : Going → Option CellWrite
     written one = option_map (in_cells (plan_in parts)) (effects_in parts one).write
 
-    told : Going → Move
-    told one = move_of (plan_in parts) (world_in parts) (site_in (plan_in parts) one.node) one.arrival
+moves_more : (parts : Parts) (tells : Bool) (going : List Going) (one : Going)
+    → moves_told parts tells going ++ moves_told parts tells (one ∷ []) ≡ moves_told parts tells (going ++ one ∷ [])
+moves_more parts false going one = refl
+moves_more parts true going one =
+    sym (map-append (λ one. move_of (plan_in parts) (world_in parts) (site_in (plan_in parts) one.node) one.arrival) going
+    (one ∷ []))
+
+-- one more that goes, and its move where moves are told
+pub moves_then : (parts : Parts) (tells : Bool) (going : List Going) (one : Going) (old new : List Move)
+    → old ≡ moves_told parts tells going → new ≡ old ++ moves_told parts tells (one ∷ [])
+    → new ≡ moves_told parts tells (going ++ one ∷ [])
+moves_then parts tells going one old new before added =
+    added ∙ ap (λ before. before ++ moves_told parts tells (one ∷ [])) before ∙ moves_more parts tells going one
 
 -- ---- what the turns are does not change with the room
 
@@ -65,5 +74,4 @@ turns_stay parts cells acts going made cells_same acts_same are =
       each = λ k d within.
           let turn = are.each k d within in
           record { within = turn.within; action = turn.action; fits = turn.fits };
-      moves = are.moves;
     })

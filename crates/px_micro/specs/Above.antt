@@ -1,5 +1,5 @@
 -- What a node's ancestors ask of it: by an Exit, by an Invariant, by an End.
-use Rattle.std.specs.Prelude.{◌≡◌, ℕ, Bool, ◌||◌, List, [], ◌∷◌, Option, Some, None}
+use Rattle.std.specs.Prelude.{◌≡◌, ℕ, Bool, List, [], ◌∷◌, Option, Some, None}
 use Rattle.std.specs.List.{list_any}
 use Rattle.std.specs.Option.{ForSome}
 use Rattle.px_value.specs.declared.enums.NodeState.{NodeState}
@@ -11,7 +11,7 @@ use Rattle.px_sem.specs.World as world
 use Rattle.px_sem.specs.World.{record_at}
 use Rattle.px_sem.specs.Guards.{Truth, condition, exit_asks, invariant_asks, end_asks}
 use Rattle.px_flat.specs.Row.{site_in, parent_number}
-use Rattle.px_micro.specs.declared.asked.Asked.{Asked}
+use Rattle.px_told.specs.declared.asks.Asks.{Asks}
 
 -- some node at these paths asks, by a condition
 abbrev pub some_asks : (world.NodeRecord → Truth → Bool) → ConditionKind → List Site → world.World → List (List ℕ) → Bool
@@ -19,7 +19,7 @@ some_asks asks kind plan now paths =
     list_any (λ path. asks (record_at now path) (condition plan now (site_at plan path) kind)) paths
 
 -- what the nodes at these paths ask together
-abbrev pub asked_by : List Site → world.World → List (List ℕ) → Asked
+abbrev pub asked_by : List Site → world.World → List (List ℕ) → Asks
 asked_by plan now paths = record {
   exit = some_asks exit_asks which.Exit plan now paths;
   invariant = some_asks invariant_asks which.Invariant plan now paths;
@@ -27,15 +27,15 @@ asked_by plan now paths = record {
 }
 
 -- what is asked of a node, by all above it
-abbrev pub asked_of : List Site → world.World → ℕ → Asked
+abbrev pub asked_of : List Site → world.World → ℕ → Asks
 asked_of plan now node = asked_by plan now (site_in plan node).above
 
 -- what is asked of the children of a node: by the node, and by all above it
-abbrev pub asked_below : List Site → world.World → ℕ → Asked
+abbrev pub asked_below : List Site → world.World → ℕ → Asks
 asked_below plan now node = asked_by plan now ((site_in plan node).path ∷ (site_in plan node).above)
 
 -- what the node at a path asks
-abbrev pub asks_at : List Site → world.World → List ℕ → Asked
+abbrev pub asks_at : List Site → world.World → List ℕ → Asks
 asks_at plan now path = record {
   exit = exit_asks (record_at now path) (condition plan now (site_at plan path) which.Exit);
   invariant = invariant_asks (record_at now path) (condition plan now (site_at plan path) which.Invariant);
@@ -43,7 +43,7 @@ asks_at plan now path = record {
 }
 
 -- what a node with this record asks, by the truths of its Exit, its Invariant and its End
-abbrev pub asks_in : world.NodeRecord → Truth → Truth → Truth → Asked
+abbrev pub asks_in : world.NodeRecord → Truth → Truth → Truth → Asks
 asks_in r exit invariant end =
     record { exit = exit_asks r exit; invariant = invariant_asks r invariant; end = end_asks r end }
 
@@ -52,16 +52,8 @@ abbrev pub in_state : NodeState → Option Failure → world.NodeRecord
 in_state state failure =
     record { state = state; outcome = None; failure = failure; variables = []; action = world.NoAction }
 
--- what either asks
-abbrev pub asked_too : Asked → Asked → Asked
-asked_too own above = record {
-  exit = own.exit || above.exit;
-  invariant = own.invariant || above.invariant;
-  end = own.end || above.end;
-}
-
 -- what is known of nodes is what is asked of their children
-abbrev pub AreRight : List Site → world.World → (ℕ → Option Asked) → Type 0
+abbrev pub AreRight : List Site → world.World → (ℕ → Option Asks) → Type 0
 AreRight plan now known = (node : ℕ) → ForSome (known node) (λ asked. asked ≡ asked_below plan now node)
 
 -- these nodes lead up from a node to the last, each the parent of the one before
@@ -70,7 +62,7 @@ IsChain plan node [] last = last ≡ node
 IsChain plan node (parent ∷ chain) last = (parent_number plan node ≡ Some parent) × IsChain plan parent chain last
 
 -- these nodes lead up from a node, and this is what is asked of the last
-pub record LeadsUp (plan : List Site) (now : world.World) (node : ℕ) (chain : List ℕ) (asked : Asked) : Type 0 where
+pub record LeadsUp (plan : List Site) (now : world.World) (node : ℕ) (chain : List ℕ) (asked : Asks) : Type 0 where
   pub last : ℕ
   pub leads : IsChain plan node chain last
   pub asked_is : asked ≡ asked_of plan now last

@@ -11,8 +11,8 @@ use Rattle.px_sem.specs.Guards.{is_true, is_false, command_is_over, is_waiting, 
 use Rattle.px_flat.specs.Row.{site_in}
 use Rattle.px_parts.specs.declared.parts.Parts.{Parts}
 use Rattle.px_parts.specs.Parts.{plan_in, world_in}
-use Rattle.px_micro.specs.declared.asked.Asked.{Asked}
-use Rattle.px_micro.specs.Truths.{Truths}
+use Rattle.px_told.specs.declared.asks.Asks.{Asks}
+use Rattle.px_micro.specs.declared.truths.Truths.{Truths}
 
 -- the guards of a node, as the semantics has them
 abbrev pub guards_at : Parts → ℕ → Guards
@@ -28,7 +28,7 @@ ready_in kinds.Update action rest = is_acknowledged action
 
 -- all guards of a node: by its kind, its record, its parent's state, what its ancestors ask, whether its children are at
 -- rest, and the truths of its conditions
-abbrev pub guards_in : Kind → world.NodeRecord → NodeState → Asked → Bool → Truths → Guards
+abbrev pub guards_in : Kind → world.NodeRecord → NodeState → Asks → Bool → Truths → Guards
 guards_in kind r parent asked rest truths = record {
   outcome = r.outcome;
   failure = r.failure;

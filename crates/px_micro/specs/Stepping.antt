@@ -5,7 +5,13 @@ use Rattle.px_sem.specs.Step.{micro, moves}
 use Rattle.px_parts.specs.declared.parts.Parts.{Parts}
 use Rattle.px_parts.specs.Parts.{plan_in, world_in, AreOfOnePlan, AreSame}
 
--- the world was not quiet, and took one micro step with these moves
+-- the world was not quiet, and took one micro step
+pub record HaveMoved (old new : Parts) : Type 0 where
+  pub one_plan : AreOfOnePlan old new
+  pub loud : is_quiet (plan_in old) (world_in old) ≡ false
+  pub world : world_in new ≡ micro (plan_in old) (world_in old)
+
+-- it did, with these moves
 pub record HaveStepped (old new : Parts) : Type 0 where
   pub one_plan : AreOfOnePlan old new
   pub loud : is_quiet (plan_in old) (world_in old) ≡ false

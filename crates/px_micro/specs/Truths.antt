@@ -4,18 +4,7 @@ use Rattle.px_value.specs.Truth.{truth_of}
 use Rattle.px_core.specs.Plan.{Site, ConditionTerms}
 use Rattle.px_sem.specs.World.{World}
 use Rattle.px_sem.specs.Expressions.{value}
-use Rattle.px_sem.specs.Guards.{Truth}
-
--- none is UNKNOWN
-pub record Truths : Type 0 where
-  pub start : Truth
-  pub end : Truth
-  pub exit : Truth
-  pub skip : Truth
-  pub repeat : Truth
-  pub pre : Truth
-  pub post : Truth
-  pub invariant : Truth
+use Rattle.px_micro.specs.declared.truths.Truths.{Truths}
 
 -- of conditions in a world
 abbrev pub truths_in : List Site → World → ConditionTerms → Truths

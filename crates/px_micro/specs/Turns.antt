@@ -1,5 +1,5 @@
--- What is gathered of a step: the turns of the nodes that go, and their moves.
-use Rattle.std.specs.Prelude.{◌≡◌, ℕ, ◌+◌, ◌<◌, false, nat_eq, List, [], ◌∷◌, ◌++◌, fold, map, length, IsTrue, if◌then◌else◌}
+-- What is gathered of a step: the turns of the nodes that go, and their moves where these are told.
+use Rattle.std.specs.Prelude.{◌≡◌, ℕ, ◌+◌, ◌<◌, Bool, true, false, nat_eq, List, [], ◌∷◌, ◌++◌, fold, map, length, IsTrue, if◌then◌else◌}
 use Rattle.std.specs.BTreeSet.{contains}
 use Rattle.std.specs.List.{flat_map, filter_map, cons_option, list_any, All}
 use Rattle.std.specs.Ordering.{nat_cmp}
@@ -7,6 +7,7 @@ use Rattle.std.specs.Option.{option_map}
 use Rattle.px_value.specs.declared.value.Value.{Value}
 use Rattle.px_value.specs.declared.value.Value.TheVariants as values
 use Rattle.px_core.specs.Plan.{Site}
+use Rattle.px_sem.specs.declared.moves.Move.{Move}
 use Rattle.px_sem.specs.Effects as sem
 use Rattle.px_sem.specs.Effects.{Write, move_kind, is_initializing, initial_values, cell_of}
 use Rattle.px_sem.specs.Step.{move_of}
@@ -93,15 +94,19 @@ pub record IsTurn (parts : Parts) (turn : Turn) : Type 0 where
   pub fits : IsTrue (fits (plan_in parts) (site_in (plan_in parts) turn.going.node).head.body
       (act_after parts turn.going.node turn.under_way))
 
--- these are the turns of the nodes that go, with their moves
+-- these are the turns of the nodes that go
 pub record AreTurns (parts : Parts) (going : List Going) (made : Turns) : Type 0 where
   pub writes : made.writes.items
       ≡ first_writes (filter_map (λ one. option_map (in_cells (plan_in parts)) (effects_in parts one).write) going)
   pub initial : made.initial.items ≡ flat_map (initial_in parts) going
   pub goers : map (λ turn. turn.going) made.turns.items ≡ going
   pub each : All (IsTurn parts) made.turns.items
-  pub moves : made.moves.items
-      ≡ map (λ one. move_of (plan_in parts) (world_in parts) (site_in (plan_in parts) one.node) one.arrival) going
+
+-- the moves of the nodes that go, where they are told
+abbrev pub moves_told : Parts → Bool → List Going → List Move
+moves_told parts true going =
+    map (λ one. move_of (plan_in parts) (world_in parts) (site_in (plan_in parts) one.node) one.arrival) going
+moves_told parts false going = []
 
 -- one more node goes
 pub record IsAdded (parts : Parts) (going : Going) (old new : Turns) : Type 0 where
@@ -112,5 +117,3 @@ pub record IsAdded (parts : Parts) (going : Going) (old new : Turns) : Type 0 wh
   pub writes : new.writes.items ≡ fold with_write old.writes.items
       (cons_option (option_map (in_cells (plan_in parts)) (effects_in parts going).write) [])
   pub initial : new.initial.items ≡ old.initial.items ++ initial_in parts going
-  pub moves : new.moves.items ≡ old.moves.items
-      ++ move_of (plan_in parts) (world_in parts) (site_in (plan_in parts) going.node) going.arrival ∷ []

@@ -3,7 +3,7 @@ ghost use Rattle.std.specs.Prelude.{◌≡◌, ◌<◌, length, IfOk, OnOk};
 ghost use Rattle.std.specs.BTreeMap.{get};
 ghost use Rattle.std.specs.Ordering.{nat_cmp};
 ghost use Rattle.px_flat.specs.Row.{site_in};
-ghost use Rattle.px_micro.specs.Above.{asked_of, asked_too, asks_at, asks_in, in_state, AreRight, LeadsUp};
+ghost use Rattle.px_micro.specs.Above.{asked_of, asks_at, asks_in, in_state, AreRight, LeadsUp};
 ghost use Rattle.px_parts.specs.Parts.{AreStanding, plan_in, world_in};
 
 use crate::states::{
@@ -12,45 +12,22 @@ use crate::states::{
 };
 use crate::truths::truth;
 use px_parts::{Parts, failure_of, state_of};
+use px_told::Asks;
 use px_value::{Failure, NoMemory, NodeState};
 use std::alloc::Global;
 use std::collections::BTreeMap;
 
-/// What some proper ancestor asks.
-#[derive(Clone, Copy, Debug, PartialEq, Eq)]
-pub struct Asked {
-    pub exit: bool,
-    pub invariant: bool,
-    pub end: bool,
-}
-
-const NOTHING: Asked = Asked {
-    exit: false,
-    invariant: false,
-    end: false,
-};
-
-fn asked_too(own: Asked, above: Asked) -> Asked
-    ensures { result ≡ asked_too own above }
-{
-    Asked {
-        exit: own.exit || above.exit,
-        invariant: own.invariant || above.invariant,
-        end: own.end || above.end,
-    }
-}
-
-// What a node in this state asks, by its failure and the truths of its Exit, its Invariant and its End.
-fn asks_in(
+/// What a node in this state asks of all below it, by its failure and the truths of its Exit, its Invariant and its End.
+pub fn asks_in(
     state: NodeState,
     failure: Option<Failure>,
     exit: Option<bool>,
     invariant: Option<bool>,
     end: Option<bool>,
-) -> Asked
+) -> Asks
     ensures { result ≡ asks_in (in_state state failure) exit invariant end }
 {
-    Asked {
+    Asks {
         exit: (is_active(state) && is_true(exit))
             || (is_failing(state) && is_exit_failure(failure)),
         invariant: (is_active(state) && is_false(invariant))
@@ -60,7 +37,7 @@ fn asks_in(
 }
 
 // What one node asks of all below it.
-fn asks(alloc: Global, parts: &Parts, node: u32) -> Result<Asked, NoMemory>
+fn asks(alloc: Global, parts: &Parts, node: u32) -> Result<Asks, NoMemory>
     requires stand { AreStanding parts.now }
     requires node { node < length (plan_in parts.now) }
     ensures { IfOk result (λ asked. asked
@@ -79,9 +56,9 @@ fn asks(alloc: Global, parts: &Parts, node: u32) -> Result<Asked, NoMemory>
 fn unknown_above(
     alloc: Global,
     parts: &Parts,
-    known: &BTreeMap<u32, Asked>,
+    known: &BTreeMap<u32, Asks>,
     node: u32,
-) -> Result<(Vec<u32>, Asked), NoMemory>
+) -> Result<(Vec<u32>, Asks), NoMemory>
     requires stand { AreStanding parts.now }
     requires node { node < length (plan_in parts.now) }
     requires known { AreRight (plan_in parts.now) (world_in parts.now) (get nat_cmp known.now) }
@@ -96,7 +73,7 @@ fn unknown_above(
         chain.push(parent)?;
         last = parent;
     }
-    Ok((chain, NOTHING))
+    Ok((chain, Asks::NOTHING))
 }
 
 /// What is asked of a node. What is asked of the children of its ancestors is known from then on, so that no ancestor is
@@ -104,9 +81,9 @@ fn unknown_above(
 pub fn asked_of(
     alloc: Global,
     parts: &Parts,
-    known: &mut BTreeMap<u32, Asked>,
+    known: &mut BTreeMap<u32, Asks>,
     node: u32,
-) -> Result<Asked, NoMemory>
+) -> Result<Asks, NoMemory>
     requires stand { AreStanding parts.now }
     requires node { node < length (plan_in parts.now) }
     requires known { AreRight (plan_in parts.now) (world_in parts.now) (get nat_cmp known.old) }
@@ -115,7 +92,7 @@ pub fn asked_of(
 {
     let (mut chain, mut asked) = unknown_above(alloc, parts, known, node)?;
     'descent: while let Some(ancestor) = chain.pop() {
-        asked = asked_too(asks(alloc, parts, ancestor)?, asked);
+        asked = asks(alloc, parts, ancestor)?.or(asked);
         known.insert(ancestor, asked)?;
     }
     Ok(asked)

@@ -10,16 +10,17 @@ ghost use Rattle.px_flat.specs.Row.{site_in};
 ghost use Rattle.px_parts.specs.Parts.{AreStanding, plan_in, world_in, record_of};
 ghost use Rattle.px_tables.specs.Reading.{read_by};
 ghost use Rattle.px_micro.specs.Above.{asked_of, AreRight};
-ghost use Rattle.px_micro.specs.Guarded.{guards_at, ready_in};
+ghost use Rattle.px_micro.specs.Guarded.{guards_at, guards_in, ready_in};
 
-use crate::asked::{Asked, asked_of};
+use crate::asked::asked_of;
 use crate::children::children_rest;
 use crate::records::{is_acknowledged, is_command_over, is_handle_known};
 use crate::states::{is_executing, is_false, is_finished, is_true, is_waiting};
-use crate::truths::truth;
+use crate::truths::{Truths, truth};
 use px_core::Kind;
 use px_parts::{Parts, failure_of, outcome_of, state_of};
 use px_sem::Guards;
+use px_told::Asks;
 use px_value::NoMemory;
 use px_value::NodeState::{
     self, Executing, Failing, Finished, Finishing, Inactive, IterationEnded, Waiting,
@@ -63,15 +64,15 @@ fn parent_state(parts: &Parts, node: u32) -> NodeState
     }
 }
 
-// Whether a failing node may leave FAILING.
-fn is_ready(parts: &Parts, node: u32) -> bool
+// Whether a failing node may leave FAILING, by whether its children are at rest.
+fn is_ready(parts: &Parts, node: u32, rest: bool) -> bool
     requires stand { AreStanding parts.now }
     requires node { node < length (plan_in parts.now) }
-    ensures { result ≡ ready_in (site_in (plan_in parts.now) node).head.kind (record_of parts.now node).action
-        (each_child is_at_rest (plan_in parts.now) (world_in parts.now) (site_in (plan_in parts.now) node).path) }
+    ensures { result
+        ≡ ready_in (site_in (plan_in parts.now) node).head.kind (record_of parts.now node).action rest }
 {
     match parts.flat.row(node).head.kind {
-        Kind::List => children_rest(parts, node),
+        Kind::List => rest,
         Kind::Empty => false,
         Kind::Assignment => true,
         Kind::Command => is_command_over(parts, node),
@@ -92,7 +93,7 @@ fn inactive(parts: &Parts, node: u32) -> Guards
     }
 }
 
-fn waiting(alloc: Global, parts: &Parts, node: u32, asked: Asked) -> Result<Guards, NoMemory>
+fn waiting(alloc: Global, parts: &Parts, node: u32, asked: Asks) -> Result<Guards, NoMemory>
     requires stand { AreStanding parts.now }
     requires node { node < length (plan_in parts.now) }
     requires asked { asked ≡ asked_of (plan_in parts.now) (world_in parts.now) node }
@@ -111,7 +112,7 @@ fn waiting(alloc: Global, parts: &Parts, node: u32, asked: Asked) -> Result<Guar
     })
 }
 
-fn executing(alloc: Global, parts: &Parts, node: u32, asked: Asked) -> Result<Guards, NoMemory>
+fn executing(alloc: Global, parts: &Parts, node: u32, asked: Asks) -> Result<Guards, NoMemory>
     requires stand { AreStanding parts.now }
     requires node { node < length (plan_in parts.now) }
     requires asked { asked ≡ asked_of (plan_in parts.now) (world_in parts.now) node }
@@ -129,7 +130,7 @@ fn executing(alloc: Global, parts: &Parts, node: u32, asked: Asked) -> Result<Gu
     })
 }
 
-fn finishing(alloc: Global, parts: &Parts, node: u32, asked: Asked) -> Result<Guards, NoMemory>
+fn finishing(alloc: Global, parts: &Parts, node: u32, asked: Asks) -> Result<Guards, NoMemory>
     requires stand { AreStanding parts.now }
     requires node { node < length (plan_in parts.now) }
     requires asked { asked ≡ asked_of (plan_in parts.now) (world_in parts.now) node }
@@ -156,19 +157,14 @@ fn failing(parts: &Parts, node: u32) -> Guards
     ensures { result ≡ read_by states.Failing (guards_at parts.now node) }
 {
     Guards {
-        ready: is_ready(parts, node),
+        ready: is_ready(parts, node, children_rest(parts, node)),
         outcome: outcome_of(parts, node),
         failure: failure_of(parts, node),
         ..UNREAD
     }
 }
 
-fn iteration_ended(
-    alloc: Global,
-    parts: &Parts,
-    node: u32,
-    asked: Asked,
-) -> Result<Guards, NoMemory>
+fn iteration_ended(alloc: Global, parts: &Parts, node: u32, asked: Asks) -> Result<Guards, NoMemory>
     requires stand { AreStanding parts.now }
     requires node { node < length (plan_in parts.now) }
     requires asked { asked ≡ asked_of (plan_in parts.now) (world_in parts.now) node }
@@ -198,11 +194,50 @@ fn finished(parts: &Parts, node: u32) -> Guards
     }
 }
 
+/// All guards of a node, by what is known of it: its parent's state, what is asked of it, whether its children are at rest,
+/// and the truths of its conditions; what it is itself the parts say.
+pub fn guards_by(
+    parts: &Parts,
+    node: u32,
+    parent: NodeState,
+    asked: Asks,
+    rest: bool,
+    truths: &Truths,
+) -> Guards
+    requires stand { AreStanding parts.now }
+    requires node { node < length (plan_in parts.now) }
+    ensures { result ≡ guards_in (site_in (plan_in parts.now) node).head.kind (record_of parts.now node) parent asked
+        rest truths.now }
+{
+    Guards {
+        outcome: outcome_of(parts, node),
+        failure: failure_of(parts, node),
+        parent_waiting: is_waiting(parent),
+        parent_executing: is_executing(parent),
+        parent_finished: is_finished(parent),
+        ancestor_exit: asked.exit,
+        ancestor_invariant: asked.invariant,
+        ancestor_end: asked.end,
+        exit_true: is_true(truths.exit),
+        skip_true: is_true(truths.skip),
+        start_true: is_true(truths.start),
+        pre_true: is_true(truths.pre),
+        invariant_false: is_false(truths.invariant),
+        end_true: is_true(truths.end),
+        post_true: is_true(truths.post),
+        repeat_false: is_false(truths.repeat),
+        repeat_true: is_true(truths.repeat),
+        children_rest: rest,
+        handle_known: is_handle_known(parts, node),
+        ready: is_ready(parts, node, rest),
+    }
+}
+
 /// The guards of a node that the rows of its state read; the others count as not holding.
 pub fn guards_of(
     alloc: Global,
     parts: &Parts,
-    known: &mut BTreeMap<u32, Asked>,
+    known: &mut BTreeMap<u32, Asks>,
     node: u32,
 ) -> Result<Guards, NoMemory>
     requires stand { AreStanding parts.now }

@@ -2,13 +2,14 @@
 ghost use Rattle.std.specs.Prelude.{◌≡◌, ◌+◌, ◌*◌, ◌<◌, ◌≤◌, fold, length, map, set};
 ghost use Rattle.std.specs.List.{All};
 ghost use Rattle.px_sem.specs.Expressions.{failure_value, outcome_value};
-ghost use Rattle.px_sem.specs.Step.{micro, moves};
+ghost use Rattle.px_sem.specs.Step.{micro};
 ghost use Rattle.px_flat.specs.Flat.{plan_of};
 ghost use Rattle.px_flat.specs.Layout.{all_cells};
 ghost use Rattle.px_flat.specs.Numbered.{held};
 ghost use Rattle.px_micro.specs.Going.{AreAllGoing};
 ghost use Rattle.px_micro.specs.Moving.{with_act, with_said, with_turn, with_turn_act, put_value, put_write};
 ghost use Rattle.px_parts.specs.Parts.{AreStanding, AreOfOnePlan, plan_in, world_in};
+ghost use Rattle.px_parts.specs.Seen.{AreSeenAsBefore};
 ghost use Rattle.px_micro.specs.Turns.{AreTurns};
 
 use crate::effects::{CellWrite, UnderWay};
@@ -17,6 +18,7 @@ use px_cells::Cells;
 use px_command::Actions;
 use px_flat::{Abort, Act, Flat};
 use px_parts::Parts;
+use px_sem::Move;
 use px_value::{Failure, Outcome, Value};
 
 fn outcome_value(outcome: Option<Outcome>) -> Value
@@ -43,6 +45,7 @@ fn put(cells: &mut Cells, at: u32, value: Value)
     requires room { 0 < cells.old.room }
     ensures values { cells.new.contents.values ≡ set cells.old.contents.values at value }
     ensures marked { cells.new.contents.marked ≡ cells.old.contents.marked }
+    ensures seen { cells.new.seen ≡ cells.old.seen }
     ensures same { held cells.old.contents.values at ≡ value → cells.new ≡ cells.old }
     ensures room { cells.old.room ≤ cells.new.room + 1 }
 {
@@ -57,6 +60,7 @@ fn write(cells: &mut Cells, writes: Vec<CellWrite>)
     requires room { length writes.items ≤ cells.old.room }
     ensures values { cells.new.contents.values ≡ fold put_write cells.old.contents.values writes.items }
     ensures marked { cells.new.contents.marked ≡ cells.old.contents.marked }
+    ensures seen { cells.new.seen ≡ cells.old.seen }
     ensures room { cells.old.room ≤ cells.new.room + length writes.items }
 {
     for CellWrite { cell, value, .. } in writes {
@@ -70,6 +74,7 @@ fn begin(cells: &mut Cells, initial: Vec<CellValue>)
     requires room { length initial.items ≤ cells.old.room }
     ensures values { cells.new.contents.values ≡ fold put_value cells.old.contents.values initial.items }
     ensures marked { cells.new.contents.marked ≡ cells.old.contents.marked }
+    ensures seen { cells.new.seen ≡ cells.old.seen }
     ensures room { cells.old.room ≤ cells.new.room + length initial.items }
 {
     for CellValue { cell, value } in initial {
@@ -86,9 +91,11 @@ fn set_out(flat: &Flat, cells: &mut Cells, actions: &mut Actions, node: u32, und
     requires acts_room { 1 ≤ actions.old.room }
     ensures values { cells.new.contents.values ≡ with_said (plan_of flat.now) node under_way cells.old.contents.values }
     ensures marked { cells.new.contents.marked ≡ cells.old.contents.marked }
+    ensures seen { cells.new.seen ≡ cells.old.seen }
     ensures room { cells.old.room ≤ cells.new.room + 2 }
     ensures acts { actions.new.contents.values ≡ with_act node under_way actions.old.contents.values }
     ensures acts_marked { actions.new.contents.marked ≡ actions.old.contents.marked }
+    ensures acts_seen { actions.new.seen ≡ actions.old.seen }
     ensures acts_room { actions.old.room ≤ actions.new.room + 1 }
 {
     match under_way {
@@ -121,9 +128,11 @@ fn arrive(flat: &Flat, cells: &mut Cells, actions: &mut Actions, turn: Turn)
     requires acts_room { 1 ≤ actions.old.room }
     ensures values { cells.new.contents.values ≡ with_turn (plan_of flat.now) cells.old.contents.values turn }
     ensures marked { cells.new.contents.marked ≡ cells.old.contents.marked }
+    ensures seen { cells.new.seen ≡ cells.old.seen }
     ensures room { cells.old.room ≤ cells.new.room + 5 }
     ensures acts { actions.new.contents.values ≡ with_turn_act actions.old.contents.values turn }
     ensures acts_marked { actions.new.contents.marked ≡ actions.old.contents.marked }
+    ensures acts_seen { actions.new.seen ≡ actions.old.seen }
     ensures acts_room { actions.old.room ≤ actions.new.room + 1 }
 {
     let Turn { going, under_way } = turn;
@@ -152,8 +161,10 @@ fn arrive_all(flat: &Flat, cells: &mut Cells, actions: &mut Actions, turns: Vec<
     ensures values { cells.new.contents.values
         ≡ fold (with_turn (plan_of flat.now)) cells.old.contents.values turns.items }
     ensures marked { cells.new.contents.marked ≡ cells.old.contents.marked }
+    ensures seen { cells.new.seen ≡ cells.old.seen }
     ensures acts { actions.new.contents.values ≡ fold with_turn_act actions.old.contents.values turns.items }
     ensures acts_marked { actions.new.contents.marked ≡ actions.old.contents.marked }
+    ensures acts_seen { actions.new.seen ≡ actions.old.seen }
 {
     for turn in turns {
         arrive(flat, cells, actions, turn);
@@ -161,8 +172,8 @@ fn arrive_all(flat: &Flat, cells: &mut Cells, actions: &mut Actions, turns: Vec<
 }
 
 /// Moves all nodes that go: first what they write, then the initial values, which win over it, then the nodes
-/// themselves.
-pub fn apply(parts: &mut Parts, turns: Turns)
+/// themselves. Hands back the moves that are told.
+pub fn apply(parts: &mut Parts, turns: Turns) -> Vec<Move>
     requires stand { AreStanding parts.old }
     requires turns { AreTurns parts.old (map (λ turn. turn.going) turns.turns.items) turns }
     requires going { AreAllGoing (plan_in parts.old) (world_in parts.old) (map (λ turn. turn.going) turns.turns.items) }
@@ -170,8 +181,10 @@ pub fn apply(parts: &mut Parts, turns: Turns)
         ≤ parts.old.cells.room }
     requires actions { length turns.turns.items ≤ parts.old.actions.room }
     ensures world { world_in parts.new ≡ micro (plan_in parts.old) (world_in parts.old) }
-    ensures moves { parts.new.moves.items ≡ moves (plan_in parts.old) (world_in parts.old) }
+    ensures told { result.items ≡ turns.moves.items }
+    ensures moves { parts.new.moves.items ≡ parts.old.moves.items }
     ensures one_plan { AreOfOnePlan parts.old parts.new }
+    ensures seen { AreSeenAsBefore parts.old parts.new }
     ensures stand { AreStanding parts.new }
 {
     let Turns {
@@ -184,5 +197,5 @@ pub fn apply(parts: &mut Parts, turns: Turns)
     write(&mut parts.cells, writes);
     begin(&mut parts.cells, initial);
     arrive_all(&parts.flat, &mut parts.cells, &mut parts.actions, turns);
-    parts.moves = moves;
+    moves
 }

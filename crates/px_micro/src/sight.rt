@@ -9,10 +9,10 @@ ghost use Rattle.px_micro.specs.Above.{AreRight};
 ghost use Rattle.px_micro.specs.Going.{wanted, with_node};
 ghost use Rattle.px_parts.specs.Parts.{AreStanding, plan_in, world_in};
 
-use crate::asked::Asked;
 use crate::guarded::guards_of;
 use px_parts::{Parts, state_of};
 use px_sem::Arrival;
+use px_told::Asks;
 use px_value::NoMemory;
 use std::alloc::Global;
 use std::collections::BTreeMap;
@@ -29,7 +29,7 @@ pub struct Going {
 fn destination(
     alloc: Global,
     parts: &Parts,
-    known: &mut BTreeMap<u32, Asked>,
+    known: &mut BTreeMap<u32, Asks>,
     node: u32,
 ) -> Result<Option<Arrival>, NoMemory>
     requires stand { AreStanding parts.now }

@@ -1,4 +1,4 @@
-// The truth of a condition.
+// The truths of conditions.
 ghost use Rattle.std.specs.Prelude.{◌≡◌, IfOk};
 ghost use Rattle.px_value.specs.Truth.{truth_of};
 ghost use Rattle.px_flat.specs.NumberedData.{expr_data};
@@ -10,6 +10,19 @@ use px_flat::NumberedExpr;
 use px_parts::Parts;
 use px_value::{NoMemory, Value};
 use std::alloc::Global;
+
+/// The truth of each condition of a node; None is UNKNOWN.
+#[derive(Clone, Copy, Debug, PartialEq, Eq)]
+pub struct Truths {
+    pub start: Option<bool>,
+    pub end: Option<bool>,
+    pub exit: Option<bool>,
+    pub skip: Option<bool>,
+    pub repeat: Option<bool>,
+    pub pre: Option<bool>,
+    pub post: Option<bool>,
+    pub invariant: Option<bool>,
+}
 
 /// The truth of a condition now; None is UNKNOWN.
 pub fn truth(alloc: Global, parts: &Parts, expr: &NumberedExpr) -> Result<Option<bool>, NoMemory>

@@ -1,5 +1,5 @@
 // All that a step does, gathered in the world before it.
-ghost use Rattle.std.specs.Prelude.{◌≡◌, ◌+◌, ◌*◌, ◌^◌, ◌<◌, ◌++◌, [], fold, length, IfOk, IsTrue, OnOk};
+ghost use Rattle.std.specs.Prelude.{◌≡◌, ◌+◌, ◌*◌, ◌^◌, ◌<◌, ◌++◌, ◌∷◌, [], fold, length, IfOk, IsTrue, OnOk};
 ghost use Rattle.std.specs.List.{cons_option, flat_map};
 ghost use Rattle.px_core.specs.Fit.{cells_of, has_right_cells};
 ghost use Rattle.px_core.specs.Plan.{variable_data};
@@ -10,7 +10,7 @@ ghost use Rattle.px_flat.specs.Numbered.{held};
 ghost use Rattle.px_flat.specs.Row.{site_in};
 ghost use Rattle.px_micro.specs.Going.{AreAllGoing};
 ghost use Rattle.px_parts.specs.Parts.{AreStanding, plan_in, world_in};
-ghost use Rattle.px_micro.specs.Turns.{effects_in, from_cell, initial_in, with_write, AreTurns, IsAdded, KnowsWritten};
+ghost use Rattle.px_micro.specs.Turns.{effects_in, from_cell, initial_in, moves_told, with_write, AreTurns, IsAdded, KnowsWritten};
 
 use crate::doing::effects_of;
 use crate::effects::{CellWrite, Effects, UnderWay};
@@ -37,7 +37,7 @@ pub struct CellValue {
     pub value: Value,
 }
 
-/// All that a step does, and how it is told.
+/// All that a step does, and how it is told, if it is.
 #[derive(Drop)]
 pub struct Turns {
     /// What is written, of each variable by the first node in preorder that writes it.
@@ -45,6 +45,7 @@ pub struct Turns {
     /// The initial values of the nodes that begin to wait, which win over what is written.
     pub initial: Vec<CellValue>,
     pub turns: Vec<Turn>,
+    /// The moves, where they are told.
     pub moves: Vec<Move>,
     /// The variables that are written.
     written: BTreeSet<u32>,
@@ -114,12 +115,20 @@ impl Turns {
         Ok(())
     }
 
-    // One node's turn.
-    fn add(&mut self, alloc: Global, parts: &Parts, going: Going) -> Result<(), NoMemory>
+    // One node's turn, and its move where moves are told.
+    fn add(
+        &mut self,
+        alloc: Global,
+        parts: &Parts,
+        going: Going,
+        tells: bool,
+    ) -> Result<(), NoMemory>
         requires stand { AreStanding parts.now }
         requires node { going.node < length (plan_in parts.now) }
         requires written { KnowsWritten self.old }
         ensures added { OnOk result (IsAdded parts.now going self.old self.new) }
+        ensures moves { OnOk result (self.new.moves.items
+            ≡ self.old.moves.items ++ moves_told parts.now tells (going ∷ [])) }
         ensures written { OnOk result (KnowsWritten self.new) }
     {
         let Effects {
@@ -130,7 +139,9 @@ impl Turns {
         self.write(write)?;
         self.begin(alloc, parts, going)?;
         self.turns.push(Turn { going, under_way })?;
-        self.moves.push(told_move(alloc, parts, going, told)?)?;
+        if tells {
+            self.moves.push(told_move(alloc, parts, going, told)?)?;
+        }
         Ok(())
     }
 }
@@ -206,15 +217,21 @@ fn told_move(
     })
 }
 
-/// The turns of the nodes that go, in preorder.
-pub fn turns_of(alloc: Global, parts: &Parts, going: &[Going]) -> Result<Turns, NoMemory>
+/// The turns of the nodes that go, in preorder, and their moves where these are told.
+pub fn turns_of(
+    alloc: Global,
+    parts: &Parts,
+    going: &[Going],
+    tells: bool,
+) -> Result<Turns, NoMemory>
     requires stand { AreStanding parts.now }
     requires going { AreAllGoing (plan_in parts.now) (world_in parts.now) going.now }
-    ensures { IfOk result (AreTurns parts.now going.now) }
+    ensures turns { IfOk result (AreTurns parts.now going.now) }
+    ensures moves { IfOk result (λ made. made.moves.items ≡ moves_told parts.now tells going.now) }
 {
     let mut turns = Turns::none(alloc);
     for one in going {
-        turns.add(alloc, parts, *one)?;
+        turns.add(alloc, parts, *one, tells)?;
     }
     Ok(turns)
 }

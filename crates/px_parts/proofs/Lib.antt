@@ -3,3 +3,4 @@ pub mod Found
 pub mod Integers
 pub mod Refreshing
 pub mod Scalars
+pub mod Sending

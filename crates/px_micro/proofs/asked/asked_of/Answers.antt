@@ -2,7 +2,8 @@ use Rattle.std.proofs.Common.{◌≡◌, ◌<◌, ◌++◌, ◌∷◌, [], lengt
 use Rattle.std.specs.BTreeMap.{get}
 use Rattle.std.specs.Ordering.{is_eq, nat_cmp}
 use Rattle.px_flat.specs.Row.{site_in}
-use Rattle.px_micro.specs.Above.{asked_of, asked_below, asks_at, asked_too, IsChain}
+use Rattle.px_told.specs.Asking.{either}
+use Rattle.px_micro.specs.Above.{asked_of, asked_below, asks_at, IsChain}
 use Rattle.px_parts.specs.Parts.{plan_in, world_in}
 use Rattle.px_micro.proofs.Chains.{chain_less, chain_within, asked_by_parent, still_right, same_key}
 use Rattle.px_micro.proofs.asked.asked_of.Goals as goal
@@ -30,8 +31,8 @@ descent-preserved c =
     let asked : c.descent.asked ≡ asked_of plan now c.in-Some.ancestor =
     way.asked_is ∙ ap (asked_of plan now) longer.last_is in
     let own : c.in_ok-asks.field-0 ≡ asks_at plan now (site_in plan c.in-Some.ancestor).path = c.in_ok-asks.ensures in
-    let below : c.asked_too-asked.result ≡ asked_below plan now c.in-Some.ancestor =
-    c.asked_too-asked.ensures ∙ (λ i. asked_too (own i) (asked i)) in
+    let below : c.or-asked.result ≡ asked_below plan now c.in-Some.ancestor =
+    c.or-asked.ensures ∙ (λ i. either (own i) (asked i)) in
     let inside : longer.before < length plan =
     chain_within parts.flat c.args.node c.pop.new.self.items longer.before c.requires.node longer.leads in (
       record {
@@ -40,6 +41,6 @@ descent-preserved c =
         asked_is = below ∙ asked_by_parent parts.flat now longer.before c.in-Some.ancestor inside longer.number;
       },
       still_right plan now (get nat_cmp c.descent.known) (get nat_cmp c.insert.new.self) c.in-Some.ancestor
-          c.asked_too-asked.result (λ node. is_eq (nat_cmp c.in-Some.ancestor node)) c.descent.invariant.1 below
+          c.or-asked.result (λ node. is_eq (nat_cmp c.in-Some.ancestor node)) c.descent.invariant.1 below
           c.in_ok-insert.ensures.updates.0 (same_key c.in-Some.ancestor),
     )

@@ -3,7 +3,7 @@ use Rattle.px_value.specs.declared.value.Value.{Value}
 use Rattle.px_flat.specs.Parts.{IsParts, world_of}
 use Rattle.px_micro.specs.Moving.{with_turn, put_value}
 use Rattle.px_parts.specs.Parts.{plan_in}
-use Rattle.px_micro.proofs.Moved.{AreReady, cells_after, world_after, stand_after, moves_after, writes_within, initial_within, written_length, turns_within, begun_all}
+use Rattle.px_micro.proofs.Moved.{AreReady, cells_after, world_after, stand_after, writes_within, initial_within, written_length, turns_within, begun_all}
 use Rattle.px_micro.proofs.moving.apply.Goals as goal
 
 pub write-requires-clause-within : goal.write-requires-clause-within
@@ -44,11 +44,6 @@ returns-clause-world c =
     (c.begin.ensures.values ∙ ap (λ (cells : List Value). fold put_value cells made.initial.items) c.write.ensures.values) in
     (λ i. world_of (plan_in parts) (cells i) parts.reports.reports (c.arrive_all.ensures.acts i))
     ∙ world_after parts made (record { stand = c.requires.stand; turns = c.requires.turns; going = c.requires.going })
-
-pub returns-clause-moves : goal.returns-clause-moves
-returns-clause-moves c =
-    moves_after c.args.parts.now c.args.turns
-    (record { stand = c.requires.stand; turns = c.requires.turns; going = c.requires.going })
 
 pub returns-clause-stand : goal.returns-clause-stand
 returns-clause-stand c =

@@ -45,4 +45,6 @@ loop-turn-preserved c =
           ∙ sym (ap (fold with_turn_act under) steps) ∙ at.invariant.acts;
       marked = c.arrive.ensures.marked ∙ at.invariant.marked;
       acts_marked = c.arrive.ensures.acts_marked ∙ at.invariant.acts_marked;
+      seen = c.arrive.ensures.seen ∙ at.invariant.seen;
+      acts_seen = c.arrive.ensures.acts_seen ∙ at.invariant.acts_seen;
     }

@@ -21,4 +21,6 @@ invariant-loop-turn l = record {
       ≡ fold with_turn_act l.initial.actions.contents.values l.fn.turns.items;
   marked : l.cells.contents.marked ≡ l.initial.cells.contents.marked;
   acts_marked : l.actions.contents.marked ≡ l.initial.actions.contents.marked;
+  seen : l.cells.seen ≡ l.initial.cells.seen;
+  acts_seen : l.actions.seen ≡ l.initial.actions.seen;
 }

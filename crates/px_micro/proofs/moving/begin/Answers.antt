@@ -26,4 +26,5 @@ loop-cell-preserved c =
       left = omega (arith, at.invariant.left, c.put.ensures.room, ap length steps);
       values = ap (λ values. fold put_value values left) put ∙ sym (ap (fold put_value old) steps) ∙ at.invariant.values;
       marked = c.put.ensures.marked ∙ at.invariant.marked;
+      seen = c.put.ensures.seen ∙ at.invariant.seen;
     }

@@ -14,4 +14,5 @@ invariant-loop-cell l = record {
   values : fold put_value l.cells.contents.values (into_iter_items l.cell-iterator)
       ≡ fold put_value l.initial.cells.contents.values l.fn.initial.items;
   marked : l.cells.contents.marked ≡ l.initial.cells.contents.marked;
+  seen : l.cells.seen ≡ l.initial.cells.seen;
 }

@@ -1,4 +1,4 @@
--- What a stepper is made of may go to another thread: one lemma a type, from its parts.
+-- The parts may go to another thread: one lemma a type, from its parts.
 use Rattle.std.proofs.Crossing.{crosses}
 use denote.RattleType.{RattleType}
 use denote.Struct.Declared.{shape}
@@ -84,7 +84,7 @@ row_send = declared_send rows.the_type (search (sendable, crosses, as_row_send, 
 
 -- ---- with numbers in place of names
 
-numbered_send : IsSend (numbered.the_field.row)
+pub numbered_send : IsSend (numbered.the_field.row)
 numbered_send =
     send-NumberedExpr (search (sendable, texts.the_send) depth 20) (search sendable depth 12) (λ h s. search (sendable, crosses))
     (λ h s. search (sendable, crosses)) (search (sendable, crosses)) (search sendable depth 12) (search sendable depth 20)
@@ -131,7 +131,7 @@ flat_send : IsSend flat.the_row
 flat_send =
     declared_send flat.the_type (search (sendable, crosses, as_row_send, tables_send, numbered_node_send) depth 20)
 
-vec_send : (T : RattleType) → IsSend T → IsSend (vec.the_row T global.the_row allocates.ghosts)
+pub vec_send : (T : RattleType) → IsSend T → IsSend (vec.the_row T global.the_row allocates.ghosts)
 vec_send T sent = vecs.the_send T global.the_row allocates.ghosts sent globals.the_send frees.the_frees
 
 marked_send : (T : RattleType) → IsSend T → IsSend (marked.the_row T)
