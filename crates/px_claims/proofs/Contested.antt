@@ -9,11 +9,11 @@ use Rattle.px_tally.specs.Tally.{TallyData, marked, nobody, total}
 use Rattle.px_tally.proofs.Counting.{none-count, count-none}
 use Rattle.px_claims.specs.Keeping.{HoldsContested, is_contested}
 
-abbrev is_nobody : TallyData → ℕ → Bool
+abbrev pub is_nobody : TallyData → ℕ → Bool
 is_nobody tally group = nat_eq (total tally group) 0
 
 -- a member that is of another group, or of none, is marked
-nobody_as_before : (tally : TallyData) (member : ℕ) (counts : Bool) (group : ℕ)
+pub nobody_as_before : (tally : TallyData) (member : ℕ) (counts : Bool) (group : ℕ)
     → get_or tally.group_of member None ≢ Some group
     → is_nobody (marked tally member counts) group ≡ is_nobody tally group
 nobody_as_before tally member counts group apart =

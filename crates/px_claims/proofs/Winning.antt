@@ -343,7 +343,7 @@ all_numbers flags count long =
     let below : k < length flags = omega (arith, inside, length-range_with_len 0 (length flags)) in
     omega (arith, long, below, get_or-range_with_len 0 (length flags) k d below))
 
-flag_is : (flags : List Bool) (number : ℕ) → list_any (nat_eq number) (numbers_in flags) ≡ true → get_or flags number false ≡ true
+pub flag_is : (flags : List Bool) (number : ℕ) → list_any (nat_eq number) (numbers_in flags) ≡ true → get_or flags number false ≡ true
 flag_is flags number among =
     let one = some_number flags (nat_eq number) among in
     ap (λ number. get_or flags number false) (eqb-true number one.number one.passes) ∙ one.is

@@ -1,5 +1,7 @@
 // Which writers would start, and which are at work.
-ghost use Rattle.std.specs.Prelude.{◌≡◌, ◌<◌, length, IfOk};
+ghost use Rattle.std.specs.Prelude.{◌≡◌, ◌<◌, List, length, IfOk};
+ghost use Rattle.px_core.specs.Plan.{Site};
+ghost use Rattle.px_flat.specs.declared.flat.Flat.{Flat};
 ghost use Rattle.px_flat.specs.Flat.{plan_of};
 ghost use Rattle.px_claims.specs.Claims.{with_wanting, with_holding, AreAllStarting, AreNobodys, AreOf, AreWinners};
 
@@ -75,12 +77,13 @@ impl Claims {
     }
 
     /// The writers that go, each once: of each variable that nobody holds the one of those that would start whose priority
-    /// number is the lowest, and of these the earliest (PLEXIL reference manual, "Assignment Nodes"). The claims are of the
-    /// plan of these tables. It costs a look at each variable for which one goes, and at its writers up to that one.
-    pub fn winners(&self, alloc: Global, _flat: &Flat) -> Result<Vec<u32>, NoMemory>
-        requires plan { AreOf (plan_of _flat.now) self.now }
-        ensures winners { IfOk result (λ winners. AreWinners (plan_of _flat.now) self.now winners.items) }
-        ensures starting { IfOk result (λ winners. AreAllStarting (plan_of _flat.now) self.now winners.items) }
+    /// number is the lowest, and of these the earliest (PLEXIL reference manual, "Assignment Nodes"). It costs a look at each
+    /// variable for which one goes, and at its writers up to that one.
+    pub fn winners(&self, alloc: Global) -> Result<Vec<u32>, NoMemory>
+        ensures winners { (plan : List Site) → AreOf plan self.now
+            → IfOk result (λ winners. AreWinners plan self.now winners.items) }
+        ensures starting { (flat : Flat) → AreOf (plan_of flat) self.now
+            → IfOk result (λ winners. AreAllStarting (plan_of flat) self.now winners.items) }
     {
         self.contested.each_once();
         winners(alloc, &self.writers, &self.wanting, &self.contested)

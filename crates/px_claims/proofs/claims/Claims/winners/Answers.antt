@@ -3,6 +3,7 @@ use Rattle.std.specs.List.{filter_map}
 use Rattle.std.proofs.lemmas.Result.{IfOk-weaker}
 use Rattle.px_core.specs.Plan.{Site}
 use Rattle.px_flat.specs.Flat.{plan_of}
+use Rattle.px_flat.proofs.Known.{IsSound}
 use Rattle.px_flat.proofs.Tables.{flat_sound}
 use Rattle.px_links.specs.Lists.{nth}
 use Rattle.px_tally.specs.Tally.{is_counted}
@@ -15,28 +16,25 @@ use Rattle.px_claims.proofs.Winning.{each, once, starting, within}
 use Rattle.px_claims.proofs.claims.Claims.winners.Goals as goal
 use Rattle.px_claims.proofs.claims.Claims.winners.Goals.{After-winners}
 
--- what they are, said of the fields
-known : (c : After-winners) → AreOf (plan_of c.args._flat.now) (claims_data c.self.inside)
-known c = subst (AreOf (plan_of c.args._flat.now)) (sym c.self.view_is) c.requires.plan
-
 abbrev firsts : After-winners → List ℕ
 firsts c = filter_map (first_wanting (is_counted c.self.inside.wanting) c.self.inside.writers.items)
     (nth c.self.inside.contested.lists 0)
 
-module _ (c : After-winners) where
-  abbrev plan : List Site
-  plan = plan_of c.args._flat.now
+module _ (c : After-winners) (plan : List Site) (of : AreOf plan c.args.self.now) where
+  -- what they are, said of the fields
+  known : AreOf plan (claims_data c.self.inside)
+  known = subst (AreOf plan) (sym c.self.view_is) of
 
   wanted : IsTallyOf plan c.self.inside.wanting
   wanted = record {
-    variables = (known c).variables;
-    sized = c.self.invariant.tallies.wanting_sized ∙ ap length (known c).variables ∙ length-variables plan;
+    variables = known.variables;
+    sized = c.self.invariant.tallies.wanting_sized ∙ ap length known.variables ∙ length-variables plan;
   }
 
   held : IsTallyOf plan c.self.inside.holding
   held = record {
-    variables = c.self.invariant.tallies.same ∙ (known c).variables;
-    sized = c.self.invariant.tallies.holding_sized ∙ ap length (c.self.invariant.tallies.same ∙ (known c).variables)
+    variables = c.self.invariant.tallies.same ∙ known.variables;
+    sized = c.self.invariant.tallies.holding_sized ∙ ap length (c.self.invariant.tallies.same ∙ known.variables)
         ∙ length-variables plan;
   }
 
@@ -49,40 +47,41 @@ module _ (c : After-winners) where
 
   are : AreWinners plan (claims_data c.self.inside) (firsts c)
   are = record {
-    once = once plan c.self.inside.writers.items (known c).writers c.self.inside.wanting c.self.inside.holding wanted held
+    once = once plan c.self.inside.writers.items known.writers c.self.inside.wanting c.self.inside.holding wanted held
         c.self.inside.contested c.self.invariant.contested some apart;
-    within = within plan c.self.inside.writers.items (known c).writers c.self.inside.wanting c.self.inside.holding wanted held
+    within = within plan c.self.inside.writers.items known.writers c.self.inside.wanting c.self.inside.holding wanted held
         c.self.inside.contested c.self.invariant.contested some;
-    each = each plan c.self.inside.writers.items (known c).writers c.self.inside.wanting c.self.inside.holding wanted held
+    each = each plan c.self.inside.writers.items known.writers c.self.inside.wanting c.self.inside.holding wanted held
         c.self.inside.contested c.self.invariant.contested some;
   }
 
-  start : AreAllStarting plan (claims_data c.self.inside) (firsts c)
-  start world writers node there =
+  start : IsSound plan → AreAllStarting plan (claims_data c.self.inside) (firsts c)
+  start sound world writers node there =
       are.each node there
-      ∙ starting plan c.self.inside.wanting.counting c.self.inside.holding.counting (flat_sound c.args._flat.now)
+      ∙ starting plan c.self.inside.wanting.counting c.self.inside.holding.counting sound
       wanted.sized held.sized world writers node there
 
 pub returns-clause-winners : goal.returns-clause-winners
-returns-clause-winners c =
+returns-clause-winners c plan of =
     let at = (goal.at.returns-clause-winners c).After-winners in
     let lists = nth c.self.inside.contested.lists 0 in
     IfOk-weaker c.winners.result
     (λ winners. winners.items ≡ filter_map (first_wanting (is_counted c.self.inside.wanting) c.deref.result.now) lists)
-    (λ winners. AreWinners (plan_of c.args._flat.now) c.args.self.now winners.items)
-    (λ winners is. subst (AreWinners (plan_of c.args._flat.now) c.args.self.now)
+    (λ winners. AreWinners plan c.args.self.now winners.items)
+    (λ winners is. subst (AreWinners plan c.args.self.now)
     (sym (is ∙ ap (λ writers. filter_map (first_wanting (is_counted c.self.inside.wanting) writers) lists) c.deref.ensures.value))
-    (subst (λ claims. AreWinners (plan_of c.args._flat.now) claims (firsts at)) c.self.view_is (are at)))
+    (subst (λ claims. AreWinners plan claims (firsts at)) c.self.view_is (are at plan of)))
     c.winners.ensures
 
 pub returns-clause-starting : goal.returns-clause-starting
-returns-clause-starting c =
+returns-clause-starting c flat of =
     let at = (goal.at.returns-clause-starting c).After-winners in
     let lists = nth c.self.inside.contested.lists 0 in
     IfOk-weaker c.winners.result
     (λ winners. winners.items ≡ filter_map (first_wanting (is_counted c.self.inside.wanting) c.deref.result.now) lists)
-    (λ winners. AreAllStarting (plan_of c.args._flat.now) c.args.self.now winners.items)
-    (λ winners is. subst (AreAllStarting (plan_of c.args._flat.now) c.args.self.now)
+    (λ winners. AreAllStarting (plan_of flat) c.args.self.now winners.items)
+    (λ winners is. subst (AreAllStarting (plan_of flat) c.args.self.now)
     (sym (is ∙ ap (λ writers. filter_map (first_wanting (is_counted c.self.inside.wanting) writers) lists) c.deref.ensures.value))
-    (subst (λ claims. AreAllStarting (plan_of c.args._flat.now) claims (firsts at)) c.self.view_is (start at)))
+    (subst (λ claims. AreAllStarting (plan_of flat) claims (firsts at)) c.self.view_is
+    (start at (plan_of flat) of (flat_sound flat))))
     c.winners.ensures
