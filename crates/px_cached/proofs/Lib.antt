@@ -1,5 +1,6 @@
 pub mod Climbing
 pub mod Conditions
+pub mod FirstCells
 pub mod Freshness
 pub mod Layers
 pub mod Listening

@@ -9,6 +9,7 @@ use Rattle.px_flat.specs.Sources.{Present, IsSame, sources_in}
 use Rattle.px_links.specs.Links.{LinksData, holder_of, is_absent, SameCounts}
 use Rattle.px_lookup.specs.Reports.{ReportsData}
 use Rattle.px_cached.specs.Conditions.{condition_in, number_of, source_number, truth_in}
+use Rattle.px_cached.specs.Firsts.{HasCell}
 
 -- the plan's tables, the truth of each condition as it is kept, the cells and reports in which it was last looked at, and
 -- the sources that were touched since
@@ -38,6 +39,20 @@ pub record IsTouched (old new : CachedData) (source : ℕ) : Type 0 where
   pub seen : new.seen ≡ old.seen
   pub this : is_touched new source ≡ true
   pub others : (other : ℕ) → is_touched old other ≡ true → is_touched new other ≡ true
+
+-- each source of a condition that has this cell is touched
+abbrev pub IsTouchedAt : CachedData → ℕ → Type 0
+IsTouchedAt cached cell = (node : ℕ) (kind : ConditionKind) → node < length (plan_in cached)
+    → All (λ source. HasCell source cell → is_touched cached (source_number (plan_in cached) source) ≡ true)
+    (sources_in (plan_in cached) (condition_in (plan_in cached) node kind))
+
+-- the source that has the cell is touched, and each that was
+pub record HasTouchedCell (old new : CachedData) (cell : ℕ) : Type 0 where
+  pub flat : new.flat ≡ old.flat
+  pub truths : new.truths ≡ old.truths
+  pub seen : new.seen ≡ old.seen
+  pub this : IsTouchedAt new cell
+  pub others : (source : ℕ) → is_touched old source ≡ true → is_touched new source ≡ true
 
 -- each source of a condition that was not touched is as it was seen: what `refresh` needs
 abbrev pub IsSeenBut : CachedData → Present → Type 0

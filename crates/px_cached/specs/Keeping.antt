@@ -5,6 +5,7 @@ use Rattle.px_flat.specs.Layout.{all_cells}
 use Rattle.px_cached.specs.declared.cached.Cached.TheInside.{Inside}
 use Rattle.px_cached.specs.Cached.{CachedData, present_in}
 use Rattle.px_cached.specs.Conditions.{all_sources}
+use Rattle.px_cached.specs.Firsts.{firsts_of}
 use Rattle.px_cached.specs.Looking.{IsSound}
 use Rattle.px_cached.specs.Network.{truth_at}
 use Rattle.px_cached.specs.Reading.{AreListening}
@@ -22,5 +23,6 @@ pub record IsKept (c : Inside) : Type 0 where
   pub sound : IsSound (plan_of c.flat.value) (present_in c.seen_cells.value c.seen_reports.value) c.kept
   pub listening : AreListening (plan_of c.flat.value) c.kept.network.parts.items c.listeners
   pub touched_cells : c.touched.cells ≡ all_sources (plan_of c.flat.value)
+  pub firsts : c.firsts.items ≡ firsts_of (plan_of c.flat.value)
   pub touched_lists : length c.touched.lists ≡ 1
   pub seen_sized : length c.seen_cells.value.contents.values ≡ all_cells (plan_of c.flat.value)

@@ -1,6 +1,7 @@
 pub mod Cached
 pub mod Carrying
 pub mod Conditions
+pub mod Firsts
 pub mod Keeping
 pub mod Laying
 pub mod Looking

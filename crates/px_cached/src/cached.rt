@@ -2,9 +2,10 @@
 ghost use Rattle.std.specs.Prelude.{◌≡◌, ◌<◌, ◌≤◌, length, IfOk, OnOk};
 ghost use Rattle.px_flat.specs.Flat.{plan_of};
 ghost use Rattle.px_flat.specs.Layout.{all_cells};
-ghost use Rattle.px_cached.specs.Cached.{AreFresh, IsSeen, IsSeenBut, IsTouched, TellsChanged, kept_truth, plan_in, present_in};
+ghost use Rattle.px_cached.specs.Cached.{AreFresh, HasTouchedCell, IsSeen, IsSeenBut, IsTouched, TellsChanged, kept_truth, plan_in, present_in};
 ghost use Rattle.px_cached.specs.Conditions.{all_sources};
 
+use crate::firsts::{first_cells, source_of};
 use crate::kinds::place_of;
 use crate::looking::Kept;
 use crate::noticing::{NOTED, notice};
@@ -30,6 +31,8 @@ pub struct Cached {
     listeners: Listeners,
     /// One list of sources.
     touched: Links,
+    /// The first cell of the variable of each variable cell.
+    firsts: Vec<u32>,
     seen_cells: Snapshot<Cells>,
     seen_reports: Snapshot<Reports>,
 }
@@ -66,11 +69,13 @@ impl Cached {
         let kept = Kept::of(alloc, flat)?;
         let listeners = listeners(alloc, flat, &kept.network.parts)?;
         let touched = Links::new(alloc, flat.all_cells() + flat.lookups(), 1)?;
+        let firsts = first_cells(alloc, flat)?;
         Ok(Cached {
             flat: Snapshot::of(flat),
             kept,
             listeners,
             touched,
+            firsts,
             seen_cells: Snapshot::of(cells),
             seen_reports: Snapshot::of(reports),
         })
@@ -83,6 +88,16 @@ impl Cached {
         ensures { IsTouched self.old self.new source }
     {
         self.touched.push_back_absent(NOTED, source);
+    }
+
+    /// From now on the source that has this cell is touched: the variable or the array whose cell it is, or the cell of a
+    /// node.
+    pub fn touch_cell(&mut self, cell: u32)
+        requires { cell < all_cells (plan_in self.old) }
+        ensures { HasTouchedCell self.old self.new cell }
+    {
+        let source = source_of(&self.firsts, cell);
+        self.touch(source);
     }
 
     /// Looks again at what reads a touched source, and at the way up as far as something changes. Each node with a condition
@@ -100,7 +115,7 @@ impl Cached {
         changed: &mut Links,
         list: u32,
     ) -> Result<u32, NoMemory>
-        requires plan { flat.now ≡ self.old.flat }
+        requires plan { plan_of flat.now ≡ plan_in self.old }
         requires cells { length cells.now.contents.values ≡ all_cells (plan_of flat.now) }
         requires seen { IsSeenBut self.old (present_in cells.now reports.now) }
         requires list { list < length changed.old.lists }
@@ -117,7 +132,7 @@ impl Cached {
 
     // What depends on touched sources is to be looked at, and these cells and reports are those that were seen.
     fn see(&mut self, _flat: &Flat, cells: &Cells, reports: &Reports)
-        requires plan { _flat.now ≡ self.old.flat }
+        requires plan { plan_of _flat.now ≡ plan_in self.old }
         requires cells { length cells.now.contents.values ≡ all_cells (plan_of _flat.now) }
         requires seen { IsSeenBut self.old (present_in cells.now reports.now) }
         ensures flat { self.new.flat ≡ self.old.flat }

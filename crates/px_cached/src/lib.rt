@@ -3,16 +3,18 @@
 //! A condition is made of parts (`part`): what is evaluated whole, and `&&` or `||` over two parts. `laying` lays the parts
 //! of all conditions (`kinds` numbers these, `copies` copies what is evaluated whole), those in a part before it; `reading`
 //! lists which parts read which sources; `noticing` notes what depends on touched sources, `looking` looks at it again, and
-//! `carrying` carries a truth that changed up as far as something changes. `cached` is the table.
+//! `carrying` carries a truth that changed up as far as something changes; `firsts` tells the source that has a cell.
+//! `cached` is the table.
 //!
 //! `specs/Network.antt` says what parts spell and when their truths agree, `specs/Laying.antt` which parts are laid,
-//! `specs/Carrying.antt` what a change does, `specs/Cached.antt` what the table is to contracts, and `specs/Keeping.antt`
-//! what every table keeps.
+//! `specs/Carrying.antt` what a change does, `specs/Firsts.antt` which source has a cell, `specs/Cached.antt` what the table
+//! is to contracts, and `specs/Keeping.antt` what every table keeps.
 #![tactic(auto)]
 
 mod cached;
 mod carrying;
 mod copies;
+mod firsts;
 mod kinds;
 mod laying;
 mod looking;

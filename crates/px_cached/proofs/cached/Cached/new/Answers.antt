@@ -8,6 +8,7 @@ use Rattle.px_links.specs.Links.{LinksData}
 use Rattle.px_cached.specs.declared.part.Part.{Part}
 use Rattle.px_cached.specs.Cached.{present_in}
 use Rattle.px_cached.specs.Conditions.{all_sources}
+use Rattle.px_cached.specs.Firsts.{firsts_of}
 use Rattle.px_cached.specs.Laying.{IsRead}
 use Rattle.px_cached.specs.Looking.{IsSound}
 use Rattle.px_cached.specs.Network.{part_at}
@@ -39,6 +40,7 @@ invariant_of-result c =
       touched_cells = ap (λ (links : LinksData). links.cells) made
           ∙ (λ i. c.all_cells.ensures.cells i + c.lookups.ensures i)
           ∙ ap (λ (flat : Flat). all_sources (plan_of flat)) flat_is;
+      firsts = c.in_ok-firsts.ensures ∙ ap (λ (flat : Flat). firsts_of (plan_of flat)) flat_is;
       touched_lists = ap (λ (links : LinksData). length links.lists) made ∙ length-replicate {A = List ℕ} 1 [];
       seen_sized = ap (λ (cells : CellsData). length cells.contents.values) c.of-3.ensures ∙ c.requires
           ∙ ap (λ (flat : Flat). all_cells (plan_of flat)) flat_is;

@@ -4,7 +4,7 @@ use Rattle.px_flat.specs.declared.flat.Flat.{Flat}
 use Rattle.px_flat.specs.Flat.{plan_of}
 use Rattle.px_links.specs.Links.{is_absent}
 use Rattle.px_cached.specs.declared.laying.Network.{Network}
-use Rattle.px_cached.specs.Cached.{CachedData, AreFresh, is_touched, kept_truth, present_in}
+use Rattle.px_cached.specs.Cached.{CachedData, AreFresh, is_touched, kept_truth, plan_in, present_in}
 use Rattle.px_cached.specs.Conditions.{number_of}
 use Rattle.px_cached.specs.Keeping.{cached_data}
 use Rattle.px_cached.specs.Looking.{IsSound}
@@ -23,15 +23,16 @@ returns-clause-fresh c =
     let t = c.self.inside in
     let present = present_in c.args.cells.now c.args.reports.now in
     let kept = c.refresh.new.self in
-    let same : c.args.flat.now ≡ t.flat.value =
-    c.requires.plan ∙ sym c.see.ensures.flat ∙ sym (ap (λ (cached : CachedData). cached.flat) c.self.view_is) in
-    let sound = subst (λ (flat : Flat). IsSound (plan_of flat) present kept) same c.refresh.ensures.sound in
+    let same : plan_of c.args.flat.now ≡ plan_of t.flat.value =
+    c.requires.plan ∙ sym (ap plan_of c.see.ensures.flat) ∙ sym (ap plan_in c.self.view_is) in
+    let sound = subst (λ plan. IsSound plan present kept) same c.refresh.ensures.sound in
     IfOk-weaker c.refresh.result (λ _. (part : ℕ) → is_absent kept.stale part ≡ true)
     (λ _. AreFresh (cached_data (record {
       flat = t.flat;
       kept = kept;
       listeners = t.listeners;
       touched = t.touched;
+      firsts = t.firsts;
       seen_cells = t.seen_cells;
       seen_reports = t.seen_reports;
     })) present)

@@ -3,7 +3,7 @@ use Rattle.px_cells.specs.Cells.{CellsData}
 use Rattle.px_flat.specs.Flat.{plan_of}
 use Rattle.px_flat.specs.Layout.{all_cells}
 use Rattle.px_cached.specs.declared.looking.Kept.{Kept}
-use Rattle.px_cached.specs.Cached.{CachedData, IsSeenBut, present_in}
+use Rattle.px_cached.specs.Cached.{CachedData, IsSeenBut, plan_in, present_in}
 use Rattle.px_cached.specs.Looking.{IsSound}
 use Rattle.px_cached.proofs.Seeing.{right_present}
 use Rattle.px_cached.proofs.cached.Cached.see.Goals as goal
@@ -16,7 +16,7 @@ invariant_of-self c =
     let seen = present_in t.seen_cells.value t.seen_reports.value in
     let present = present_in c.args.cells.now c.args.reports.now in
     let same : plan_of c.args._flat.now ≡ plan =
-    ap plan_of (c.requires.plan ∙ sym (ap (λ (cached : CachedData). cached.flat) c.self.view_is)) in
+    c.requires.plan ∙ sym (ap plan_in c.self.view_is) in
     let sized = c.requires.cells ∙ ap all_cells same in
     let known = subst (λ (cached : CachedData). IsSeenBut cached present) (sym c.self.view_is) c.requires.seen in
     let later : Kept = record { network = t.kept.network; truths = t.kept.truths; stale = c.notice.new.stale } in
@@ -33,6 +33,7 @@ invariant_of-self c =
     record {
       sound = subst (λ present. IsSound plan present later) (sym (λ i. present_in (c.of.ensures i) (c.of-2.ensures i))) sound;
       listening = before.listening;
+      firsts = before.firsts;
       touched_cells = c.notice.ensures.touched_counts.0 ∙ before.touched_cells;
       touched_lists = c.notice.ensures.touched_counts.1 ∙ before.touched_lists;
       seen_sized = ap (λ (cells : CellsData). length cells.contents.values) c.of.ensures ∙ sized;
