@@ -1,0 +1,130 @@
+-- What isn't touched is still as it was seen: where all was just seen, where a cell is written, and where something is reported.
+use Rattle.std.proofs.Common.{◌≡◌, ℕ, ◌+◌, ◌<◌, Bool, true, false, List, length, set, get_or, refl, ap, sym, ◌∙◌, subst, arith, All}
+use Rattle.px_value.specs.declared.value.Value.{Value}
+use Rattle.px_value.specs.declared.value.Value.TheVariants.{Unknown}
+use Rattle.std.proofs.lemmas.Bool.{false≢true}
+use Rattle.std.proofs.lemmas.List.{get_or-set_other}
+use Rattle.px_core.specs.declared.conditions.ConditionKind.{ConditionKind}
+use Rattle.px_core.specs.Plan.{Site}
+use Rattle.px_sem.specs.World.{LookState}
+use Rattle.px_flat.specs.declared.flat.Flat.{Flat}
+use Rattle.px_flat.specs.Flat.{plan_of}
+use Rattle.px_flat.specs.Layout.{all_cells}
+use Rattle.px_flat.specs.Lookups.{lookups_of}
+use Rattle.px_flat.specs.Numbered.{numbered_node}
+use Rattle.px_flat.specs.Row.{site_in}
+use Rattle.px_flat.specs.Sources.{Source, Cells, Reports, Present, IsSame, sources_in}
+use Rattle.px_flat.specs.Within.{IsWithin}
+use Rattle.px_flat.proofs.Tables.{flat_sound}
+use Rattle.px_flat.proofs.Withins.{node_is_within}
+use Rattle.px_cached.specs.Cached.{CachedData, HasTouchedCell, IsSeen, IsSeenBut, IsTouched, is_touched, plan_in}
+use Rattle.px_cached.specs.Conditions.{condition_in, source_number}
+use Rattle.px_cached.specs.Firsts.{HasCell}
+use Rattle.px_cached.proofs.Conditions.{kind_of_node, within_kind}
+use Rattle.px_cached.proofs.Listening.{sources_there}
+
+abbrev sources_of : List Site → ℕ → ConditionKind → List Source
+sources_of plan node kind = sources_in plan (condition_in plan node kind)
+
+-- ---- just seen
+
+same_itself : (plan : List Site) (present : Present) (source : Source) → IsSame plan present present source
+same_itself plan present (Cells first size) = λ k below. refl
+same_itself plan present (Reports lookup) = λ args. refl
+
+pub just_seen : (cached : CachedData) (present : Present) → IsSeen cached present → IsSeenBut cached present
+just_seen cached present all node kind there k d inside untouched =
+    let source : Source = get_or (sources_of (plan_in cached) node kind) k d in
+    subst (λ other. IsSame (plan_in cached) cached.seen other source) all.seen (same_itself (plan_in cached) cached.seen source)
+
+-- ---- something is touched
+
+-- what was not touched before is as it was seen, said of what is kept now
+abbrev pub WasSeen : (old new : CachedData) → Present → Type 0
+WasSeen old new before = (node : ℕ) (kind : ConditionKind) → node < length (plan_in new)
+    → All (λ source. is_touched old (source_number (plan_in new) source) ≡ false → IsSame (plan_in new) new.seen before source)
+    (sources_of (plan_in new) node kind)
+
+pub was_seen : (old new : CachedData) (before : Present) → new.flat ≡ old.flat → new.seen ≡ old.seen
+    → IsSeenBut old before → WasSeen old new before
+was_seen old new before flat seen was =
+    subst (λ (seen : Present). (node : ℕ) (kind : ConditionKind) → node < length (plan_in new)
+    → All (λ source. is_touched old (source_number (plan_in new) source) ≡ false → IsSame (plan_in new) seen before source)
+    (sources_of (plan_in new) node kind)) (sym seen)
+    (subst (λ (flat : Flat). (node : ℕ) (kind : ConditionKind) → node < length (plan_of flat)
+    → All (λ source. is_touched old (source_number (plan_of flat) source) ≡ false → IsSame (plan_of flat) old.seen before source)
+    (sources_of (plan_of flat) node kind)) (sym flat) was)
+
+-- what is untouched was so before
+untouched_before : (old new : CachedData) → ((source : ℕ) → is_touched old source ≡ true → is_touched new source ≡ true)
+    → (source : ℕ) → is_touched new source ≡ false → is_touched old source ≡ false
+untouched_before old new others source none = by (is_touched old source) refl
+  where
+    by : (was : Bool) → is_touched old source ≡ was → was ≡ false
+    by true is = absurd (false≢true (sym none ∙ others source is))
+    by false is = refl
+
+-- ---- a cell is written
+
+module _ (old new : CachedData) (values : List Value) (reports : List (LookState × Value)) (cell : ℕ) (value : Value)
+    (touched : HasTouchedCell old new cell)
+    (seen : IsSeenBut old (record { cells = values; reports = reports })) where
+  abbrev before : Present
+  before = record { cells = values; reports = reports }
+
+  abbrev after : Present
+  after = record { cells = set values cell value; reports = reports }
+
+  -- a source without the cell is as before
+  elsewhere : (source : Source) → (HasCell source cell → ⊥) → IsSame (plan_in new) new.seen before source
+      → IsSame (plan_in new) new.seen after source
+  elsewhere (Cells first size) outside same = λ k below.
+      same k below ∙ sym (get_or-set_other values cell (first + k) value Unknown
+      (λ here. outside (omega (arith, here), omega (arith, here, below))))
+  elsewhere (Reports lookup) outside same = same
+
+  pub written_seen : IsSeenBut new after
+  written_seen node kind there k d inside untouched =
+      let source : Source = get_or (sources_of (plan_in new) node kind) k d in
+      let number : ℕ = source_number (plan_in new) source in
+      elsewhere source
+      (λ has. false≢true (sym untouched ∙ touched.this node kind there k d inside has))
+      (was_seen old new before touched.flat touched.seen seen node kind there k d inside
+      (untouched_before old new touched.others number untouched))
+
+-- ---- something is reported of the one name that is looked up
+
+there_in : (flat : Flat) (node : ℕ) (kind : ConditionKind) → node < length (plan_of flat)
+    → IsWithin (plan_of flat) (condition_in (plan_of flat) node kind)
+there_in flat node kind there =
+    let plan : List Site = plan_of flat in
+    subst (IsWithin plan) (kind_of_node plan node kind)
+    (within_kind plan (numbered_node plan (site_in plan node).head).conditions kind
+    (node_is_within plan node (flat_sound flat) there).conditions)
+
+module _ (old new : CachedData) (values : List Value) (reports later : List (LookState × Value))
+    (one : length (lookups_of (plan_in new)) ≡ 1) (touched : IsTouched old new (all_cells (plan_in new)))
+    (seen : IsSeenBut old (record { cells = values; reports = reports })) where
+  abbrev was : Present
+  was = record { cells = values; reports = reports }
+
+  abbrev now : Present
+  now = record { cells = values; reports = later }
+
+  -- each lookup name is touched
+  cells_alone : (source : Source) → source_number (plan_in new) source < all_cells (plan_in new) + length (lookups_of (plan_in new))
+      → is_touched new (source_number (plan_in new) source) ≡ false
+      → IsSame (plan_in new) new.seen was source → IsSame (plan_in new) new.seen now source
+  cells_alone (Cells first size) below untouched same = same
+  cells_alone (Reports lookup) below untouched same =
+      let first : all_cells (plan_in new) + lookup ≡ all_cells (plan_in new) = omega (arith, below, one) in
+      absurd (false≢true (sym untouched ∙ ap (is_touched new) first ∙ touched.this))
+
+  pub reported_seen : IsSeenBut new now
+  reported_seen node kind there k d inside untouched =
+      let plan : List Site = plan_in new in
+      let source : Source = get_or (sources_of plan node kind) k d in
+      cells_alone source
+      (sources_there plan (condition_in plan node kind) (there_in new.flat node kind there) k d inside) untouched
+      (was_seen old new was touched.flat touched.seen seen node kind there k d inside
+      (untouched_before old new touched.others (source_number plan source) untouched))
