@@ -26,12 +26,12 @@ run_settles plan (Some found) events some = refl
 pub run_starts : (plan : List Site) (events : List Event) → IsSome (run plan events) → IsSome (started plan)
 run_starts plan events some = run_settles plan (started plan) events some
 
-event_settles : (plan : List Site) (world : World) (event : Event) (events : List Event)
+pub event_settles : (plan : List Site) (world : World) (event : Event) (events : List Event)
     → IsSome (run_on plan (Some world) (event ∷ events)) → IsSome (posted plan world event)
 unfolding run_on
 event_settles plan world event events some = run_settles plan (posted plan world event) events some
 
-run_on_event : (plan : List Site) (world to : World) (count : ℕ) (event : Event) (events : List Event) → posted plan world event ≡ Some (to, count)
+pub run_on_event : (plan : List Site) (world to : World) (count : ℕ) (event : Event) (events : List Event) → posted plan world event ≡ Some (to, count)
     → run_on plan (Some world) (event ∷ events) ≡ run_on plan (Some to) events
 unfolding run_on
 run_on_event plan world to count event events is = ap (λ o. run_on plan (settled_world o) events) is
@@ -79,7 +79,7 @@ pub record IsNext (plan : List Site) (history : List Entry) (position : ℕ) (no
   pub rest : now ≡ settled_state plan now.world
   pub begins : begun ≡ with_event now entry.event
 
-begun_nodes : (plan : List Site) (history : List Entry) (position : ℕ) (now begun : State) (entry : Entry) → IsNext plan history position now begun entry
+pub begun_nodes : (plan : List Site) (history : List Entry) (position : ℕ) (now begun : State) (entry : Entry) → IsNext plan history position now begun entry
     → begun.nodes ≡ plan
 begun_nodes plan history position now begun entry n = ap (λ (s : State). s.nodes) n.begins ∙ ap (λ (s : State). s.nodes) n.rest
 
@@ -89,7 +89,7 @@ begun_world plan history position now begun entry n =
     ap (λ (s : State). s.world) n.begins ∙ ap (λ (s : State). taken s.nodes now.world entry.event) n.rest
 
 -- the event settles as it is posted
-posted_is : (plan : List Site) (history : List Entry) (position : ℕ) (now begun : State) (entry : Entry) → IsNext plan history position now begun entry
+pub posted_is : (plan : List Site) (history : List Entry) (position : ℕ) (now begun : State) (entry : Entry) → IsNext plan history position now begun entry
     → settled begun.nodes begun.world ≡ posted plan now.world entry.event
 posted_is plan history position now begun entry n =
     ap (λ nodes. settled nodes begun.world) (begun_nodes plan history position now begun entry n)

@@ -1,3 +1,4 @@
 pub mod View
 pub mod Printing
 pub mod Stalls
+pub mod Summary

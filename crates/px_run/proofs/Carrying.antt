@@ -1,14 +1,21 @@
 -- What each command has come to, as one of the program's.
-use Rattle.std.proofs.Common.{◌≡◌, inl, inr, ℕ, List, Option, Some, None, Result, Err, refl}
+use Rattle.std.proofs.Common.{◌≡◌, inl, inr, ℕ, List, [], Option, Some, None, Result, Err, refl, sym, ap, ◌∙◌}
+use Rattle.std.specs.Option.{option_map}
 use Rattle.px_output.specs.View.{View}
+use Rattle.px_output.proofs.Printed.{emits_nothing}
 use Rattle.px_ports.specs.declared.disk.Disk
 use Rattle.px_session.specs.Session.{IsBoundAtMost}
 use Rattle.px_session.proofs.Sessions.{untouched_at_once}
-use Rattle.px_words.specs.Words.{Command, TraceStart, DryRun, Check, Run, Resume, Trace, journal_operand}
-use Rattle.px_run.specs.Course.{Untouched, Due, EndsIn}
+use Rattle.px_words.specs.Asked.{asked}
+use Rattle.px_words.specs.declared.command.Command.{Command as Asked}
+use Rattle.px_words.specs.Words.{Command, TraceStart, DryRun, Check, Format, Run, Resume, Trace, Soak, journal_operand}
+use Rattle.px_run.specs.Course.{Untouched, Due, EndsIn, AfterFile}
 use Rattle.px_run.specs.Ending.{usage}
+use Rattle.px_run.specs.Format.{FormatCalls}
+use Rattle.px_run.specs.Journaled.{AfterJournal}
 use Rattle.px_run.specs.Resume.{ResumeCarries}
 use Rattle.px_run.specs.Run.{RunCarries}
+use Rattle.px_run.specs.Soak.{SoakCalls, SoakCarries}
 use Rattle.px_run.specs.Top.{Performed}
 use Rattle.px_run.specs.Trace.{TraceCarries}
 use Rattle.px_run.specs.Headline.{TraceStartCalls, DryRunCalls, CheckCalls, CommandCallsFor, IsBoundFor}
@@ -19,6 +26,11 @@ use Rattle.px_run.specs.declared.ending.Stop.{Stop}
 use Rattle.px_run.specs.declared.ending.Stop.TheVariants as stops
 use Rattle.px_run.specs.declared.finishing.Carried.{Carried}
 use Rattle.px_run.proofs.Performing.{performs_more}
+
+-- what the words ask for, by the command that was found
+pub asks_for : {words : Option Command} {found : Option Asked} {here named : Asked} → option_map asked found ≡ words → found ≡ Some here → here ≡ named
+    → words ≡ Some (asked named)
+asks_for reads is same = sym reads ∙ (ap (option_map asked) is ∙ ap (λ (f : Asked). Some (asked f)) same)
 
 module _ {D : Type 0} (members : Disk.Ghosts D) (before now : View) (disk : D) (unbound : members.bound_to disk ≡ None) where
   -- ---- a command without a journal, which makes no call of the disk
@@ -39,6 +51,27 @@ module _ {D : Type 0} (members : Disk.Ghosts D) (before now : View) (disk : D) (
   usage_performed words is same =
       rw is (plainly None (EndsIn Untouched usage Untouched) (Err (stops.Refused refusals.Usage)) (λ due calls. (refl, calls)) ((refl, refl), same))
 
+  -- memory is wanting while the words are read: whatever they ask for, nothing was done
+  pub early_performed : (words : Option Command) → Performed members words before before disk (record { result = Err stops.NoMemory; disk = disk })
+  early_performed words = record {
+    course = Untouched;
+    performs = by words;
+    leaves = λ tells. untouched_at_once members disk;
+    bound = inl unbound;
+    back = record { tells = refl; kept = λ other. refl };
+  }
+    where
+      by : (asked : Option Command) → Performs before before (CommandCallsFor members asked before before disk disk Untouched) (Err stops.NoMemory)
+      by None = inl (usage, (refl, (refl, refl)), ([], usage.text, refl, emits_nothing before.emitted))
+      by (Some (TraceStart plan)) = inr ((refl, AfterFile.no_memory), refl)
+      by (Some (DryRun plan script)) = inr ((refl, AfterFile.no_memory), refl)
+      by (Some (Check plan)) = inr ((refl, AfterFile.no_memory), refl)
+      by (Some (Format plan)) = inr ((refl, AfterFile.no_memory), refl)
+      by (Some (Run plan script journal limit)) = inr (AfterFile.no_memory, refl)
+      by (Some (Resume script journal limit)) = inr (AfterJournal.not_read refl, refl)
+      by (Some (Trace journal)) = inr (AfterJournal.not_read refl, refl)
+      by (Some (Soak count seed journal)) = inr (SoakCalls.no_memory, refl)
+
   pub trace_start_performed : (words : Option Command) (plan : List ℕ) (r : Result End Stop) → words ≡ Some (TraceStart plan)
       → Performs before now (TraceStartCalls plan before now Untouched) r → Performed members words before now disk (record { result = r; disk = disk })
   trace_start_performed words plan r is performs =
@@ -53,6 +86,11 @@ module _ {D : Type 0} (members : Disk.Ghosts D) (before now : View) (disk : D) (
       → Performs before now (CheckCalls plan before now Untouched) r → Performed members words before now disk (record { result = r; disk = disk })
   check_performed words plan r is performs =
       rw is (plainly (Some (Check plan)) (CheckCalls plan before now Untouched) r (λ due calls. (refl, calls)) performs)
+
+  pub format_performed : (words : Option Command) (plan : List ℕ) (r : Result End Stop) → words ≡ Some (Format plan)
+      → Performs before now (FormatCalls plan before now Untouched) r → Performed members words before now disk (record { result = r; disk = disk })
+  format_performed words plan r is performs =
+      rw is (plainly (Some (Format plan)) (FormatCalls plan before now Untouched) r (λ due calls. (refl, calls)) performs)
 
 -- ---- a command with a journal
 
@@ -88,5 +126,15 @@ module _ {D : Type 0} (members : Disk.Ghosts D) (before now : View) (disk : D) (
     performs = c.performs;
     leaves = c.leaves;
     bound = bound_for (Trace journal) journal refl c.bound;
+    back = c.back;
+  })
+
+  pub soak_performed : (words : Option Command) (count seed : ℕ) (journal : List ℕ) → words ≡ Some (Soak count seed journal)
+      → SoakCarries members count seed journal before now disk carried → Performed members words before now disk carried
+  soak_performed words count seed journal is c = rw is (record {
+    course = c.course;
+    performs = c.performs;
+    leaves = c.leaves;
+    bound = bound_for (Soak count seed journal) journal refl c.bound;
     back = c.back;
   })

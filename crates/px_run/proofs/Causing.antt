@@ -1,28 +1,35 @@
 -- From the headline to its cause.
-use Rattle.std.proofs.Common.{◌≡◌, ℕ, inl, inr, List, [], Option, Some, None, IsSome, refl, ap, subst, sym, ◌∙◌}
+use Rattle.std.proofs.Common.{◌≡◌, ℕ, inl, inr, List, [], Option, Some, None, IsSome, IsTrue, refl, ap, subst, sym, ◌∙◌}
 use Rattle.std.specs.Option.{ForSome, option_map, option_and_then}
 use Rattle.px_compile.specs.Compiled.{IsCompiled}
 use Rattle.px_core.specs.Plan.{Site, Tree, sites}
 use Rattle.px_event.specs.declared.entry.Entry.{Entry}
-use Rattle.px_journal.specs.Layout.{Stands}
+use Rattle.px_journal.specs.Layout.{is_nothing, Stands}
 use Rattle.px_output.specs.View.{View}
 use Rattle.px_ports.specs.Host.{Emits, Rose}
 use Rattle.px_ports.specs.declared.disk.Disk
 use Rattle.px_script.specs.Follows.{AreStalled}
+use Rattle.px_script.specs.Soak.{soak_threads}
+use Rattle.px_script.proofs.Soaks.{soak_never_stalls}
 use Rattle.px_script.specs.Remainder.{rest}
 use Rattle.px_script.specs.declared.todo.Todo.{Todo}
+use Rattle.px_syntax.specs.Plan.{PlanTree}
 use Rattle.px_sem.specs.Log.{events_of}
 use Rattle.px_sem.specs.Run.{run, started}
 use Rattle.px_sem.specs.World.{World}
 use Rattle.px_session.specs.Session.{Session}
-use Rattle.px_words.specs.Words.{Command, TraceStart, DryRun, Check, Run, Resume, Trace, plan_operand, script_operand, journal_operand, runs_plan, command}
-use Rattle.px_run.specs.Causes.{HasPlan, HasScript, HasJournal, AsksForRun, ReadsScript, Starts, OperandIsRefused, FailsToRead, StallsBehind, StallsOver, TakesUp, Cause}
+use Rattle.px_words.specs.Words.{Command, TraceStart, DryRun, Check, Format, Run, Resume, Trace, Soak, plan_operand, script_operand, journal_operand, takes_up, runs_plan, command}
+use Rattle.px_run.specs.Causes.{HasPlan, HasScript, HasJournal, TakesUpJournal, IsSoak, AsksForRun, ReadsScript, Starts, OperandIsRefused, FailsToRead, StallsBehind, StallsOver, TakesUp, Cause}
 use Rattle.px_run.specs.Course.{Course, Untouched, TakenUp, GoneOn, Due, EndsIn, AfterFile}
 use Rattle.px_run.specs.Ending.{Ending, of_start, start_ending, nodes_ending, session_ending, stalled_ending, runaway_at_start}
 use Rattle.px_run.specs.Reading.{FileKind, Seen, Content, Longer, Unreadable, Shows, Refuses, with_text, Reads}
+use Rattle.px_run.specs.Format.{LaysOut, layout_ending}
 use Rattle.px_run.specs.Headline.{DryRunOf, TraceStartCalls, DryRunCalls, CommandCallsFor, Delivers, Headline}
 use Rattle.px_run.specs.Journaled.{IsSession, DueBehind, SessionCalls, NewCalls, RunCallsBy, RunCalls, HasNoJournal, CannotRun, AfterJournal, ResumeCalls, TraceCalls}
 use Rattle.px_run.specs.Kinds.{plan_file, script_file}
+use Rattle.px_run.specs.Soak.{soak_plan, SoakCalls}
+use Rattle.px_run.specs.declared.finishing.Telling.{Telling}
+use Rattle.px_run.specs.declared.finishing.Telling.TheVariants as tellings
 use Rattle.px_run.proofs.FileKinds.{IsKind, plan_kind, script_kind, text_kind}
 use Rattle.px_run.proofs.SeenFiles.{WhereDue}
 use Rattle.px_run.proofs.Starting.{some_start}
@@ -79,6 +86,12 @@ module _ {D : Type 0} (members : Disk.Ghosts D) (words : List (List ℕ)) (befor
   after_plan plan Next course due has behind after =
       after_operand Tree plan_file 3 HasPlan plan Untouched Next course due plan_kind has (λ r. Cause.plan_refused r) (λ fails. Cause.read_fault (inl fails)) behind after
 
+  -- a plan of which the text was asked for too
+  without_text : (name : List ℕ) (source : List ℕ × Tree) → Reads (with_text plan_file) before now name source → Reads plan_file before now name source.1
+  without_text name source (Content bytes, shows, spells) = (Content bytes, shows, spells.1)
+  without_text name source (Longer, shows, spells) = absurd spells
+  without_text name source (Unreadable, shows, spells) = absurd spells
+
   -- the script that was read is the one that the words ask for
   reads_script : (tree : Tree) (name : List ℕ) (threads : List Todo) → HasScript words name → Reads (script_file (sites tree)) before now name threads
       → ReadsScript words before now tree
@@ -92,13 +105,13 @@ module _ {D : Type 0} (members : Disk.Ghosts D) (words : List (List ℕ)) (befor
   -- ---- sessions
 
   -- behind a session: its script is carried out or stalls, or the disk fails
-  session_caused : (plan : List Site) (text : List ℕ) (first : List Entry) (limit : ℕ) (script : List ℕ) (threads : List Todo) (session : Session) (due : Due)
+  session_caused : (telling : Telling) (plan : List Site) (text : List ℕ) (first : List Entry) (limit : ℕ) (script : List ℕ) (threads : List Todo) (session : Session) (due : Due)
       → (Rose (members.faults old) (members.faults new) → Cause members words before now old new 9) → Cause members words before now old new 0
       → (StallsBehind before now script plan limit first → StallsOver members words before now old)
       → Reads (script_file plan) before now script threads → IsSession plan text first limit (rest threads first) session
-      → DueBehind members plan (rest threads first) session old new due → AreCaused due
-  session_caused plan text first limit script threads session _ fails carried_out stalls reads so (DueBehind.whole none all) = λ emits. carried_out
-  session_caused plan text first limit script threads session _ fails carried_out stalls reads so (DueBehind.stalled waits none stalled) =
+      → DueBehind members telling plan (rest threads first) session old new due → AreCaused due
+  session_caused telling plan text first limit script threads session _ fails carried_out stalls reads so (DueBehind.whole none all) = λ emits. carried_out
+  session_caused telling plan text first limit script threads session _ fails carried_out stalls reads so (DueBehind.stalled waits none stalled) =
       λ emits. Cause.stalled (stalls (record {
         threads = threads;
         read = reads;
@@ -108,15 +121,15 @@ module _ {D : Type 0} (members : Disk.Ghosts D) (words : List (List ℕ)) (befor
         stalled = subst (λ (h : List Entry). AreStalled plan h session.log (rest threads first) waits) so.same_first stalled;
         text = subst (λ (h : List Entry). Emits before.emitted now.emitted (stalled_ending plan h session.log waits).text) so.same_first emits;
       }))
-  session_caused plan text first limit script threads session _ fails carried_out stalls reads so (DueBehind.failed some rose) = λ emits. fails rose
-  session_caused plan text first limit script threads session _ fails carried_out stalls reads so (DueBehind.no_memory none) = tt
+  session_caused telling plan text first limit script threads session _ fails carried_out stalls reads so (DueBehind.failed some rose) = λ emits. fails rose
+  session_caused telling plan text first limit script threads session _ fails carried_out stalls reads so (DueBehind.no_memory none) = tt
 
   -- ---- a plan that is to be run
 
   module _ (plan : List ℕ) (runs : AsksForRun words) (has : HasPlan words plan) where
     started_so : (tree : Tree) (IsSuch : Option (World × ℕ) → Type 0) → Reads plan_file before now plan tree → ReadsScript words before now tree
         → IsSuch (started (sites tree)) → Starts words before now IsSuch
-    started_so tree IsSuch reads scripts such = (runs, (plan, tree, has, reads, (scripts, such)))
+    started_so tree IsSuch reads scripts such = inl (runs, (plan, tree, has, reads, (scripts, such)))
 
     -- the start, without a journal
     start_caused : (tree : Tree) (found : Option (World × ℕ)) → option_and_then journal_operand (command words) ≡ None → Reads plan_file before now plan tree → ReadsScript words before now tree
@@ -162,20 +175,20 @@ module _ {D : Type 0} (members : Disk.Ghosts D) (words : List (List ℕ)) (befor
     new_caused : (tree : Tree) (text : List ℕ) (limit : ℕ) (script journal : List ℕ) (threads : List Todo) (course : Course) (due : Due)
         → command words ≡ Some (Run plan script journal limit) → Reads plan_file before now plan tree
         → Reads (script_file (sites tree)) before now script threads → Starts words before now (λ found. IsSome found) → HasJournal words
-        → NewCalls members (sites tree) text limit threads old new course due → AreCaused due
+        → NewCalls members tellings.Text (sites tree) text limit threads old new course due → AreCaused due
     new_caused tree text limit script journal threads _ _ asked reads read starts has_journal (NewCalls.exists told) =
         λ emits. Cause.journal_refused (inl (starts, has_journal, told))
     new_caused tree text limit script journal threads _ _ asked reads read starts has_journal (NewCalls.half_made rose) =
         λ emits. Cause.disk_fault has_journal (inr starts) rose
     new_caused tree text limit script journal threads _ _ asked reads read starts has_journal (NewCalls.made session due nothing (so, behind)) =
-        session_caused (sites tree) text [] limit script threads session due (Cause.disk_fault has_journal (inr starts)) (Cause.done starts (λ has. nothing))
+        session_caused _ (sites tree) text [] limit script threads session due (Cause.disk_fault has_journal (inr starts)) (Cause.done starts (λ has. nothing))
         (λ stalls. StallsOver.of_new plan script journal limit tree asked reads nothing stalls) read so behind
     new_caused tree text limit script journal threads _ _ asked reads read starts has_journal NewCalls.no_memory = tt
 
     run_caused : (tree : Tree) (text : List ℕ) (limit : ℕ) (script journal : List ℕ) (threads : List Todo) (course : Course) (due : Due)
         (found : Option (World × ℕ)) → command words ≡ Some (Run plan script journal limit) → HasScript words script → HasJournal words
         → Reads plan_file before now plan tree → Reads (script_file (sites tree)) before now script threads → started (sites tree) ≡ found
-        → RunCallsBy members (sites tree) text limit threads old new course due found → AreCaused due
+        → RunCallsBy members tellings.Text (sites tree) text limit threads old new course due found → AreCaused due
     run_caused tree text limit script journal threads course due None asked asks has_journal reads read is (untouched, ends) =
         rw ends (caused_as runaway_at_start 6 refl (Cause.runaway (started_so tree (λ found. found ≡ None) reads (reads_script tree script threads asks read) is)))
     run_caused tree text limit script journal threads course due (Some settled) asked asks has_journal reads read is calls =
@@ -190,34 +203,29 @@ module _ {D : Type 0} (members : Disk.Ghosts D) (words : List (List ℕ)) (befor
         (λ source reads next. behind_plan source.1 script _ course due asks (without_text plan source reads)
         (λ threads read calls. run_caused source.1 source.0 limit script journal threads course due (started (sites source.1)) asked asks has_journal
         (without_text plan source reads) read refl calls) next) after
-      where
-        without_text : (name : List ℕ) (source : List ℕ × Tree) → Reads (with_text plan_file) before now name source → Reads plan_file before now name source.1
-        without_text name source (Content bytes, shows, spells) = (Content bytes, shows, spells.1)
-        without_text name source (Longer, shows, spells) = absurd spells
-        without_text name source (Unreadable, shows, spells) = absurd spells
 
   -- ---- a journal that is to be taken up
 
-  module _ (no_plan : option_and_then plan_operand (command words) ≡ None) (journal : HasJournal words) where
+  module _ (reopens : TakesUpJournal words) (journal : HasJournal words) where
     no_journal_caused : (ending : Ending) → HasNoJournal members old ending → IsCaused ending
     no_journal_caused _ (HasNoJournal.nothing told) =
-        λ emits. Cause.journal_refused (inr (no_plan, journal, _, inl (HasNoJournal.nothing told), refl))
+        λ emits. Cause.journal_refused (inr (reopens, journal, _, inl (HasNoJournal.nothing told), refl))
     no_journal_caused _ (HasNoJournal.damaged at told) =
-        λ emits. Cause.journal_refused (inr (no_plan, journal, _, inl (HasNoJournal.damaged at told), refl))
+        λ emits. Cause.journal_refused (inr (reopens, journal, _, inl (HasNoJournal.damaged at told), refl))
 
     not_run_caused : (text : List ℕ) (first : List Entry) (ending : Ending) → ForSome (members.content old) (λ told. Stands told text first)
         → CannotRun text first ending → IsCaused ending
     not_run_caused text first _ told (CannotRun.no_plan fault other refused) =
-        λ emits. Cause.journal_refused (inr (no_plan, journal, _, inr (text, first, told, CannotRun.no_plan fault other refused), refl))
+        λ emits. Cause.journal_refused (inr (reopens, journal, _, inr (text, first, told, CannotRun.no_plan fault other refused), refl))
     not_run_caused text first _ told (CannotRun.start_runs_away tree compiled is) =
-        λ emits. Cause.taken_up_runaway (no_plan, journal, text, first, tree, told, compiled, is)
+        λ emits. Cause.taken_up_runaway (reopens, journal, text, first, tree, told, compiled, is)
     not_run_caused text first _ told (CannotRun.event_runs_away tree at compiled away) =
-        λ emits. Cause.journal_refused (inr (no_plan, journal, _, inr (text, first, told, CannotRun.event_runs_away tree at compiled away), refl))
+        λ emits. Cause.journal_refused (inr (reopens, journal, _, inr (text, first, told, CannotRun.event_runs_away tree at compiled away), refl))
 
     -- the disk's plan and history are such
     taken_up : (text : List ℕ) (first : List Entry) (tree : Tree) (IsSuch : Tree → List Entry → Type 0)
         → ForSome (members.content old) (λ told. Stands told text first) → IsCompiled text tree → IsSuch tree first → TakesUp members words old IsSuch
-    taken_up text first tree IsSuch told compiled such = (no_plan, journal, text, first, tree, told, compiled, such)
+    taken_up text first tree IsSuch told compiled such = (reopens, journal, text, first, tree, told, compiled, such)
 
     done_by : (text : List ℕ) (first : List Entry) (tree : Tree) → ForSome (members.content old) (λ told. Stands told text first) → IsCompiled text tree
         → IsSome (run (sites tree) (events_of first)) → ReadsScript words before now tree → Cause members words before now old new 0
@@ -228,8 +236,9 @@ module _ {D : Type 0} (members : Disk.Ghosts D) (words : List (List ℕ)) (befor
         → ((text : List ℕ) (first : List Entry) (tree : Tree) → ForSome (members.content old) (λ told. Stands told text first) → IsCompiled text tree
         → IsSome (run (sites tree) (events_of first)) → Next text first tree course due → AreCaused due)
         → AfterJournal members old new Next course due → AreCaused due
+    after_journal Next _ _ behind (AfterJournal.not_read same) = tt
     after_journal Next _ _ behind AfterJournal.no_memory = tt
-    after_journal Next _ _ behind (AfterJournal.disk_fails rose) = λ emits. Cause.disk_fault journal (inl no_plan) rose
+    after_journal Next _ _ behind (AfterJournal.disk_fails rose) = λ emits. Cause.disk_fault journal (inl reopens) rose
     after_journal Next _ _ behind (AfterJournal.no_journal_there ending none) = no_journal_caused ending none
     after_journal Next _ _ behind (AfterJournal.not_run text first ending told cannot) = not_run_caused text first ending told cannot
     after_journal Next _ _ behind (AfterJournal.opened text first tree course due told compiled runs next) = behind text first tree told compiled runs next
@@ -247,14 +256,52 @@ module _ {D : Type 0} (members : Disk.Ghosts D) (words : List (List ℕ)) (befor
         → HasScript words script → ResumeCalls members script limit before now old new course due → AreCaused due
     resume_caused script name limit course due asked asks calls =
         after_journal (λ text first tree. AfterFile (script_file (sites tree)) before now script (TakenUp text first) (λ threads c d.
-        (session : Session) × (c ≡ GoneOn session) × SessionCalls members (sites tree) text first limit (rest threads first) old new session d)) course due
+        (session : Session) × (c ≡ GoneOn session) × SessionCalls members tellings.Text (sites tree) text first limit (rest threads first) old new session d)) course due
         (λ text first tree told compiled runs after. after_operand (List Todo) (script_file (sites tree)) 4 HasScript script (TakenUp text first) _ course due
         (script_kind (sites tree)) asks
         (λ r. Cause.script_refused (inr (taken_up text first tree (λ t h. OperandIsRefused (script_file (sites t)) HasScript words before now) told compiled r)))
         (λ fails. Cause.read_fault (inr (inr (taken_up text first tree (λ t h. FailsToRead HasScript words before now) told compiled fails))))
-        (λ threads read (session, is, (so, behind)). session_caused (sites tree) text first limit script threads session due (Cause.disk_fault journal (inl no_plan))
+        (λ threads read (session, is, (so, behind)). session_caused _ (sites tree) text first limit script threads session due (Cause.disk_fault journal (inl reopens))
         (done_by text first tree told compiled runs (reads_script tree script threads asks read))
         (λ stalls. StallsOver.of_taken_up script name limit text first tree asked told compiled stalls) read so behind) after) calls
+
+  -- ---- a soak
+
+  module _ (asked : IsSoak words) (count seed : ℕ) (tree : Tree) (compiled : IsCompiled soak_plan tree) where
+    soak_starts : (IsSuch : Option (World × ℕ) → Type 0) → IsSuch (started (sites tree)) → Starts words before now IsSuch
+    soak_starts IsSuch such = inr (asked, tree, compiled, such)
+
+    soak_journal : HasJournal words
+    soak_journal = (asked.2, ap (option_and_then journal_operand) asked.3)
+
+    -- behind its start
+    module _ (starts : Starts words before now (λ found. IsSome found)) where
+      soaked_caused : (session : Session) (due : Due) → ForSome (members.content old) (λ told. IsTrue (is_nothing told))
+          → DueBehind members tellings.Summary (sites tree) (rest (soak_threads count seed) []) session old new due → AreCaused due
+      soaked_caused session _ nothing (DueBehind.whole none all) = λ emits. Cause.done starts (λ has. nothing)
+      soaked_caused session _ nothing (DueBehind.stalled waits none stalled) =
+          absurd (soak_never_stalls (sites tree) session.first session.log count seed waits stalled)
+      soaked_caused session _ nothing (DueBehind.failed some rose) = λ emits. Cause.disk_fault soak_journal (inr starts) rose
+      soaked_caused session _ nothing (DueBehind.no_memory none) = tt
+
+      soak_made_caused : (text : List ℕ) (limit : ℕ) (course : Course) (due : Due)
+          → NewCalls members tellings.Summary (sites tree) text limit (soak_threads count seed) old new course due → AreCaused due
+      soak_made_caused text limit _ _ (NewCalls.exists told) = λ emits. Cause.journal_refused (inl (starts, soak_journal, told))
+      soak_made_caused text limit _ _ (NewCalls.half_made rose) = λ emits. Cause.disk_fault soak_journal (inr starts) rose
+      soak_made_caused text limit _ _ (NewCalls.made session due nothing (so, behind)) = soaked_caused session due nothing behind
+      soak_made_caused text limit _ _ NewCalls.no_memory = tt
+
+    soak_started_caused : (text : List ℕ) (limit : ℕ) (course : Course) (due : Due) (found : Option (World × ℕ)) → started (sites tree) ≡ found
+        → RunCallsBy members tellings.Summary (sites tree) text limit (soak_threads count seed) old new course due found → AreCaused due
+    soak_started_caused text limit course due None is (untouched, ends) =
+        rw ends (caused_as runaway_at_start 6 refl (Cause.runaway (soak_starts (λ found. found ≡ None) is)))
+    soak_started_caused text limit course due (Some settled) is calls =
+        soak_made_caused (soak_starts (λ found. IsSome found) (rw is refl)) text limit course due calls
+
+  soak_caused : (asked : IsSoak words) (count seed : ℕ) (course : Course) (due : Due) → SoakCalls members count seed old new course due → AreCaused due
+  soak_caused asked count seed _ _ (SoakCalls.starts tree course due compiled calls) =
+      soak_started_caused asked count seed tree compiled _ _ course due (started (sites tree)) refl calls
+  soak_caused asked count seed _ _ SoakCalls.no_memory = tt
 
   -- ---- whatever the command
 
@@ -273,14 +320,23 @@ module _ {D : Type 0} (members : Disk.Ghosts D) (words : List (List ℕ)) (befor
     where
       checked : (tree : Tree) (d : Due) → Reads plan_file before now plan tree → d ≡ Some (nodes_ending tree) → AreCaused d
       checked tree d reads is = rw is (λ emits. Cause.checked (ap (option_map runs_plan) asks) (plan, tree, ap (option_and_then plan_operand) asks, reads, tt))
+  caused_by (Some (Format plan)) course due asks (same, calls) =
+      after_operand (List ℕ × Tree) (with_text plan_file) 3 HasPlan plan Untouched (λ source. LaysOut source.0) course due (text_kind Tree plan_file 3 plan_kind)
+      (ap (option_and_then plan_operand) asks) (λ r. Cause.plan_refused r) (λ fails. Cause.read_fault (inl fails))
+      (λ source reads (tree, spelled, ends). laid_out source tree due (without_text plan source reads) ends.1) calls
+    where
+      laid_out : (source : List ℕ × Tree) (tree : PlanTree) (d : Due) → Reads plan_file before now plan source.1 → d ≡ Some (layout_ending tree) → AreCaused d
+      laid_out source tree d reads is =
+          rw is (λ emits. Cause.checked (ap (option_map runs_plan) asks) (plan, source.1, ap (option_and_then plan_operand) asks, reads, tt))
   caused_by (Some (Run plan script journal limit)) course due asks calls =
       run_is_caused plan (ap (option_map runs_plan) asks) (ap (option_and_then plan_operand) asks) script journal limit course due asks
       (ap (option_and_then script_operand) asks) (journal, ap (option_and_then journal_operand) asks) calls
   caused_by (Some (Resume script journal limit)) course due asks calls =
-      resume_caused (ap (option_and_then plan_operand) asks) (journal, ap (option_and_then journal_operand) asks) script journal limit course due asks
+      resume_caused (ap (option_map takes_up) asks) (journal, ap (option_and_then journal_operand) asks) script journal limit course due asks
       (ap (option_and_then script_operand) asks) calls
   caused_by (Some (Trace journal)) course due asks calls =
-      trace_caused (ap (option_and_then plan_operand) asks) (journal, ap (option_and_then journal_operand) asks) course due (ap (option_and_then script_operand) asks) calls
+      trace_caused (ap (option_map takes_up) asks) (journal, ap (option_and_then journal_operand) asks) course due (ap (option_and_then script_operand) asks) calls
+  caused_by (Some (Soak count seed journal)) course due asks calls = soak_caused (count, seed, journal, asks) count seed course due calls
 
   pub caused : (course : Course) (ending : Ending) → CommandCallsFor members (command words) before now old new course (Some ending) → IsCaused ending
   caused course ending calls = caused_by (command words) course (Some ending) refl calls

@@ -1,7 +1,8 @@
 -- From the headline to completeness, and to refusals.
-use Rattle.std.proofs.Common.{◌≡◌, ℕ, ◌⊎◌, inl, inr, List, [], Option, Some, None, IsSome, IsTrue, IsFalse, refl, ap, subst, sym, ◌∙◌}
+use Rattle.std.proofs.Common.{◌≡◌, ℕ, false, ◌⊎◌, inl, inr, List, [], Option, Some, None, IsSome, IsTrue, IsFalse, refl, ap, subst, sym, ◌∙◌}
 use Rattle.std.specs.Option.{option_map, option_and_then}
 use Rattle.px_compile.specs.Compiled.{IsCompiled}
+use Rattle.px_compile.proofs.Refusals.{one_plan}
 use Rattle.px_core.specs.Plan.{Site, Tree, sites}
 use Rattle.px_event.specs.declared.entry.Entry.{Entry}
 use Rattle.px_journal.specs.Layout.{is_nothing, Stands}
@@ -10,19 +11,26 @@ use Rattle.px_output.specs.View.{View, Faulted}
 use Rattle.px_ports.specs.Host.{Files, Rose}
 use Rattle.px_ports.specs.declared.disk.Disk
 use Rattle.px_script.specs.Remainder.{rest}
+use Rattle.px_script.specs.Soak.{soak_threads}
+use Rattle.px_script.proofs.Soaks.{soak_never_stalls}
 use Rattle.px_script.specs.declared.todo.Todo.{Todo}
 use Rattle.px_sem.specs.Log.{events_of}
 use Rattle.px_sem.specs.Run.{run, started}
 use Rattle.px_sem.specs.World.{World}
 use Rattle.px_session.specs.Session.{Session}
-use Rattle.px_words.specs.Words.{Command, TraceStart, DryRun, Check, Run, Resume, Trace, plan_operand, script_operand, journal_operand, runs_plan, command}
-use Rattle.px_run.specs.Causes.{HasPlan, HasScript, HasJournal, AsksForRun, FailsToRead, status_behind, IsSound, IsComplete, RefusesFiles}
+use Rattle.px_words.specs.Limited.{event_limit}
+use Rattle.px_words.specs.Words.{Command, TraceStart, DryRun, Check, Format, Run, Resume, Trace, Soak, plan_operand, script_operand, journal_operand, takes_up, runs_plan, command}
+use Rattle.px_run.specs.Causes.{HasPlan, HasScript, HasJournal, TakesUpJournal, IsSoak, AsksForRun, FailsToRead, status_behind, IsSound, IsComplete, RefusesFiles}
 use Rattle.px_run.specs.Course.{Course, Untouched, TakenUp, Due, EndsIn, AfterFile}
 use Rattle.px_run.specs.Ending.{Ending, of_start, start_ending, nodes_ending, session_ending, runaway_at_start}
 use Rattle.px_run.specs.Reading.{FileKind, with_text, Holds, HoldsNone}
+use Rattle.px_run.specs.Format.{LaysOut, layout_ending}
 use Rattle.px_run.specs.Headline.{CommandCallsFor, Delivers, Headline}
 use Rattle.px_run.specs.Journaled.{DueBehind, NewCalls, RunCallsBy, JournalRefuses, AfterJournal}
 use Rattle.px_run.specs.Kinds.{plan_file, script_file}
+use Rattle.px_run.specs.Soak.{soak_plan, SoakCalls}
+use Rattle.px_run.specs.declared.finishing.Telling.{Telling}
+use Rattle.px_run.specs.declared.finishing.Telling.TheVariants as tellings
 use Rattle.px_run.proofs.Causing.{dry_run_status}
 use Rattle.px_run.proofs.Excluding.{none_or_some, same_text, same_first, same_tree, never_refused, one_status}
 use Rattle.px_run.proofs.FileKinds.{IsKind, plan_kind, script_kind, text_kind, holds_text, held, none_held}
@@ -66,39 +74,108 @@ module _ {D : Type 0} (members : Disk.Ghosts D) (words : List (List ℕ)) (befor
   script_or_none : (script : List ℕ) → HasScript words script → option_and_then script_operand (command words) ≡ None → ⊥
   script_or_none script has none = let both = sym none ∙ has in cc
 
+  reopens_or_not : TakesUpJournal words → option_map takes_up (command words) ≡ Some false → ⊥
+  reopens_or_not reopens not = let both = sym reopens ∙ not in cc
+
   journal_or_none : HasJournal words → option_and_then journal_operand (command words) ≡ None → ⊥
   journal_or_none (journal, has) none = let both = sym none ∙ has in cc
 
   -- ---- sessions whose disk doesn't fail
 
   module _ (steady : ¬ Rose (members.faults old) (members.faults new)) where
-    session_sound : (plan : List Site) (left : List Todo) (session : Session) (due : Due) → DueBehind members plan left session old new due
+    session_sound : (telling : Telling) (plan : List Site) (left : List Todo) (session : Session) (due : Due) → DueBehind members telling plan left session old new due
         → WhereDue (λ ending. OrStalled 0 ending.status) due
-    session_sound plan left session _ (DueBehind.whole none all) = inl refl
-    session_sound plan left session _ (DueBehind.stalled stalls none stalled) = inr refl
-    session_sound plan left session _ (DueBehind.failed some rose) = absurd (steady rose)
-    session_sound plan left session _ (DueBehind.no_memory none) = tt
+    session_sound telling plan left session _ (DueBehind.whole none all) = inl refl
+    session_sound telling plan left session _ (DueBehind.stalled stalls none stalled) = inr refl
+    session_sound telling plan left session _ (DueBehind.failed some rose) = absurd (steady rose)
+    session_sound telling plan left session _ (DueBehind.no_memory none) = tt
 
     -- over a new journal, on a disk that was nothing
-    new_sound : (plan : List Site) (text : List ℕ) (limit : ℕ) (threads : List Todo) (course : Course) (due : Due) (bytes : List ℕ)
-        → members.content old ≡ Some bytes → IsTrue (is_nothing bytes) → NewCalls members plan text limit threads old new course due
+    new_sound : (telling : Telling) (plan : List Site) (text : List ℕ) (limit : ℕ) (threads : List Todo) (course : Course) (due : Due) (bytes : List ℕ)
+        → members.content old ≡ Some bytes → IsTrue (is_nothing bytes) → NewCalls members telling plan text limit threads old new course due
         → WhereDue (λ ending. OrStalled 0 ending.status) due
-    new_sound plan text limit threads _ _ bytes content nothing (NewCalls.exists told) =
+    new_sound telling plan text limit threads _ _ bytes content nothing (NewCalls.exists told) =
         absurd (nothing_or_not (is_nothing bytes) nothing (told bytes content))
-    new_sound plan text limit threads _ _ bytes content nothing (NewCalls.half_made rose) = absurd (steady rose)
-    new_sound plan text limit threads _ _ bytes content nothing (NewCalls.made session due was (so, behind)) =
-        session_sound plan (rest threads []) session due behind
-    new_sound plan text limit threads _ _ bytes content nothing NewCalls.no_memory = tt
+    new_sound telling plan text limit threads _ _ bytes content nothing (NewCalls.half_made rose) = absurd (steady rose)
+    new_sound telling plan text limit threads _ _ bytes content nothing (NewCalls.made session due was (so, behind)) =
+        session_sound telling plan (rest threads []) session due behind
+    new_sound telling plan text limit threads _ _ bytes content nothing NewCalls.no_memory = tt
 
     -- or on one that was something
-    new_refused : (plan : List Site) (text : List ℕ) (limit : ℕ) (threads : List Todo) (course : Course) (due : Due) (bytes : List ℕ)
-        → members.content old ≡ Some bytes → IsFalse (is_nothing bytes) → NewCalls members plan text limit threads old new course due
+    new_refused : (telling : Telling) (plan : List Site) (text : List ℕ) (limit : ℕ) (threads : List Todo) (course : Course) (due : Due) (bytes : List ℕ)
+        → members.content old ≡ Some bytes → IsFalse (is_nothing bytes) → NewCalls members telling plan text limit threads old new course due
         → WhereDue (λ ending. ending.status ≡ 5) due
-    new_refused plan text limit threads _ _ bytes content something (NewCalls.exists told) = refl
-    new_refused plan text limit threads _ _ bytes content something (NewCalls.half_made rose) = absurd (steady rose)
-    new_refused plan text limit threads _ _ bytes content something (NewCalls.made session due was (so, behind)) =
+    new_refused telling plan text limit threads _ _ bytes content something (NewCalls.exists told) = refl
+    new_refused telling plan text limit threads _ _ bytes content something (NewCalls.half_made rose) = absurd (steady rose)
+    new_refused telling plan text limit threads _ _ bytes content something (NewCalls.made session due was (so, behind)) =
         absurd (nothing_or_not (is_nothing bytes) (was bytes content) something)
-    new_refused plan text limit threads _ _ bytes content something NewCalls.no_memory = tt
+    new_refused telling plan text limit threads _ _ bytes content something NewCalls.no_memory = tt
+
+    -- a soak over a new journal, on a disk that was nothing
+    soak_session_sound : (plan : List Site) (count seed : ℕ) (session : Session) (due : Due)
+        → DueBehind members tellings.Summary plan (rest (soak_threads count seed) []) session old new due → WhereDue (λ ending. ending.status ≡ 0) due
+    soak_session_sound plan count seed session _ (DueBehind.whole none all) = refl
+    soak_session_sound plan count seed session _ (DueBehind.stalled stalls none stalled) =
+        absurd (soak_never_stalls plan session.first session.log count seed stalls stalled)
+    soak_session_sound plan count seed session _ (DueBehind.failed some rose) = absurd (steady rose)
+    soak_session_sound plan count seed session _ (DueBehind.no_memory none) = tt
+
+    soak_new_sound : (plan : List Site) (text : List ℕ) (limit count seed : ℕ) (course : Course) (due : Due) (bytes : List ℕ)
+        → members.content old ≡ Some bytes → IsTrue (is_nothing bytes)
+        → NewCalls members tellings.Summary plan text limit (soak_threads count seed) old new course due → WhereDue (λ ending. ending.status ≡ 0) due
+    soak_new_sound plan text limit count seed _ _ bytes content nothing (NewCalls.exists told) =
+        absurd (nothing_or_not (is_nothing bytes) nothing (told bytes content))
+    soak_new_sound plan text limit count seed _ _ bytes content nothing (NewCalls.half_made rose) = absurd (steady rose)
+    soak_new_sound plan text limit count seed _ _ bytes content nothing (NewCalls.made session due was (so, behind)) =
+        soak_session_sound plan count seed session due behind
+    soak_new_sound plan text limit count seed _ _ bytes content nothing NewCalls.no_memory = tt
+
+  -- ---- a soak whose plan compiles
+
+  module _ (asked : IsSoak words) (tree : Tree) (compiled : IsCompiled soak_plan tree) where
+    soak_journal : HasJournal words
+    soak_journal = (asked.2, ap (option_and_then journal_operand) asked.3)
+
+    -- its start, and what comes of it
+    soak_behind : (course : Course) (due : Due) → CommandCallsFor members (command words) before now old new course due
+        → WhereDue (λ ending. RunCallsBy members tellings.Summary (sites tree) soak_plan event_limit (soak_threads asked.0 asked.1) old new course (Some ending)
+        (started (sites tree))) due
+    soak_behind course due calls =
+        by course due (subst (λ a. CommandCallsFor members a before now old new course due) asked.3 calls)
+      where
+        by : (c : Course) (d : Due) → SoakCalls members asked.0 asked.1 old new c d
+            → WhereDue (λ ending. RunCallsBy members tellings.Summary (sites tree) soak_plan event_limit (soak_threads asked.0 asked.1) old new c (Some ending)
+            (started (sites tree))) d
+        by _ _ (SoakCalls.starts other c None spells calls) = tt
+        by _ _ (SoakCalls.starts other c (Some ending) spells calls) =
+            subst (λ t. RunCallsBy members tellings.Summary (sites t) soak_plan event_limit (soak_threads asked.0 asked.1) old new c (Some ending) (started (sites t)))
+            (one_plan soak_plan other tree spells compiled) calls
+        by _ _ SoakCalls.no_memory = tt
+
+    soak_status : IsSound members words old new (λ bytes. IsTrue (is_nothing bytes)) → (course : Course) (ending : Ending) (found : Option (World × ℕ))
+        → RunCallsBy members tellings.Summary (sites tree) soak_plan event_limit (soak_threads asked.0 asked.1) old new course (Some ending) found
+        → ending.status ≡ (of_start (sites tree) found).status
+    soak_status journal course ending None ends = ending_is course Untouched ending runaway_at_start ends
+    soak_status journal course ending (Some settled) calls =
+        let ((bytes, content, nothing), steady) = journal soak_journal in
+        soak_new_sound steady (sites tree) soak_plan event_limit asked.0 asked.1 course (Some ending) bytes content nothing calls
+
+    soak_runs_away : started (sites tree) ≡ None → (course : Course) (ending : Ending)
+        → RunCallsBy members tellings.Summary (sites tree) soak_plan event_limit (soak_threads asked.0 asked.1) old new course (Some ending) (started (sites tree))
+        → ending.status ≡ 6
+    soak_runs_away none course ending calls =
+        ending_is course Untouched ending runaway_at_start
+        (subst (λ found. RunCallsBy members tellings.Summary (sites tree) soak_plan event_limit (soak_threads asked.0 asked.1) old new course (Some ending) found)
+        none calls)
+
+    soak_exists_status : IsSound members words old new (λ bytes. IsFalse (is_nothing bytes)) → (course : Course) (ending : Ending) (found : Option (World × ℕ))
+        → IsSome found
+        → RunCallsBy members tellings.Summary (sites tree) soak_plan event_limit (soak_threads asked.0 asked.1) old new course (Some ending) found
+        → ending.status ≡ 5
+    soak_exists_status journal course ending None some ends = absurd (none_or_some {A = World × ℕ} None refl some)
+    soak_exists_status journal course ending (Some settled) some calls =
+        let ((bytes, content, something), steady) = journal soak_journal in
+        new_refused steady _ (sites tree) soak_plan event_limit (soak_threads asked.0 asked.1) course (Some ending) bytes content something calls
 
   module _ (files : Files) (told : before.files ≡ Some files) where
     -- ---- a script that the host holds, or that is none
@@ -144,10 +221,13 @@ module _ {D : Type 0} (members : Disk.Ghosts D) (words : List (List ℕ)) (befor
           without_plan Tree plan_file plan_kind _ other (ap (option_and_then plan_operand) is) course ending calls none
       plan_refused_by none (Some (Check other)) course ending is (same, calls) =
           without_plan Tree plan_file plan_kind _ other (ap (option_and_then plan_operand) is) course ending calls none
+      plan_refused_by none (Some (Format other)) course ending is (same, calls) =
+          without_plan (List ℕ × Tree) (with_text plan_file) text_of_kind _ other (ap (option_and_then plan_operand) is) course ending calls none
       plan_refused_by none (Some (Run other script journal limit)) course ending is calls =
           without_plan (List ℕ × Tree) (with_text plan_file) text_of_kind _ other (ap (option_and_then plan_operand) is) course ending calls none
       plan_refused_by none (Some (Resume script journal limit)) course ending is calls = absurd (plan_or_none plan has (ap (option_and_then plan_operand) is))
       plan_refused_by none (Some (Trace journal)) course ending is calls = absurd (plan_or_none plan has (ap (option_and_then plan_operand) is))
+      plan_refused_by none (Some (Soak count seed journal)) course ending is calls = absurd (plan_or_none plan has (ap (option_and_then plan_operand) is))
 
       module _ (tree : Tree) (holds : Holds plan_file files plan tree) (script_readable : ¬ FailsToRead HasScript words before now) where
         abbrev source : List ℕ × Tree
@@ -167,6 +247,8 @@ module _ {D : Type 0} (members : Disk.Ghosts D) (words : List (List ℕ)) (befor
             (behind_plan Tree plan_file plan_kind _ other (ap (option_and_then plan_operand) is) course ending calls tree holds) name asks none
         script_refused_by name asks none (Some (Check other)) course ending is calls =
             absurd (script_or_none name asks (ap (option_and_then script_operand) is))
+        script_refused_by name asks none (Some (Format other)) course ending is calls =
+            absurd (script_or_none name asks (ap (option_and_then script_operand) is))
         script_refused_by name asks none (Some (Run other script journal limit)) course ending is calls =
             without_script (sites tree) script_readable Untouched _ script (ap (option_and_then script_operand) is) course ending
             (behind_plan (List ℕ × Tree) (with_text plan_file) text_of_kind _ other (ap (option_and_then plan_operand) is) course ending calls source source_holds)
@@ -175,12 +257,14 @@ module _ {D : Type 0} (members : Disk.Ghosts D) (words : List (List ℕ)) (befor
             absurd (plan_or_none plan has (ap (option_and_then plan_operand) is))
         script_refused_by name asks none (Some (Trace journal)) course ending is calls =
             absurd (plan_or_none plan has (ap (option_and_then plan_operand) is))
+        script_refused_by name asks none (Some (Soak count seed journal)) course ending is calls =
+            absurd (script_or_none name asks (ap (option_and_then script_operand) is))
 
         module _ (scripts : (name : List ℕ) → HasScript words name → (threads : List Todo) × Holds (script_file (sites tree)) files name threads) where
           -- the calls of a run behind its files
           run_behind : (other script journal : List ℕ) (limit : ℕ) (course : Course) (ending : Ending) → HasPlan words other → (asks : HasScript words script)
               → Calls (Some (Run other script journal limit)) course ending
-              → RunCallsBy members (sites tree) holds.0 limit (scripts script asks).0 old new course (Some ending) (started (sites tree))
+              → RunCallsBy members tellings.Text (sites tree) holds.0 limit (scripts script asks).0 old new course (Some ending) (started (sites tree))
           run_behind other script journal limit course ending asked asks calls =
               behind_script (sites tree) script_readable Untouched _ script asks course ending
               (behind_plan (List ℕ × Tree) (with_text plan_file) text_of_kind _ other asked course ending calls source source_holds)
@@ -189,12 +273,12 @@ module _ {D : Type 0} (members : Disk.Ghosts D) (words : List (List ℕ)) (befor
           module _ (journal : IsSound members words old new (λ bytes. IsTrue (is_nothing bytes))) where
             -- the start of a plan behind a disk that is nothing and doesn't fail
             start_sound : HasJournal words → (text : List ℕ) (limit : ℕ) (threads : List Todo) (course : Course) (ending : Ending) (found : Option (World × ℕ))
-                → RunCallsBy members (sites tree) text limit threads old new course (Some ending) found
+                → RunCallsBy members tellings.Text (sites tree) text limit threads old new course (Some ending) found
                 → OrStalled (of_start (sites tree) found).status ending.status
             start_sound has_journal text limit threads course ending None ends = inl (ending_is course Untouched ending runaway_at_start ends)
             start_sound has_journal text limit threads course ending (Some settled) calls =
                 let ((bytes, content, nothing), steady) = journal has_journal in
-                new_sound steady (sites tree) text limit threads course (Some ending) bytes content nothing calls
+                new_sound steady _ (sites tree) text limit threads course (Some ending) bytes content nothing calls
 
             complete_by : (asked : Option Command) (course : Course) (ending : Ending) → command words ≡ asked → Calls asked course ending
                 → OrStalled (status_behind asked tree) ending.status
@@ -211,12 +295,17 @@ module _ {D : Type 0} (members : Disk.Ghosts D) (words : List (List ℕ)) (befor
             complete_by (Some (Check other)) course ending is (same, calls) =
                 inl (ending_is course Untouched ending (nodes_ending tree)
                 (behind_plan Tree plan_file plan_kind _ other (ap (option_and_then plan_operand) is) course ending calls tree holds))
+            complete_by (Some (Format other)) course ending is (same, calls) =
+                let (laid, spelled, ends) = behind_plan (List ℕ × Tree) (with_text plan_file) text_of_kind (λ source. LaysOut source.0) other
+                (ap (option_and_then plan_operand) is) course ending calls source source_holds in
+                inl (ending_is course Untouched ending (layout_ending laid) ends)
             complete_by (Some (Run other script name limit)) course ending is calls =
                 let asks : HasScript words script = ap (option_and_then script_operand) is in
                 start_sound (name, ap (option_and_then journal_operand) is) holds.0 limit (scripts script asks).0 course ending (started (sites tree))
                 (run_behind other script name limit course ending (ap (option_and_then plan_operand) is) asks calls)
             complete_by (Some (Resume script name limit)) course ending is calls = absurd (plan_or_none plan has (ap (option_and_then plan_operand) is))
             complete_by (Some (Trace name)) course ending is calls = absurd (plan_or_none plan has (ap (option_and_then plan_operand) is))
+            complete_by (Some (Soak count seed name)) course ending is calls = absurd (plan_or_none plan has (ap (option_and_then plan_operand) is))
 
           -- a start that doesn't settle
           runs_away_by : AsksForRun words → started (sites tree) ≡ None → (asked : Option Command) (course : Course) (ending : Ending) → command words ≡ asked
@@ -234,45 +323,50 @@ module _ {D : Type 0} (members : Disk.Ghosts D) (words : List (List ℕ)) (befor
               (scripts script asks).0 (scripts script asks).1)
               ∙ ap (λ found. (of_start (sites tree) found).status) none
           runs_away_by runs none (Some (Check other)) course ending is calls = absurd (let both = sym runs ∙ ap (option_map runs_plan) is in cc)
+          runs_away_by runs none (Some (Format other)) course ending is calls = absurd (let both = sym runs ∙ ap (option_map runs_plan) is in cc)
           runs_away_by runs none (Some (Run other script name limit)) course ending is calls =
               let asks : HasScript words script = ap (option_and_then script_operand) is in
               ending_is course Untouched ending runaway_at_start
-              (subst (λ found. RunCallsBy members (sites tree) holds.0 limit (scripts script asks).0 old new course (Some ending) found) none
+              (subst (λ found. RunCallsBy members tellings.Text (sites tree) holds.0 limit (scripts script asks).0 old new course (Some ending) found) none
               (run_behind other script name limit course ending (ap (option_and_then plan_operand) is) asks calls))
           runs_away_by runs none (Some (Resume script name limit)) course ending is calls = absurd (plan_or_none plan has (ap (option_and_then plan_operand) is))
           runs_away_by runs none (Some (Trace name)) course ending is calls = absurd (plan_or_none plan has (ap (option_and_then plan_operand) is))
+          runs_away_by runs none (Some (Soak count seed name)) course ending is calls = absurd (plan_or_none plan has (ap (option_and_then plan_operand) is))
 
           module _ (has_journal : HasJournal words) (starts : IsSome (started (sites tree)))
               (journal : IsSound members words old new (λ bytes. IsFalse (is_nothing bytes))) where
             -- the start of a plan behind a journal that doesn't fail
             start_refused : (text : List ℕ) (limit : ℕ) (threads : List Todo) (course : Course) (ending : Ending) (found : Option (World × ℕ)) → IsSome found
-                → RunCallsBy members (sites tree) text limit threads old new course (Some ending) found → ending.status ≡ 5
+                → RunCallsBy members tellings.Text (sites tree) text limit threads old new course (Some ending) found → ending.status ≡ 5
             start_refused text limit threads course ending None some ends = absurd (none_or_some {A = World × ℕ} None refl some)
             start_refused text limit threads course ending (Some settled) some calls =
                 let ((bytes, content, something), steady) = journal has_journal in
-                new_refused steady (sites tree) text limit threads course (Some ending) bytes content something calls
+                new_refused steady _ (sites tree) text limit threads course (Some ending) bytes content something calls
 
             exists_by : (asked : Option Command) (course : Course) (ending : Ending) → command words ≡ asked → Calls asked course ending → ending.status ≡ 5
             exists_by None course ending is calls = absurd (plan_or_none plan has (ap (option_and_then plan_operand) is))
             exists_by (Some (TraceStart other)) course ending is calls = absurd (journal_or_none has_journal (ap (option_and_then journal_operand) is))
             exists_by (Some (DryRun other script)) course ending is calls = absurd (journal_or_none has_journal (ap (option_and_then journal_operand) is))
             exists_by (Some (Check other)) course ending is calls = absurd (journal_or_none has_journal (ap (option_and_then journal_operand) is))
+            exists_by (Some (Format other)) course ending is calls = absurd (journal_or_none has_journal (ap (option_and_then journal_operand) is))
             exists_by (Some (Run other script name limit)) course ending is calls =
                 let asks : HasScript words script = ap (option_and_then script_operand) is in
                 start_refused holds.0 limit (scripts script asks).0 course ending (started (sites tree)) starts
                 (run_behind other script name limit course ending (ap (option_and_then plan_operand) is) asks calls)
             exists_by (Some (Resume script name limit)) course ending is calls = absurd (plan_or_none plan has (ap (option_and_then plan_operand) is))
             exists_by (Some (Trace name)) course ending is calls = absurd (plan_or_none plan has (ap (option_and_then plan_operand) is))
+            exists_by (Some (Soak count seed name)) course ending is calls = absurd (plan_or_none plan has (ap (option_and_then plan_operand) is))
 
   -- ---- a journal
 
-  module _ (no_plan : option_and_then plan_operand (command words) ≡ None) (has_journal : HasJournal words) (bytes : List ℕ)
+  module _ (reopens : TakesUpJournal words) (has_journal : HasJournal words) (bytes : List ℕ)
       (content : members.content old ≡ Some bytes) (steady : ¬ Rose (members.faults old) (members.faults new)) where
     -- that is taken up
     module _ (text : List ℕ) (first : List Entry) (tree : Tree) (stands : Stands bytes text first) (compiled : IsCompiled text tree)
         (runs : IsSome (run (sites tree) (events_of first))) where
       taken_up : (Next : List ℕ → List Entry → Tree → Course → Due → Type 0) (course : Course) (due : Due) → AfterJournal members old new Next course due
           → WhereDue (λ ending. Next text first tree course (Some ending)) due
+      taken_up Next _ _ (AfterJournal.not_read same) = tt
       taken_up Next _ _ AfterJournal.no_memory = tt
       taken_up Next _ _ (AfterJournal.disk_fails rose) = absurd (steady rose)
       taken_up Next _ _ (AfterJournal.no_journal_there ending none) =
@@ -290,19 +384,21 @@ module _ {D : Type 0} (members : Disk.Ghosts D) (words : List (List ℕ)) (befor
           → ¬ FailsToRead HasScript words before now → (asked : Option Command) (course : Course) (ending : Ending) → command words ≡ asked
           → Calls asked course ending → OrStalled 0 ending.status
       taken_up_by scripts readable None course ending is calls = absurd (journal_or_none has_journal (ap (option_and_then journal_operand) is))
-      taken_up_by scripts readable (Some (TraceStart plan)) course ending is calls = absurd (plan_or_none plan (ap (option_and_then plan_operand) is) no_plan)
-      taken_up_by scripts readable (Some (DryRun plan script)) course ending is calls = absurd (plan_or_none plan (ap (option_and_then plan_operand) is) no_plan)
-      taken_up_by scripts readable (Some (Check plan)) course ending is calls = absurd (plan_or_none plan (ap (option_and_then plan_operand) is) no_plan)
+      taken_up_by scripts readable (Some (TraceStart plan)) course ending is calls = absurd (reopens_or_not reopens (ap (option_map takes_up) is))
+      taken_up_by scripts readable (Some (DryRun plan script)) course ending is calls = absurd (reopens_or_not reopens (ap (option_map takes_up) is))
+      taken_up_by scripts readable (Some (Check plan)) course ending is calls = absurd (reopens_or_not reopens (ap (option_map takes_up) is))
+      taken_up_by scripts readable (Some (Format plan)) course ending is calls = absurd (reopens_or_not reopens (ap (option_map takes_up) is))
       taken_up_by scripts readable (Some (Run plan script name limit)) course ending is calls =
-          absurd (plan_or_none plan (ap (option_and_then plan_operand) is) no_plan)
+          absurd (reopens_or_not reopens (ap (option_map takes_up) is))
       taken_up_by scripts readable (Some (Resume script name limit)) course ending is calls =
           let asks : HasScript words script = ap (option_and_then script_operand) is in
           let (files, told, (threads, holds)) = scripts script asks in
           let (session, gone_on, (so, behind)) =
           behind_script files told (sites tree) readable (TakenUp text first) _ script asks course ending (taken_up _ course (Some ending) calls) threads holds in
-          session_sound steady (sites tree) (rest threads first) session (Some ending) behind
+          session_sound steady _ (sites tree) (rest threads first) session (Some ending) behind
       taken_up_by scripts readable (Some (Trace name)) course ending is calls =
           inl (ending_is course (TakenUp text first) ending (session_ending (sites tree) first []) (taken_up _ course (Some ending) calls))
+      taken_up_by scripts readable (Some (Soak count seed name)) course ending is calls = absurd (reopens_or_not reopens (ap (option_map takes_up) is))
 
       -- behind which the script is none
       script_refused_behind : (name : List ℕ) (files : Files) → HasScript words name → before.files ≡ Some files
@@ -310,23 +406,28 @@ module _ {D : Type 0} (members : Disk.Ghosts D) (words : List (List ℕ)) (befor
           (ending : Ending) → command words ≡ asked → Calls asked course ending → ending.status ≡ 4
       script_refused_behind name files asks told none readable None course ending is calls = absurd (script_or_none name asks (ap (option_and_then script_operand) is))
       script_refused_behind name files asks told none readable (Some (TraceStart plan)) course ending is calls =
-          absurd (plan_or_none plan (ap (option_and_then plan_operand) is) no_plan)
+          absurd (reopens_or_not reopens (ap (option_map takes_up) is))
       script_refused_behind name files asks told none readable (Some (DryRun plan script)) course ending is calls =
-          absurd (plan_or_none plan (ap (option_and_then plan_operand) is) no_plan)
+          absurd (reopens_or_not reopens (ap (option_map takes_up) is))
       script_refused_behind name files asks told none readable (Some (Check plan)) course ending is calls =
-          absurd (plan_or_none plan (ap (option_and_then plan_operand) is) no_plan)
+          absurd (reopens_or_not reopens (ap (option_map takes_up) is))
+      script_refused_behind name files asks told none readable (Some (Format plan)) course ending is calls =
+          absurd (reopens_or_not reopens (ap (option_map takes_up) is))
       script_refused_behind name files asks told none readable (Some (Run plan script journal limit)) course ending is calls =
-          absurd (plan_or_none plan (ap (option_and_then plan_operand) is) no_plan)
+          absurd (reopens_or_not reopens (ap (option_map takes_up) is))
       script_refused_behind name files asks told none readable (Some (Resume script journal limit)) course ending is calls =
           without_script files told (sites tree) readable (TakenUp text first) _ script (ap (option_and_then script_operand) is) course ending
           (taken_up _ course (Some ending) calls) name asks none
       script_refused_behind name files asks told none readable (Some (Trace journal)) course ending is calls =
+          absurd (script_or_none name asks (ap (option_and_then script_operand) is))
+      script_refused_behind name files asks told none readable (Some (Soak count seed journal)) course ending is calls =
           absurd (script_or_none name asks (ap (option_and_then script_operand) is))
 
     -- that is refused
     module _ (why : Ending) (refuses : JournalRefuses members old why) where
       never_taken_up : (Next : List ℕ → List Entry → Tree → Course → Due → Type 0) (course : Course) (due : Due) → AfterJournal members old new Next course due
           → WhereDue (λ ending. ending.status ≡ why.status) due
+      never_taken_up Next _ _ (AfterJournal.not_read same) = tt
       never_taken_up Next _ _ AfterJournal.no_memory = tt
       never_taken_up Next _ _ (AfterJournal.disk_fails rose) = absurd (steady rose)
       never_taken_up Next _ _ (AfterJournal.no_journal_there ending none) = one_status members old bytes why ending content refuses (inl none)
@@ -338,35 +439,37 @@ module _ {D : Type 0} (members : Disk.Ghosts D) (words : List (List ℕ)) (befor
       journal_refused_by : (asked : Option Command) (course : Course) (ending : Ending) → command words ≡ asked → Calls asked course ending
           → ending.status ≡ why.status
       journal_refused_by None course ending is calls = absurd (journal_or_none has_journal (ap (option_and_then journal_operand) is))
-      journal_refused_by (Some (TraceStart plan)) course ending is calls = absurd (plan_or_none plan (ap (option_and_then plan_operand) is) no_plan)
-      journal_refused_by (Some (DryRun plan script)) course ending is calls = absurd (plan_or_none plan (ap (option_and_then plan_operand) is) no_plan)
-      journal_refused_by (Some (Check plan)) course ending is calls = absurd (plan_or_none plan (ap (option_and_then plan_operand) is) no_plan)
-      journal_refused_by (Some (Run plan script name limit)) course ending is calls = absurd (plan_or_none plan (ap (option_and_then plan_operand) is) no_plan)
+      journal_refused_by (Some (TraceStart plan)) course ending is calls = absurd (reopens_or_not reopens (ap (option_map takes_up) is))
+      journal_refused_by (Some (DryRun plan script)) course ending is calls = absurd (reopens_or_not reopens (ap (option_map takes_up) is))
+      journal_refused_by (Some (Check plan)) course ending is calls = absurd (reopens_or_not reopens (ap (option_map takes_up) is))
+      journal_refused_by (Some (Format plan)) course ending is calls = absurd (reopens_or_not reopens (ap (option_map takes_up) is))
+      journal_refused_by (Some (Run plan script name limit)) course ending is calls = absurd (reopens_or_not reopens (ap (option_map takes_up) is))
       journal_refused_by (Some (Resume script name limit)) course ending is calls = never_taken_up _ course (Some ending) calls
       journal_refused_by (Some (Trace name)) course ending is calls = never_taken_up _ course (Some ending) calls
+      journal_refused_by (Some (Soak count seed name)) course ending is calls = absurd (reopens_or_not reopens (ap (option_map takes_up) is))
 
   module _ (status : ℕ) (headline : Headline members words before now old new status) where
-    journal_complete : (text : List ℕ) (first : List Entry) (tree : Tree) → option_and_then plan_operand (command words) ≡ None → HasJournal words
+    journal_complete : (text : List ℕ) (first : List Entry) (tree : Tree) → TakesUpJournal words → HasJournal words
         → IsCompiled text tree → IsSome (run (sites tree) (events_of first))
         → ((name : List ℕ) → HasScript words name
         → (files : Files) × (before.files ≡ Some files) × ((threads : List Todo) × Holds (script_file (sites tree)) files name threads))
         → IsSound members words old new (λ bytes. Stands bytes text first) → ¬ FailsToRead HasScript words before now → ¬ Faulted before now
         → (status ≡ 10) ⊎ OrStalled 0 status
-    journal_complete text first tree no_plan has_journal compiled runs scripts journal readable sound =
+    journal_complete text first tree reopens has_journal compiled runs scripts journal readable sound =
         let ((bytes, content, stands), steady) = journal has_journal in
         sound_status members words before now old new (OrStalled 0) status headline sound
-        (λ course ending calls. taken_up_by no_plan has_journal bytes content steady text first tree stands compiled runs scripts readable
+        (λ course ending calls. taken_up_by reopens has_journal bytes content steady text first tree stands compiled runs scripts readable
         (command words) course ending refl calls)
 
-    script_behind : (name : List ℕ) (files : Files) (text : List ℕ) (first : List Entry) (tree : Tree) → option_and_then plan_operand (command words) ≡ None
+    script_behind : (name : List ℕ) (files : Files) (text : List ℕ) (first : List Entry) (tree : Tree) → TakesUpJournal words
         → HasJournal words → HasScript words name → before.files ≡ Some files → IsCompiled text tree
         → IsSome (run (sites tree) (events_of first)) → HoldsNone (script_file (sites tree)) files name
         → IsSound members words old new (λ bytes. Stands bytes text first) → ¬ FailsToRead HasScript words before now → ¬ Faulted before now
         → (status ≡ 10) ⊎ (status ≡ 4)
-    script_behind name files text first tree no_plan has_journal asks told compiled runs none journal readable sound =
+    script_behind name files text first tree reopens has_journal asks told compiled runs none journal readable sound =
         let ((bytes, content, stands), steady) = journal has_journal in
         sound_status members words before now old new (λ s. s ≡ 4) status headline sound
-        (λ course ending calls. script_refused_behind no_plan has_journal bytes content steady text first tree stands compiled runs name files asks told none
+        (λ course ending calls. script_refused_behind reopens has_journal bytes content steady text first tree stands compiled runs name files asks told none
         readable (command words) course ending refl calls)
 
     pub complete : IsComplete members words before now old new status
@@ -374,6 +477,10 @@ module _ {D : Type 0} (members : Disk.Ghosts D) (words : List (List ℕ)) (befor
       plan = λ plan files tree has told holds scripts journal readable script_readable sound.
           sound_status members words before now old new (OrStalled (status_behind (command words) tree)) status headline sound
           (λ course ending calls. complete_by files told plan has readable tree holds script_readable scripts journal (command words) course ending refl calls);
+      soak = λ tree asked compiled journal sound.
+          sound_status members words before now old new (λ s. s ≡ (start_ending tree).status) status headline sound
+          (λ course ending calls. soak_status asked tree compiled journal course ending (started (sites tree))
+          (soak_behind asked tree compiled course (Some ending) calls));
       journal = journal_complete;
     }
 
@@ -388,11 +495,18 @@ module _ {D : Type 0} (members : Disk.Ghosts D) (words : List (List ℕ)) (befor
       runaway = λ plan files tree has runs told holds scripts none readable script_readable sound.
           sound_status members words before now old new (λ s. s ≡ 6) status headline sound
           (λ course ending calls. runs_away_by files told plan has readable tree holds script_readable scripts runs none (command words) course ending refl calls);
+      soak_runaway = λ tree asked compiled none sound.
+          sound_status members words before now old new (λ s. s ≡ 6) status headline sound
+          (λ course ending calls. soak_runs_away asked tree compiled none course ending (soak_behind asked tree compiled course (Some ending) calls));
       exists = λ plan files tree has has_journal told holds scripts starts journal readable script_readable sound.
           sound_status members words before now old new (λ s. s ≡ 5) status headline sound
           (λ course ending calls. exists_by files told plan has readable tree holds script_readable scripts has_journal starts journal (command words) course ending refl calls);
-      journal = λ why no_plan has_journal refuses told steady sound.
+      soak_exists = λ tree asked compiled starts journal sound.
+          sound_status members words before now old new (λ s. s ≡ 5) status headline sound
+          (λ course ending calls. soak_exists_status asked tree compiled journal course ending (started (sites tree)) starts
+          (soak_behind asked tree compiled course (Some ending) calls));
+      journal = λ why reopens has_journal refuses told steady sound.
           sound_status members words before now old new (λ s. s ≡ why.status) status headline sound
-          (λ course ending calls. journal_refused_by no_plan has_journal told.0 told.1 steady why refuses (command words) course ending refl calls);
+          (λ course ending calls. journal_refused_by reopens has_journal told.0 told.1 steady why refuses (command words) course ending refl calls);
       script_behind_journal = script_behind;
     }

@@ -9,7 +9,7 @@ use Rattle.px_output.specs.Printing.{Prints}
 use Rattle.px_output.specs.View.{View, Faulted, EmitsPart, OnlyPrints, KeepsFiles}
 use Rattle.px_output.proofs.Printed.{emits_nothing, emitted_whole, emitted_part, piece_printed}
 use Rattle.px_script.specs.declared.todo.Todo.{Todo}
-use Rattle.px_words.specs.Words.{Command, TraceStart, DryRun, Check, Run, Resume, Trace, command}
+use Rattle.px_words.specs.Words.{Command, TraceStart, DryRun, Check, Format, Run, Resume, Trace, Soak, command}
 use Rattle.px_run.specs.declared.ending.End.{End}
 use Rattle.px_run.specs.declared.ending.Refusal.{Refusal}
 use Rattle.px_run.specs.declared.ending.Stop.{Stop}
@@ -38,6 +38,7 @@ module _ (before mid now : View) (only : OnlyPrints mid now) where
     after_journal_later : (Next More : List ℕ → List Entry → Tree → Course → Due → Type 0) (course : Course) (due : Due)
         → ((text : List ℕ) (first : List Entry) (tree : Tree) (c : Course) (d : Due) → Next text first tree c d → More text first tree c d)
         → AfterJournal members old new Next course due → AfterJournal members old new More course due
+    after_journal_later Next More _ _ widen (AfterJournal.not_read same) = AfterJournal.not_read same
     after_journal_later Next More _ _ widen AfterJournal.no_memory = AfterJournal.no_memory
     after_journal_later Next More _ _ widen (AfterJournal.disk_fails rose) = AfterJournal.disk_fails rose
     after_journal_later Next More _ _ widen (AfterJournal.no_journal_there ending none) = AfterJournal.no_journal_there ending none
@@ -58,6 +59,8 @@ module _ (before mid now : View) (only : OnlyPrints mid now) where
     )
     calls_later (Some (Check plan)) course due (same, calls) =
         (same, later Tree plan_file plan Untouched _ _ course due (λ tree ends. ends) calls)
+    calls_later (Some (Format plan)) course due (same, calls) =
+        (same, later (List ℕ × Tree) (with_text plan_file) plan Untouched _ _ course due (λ source laid. laid) calls)
     calls_later (Some (Run plan script journal limit)) course due calls =
         later (List ℕ × Tree) (with_text plan_file) plan Untouched _ _ course due
         (λ source next. later (List Todo) (script_file (sites source.1)) script Untouched _ _ course due (λ threads ends. ends) next) calls
@@ -65,6 +68,7 @@ module _ (before mid now : View) (only : OnlyPrints mid now) where
         after_journal_later _ _ course due
         (λ text first tree c d next. later (List Todo) (script_file (sites tree)) script (TakenUp text first) _ _ c d (λ threads ends. ends) next) calls
     calls_later (Some (Trace journal)) course due calls = calls
+    calls_later (Some (Soak count seed journal)) course due calls = calls
 
 faulted_after : (before mid now : View) → KeepsFiles before mid → Faulted mid now → Faulted before now
 faulted_after before mid now keeps (inl h) = inl (omega (arith, keeps.write_faults))

@@ -25,10 +25,12 @@ use Rattle.px_session.specs.Posting.{Posts, WasDue}
 use Rattle.px_session.specs.Session.{Session}
 use Rattle.px_session.specs.declared.posting.Posted.{Posted}
 use Rattle.px_run.specs.Course.{Due}
-use Rattle.px_run.specs.Ending.{Ending, session_ending, stalled_ending}
+use Rattle.px_run.specs.Ending.{Ending, stalled_ending}
 use Rattle.px_run.specs.Finishing.{Finishes}
 use Rattle.px_run.specs.Journaled.{DueBehind}
 use Rattle.px_run.specs.Stops.{Performs, number_of, status_of, stop_of}
+use Rattle.px_run.specs.declared.finishing.Telling.{Telling}
+use Rattle.px_run.specs.Telling.{told_ending}
 use Rattle.px_run.specs.declared.ending.End.{End}
 use Rattle.px_run.specs.declared.ending.Refusal.TheVariants as refusals
 use Rattle.px_run.specs.declared.ending.Stop.{Stop}
@@ -55,12 +57,12 @@ prints_session Text mid new shown history first shown_log log r entries_is log_i
     (prints first (entries_is ∙ accepts ∙ ap (λ (l : Log). first ++ accepted l) (sym log_is)))
 
 -- what is due behind a session, since a disk with no more faults
-pub due_behind_since : {D : Type 0} (members : Disk.Ghosts D) (plan : List Site) (left : List Todo) (session : Session) (old opened new : D) (due : Due)
-    → members.faults old ≤ members.faults opened → DueBehind members plan left session opened new due → DueBehind members plan left session old new due
-due_behind_since members plan left session old opened new _ later (DueBehind.whole none all) = DueBehind.whole none all
-due_behind_since members plan left session old opened new _ later (DueBehind.stalled stalls none stalled) = DueBehind.stalled stalls none stalled
-due_behind_since members plan left session old opened new _ later (DueBehind.failed some rose) = DueBehind.failed some (omega (arith, later, rose))
-due_behind_since members plan left session old opened new _ later (DueBehind.no_memory none) = DueBehind.no_memory none
+pub due_behind_since : {D : Type 0} (members : Disk.Ghosts D) (telling : Telling) (plan : List Site) (left : List Todo) (session : Session) (old opened new : D) (due : Due)
+    → members.faults old ≤ members.faults opened → DueBehind members telling plan left session opened new due → DueBehind members telling plan left session old new due
+due_behind_since members telling plan left session old opened new _ later (DueBehind.whole none all) = DueBehind.whole none all
+due_behind_since members telling plan left session old opened new _ later (DueBehind.stalled stalls none stalled) = DueBehind.stalled stalls none stalled
+due_behind_since members telling plan left session old opened new _ later (DueBehind.failed some rose) = DueBehind.failed some (omega (arith, later, rose))
+due_behind_since members telling plan left session old opened new _ later (DueBehind.no_memory none) = DueBehind.no_memory none
 
 -- a text that breaks off is no refusal
 pub breaks_otherwise : (fault : PrintFault) → ¬ IsErrOf {T = End} (Err (stop_of fault)) (stops.Refused refusals.DiskFault)
@@ -83,13 +85,13 @@ module _ (plan : List Site) (first : List Entry) (log : Log) where
   next_of threads failed crew.Disk (entry, is, follows, next) = rw is next
   next_of threads failed crew.NoMemory (none, follows) = rw none tt
 
-module _ {S D : Type 0} (runs : Stepper.Ghosts S) (members : Disk.Ghosts D) (plan : List Site) (text : List ℕ) (exec : Executive S D) (threads : List Todo)
+module _ {S D : Type 0} (runs : Stepper.Ghosts S) (members : Disk.Ghosts D) (telling : Telling) (plan : List Site) (text : List ℕ) (exec : Executive S D) (threads : List Todo)
     (posted : Posted S D) (p : Posts members runs exec threads posted) (is : IsTextOf members exec text) (nodes : plan_of runs exec ≡ plan) (before now : View) where
   abbrev session : Session
   session = record { text = text; first = exec.opening.history; log = posted.log.items; failed = p.failed }
 
   abbrev Calls : Due → Type 0
-  Calls = DueBehind members (plan_of runs exec) threads session exec.opening.journal.disk posted.disk
+  Calls = DueBehind members telling (plan_of runs exec) threads session exec.opening.journal.disk posted.disk
 
   abbrev EndsBy : CrewEnd → Type 0
   EndsBy = Ends (plan_of runs exec) exec.opening.history posted.log.items threads p.failed
@@ -104,7 +106,7 @@ module _ {S D : Type 0} (runs : Stepper.Ghosts S) (members : Disk.Ghosts D) (pla
       goes_told members p.goes (λ some. absurd (let no = subst IsSome none some in cc)) (λ same. absurd (other same))
 
   finished : (result : Result End Stop) → Goes members (IsErrOf result (stops.Refused refusals.DiskFault)) exec.opening.journal.disk posted.disk
-      → Performs before now Calls result → Finishes members runs text exec threads before now (record { result = result; disk = posted.disk })
+      → Performs before now Calls result → Finishes members runs telling text exec threads before now (record { result = result; disk = posted.disk })
   finished result goes performs = record {
     session = session;
     is_session = record {
@@ -120,10 +122,10 @@ module _ {S D : Type 0} (runs : Stepper.Ghosts S) (members : Disk.Ghosts D) (pla
     goes = goes;
   }
 
-  pub due_whole : posted.end ≡ crew.Done → IsDue (session_ending plan exec.opening.history posted.log.items)
+  pub due_whole : posted.end ≡ crew.Done → IsDue (told_ending telling plan exec.opening.history posted.log.items)
   due_whole done =
       let ends = subst EndsBy done p.ends in
-      (ends.0, subst (λ (sites : List Site). Calls (Some (session_ending sites exec.opening.history posted.log.items))) nodes (DueBehind.whole ends.0 ends.1))
+      (ends.0, subst (λ (sites : List Site). Calls (Some (told_ending telling sites exec.opening.history posted.log.items))) nodes (DueBehind.whole ends.0 ends.1))
 
   pub due_stalled : (stalls : List Stall) → (none : p.failed ≡ None)
       → AreStalled (plan_of runs exec) exec.opening.history posted.log.items threads stalls
@@ -133,25 +135,25 @@ module _ {S D : Type 0} (runs : Stepper.Ghosts S) (members : Disk.Ghosts D) (pla
 
   pub finished_printed : (end : End) (ending : Ending) → IsDue ending → ending.status ≡ number_of (status_of end)
       → Prints {T = Unit} before [] now [] ending.text (Ok tt)
-      → Finishes members runs text exec threads before now (record { result = Ok end; disk = posted.disk })
+      → Finishes members runs telling text exec threads before now (record { result = Ok end; disk = posted.disk })
   finished_printed end ending due status prints =
       finished (Ok end) (goes_right (Ok end) due.0 (λ same. absurd (cc))) (printed before now Calls end ending due.1 status prints)
 
   pub finished_broken_off : (ending : Ending) (fault : PrintFault) → IsDue ending → Prints {T = Unit} before [] now [] ending.text (Err fault)
-      → Finishes members runs text exec threads before now (record { result = Err (stop_of fault); disk = posted.disk })
+      → Finishes members runs telling text exec threads before now (record { result = Err (stop_of fault); disk = posted.disk })
   finished_broken_off ending fault due prints =
       finished (Err (stop_of fault)) (goes_right (Err (stop_of fault)) due.0 (breaks_otherwise fault))
       (broken_off before now Calls ending fault (Err (stop_of fault)) due.1 refl prints)
 
   pub finished_failed : posted.end ≡ crew.Disk → now.emitted ≡ before.emitted
-      → Finishes members runs text exec threads before now (record { result = Err (stops.Refused refusals.DiskFault); disk = posted.disk })
+      → Finishes members runs telling text exec threads before now (record { result = Err (stops.Refused refusals.DiskFault); disk = posted.disk })
   finished_failed fails same =
       let (entry, is, follows, next) = subst EndsBy fails p.ends in
       let some : IsSome p.failed = rw is refl in
       finished (Err (stops.Refused refusals.DiskFault)) (goes_told members p.goes (λ so. refl) (λ so. some)) (DueBehind.failed some (p.goes.faults.rose some), same)
 
   pub finished_early : posted.end ≡ crew.NoMemory → now.emitted ≡ before.emitted
-      → Finishes members runs text exec threads before now (record { result = Err stops.NoMemory; disk = posted.disk })
+      → Finishes members runs telling text exec threads before now (record { result = Err stops.NoMemory; disk = posted.disk })
   finished_early runs_out same =
       let ends = subst EndsBy runs_out p.ends in
       finished (Err stops.NoMemory) (goes_right (Err stops.NoMemory) ends.0 (λ same. absurd (cc))) (inr (DueBehind.no_memory ends.0, same))

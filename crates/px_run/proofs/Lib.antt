@@ -13,4 +13,5 @@ pub mod Resumed
 pub mod Returning
 pub mod Running
 pub mod Sending
+pub mod Soaking
 pub mod Starting

@@ -15,6 +15,7 @@ use Rattle.px_script.proofs.Sounds.{sound_front, sound_follows, sound_next}
 use Rattle.px_script.specs.Fit.{IsFitScript}
 use Rattle.px_script.specs.Follows.{IsNextPost}
 use Rattle.px_script.specs.Remainder.{rest}
+use Rattle.px_script.specs.Soak.{soak_threads}
 use Rattle.px_script.specs.Sound.{IsSoundFor}
 use Rattle.px_script.specs.declared.script.Script.{Script}
 use Rattle.px_script.specs.declared.todo.Todo.{Todo}
@@ -24,7 +25,7 @@ use Rattle.px_sem.specs.World.{World}
 use Rattle.px_session.proofs.Closed.{ReadsAreLeft}
 use Rattle.px_session.specs.Creating.{LeavesNew}
 use Rattle.px_session.specs.Session.{Session, unsure, longest_of, IsFront, LeavesFronts}
-use Rattle.px_words.specs.Words.{Command, TraceStart, DryRun, Check, Run, Resume, Trace, script_operand, command}
+use Rattle.px_words.specs.Words.{Command, TraceStart, DryRun, Check, Format, Run, Resume, Trace, Soak, script_operand, command}
 use Rattle.px_run.proofs.Excluding.{stands_something}
 use Rattle.px_run.proofs.Running.{left_at_end}
 use Rattle.px_run.specs.Course.{Course, Untouched, TakenUp, Due, EndsIn, AfterFile, Leaves}
@@ -33,6 +34,8 @@ use Rattle.px_run.specs.Reading.{FileKind, Reads, with_text}
 use Rattle.px_run.specs.Headline.{CommandCallsFor, Headline}
 use Rattle.px_run.specs.Journaled.{IsSession, StandsFor, NewCalls, RunCalls, RunCallsBy, AfterJournal, ResumeCalls, TraceCalls}
 use Rattle.px_run.specs.Kinds.{plan_file, script_file}
+use Rattle.px_run.specs.Soak.{SoakCalls}
+use Rattle.px_run.specs.declared.finishing.Telling.{Telling}
 use Rattle.px_run.specs.OverStops.{IsSoundImage, ReadsOnly, AreSoundNow, AreSoundSince, AfterCalls}
 
 -- ---- the histories of a session
@@ -116,20 +119,26 @@ module _ {D : Type 0} (members : Disk.Ghosts D) (read_left : ReadsAreLeft member
   ended_sound : (so_far : Course) (ending : Ending) (course : Course) (due : Due) → LeavesSound so_far → EndsIn so_far ending course due → LeavesSound course
   ended_sound so_far ending course due here (same, is) leaves = here (subst (λ (c : Course). Leaves members old new c) same leaves)
 
-  new_sound : (plan : List Site) (text : List ℕ) (limit : ℕ) (threads : List Todo) (course : Course) (due : Due) → threads ≡ script.threads
-      → NewCalls members plan text limit threads old new course due → LeavesSound course
-  new_sound plan text limit threads _ _ same (NewCalls.exists something) = untouched_sound
-  new_sound plan text limit threads _ _ same (NewCalls.half_made rose) = λ leaves. made_new text (leaves.0)
-  new_sound plan text limit threads _ _ same (NewCalls.made session due nothing (so, behind)) =
+  new_sound : (telling : Telling) (plan : List Site) (text : List ℕ) (limit : ℕ) (threads : List Todo) (course : Course) (due : Due) → threads ≡ script.threads
+      → NewCalls members telling plan text limit threads old new course due → LeavesSound course
+  new_sound telling plan text limit threads _ _ same (NewCalls.exists something) = untouched_sound
+  new_sound telling plan text limit threads _ _ same (NewCalls.half_made rose) = λ leaves. made_new text (leaves.0)
+  new_sound telling plan text limit threads _ _ same (NewCalls.made session due nothing (so, behind)) =
       λ leaves. fronts (λ image. IsTrue (is_nothing image)) session (λ image is. is)
       (longest_sound script fit plan text [] limit session (sound_empty script.threads) (subst (λ (t : List Todo). IsSession plan text [] limit (rest t []) session) same so))
       (leaves.1)
-  new_sound plan text limit threads _ _ same NewCalls.no_memory = untouched_sound
+  new_sound telling plan text limit threads _ _ same NewCalls.no_memory = untouched_sound
 
-  run_sound : (plan : List Site) (text : List ℕ) (limit : ℕ) (threads : List Todo) (course : Course) (due : Due) (found : Option (World × ℕ))
-      → threads ≡ script.threads → RunCallsBy members plan text limit threads old new course due found → LeavesSound course
-  run_sound plan text limit threads course due None same ends = ended_sound Untouched _ course due untouched_sound ends
-  run_sound plan text limit threads course due (Some settled) same calls = new_sound plan text limit threads course due same calls
+  run_sound : (telling : Telling) (plan : List Site) (text : List ℕ) (limit : ℕ) (threads : List Todo) (course : Course) (due : Due) (found : Option (World × ℕ))
+      → threads ≡ script.threads → RunCallsBy members telling plan text limit threads old new course due found → LeavesSound course
+  run_sound telling plan text limit threads course due None same ends = ended_sound Untouched _ course due untouched_sound ends
+  run_sound telling plan text limit threads course due (Some settled) same calls = new_sound telling plan text limit threads course due same calls
+
+  soak_sound : (count seed : ℕ) (course : Course) (due : Due) → soak_threads count seed ≡ script.threads → SoakCalls members count seed old new course due
+      → LeavesSound course
+  soak_sound count seed _ _ same (SoakCalls.starts tree course due compiled calls) =
+      run_sound _ (sites tree) _ _ (soak_threads count seed) course due (started (sites tree)) same calls
+  soak_sound count seed _ _ same SoakCalls.no_memory = untouched_sound
 
   goes_on_sound : (plan : List Site) (text : List ℕ) (first : List Entry) (limit : ℕ) (threads : List Todo) (session : Session)
       → threads ≡ script.threads → StandsFor members old text first → IsSession plan text first limit (rest threads first) session
@@ -142,6 +151,7 @@ module _ {D : Type 0} (members : Disk.Ghosts D) (read_left : ReadsAreLeft member
   after_journal : (Next : List ℕ → List Entry → Tree → Course → Due → Type 0) (course : Course) (due : Due)
       → ((text : List ℕ) (first : List Entry) (tree : Tree) → StandsFor members old text first → Next text first tree course due → LeavesSound course)
       → AfterJournal members old new Next course due → LeavesSound course
+  after_journal Next _ _ behind (AfterJournal.not_read same) = untouched_sound
   after_journal Next _ _ behind AfterJournal.no_memory = λ leaves. unwritten (leaves.0).unwritten
   after_journal Next _ _ behind (AfterJournal.disk_fails rose) = unwritten
   after_journal Next _ _ behind (AfterJournal.no_journal_there ending none) = λ leaves. unwritten (leaves.0).unwritten
@@ -167,7 +177,7 @@ module _ {D : Type 0} (members : Disk.Ghosts D) (read_left : ReadsAreLeft member
     run_is_sound plan name limit course due asks calls =
         after_file (List ℕ × Tree) (with_text plan_file) plan Untouched _ course due untouched_sound
         (λ source reads next. after_file (List Todo) (script_file (sites source.1)) name Untouched _ course due untouched_sound
-        (λ threads read by. run_sound (sites source.1) source.0 limit threads course due (started (sites source.1)) (only name asks (sites source.1) threads read) by)
+        (λ threads read by. run_sound _ (sites source.1) source.0 limit threads course due (started (sites source.1)) (only.0 name asks (sites source.1) threads read) by)
         next) calls
 
     resume_is_sound : (name : List ℕ) (limit : ℕ) (course : Course) (due : Due) → option_and_then script_operand (command words) ≡ Some name
@@ -176,7 +186,7 @@ module _ {D : Type 0} (members : Disk.Ghosts D) (read_left : ReadsAreLeft member
         after_journal _ course due
         (λ text first tree stands next. after_file (List Todo) (script_file (sites tree)) name (TakenUp text first) _ course due (taken_up_sound text first)
         (λ threads read (session, is, (so, behind)) leaves.
-        goes_on_sound (sites tree) text first limit threads session (only name asks (sites tree) threads read) stands so
+        goes_on_sound (sites tree) text first limit threads session (only.0 name asks (sites tree) threads read) stands so
         ((subst (λ (c : Course). Leaves members old new c) is leaves).1)) next) calls
 
     calls_sound : (asked : Option Command) (course : Course) (due : Due) → command words ≡ asked → CommandCallsFor members asked before now old new course due
@@ -185,9 +195,11 @@ module _ {D : Type 0} (members : Disk.Ghosts D) (read_left : ReadsAreLeft member
     calls_sound (Some (TraceStart plan)) course due asks (same, calls) = λ leaves. still same
     calls_sound (Some (DryRun plan name)) course due asks (same, calls) = λ leaves. still same
     calls_sound (Some (Check plan)) course due asks (same, calls) = λ leaves. still same
+    calls_sound (Some (Format plan)) course due asks (same, calls) = λ leaves. still same
     calls_sound (Some (Run plan name journal limit)) course due asks calls = run_is_sound plan name limit course due (ap (option_and_then script_operand) asks) calls
     calls_sound (Some (Resume name journal limit)) course due asks calls = resume_is_sound name limit course due (ap (option_and_then script_operand) asks) calls
     calls_sound (Some (Trace journal)) course due asks calls = trace_sound course due calls
+    calls_sound (Some (Soak count seed journal)) course due asks calls = soak_sound count seed course due (only.1 count seed journal asks) calls
 
     pub once : (status : ℕ) → Headline members words before now old new status → AreSound
     once _ (Headline.delivered course ending status calls leaves delivers) = calls_sound (command words) course (Some ending) refl calls (leaves tells)

@@ -23,6 +23,7 @@ use Rattle.px_run.specs.Stops.{StopsReading, stop_of_start, ending_of}
 use Rattle.px_run.specs.declared.ending.Stop.{Stop}
 use Rattle.px_run.specs.declared.ending.Stop.TheVariants as stops
 use Rattle.px_run.specs.declared.finishing.Carried.{Carried}
+use Rattle.px_run.specs.declared.finishing.Telling.TheVariants as tellings
 use Rattle.px_run.specs.declared.run.Prepared.{Prepared}
 use Rattle.px_run.proofs.Performing.{performs_since}
 use Rattle.px_run.proofs.SeenFiles.{shows_since, reads_later, reads_since, after_reading, after_since, reads_at_once}
@@ -34,6 +35,12 @@ refuses_with_text : {A : Type 0} (kind : FileKind A) (seen : Seen) (ending : End
 refuses_with_text kind (Content bytes) ending refuses = refuses
 refuses_with_text kind Longer ending refuses = refuses
 refuses_with_text kind Unreadable ending refuses = refuses
+
+pub stops_with_text : {A : Type 0} (kind : FileKind A) (old new : View) (name : List ℕ) (stop : Stop) → StopsReading kind old new name stop
+    → StopsReading (with_text kind) old new name stop
+stops_with_text kind old new name (stops.Refused refusal) (seen, shows, refuses) = (seen, shows, refuses_with_text kind seen (ending_of refusal) refuses)
+stops_with_text kind old new name stops.SinkFailed none = none
+stops_with_text kind old new name stops.NoMemory any = any
 
 plan_not_read : (old new : View) (plan script : List ℕ) (stop : Stop) → StopsReading plan_file old new plan stop
     → IsNotPrepared plan script old new stop
@@ -111,7 +118,7 @@ some_settled : (settled : Option (World × ℕ)) (world : World) → settled_wor
 some_settled None world is = let no : ⊥ = cc in absurd no
 some_settled (Some found) world is = (found, refl)
 
-start_settles : (plan : List Site) (world : World) → run plan [] ≡ Some world → (found : World × ℕ) × (started plan ≡ Some found)
+pub start_settles : (plan : List Site) (world : World) → run plan [] ≡ Some world → (found : World × ℕ) × (started plan ≡ Some found)
 start_settles plan world is = some_settled (started plan) world (sym (run_on_none plan (settled_world (started plan))) ∙ is)
 
 -- ---- the command
@@ -120,17 +127,17 @@ module _ {D : Type 0} (members : Disk.Ghosts D) (plan script name : List ℕ) (l
   -- a plan that has started was run
   pub prepared_runs : {S : Type 0} (runs : Stepper.Ghosts S) (ready : Prepared S) (carried : Carried D) → OnlyReads old mid → KeepsFiles mid new
       → IsPrepared runs plan script old mid ready
-      → PreparedCarries members (runs.state ready.stepper).nodes ready.text.items name limit ready.script.threads mid new disk carried
+      → PreparedCarries members tellings.Text (runs.state ready.stepper).nodes ready.text.items name limit ready.script.threads mid new disk carried
       → RunCarries members plan script name limit old new disk carried
   prepared_runs runs ready carried only keeps is_ready of_nodes = record {
     course = done.course;
-    performs = performs_since old mid new (NewCalls members (sites tree) ready.text.items limit threads disk carried.disk done.course)
+    performs = performs_since old mid new (NewCalls members tellings.Text (sites tree) ready.text.items limit threads disk carried.disk done.course)
         (RunCalls members plan script limit old new disk carried.disk done.course) carried.result only
         (λ due calls. after_reading (List ℕ × Tree) (with_text plan_file) old new plan (ready.text.items, tree) Untouched _ done.course due
         (reads_later (List ℕ × Tree) (with_text plan_file) old mid new plan (ready.text.items, tree) keeps.read_faults is_ready.source)
         (after_reading (List Todo) (script_file (sites tree)) old new script threads Untouched _ done.course due
         (reads_later (List Todo) (script_file (sites tree)) old mid new script threads keeps.read_faults is_ready.script)
-        (subst (RunCallsBy members (sites tree) ready.text.items limit threads disk carried.disk done.course due) (sym start.1) calls)))
+        (subst (RunCallsBy members tellings.Text (sites tree) ready.text.items limit threads disk carried.disk done.course due) (sym start.1) calls)))
         done.performs;
     leaves = done.leaves;
     bound = done.bound;
@@ -143,8 +150,8 @@ module _ {D : Type 0} (members : Disk.Ghosts D) (plan script name : List ℕ) (l
       threads : List Todo
       threads = ready.script.threads
 
-      done : PreparedCarries members (sites tree) ready.text.items name limit threads mid new disk carried
-      done = subst (λ (nodes : List Site). PreparedCarries members nodes ready.text.items name limit threads mid new disk carried) is_ready.nodes of_nodes
+      done : PreparedCarries members tellings.Text (sites tree) ready.text.items name limit threads mid new disk carried
+      done = subst (λ (nodes : List Site). PreparedCarries members tellings.Text nodes ready.text.items name limit threads mid new disk carried) is_ready.nodes of_nodes
 
       start : (found : World × ℕ) × (started (sites tree) ≡ Some found)
       start = start_settles (sites tree) (runs.state ready.stepper).world
@@ -158,7 +165,7 @@ module _ {D : Type 0} (members : Disk.Ghosts D) (plan script name : List ℕ) (l
     performs = (
       after_since (List ℕ × Tree) (with_text plan_file) old old mid plan Untouched _ _ Untouched (Some (ending_of refusal)) (reads_at_once old)
           (λ source next. after_since (List Todo) (script_file (sites source.1)) old old mid script Untouched _ _ Untouched (Some (ending_of refusal)) (reads_at_once old)
-          (λ threads runs_away. subst (RunCallsBy members (sites source.1) source.0 limit threads disk disk Untouched (Some (ending_of refusal))) (sym runs_away.0) runs_away.1)
+          (λ threads runs_away. subst (RunCallsBy members tellings.Text (sites source.1) source.0 limit threads disk disk Untouched (Some (ending_of refusal))) (sym runs_away.0) runs_away.1)
           next) calls,
       only.emitted,
     );

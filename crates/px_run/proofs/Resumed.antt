@@ -37,6 +37,7 @@ use Rattle.px_run.specs.declared.ending.End.TheVariants as ends
 use Rattle.px_run.specs.declared.ending.Stop.{Stop}
 use Rattle.px_run.specs.declared.ending.Stop.TheVariants as stops
 use Rattle.px_run.specs.declared.finishing.Carried.{Carried}
+use Rattle.px_run.specs.declared.finishing.Telling.TheVariants as tellings
 use Rattle.px_output.specs.Printing.{Prints}
 use Rattle.px_output.specs.declared.printer.PrintFault.{PrintFault}
 use Rattle.px_session.proofs.Sessions.{one_history}
@@ -215,7 +216,7 @@ module _ {S D : Type 0} (runs : Stepper.Ghosts S) (members : Disk.Ghosts D) (scr
   pub resume_finished : (history : List Entry) (script_left : Script) (carried : Carried D) → history ≡ reopened.exec.opening.history
       → IsLeft (sites tree) script history before mid script_left
       → ((other : List ℕ) → mid.read_faults other ≤ now.read_faults other)
-      → ((text : List ℕ) → IsTextOf members reopened.exec text → Finishes members runs text reopened.exec script_left.threads mid now carried)
+      → ((text : List ℕ) → IsTextOf members reopened.exec text → Finishes members runs tellings.Text text reopened.exec script_left.threads mid now carried)
       → ResumeCarries members script journal limit before now old carried
   resume_finished history script_left carried same left later finishes = record {
     course = GoneOn f.session;
@@ -234,7 +235,7 @@ module _ {S D : Type 0} (runs : Stepper.Ghosts S) (members : Disk.Ghosts D) (scr
     };
   }
     where
-      f : Finishes members runs r.text reopened.exec script_left.threads mid now carried
+      f : Finishes members runs tellings.Text r.text reopened.exec script_left.threads mid now carried
       f = finishes r.text r.ready
 
       threads_left : script_left.threads ≡ rest left.threads reopened.exec.opening.history
@@ -246,7 +247,7 @@ module _ {S D : Type 0} (runs : Stepper.Ghosts S) (members : Disk.Ghosts D) (scr
           (subst (λ (n : ℕ). IsSession (sites tree) r.text reopened.exec.opening.history n script_left.threads f.session) (r.opening).most
           (subst (λ (p : List Site). IsSession p r.text reopened.exec.opening.history reopened.exec.opening.limit script_left.threads f.session) r.nodes f.is_session))
 
-      goes_on : (due : Due) → DueBehind members (plan_of runs reopened.exec) script_left.threads f.session reopened.exec.opening.journal.disk carried.disk due
+      goes_on : (due : Due) → DueBehind members tellings.Text (plan_of runs reopened.exec) script_left.threads f.session reopened.exec.opening.journal.disk carried.disk due
           → ResumeCalls members script limit before now old carried.disk (GoneOn f.session) due
       goes_on due behind =
           let (seen, shows, spells) = left.read in
@@ -256,9 +257,9 @@ module _ {S D : Type 0} (runs : Stepper.Ghosts S) (members : Disk.Ghosts D) (scr
             refl,
             (
               is_session,
-              subst (λ (t : List Todo). DueBehind members (sites tree) t f.session old carried.disk due) threads_left
-                  (subst (λ (p : List Site). DueBehind members p script_left.threads f.session old carried.disk due) r.nodes
-                  (due_behind_since members (plan_of runs reopened.exec) script_left.threads f.session old reopened.exec.opening.journal.disk carried.disk due (omega (arith, r.faults)) behind)),
+              subst (λ (t : List Todo). DueBehind members tellings.Text (sites tree) t f.session old carried.disk due) threads_left
+                  (subst (λ (p : List Site). DueBehind members tellings.Text p script_left.threads f.session old carried.disk due) r.nodes
+                  (due_behind_since members tellings.Text (plan_of runs reopened.exec) script_left.threads f.session old reopened.exec.opening.journal.disk carried.disk due (omega (arith, r.faults)) behind)),
             ),
           ))
 

@@ -27,6 +27,7 @@ use Rattle.px_run.specs.Journaled.{IsSession, DueBehind, NewCalls}
 use Rattle.px_run.specs.Stops.{stop_of_create}
 use Rattle.px_run.specs.declared.ending.Stop.{Stop}
 use Rattle.px_run.specs.declared.finishing.Carried.{Carried}
+use Rattle.px_run.specs.declared.finishing.Telling.{Telling}
 use Rattle.px_run.proofs.Finished.{due_behind_since, opening_stands}
 use Rattle.px_run.proofs.Performing.{performs_more}
 
@@ -107,15 +108,15 @@ module _ {D : Type 0} (members : Disk.Ghosts D) where
 
   -- ---- the two ends of a call
 
-  module _ (plan : List Site) (text name : List ℕ) (limit : ℕ) (threads : List Todo) (before now : View) (old : D) (all_left : rest threads [] ≡ threads) where
+  module _ (telling : Telling) (plan : List Site) (text name : List ℕ) (limit : ℕ) (threads : List Todo) (before now : View) (old : D) (all_left : rest threads [] ≡ threads) where
     -- a journal was made, and a session over it has ended
     pub made_runs : {S : Type 0} (runs : Stepper.Ghosts S) (stepper : S) (exec : Executive S D) (carried : Carried D) → (runs.state stepper).nodes ≡ plan
-        → Creates members name text stepper limit old exec → Finishes members runs text exec threads before now carried
-        → Carries members name (λ new. NewCalls members plan text limit threads old new) before now old carried
+        → Creates members name text stepper limit old exec → Finishes members runs telling text exec threads before now carried
+        → Carries members name (λ new. NewCalls members telling plan text limit threads old new) before now old carried
     made_runs {S} runs stepper exec carried nodes made finished = record {
       course = Made finished.session;
-      performs = performs_more before now (DueBehind members (plan_of runs exec) threads finished.session exec.opening.journal.disk carried.disk)
-          (NewCalls members plan text limit threads old carried.disk (Made finished.session)) carried.result
+      performs = performs_more before now (DueBehind members telling (plan_of runs exec) threads finished.session exec.opening.journal.disk carried.disk)
+          (NewCalls members telling plan text limit threads old carried.disk (Made finished.session)) carried.result
           (λ due behind. NewCalls.made finished.session due made.was_nothing (session, behind_here due behind)) finished.performs;
       leaves = λ tells. ((finished.leaves (made.tells ∙ tells)).now, fronts tells);
       bound = inl (finished.goes.stays.bound ∙ made.bound);
@@ -135,12 +136,12 @@ module _ {D : Type 0} (members : Disk.Ghosts D) where
             (subst (λ (h : List Entry). IsSession (plan_of runs exec) text h limit threads finished.session) made.opening.first
             (subst (λ (l : ℕ). IsSession (plan_of runs exec) text exec.opening.history l threads finished.session) made.opening.most finished.is_session)))
 
-        behind_here : (due : Due) → DueBehind members (plan_of runs exec) threads finished.session exec.opening.journal.disk carried.disk due
-            → DueBehind members plan (rest threads []) finished.session old carried.disk due
+        behind_here : (due : Due) → DueBehind members telling (plan_of runs exec) threads finished.session exec.opening.journal.disk carried.disk due
+            → DueBehind members telling plan (rest threads []) finished.session old carried.disk due
         behind_here due behind =
-            subst (λ (t : List Todo). DueBehind members plan t finished.session old carried.disk due) (sym all_left)
-            (subst (λ (p : List Site). DueBehind members p threads finished.session old carried.disk due) plan_is
-            (due_behind_since members (plan_of runs exec) threads finished.session old exec.opening.journal.disk carried.disk due (omega (arith, made.faults)) behind))
+            subst (λ (t : List Todo). DueBehind members telling plan t finished.session old carried.disk due) (sym all_left)
+            (subst (λ (p : List Site). DueBehind members telling p threads finished.session old carried.disk due) plan_is
+            (due_behind_since members telling (plan_of runs exec) threads finished.session old exec.opening.journal.disk carried.disk due (omega (arith, made.faults)) behind))
 
         fronts : TellsBytes members old → LeavesFronts members (λ image. IsTrue (is_nothing image)) finished.session old carried.disk
         fronts tells =
@@ -151,7 +152,7 @@ module _ {D : Type 0} (members : Disk.Ghosts D) where
 
     -- none was made, or memory ran out right behind the making
     not_made : (why : CreateWhy) (new : D) → IsSome (run plan []) → IsCreateWhy members text old new why → IsNotCreated members name text old (record { disk = new; why = why })
-        → Carries members name (λ new. NewCalls members plan text limit threads old new) before before old (record { result = Err (stop_of_create why); disk = new })
+        → Carries members name (λ new. NewCalls members telling plan text limit threads old new) before before old (record { result = Err (stop_of_create why); disk = new })
     not_made creating.Exists new starts whole fault = record {
       course = Untouched;
       performs = (NewCalls.exists whole, refl);
@@ -193,7 +194,7 @@ module _ {D : Type 0} (members : Disk.Ghosts D) where
 
     pub not_made_runs : (why : CreateWhy) (new : D) (stop : Stop) → IsSome (run plan []) → stop ≡ stop_of_create why
         → IsNotCreated members name text old (record { disk = new; why = why })
-        → Carries members name (λ new. NewCalls members plan text limit threads old new) before before old (record { result = Err stop; disk = new })
+        → Carries members name (λ new. NewCalls members telling plan text limit threads old new) before before old (record { result = Err stop; disk = new })
     not_made_runs why new stop starts is fault =
-        subst (λ (s : Stop). Carries members name (λ new. NewCalls members plan text limit threads old new) before before old (record { result = Err s; disk = new }))
+        subst (λ (s : Stop). Carries members name (λ new. NewCalls members telling plan text limit threads old new) before before old (record { result = Err s; disk = new }))
         (sym is) (not_made why new starts fault.why fault)

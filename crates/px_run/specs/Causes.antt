@@ -15,11 +15,12 @@ use Rattle.px_script.specs.Follows.{AreStalled}
 use Rattle.px_script.specs.Remainder.{rest}
 use Rattle.px_script.specs.declared.stall.Stall.{Stall}
 use Rattle.px_script.specs.declared.todo.Todo.{Todo}
-use Rattle.px_words.specs.Words.{Command, Run, Resume, plan_operand, script_operand, journal_operand, runs_plan, command}
+use Rattle.px_words.specs.Words.{Command, Run, Resume, Soak, plan_operand, script_operand, journal_operand, takes_up, runs_plan, command}
 use Rattle.px_run.specs.Ending.{Ending, nodes_ending, start_ending, stalled_ending}
 use Rattle.px_run.specs.Reading.{FileKind, Reads, IsRefusedAs, Holds, HoldsNone}
 use Rattle.px_run.specs.Journaled.{JournalRefuses}
 use Rattle.px_run.specs.Kinds.{plan_file, script_file}
+use Rattle.px_run.specs.Soak.{soak_plan}
 
 -- the words ask for a command with this plan; with this script; with this journal
 abbrev pub HasPlan : List (List ℕ) → List ℕ → Type 0
@@ -31,7 +32,15 @@ HasScript words name = option_and_then script_operand (command words) ≡ Some n
 abbrev pub HasJournal : List (List ℕ) → Type 0
 HasJournal words = (name : List ℕ) × (option_and_then journal_operand (command words) ≡ Some name)
 
--- they ask for a run of a plan; for its check alone
+-- they ask that a journal that stands is taken up
+abbrev pub TakesUpJournal : List (List ℕ) → Type 0
+TakesUpJournal words = option_map takes_up (command words) ≡ Some true
+
+-- they ask for a soak
+abbrev pub IsSoak : List (List ℕ) → Type 0
+IsSoak words = (count seed : ℕ) × (journal : List ℕ) × (command words ≡ Some (Soak count seed journal))
+
+-- they ask for a run of a plan; for its check or its layout alone
 abbrev pub AsksForRun : List (List ℕ) → Type 0
 AsksForRun words = option_map runs_plan (command words) ≡ Some true
 
@@ -47,10 +56,15 @@ abbrev pub ReadsScript : List (List ℕ) → View → View → Tree → Type 0
 ReadsScript words old new tree =
     (name : List ℕ) → HasScript words name → (threads : List Todo) × Reads (script_file (sites tree)) old new name threads
 
--- the plan is to be run and its file spells one, the script is read, and the start of the plan is such
+-- the words ask for a soak, and the start of its plan is such
+abbrev pub SoakStarts : List (List ℕ) → (Option (World × ℕ) → Type 0) → Type 0
+SoakStarts words IsSuch = IsSoak words × (tree : Tree) × IsCompiled soak_plan tree × IsSuch (started (sites tree))
+
+-- the plan is to be run and its file spells one, the script is read, and the start of the plan is such; or so is that of a soak
 abbrev pub Starts : List (List ℕ) → View → View → (Option (World × ℕ) → Type 0) → Type 0
 Starts words old new IsSuch =
-    AsksForRun words × ReadsPlan words old new (λ tree. ReadsScript words old new tree × IsSuch (started (sites tree)))
+    (AsksForRun words × ReadsPlan words old new (λ tree. ReadsScript words old new tree × IsSuch (started (sites tree))))
+    ⊎ SoakStarts words IsSuch
 
 -- the file that the command has as this operand is refused
 abbrev pub OperandIsRefused : {A : Type 0} → FileKind A → (List (List ℕ) → List ℕ → Type 0) → List (List ℕ) → View → View → Type 0
@@ -72,16 +86,16 @@ pub record StallsBehind (before now : View) (script : List ℕ) (plan : List Sit
   pub text : Emits before.emitted now.emitted (stalled_ending plan first log stalls).text
 
 module _ {D : Type 0} (members : Disk.Ghosts D) where
-  -- the command has a journal and no plan, and the disk stands for the text of a plan and for a history, which are such
+  -- the command takes up its journal, and the disk stands for the text of a plan and for a history, which are such
   abbrev pub TakesUp : List (List ℕ) → D → (Tree → List Entry → Type 0) → Type 0
-  TakesUp words disk IsSuch = (option_and_then plan_operand (command words) ≡ None) × HasJournal words × (text : List ℕ) × (first : List Entry) × (tree : Tree)
+  TakesUp words disk IsSuch = TakesUpJournal words × HasJournal words × (text : List ℕ) × (first : List Entry) × (tree : Tree)
       × ForSome (members.content disk) (λ told. Stands told text first) × IsCompiled text tree × IsSuch tree first
 
   -- the disk is refused: a journal stands where one was to be made, or none that can be taken up where one was to be read
   abbrev pub JournalIsRefused : List (List ℕ) → View → View → D → Type 0
   JournalIsRefused words before now disk =
       (Starts words before now (λ start. IsSome start) × HasJournal words × ForSome (members.content disk) (λ told. IsFalse (is_nothing told)))
-      ⊎ ((option_and_then plan_operand (command words) ≡ None) × HasJournal words
+      ⊎ (TakesUpJournal words × HasJournal words
       × (ending : Ending) × JournalRefuses members disk ending × (ending.status ≡ 5))
 
   -- the disk is nothing
@@ -124,7 +138,7 @@ module _ {D : Type 0} (members : Disk.Ghosts D) where
         → Cause words before now old new 7
     sink_fault : Faulted before now → Cause words before now old new 8
     disk_fault :
-        HasJournal words → (option_and_then plan_operand (command words) ≡ None) ⊎ Starts words before now (λ start. IsSome start)
+        HasJournal words → TakesUpJournal words ⊎ Starts words before now (λ start. IsSome start)
         → Rose (members.faults old) (members.faults new) → Cause words before now old new 9
     no_memory : Cause words before now old new 10
     -- lines of a script are left, and each thread that has some stands at a wait that isn't met
@@ -159,9 +173,13 @@ module _ {D : Type 0} (members : Disk.Ghosts D) where
         → IsSound words old new (λ bytes. IsTrue (is_nothing bytes))
         → ¬ FailsToRead HasPlan words before now → ¬ FailsToRead HasScript words before now → ¬ Faulted before now
         → (status ≡ 10) ⊎ ((status ≡ status_behind (command words) tree) ⊎ (status ≡ 11))
+    -- a soak, over a disk that is nothing
+    pub soak :
+        (tree : Tree) → IsSoak words → IsCompiled soak_plan tree → IsSound words old new (λ bytes. IsTrue (is_nothing bytes))
+        → ¬ Faulted before now → (status ≡ 10) ⊎ (status ≡ (start_ending tree).status)
     -- a journal that is taken up
     pub journal :
-        (text : List ℕ) (first : List Entry) (tree : Tree) → option_and_then plan_operand (command words) ≡ None → HasJournal words
+        (text : List ℕ) (first : List Entry) (tree : Tree) → TakesUpJournal words → HasJournal words
         → IsCompiled text tree → IsSome (run (sites tree) (events_of first))
         → ((name : List ℕ) → HasScript words name
         → (files : Files) × (before.files ≡ Some files) × ((threads : List Todo) × Holds (script_file (sites tree)) files name threads))
@@ -188,6 +206,10 @@ module _ {D : Type 0} (members : Disk.Ghosts D) where
         → started (sites tree) ≡ None
         → ¬ FailsToRead HasPlan words before now → ¬ FailsToRead HasScript words before now → ¬ Faulted before now
         → (status ≡ 10) ⊎ (status ≡ 6)
+    -- the same of a soak
+    pub soak_runaway :
+        (tree : Tree) → IsSoak words → IsCompiled soak_plan tree → started (sites tree) ≡ None → ¬ Faulted before now
+        → (status ≡ 10) ⊎ (status ≡ 6)
     -- a journal that stands where one was to be made
     pub exists :
         (plan : List ℕ) (files : Files) (tree : Tree) → HasPlan words plan → HasJournal words → before.files ≡ Some files
@@ -196,14 +218,18 @@ module _ {D : Type 0} (members : Disk.Ghosts D) where
         → IsSome (started (sites tree)) → IsSound words old new (λ bytes. IsFalse (is_nothing bytes))
         → ¬ FailsToRead HasPlan words before now → ¬ FailsToRead HasScript words before now → ¬ Faulted before now
         → (status ≡ 10) ⊎ (status ≡ 5)
+    -- the same of a soak
+    pub soak_exists :
+        (tree : Tree) → IsSoak words → IsCompiled soak_plan tree → IsSome (started (sites tree))
+        → IsSound words old new (λ bytes. IsFalse (is_nothing bytes)) → ¬ Faulted before now → (status ≡ 10) ⊎ (status ≡ 5)
     -- a journal that is none that can be taken up: 5, or 6 where the start of its plan runs away
     pub journal :
-        (why : Ending) → option_and_then plan_operand (command words) ≡ None → HasJournal words → JournalRefuses members old why
+        (why : Ending) → TakesUpJournal words → HasJournal words → JournalRefuses members old why
         → ((bytes : List ℕ) × (members.content old ≡ Some bytes)) → ¬ Rose (members.faults old) (members.faults new)
         → ¬ Faulted before now → (status ≡ 10) ⊎ (status ≡ why.status)
     -- a script behind a journal that is taken up
     pub script_behind_journal :
-        (name : List ℕ) (files : Files) (text : List ℕ) (first : List Entry) (tree : Tree) → option_and_then plan_operand (command words) ≡ None
+        (name : List ℕ) (files : Files) (text : List ℕ) (first : List Entry) (tree : Tree) → TakesUpJournal words
         → HasJournal words → HasScript words name → before.files ≡ Some files → IsCompiled text tree
         → IsSome (run (sites tree) (events_of first)) → HoldsNone (script_file (sites tree)) files name
         → IsSound words old new (λ bytes. Stands bytes text first)

@@ -14,6 +14,7 @@ use Rattle.px_run.specs.Stops.{Performs}
 use Rattle.px_run.specs.declared.ending.Refusal.TheVariants as refusals
 use Rattle.px_run.specs.declared.ending.Stop.TheVariants as stops
 use Rattle.px_run.specs.declared.finishing.Carried.{Carried}
+use Rattle.px_run.specs.declared.finishing.Telling.{Telling}
 
 -- the command is refused because a call of the disk failed
 abbrev pub IsDiskFault : {D : Type 0} → Carried D → Type 0
@@ -34,10 +35,10 @@ module _ {D : Type 0} (members : Disk.Ghosts D) where
     pub back : ComesBack old carried
 
   -- THE END OF A SESSION over this text, with these threads left: what is due behind it is performed
-  pub record Finishes {S : Type 0} (runs : Stepper.Ghosts S) (text : List ℕ) (exec : Executive S D) (left : List Todo) (before now : View)
+  pub record Finishes {S : Type 0} (runs : Stepper.Ghosts S) (telling : Telling) (text : List ℕ) (exec : Executive S D) (left : List Todo) (before now : View)
       (carried : Carried D) : Type 0 where
     pub session : Session
     pub is_session : IsSession (plan_of runs exec) text exec.opening.history exec.opening.limit left session
-    pub performs : Performs before now (DueBehind members (plan_of runs exec) left session exec.opening.journal.disk carried.disk) carried.result
+    pub performs : Performs before now (DueBehind members telling (plan_of runs exec) left session exec.opening.journal.disk carried.disk) carried.result
     pub leaves : TellsBytes members exec.opening.journal.disk → LeavesSession members session exec.opening.journal.disk carried.disk
     pub goes : Goes members (IsDiskFault carried) exec.opening.journal.disk carried.disk

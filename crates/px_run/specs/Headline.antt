@@ -10,11 +10,13 @@ use Rattle.px_script.specs.declared.todo.Todo.{Todo}
 use Rattle.px_sem.specs.Log.{Log, IsLegal, posted_in}
 use Rattle.px_sem.specs.Run.{started}
 use Rattle.px_words.specs.Limited.{event_limit}
-use Rattle.px_words.specs.Words.{Command, TraceStart, DryRun, Check, Run, Resume, Trace, command, journal_operand}
+use Rattle.px_words.specs.Words.{Command, TraceStart, DryRun, Check, Format, Run, Resume, Trace, Soak, command, journal_operand}
 use Rattle.px_run.specs.Course.{Course, Untouched, Due, EndsIn, AfterFile, Leaves}
 use Rattle.px_run.specs.Ending.{Ending, usage, nodes_ending, start_ending, log_ending, runaway_at_start}
+use Rattle.px_run.specs.Format.{FormatCalls}
 use Rattle.px_run.specs.Journaled.{RunCalls, ResumeCalls, TraceCalls}
 use Rattle.px_run.specs.Kinds.{plan_file, script_file}
+use Rattle.px_run.specs.Soak.{SoakCalls}
 
 -- ---- commands without a journal: the first refusal decides
 
@@ -41,7 +43,7 @@ abbrev pub CheckCalls : List ℕ → View → View → Course → Due → Type 0
 CheckCalls plan before now = AfterFile plan_file before now plan Untouched (λ tree. EndsIn Untouched (nodes_ending tree))
 
 module _ {D : Type 0} (members : Disk.Ghosts D) where
-  -- WHAT A COMMAND AND ITS FILES CALL FOR, with what becomes of the journal. The first four make no call of the disk.
+  -- WHAT A COMMAND AND ITS FILES CALL FOR, with what becomes of the journal. The first five make no call of the disk.
   abbrev pub CommandCallsFor : Option Command → View → View → D → D → Course → Due → Type 0
   CommandCallsFor None before now old new course due = (new ≡ old) × EndsIn Untouched usage course due
   CommandCallsFor (Some (TraceStart plan)) before now old new course due =
@@ -49,11 +51,13 @@ module _ {D : Type 0} (members : Disk.Ghosts D) where
   CommandCallsFor (Some (DryRun plan script)) before now old new course due =
       (new ≡ old) × DryRunCalls plan script before now course due
   CommandCallsFor (Some (Check plan)) before now old new course due = (new ≡ old) × CheckCalls plan before now course due
+  CommandCallsFor (Some (Format plan)) before now old new course due = (new ≡ old) × FormatCalls plan before now course due
   CommandCallsFor (Some (Run plan script journal limit)) before now old new course due =
       RunCalls members plan script limit before now old new course due
   CommandCallsFor (Some (Resume script journal limit)) before now old new course due =
       ResumeCalls members script limit before now old new course due
   CommandCallsFor (Some (Trace journal)) before now old new course due = TraceCalls members old new course due
+  CommandCallsFor (Some (Soak count seed journal)) before now old new course due = SoakCalls members count seed old new course due
 
   -- the disk is bound to the command's journal, or to none
   abbrev pub IsBoundFor : Option Command → D → Type 0

@@ -25,6 +25,9 @@ use Rattle.px_run.specs.Course.{Course, Untouched, Synced, Unread, HalfMade, Mad
 use Rattle.px_run.specs.Ending.{Ending, session_ending, stalled_ending, runaway_at_start, disk_fault, journal_exists, no_journal, journal_damaged, journal_plan, journal_runaway}
 use Rattle.px_run.specs.Reading.{with_text}
 use Rattle.px_run.specs.Kinds.{plan_file, script_file}
+use Rattle.px_run.specs.Telling.{told_ending}
+use Rattle.px_run.specs.declared.finishing.Telling.{Telling}
+use Rattle.px_run.specs.declared.finishing.Telling.TheVariants as tellings
 
 -- A SESSION OF A SCRIPT over a text and the history at its opening, behind which the script has these threads left: its log
 -- is legal, and follows them. An entry whose append failed was to be accepted, and is the next post of one of them.
@@ -47,50 +50,51 @@ pub data CannotRun (text : List ℕ) (first : List Entry) : Ending → Type 0 wh
       → CannotRun text first (journal_runaway at)
 
 module _ {D : Type 0} (members : Disk.Ghosts D) where
-  -- WHAT IS DUE BEHIND A SESSION: its text where all lines are passed; its text and the stalls where the threads stand at
-  -- waits; a fault where an append failed
-  pub data DueBehind (plan : List Site) (left : List Todo) (session : Session) (old new : D) : Due → Type 0 where
+  -- WHAT IS DUE BEHIND A SESSION: what is told of it where all lines are passed; its text and the stalls where the threads
+  -- stand at waits; a fault where an append failed
+  pub data DueBehind (telling : Telling) (plan : List Site) (left : List Todo) (session : Session) (old new : D) : Due → Type 0 where
     whole :
         session.failed ≡ None → GoesThroughAll plan session.first session.log left
-        → DueBehind plan left session old new (Some (session_ending plan session.first session.log))
+        → DueBehind telling plan left session old new (Some (told_ending telling plan session.first session.log))
     stalled :
         (stalls : List Stall) → session.failed ≡ None → AreStalled plan session.first session.log left stalls
-        → DueBehind plan left session old new (Some (stalled_ending plan session.first session.log stalls))
+        → DueBehind telling plan left session old new (Some (stalled_ending plan session.first session.log stalls))
     failed :
         IsSome session.failed → Rose (members.faults old) (members.faults new)
-        → DueBehind plan left session old new (Some disk_fault)
-    no_memory : session.failed ≡ None → DueBehind plan left session old new None
+        → DueBehind telling plan left session old new (Some disk_fault)
+    no_memory : session.failed ≡ None → DueBehind telling plan left session old new None
 
-  abbrev pub SessionCalls : List Site → List ℕ → List Entry → ℕ → List Todo → D → D → Session → Due → Type 0
-  SessionCalls plan text first limit left old new session due =
-      IsSession plan text first limit left session × DueBehind plan left session old new due
+  abbrev pub SessionCalls : Telling → List Site → List ℕ → List Entry → ℕ → List Todo → D → D → Session → Due → Type 0
+  SessionCalls telling plan text first limit left old new session due =
+      IsSession plan text first limit left session × DueBehind telling plan left session old new due
 
   -- ---- `run`
 
   -- a new journal: one stands there, a call of the disk fails on the way, or a session runs over it
-  pub data NewCalls (plan : List Site) (text : List ℕ) (limit : ℕ) (threads : List Todo) (old new : D) : Course → Due → Type 0 where
+  pub data NewCalls (telling : Telling) (plan : List Site) (text : List ℕ) (limit : ℕ) (threads : List Todo) (old new : D) : Course → Due → Type 0 where
     exists :
         ForSome (members.content old) (λ told. IsFalse (is_nothing told))
-        → NewCalls plan text limit threads old new Untouched (Some journal_exists)
+        → NewCalls telling plan text limit threads old new Untouched (Some journal_exists)
     half_made :
-        Rose (members.faults old) (members.faults new) → NewCalls plan text limit threads old new (HalfMade text) (Some disk_fault)
+        Rose (members.faults old) (members.faults new) → NewCalls telling plan text limit threads old new (HalfMade text) (Some disk_fault)
     made :
         (session : Session) (due : Due) → ForSome (members.content old) (λ told. IsTrue (is_nothing told))
-        → SessionCalls plan text [] limit (rest threads []) old new session due
-        → NewCalls plan text limit threads old new (Made session) due
-    no_memory : NewCalls plan text limit threads old new Untouched None
+        → SessionCalls telling plan text [] limit (rest threads []) old new session due
+        → NewCalls telling plan text limit threads old new (Made session) due
+    no_memory : NewCalls telling plan text limit threads old new Untouched None
 
   -- by what the start of the plan settles into
-  abbrev pub RunCallsBy : List Site → List ℕ → ℕ → List Todo → D → D → Course → Due → Option (World × ℕ) → Type 0
-  RunCallsBy plan text limit threads old new course due None = EndsIn Untouched runaway_at_start course due
-  RunCallsBy plan text limit threads old new course due (Some settled) = NewCalls plan text limit threads old new course due
+  abbrev pub RunCallsBy : Telling → List Site → List ℕ → ℕ → List Todo → D → D → Course → Due → Option (World × ℕ) → Type 0
+  RunCallsBy telling plan text limit threads old new course due None = EndsIn Untouched runaway_at_start course due
+  RunCallsBy telling plan text limit threads old new course due (Some settled) =
+      NewCalls telling plan text limit threads old new course due
 
   -- the plan is read, then the script, then the plan starts, then its journal is made
   abbrev pub RunCalls : List ℕ → List ℕ → ℕ → View → View → D → D → Course → Due → Type 0
   RunCalls plan script limit before now old new course due =
       AfterFile (with_text plan_file) before now plan Untouched (λ source.
       AfterFile (script_file (sites source.1)) before now script Untouched (λ threads course due.
-      RunCallsBy (sites source.1) source.0 limit threads old new course due (started (sites source.1))))
+      RunCallsBy tellings.Text (sites source.1) source.0 limit threads old new course due (started (sites source.1))))
       course due
 
   -- ---- `resume` and `trace`
@@ -112,8 +116,9 @@ module _ {D : Type 0} (members : Disk.Ghosts D) where
       HasNoJournal old ending ⊎ ((text : List ℕ) × (first : List Entry) × StandsFor old text first × CannotRun text first ending)
 
   -- what is due where a journal is read first: it is refused, or its plan and its history go on; or the disk fails, or
-  -- memory runs out
+  -- memory runs out, which it may do before the disk is called, and then that is as it was
   pub data AfterJournal (old new : D) (Next : List ℕ → List Entry → Tree → Course → Due → Type 0) : Course → Due → Type 0 where
+    not_read : new ≡ old → AfterJournal old new Next Untouched None
     no_memory : AfterJournal old new Next Synced None
     disk_fails : Rose (members.faults old) (members.faults new) → AfterJournal old new Next Unread (Some disk_fault)
     no_journal_there : (ending : Ending) → HasNoJournal old ending → AfterJournal old new Next Synced (Some ending)
@@ -131,7 +136,7 @@ module _ {D : Type 0} (members : Disk.Ghosts D) where
       AfterJournal old new (λ text first tree.
       AfterFile (script_file (sites tree)) before now script (TakenUp text first) (λ threads course due.
       (session : Session) × (course ≡ GoneOn session)
-      × SessionCalls (sites tree) text first limit (rest threads first) old new session due))
+      × SessionCalls tellings.Text (sites tree) text first limit (rest threads first) old new session due))
       course due
 
   -- the journal is read, and its history is printed

@@ -3,10 +3,13 @@ pub mod Ending
 pub mod Reading
 pub mod Kinds
 pub mod Course
+pub mod Format
 pub mod Stops
+pub mod Telling
 pub mod Journaled
-pub mod Headline
 pub mod Finishing
+pub mod Soak
+pub mod Headline
 pub mod Run
 pub mod Resume
 pub mod Trace

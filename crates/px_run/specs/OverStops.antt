@@ -1,5 +1,5 @@
 -- NO LINE TWICE OVER STOPS: what the images of a disk stand for, whatever sessions there were and wherever they stopped.
-use Rattle.std.specs.Prelude.{◌≡◌, ◌⊎◌, ℕ, List, length, IsTrue}
+use Rattle.std.specs.Prelude.{◌≡◌, ◌⊎◌, ℕ, List, length, Some, IsTrue}
 use Rattle.px_core.specs.Plan.{Site}
 use Rattle.px_event.specs.declared.entry.Entry.{Entry}
 use Rattle.px_exec.specs.Executive.{TellsBytes}
@@ -7,8 +7,10 @@ use Rattle.px_journal.specs.Layout.{is_nothing, Stands}
 use Rattle.px_output.specs.View.{View}
 use Rattle.px_ports.specs.Moment.{LeftSince}
 use Rattle.px_ports.specs.declared.disk.Disk
+use Rattle.px_script.specs.Soak.{soak_threads}
 use Rattle.px_script.specs.Sound.{IsSoundFor}
 use Rattle.px_script.specs.declared.todo.Todo.{Todo}
+use Rattle.px_words.specs.Words.{Soak, command}
 use Rattle.px_run.specs.Causes.{HasScript}
 use Rattle.px_run.specs.Reading.{Reads}
 use Rattle.px_run.specs.Headline.{Headline}
@@ -20,11 +22,12 @@ IsSoundImage threads image =
     IsTrue (is_nothing image)
     ⊎ ((text : List ℕ) × (history : List Entry) × Stands image text history × IsSoundFor threads history)
 
--- wherever the call reads the script, it is this one
+-- wherever the call reads the script, it is this one; and so is that of a soak
 abbrev pub ReadsOnly : List (List ℕ) → View → View → List Todo → Type 0
 ReadsOnly words before now threads =
-    (name : List ℕ) → HasScript words name → (plan : List Site) (read : List Todo)
-    → Reads (script_file plan) before now name read → read ≡ threads
+    ((name : List ℕ) → HasScript words name → (plan : List Site) (read : List Todo)
+    → Reads (script_file plan) before now name read → read ≡ threads)
+    × ((count seed : ℕ) (journal : List ℕ) → command words ≡ Some (Soak count seed journal) → soak_threads count seed ≡ threads)
 
 module _ {D : Type 0} (members : Disk.Ghosts D) where
   -- each image that a crash now may leave is sound

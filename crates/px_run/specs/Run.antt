@@ -17,6 +17,7 @@ use Rattle.px_run.specs.Stops.{ending_of}
 use Rattle.px_run.specs.declared.ending.Stop.{Stop}
 use Rattle.px_run.specs.declared.ending.Stop.TheVariants as stops
 use Rattle.px_run.specs.declared.finishing.Carried.{Carried}
+use Rattle.px_run.specs.declared.finishing.Telling.{Telling}
 use Rattle.px_run.specs.declared.run.Prepared.{Prepared}
 use Rattle.px_run.specs.Finishing.{Carries}
 
@@ -47,6 +48,6 @@ module _ {D : Type 0} (members : Disk.Ghosts D) where
       Carries members journal (λ new. RunCalls members plan script limit before now old new) before now old carried
 
   -- the same of a plan that has started, behind a script that was read
-  abbrev pub PreparedCarries : List Site → List ℕ → List ℕ → ℕ → List Todo → View → View → D → Carried D → Type 0
-  PreparedCarries plan text journal limit threads before now old carried =
-      Carries members journal (λ new. NewCalls members plan text limit threads old new) before now old carried
+  abbrev pub PreparedCarries : Telling → List Site → List ℕ → List ℕ → ℕ → List Todo → View → View → D → Carried D → Type 0
+  PreparedCarries telling plan text journal limit threads before now old carried =
+      Carries members journal (λ new. NewCalls members telling plan text limit threads old new) before now old carried

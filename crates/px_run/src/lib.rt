@@ -1,8 +1,8 @@
 //! The program: what each command does, and how it ends.
 //!
-//! `top` is the one entry, and each command has a module: `check`, `trace_start` and `dry_run` touch no disk; `run`, `resume`
-//! and `trace` have a journal, and `finishing` is the end that the first two share. `reading` reads the files; `ending` has the
-//! statuses and the texts of refusals, `plan_refusal` those of plans.
+//! `top` is the one entry, and each command has a module: `check`, `format`, `trace_start` and `dry_run` touch no disk;
+//! `run`, `soak`, `resume` and `trace` have a journal, and `finishing` is the end that the first three share. `reading`
+//! reads the files; `ending` has the statuses and the texts of refusals, `plan_refusal` those of plans.
 //! `specs/Headline.antt` says what a call emits, which status it answers and what it leaves of the disk, `specs/Journaled.antt`
 //! what the commands with a journal call for, and `specs/Causes.antt` what each status tells. `laws` has what the headline
 //! means over stops.
@@ -12,11 +12,13 @@ mod check;
 mod dry_run;
 mod ending;
 mod finishing;
+mod format;
 pub mod laws;
 mod plan_refusal;
 mod reading;
 mod resume;
 mod run;
+mod soak;
 mod top;
 mod trace;
 mod trace_start;

@@ -1,19 +1,22 @@
-// Plans and scripts, from their files.
-ghost use Rattle.std.specs.Prelude.{◌≡◌, ◌≤◌, length, IfOk, IfErr, IsTrue};
+// Plans, their trees, and scripts, from their files.
+ghost use Rattle.std.specs.Prelude.{◌≡◌, ◌≤◌, ℕ, List, length, IfOk, IfErr, IsTrue};
 ghost use Rattle.std.specs.List.{list_all};
+ghost use Rattle.px_compile.specs.Compiled.{IsSpelled};
 ghost use Rattle.px_core.specs.Fit.{IsFit};
-ghost use Rattle.px_core.specs.Plan.{tree_of, sites};
+ghost use Rattle.px_core.specs.Plan.{Tree, tree_of, sites};
 ghost use Rattle.px_script.specs.Fit.{IsFitScript};
+ghost use Rattle.px_syntax.specs.Plan.{tree_of_surface};
 ghost use Rattle.px_run.specs.Reading.{Content, Shows, Reads, with_text};
 ghost use Rattle.px_run.specs.Kinds.{plan_file, script_file};
 ghost use Rattle.px_run.specs.Stops.{StopsFetching, StopsReading};
 ghost use Rattle.px_output.specs.View.{view, OnlyReads};
 
 use crate::ending::{Refusal, Stop};
-use px_compile::{TEXT_LIMIT, compile};
+use px_compile::{TEXT_LIMIT, compile, compile_tree};
 use px_core::Plan;
 use px_ports::{Fetched, Host, HostFault};
 use px_script::{SCRIPT_LIMIT, Script, ScriptFault, read_script};
+use px_syntax::Surface;
 use std::alloc::Global;
 
 /// A plan with the text that spells it.
@@ -51,6 +54,19 @@ pub fn fetch_plan<H: Host>(alloc: Global, name: &str, host: &mut H) -> Result<Pl
     ensures only { OnlyReads (view H.Host host.old) (view H.Host host.new) }
 {
     Ok(fetch_source(alloc, name, host)?.plan)
+}
+
+/// Reads the tree of the plan in the file of this name. It stops where `fetch_source` does.
+pub fn fetch_tree<H: Host>(alloc: Global, name: &str, host: &mut H) -> Result<Surface, Stop>
+    ensures ok { IfOk result (λ tree. (source : List ℕ × Tree)
+        × Reads (with_text plan_file) (view H.Host host.old) (view H.Host host.new) name.now source
+        × IsSpelled source.0 (tree_of_surface tree)) }
+    ensures err { IfErr result
+        (StopsReading plan_file (view H.Host host.old) (view H.Host host.new) name.now) }
+    ensures only { OnlyReads (view H.Host host.old) (view H.Host host.new) }
+{
+    let text = fetch_bytes(alloc, name, TEXT_LIMIT, Refusal::PlanTooLong, host)?;
+    Ok(compile_tree(alloc, &text)?)
 }
 
 /// Reads the script for this plan in the file of this name. It stops where the file can't be read, has over 16,777,216

@@ -9,7 +9,7 @@ ghost use Rattle.px_run.specs.Kinds.{script_file};
 ghost use Rattle.px_run.specs.Stops.{StopsReading};
 
 use crate::ending::Stop;
-use crate::finishing::{Carried, finish};
+use crate::finishing::{Carried, Telling, finish};
 use crate::reading::fetch_script;
 use px_core::Plan;
 use px_event::Entry;
@@ -49,7 +49,7 @@ pub fn resume<H: Host, D: Disk + Send, S: Stepper + Send, P: Pace, R: Threads + 
         }
     };
     match script_left(alloc, script, &plan, exec.history(), host) {
-        Ok(left) => finish(rt, alloc, exec, &left, host, pace),
+        Ok(left) => finish(rt, alloc, exec, &left, Telling::Text, host, pace),
         Err(stop) => Carried {
             result: Err(stop),
             disk: exec.into_parts().journal.into_disk(),

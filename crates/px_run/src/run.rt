@@ -8,7 +8,7 @@ ghost use Rattle.px_sem.specs.Stepper.{Pending};
 ghost use Rattle.px_run.specs.Run.{IsPrepared, IsNotPrepared, RunCarries, PreparedCarries};
 
 use crate::ending::Stop;
-use crate::finishing::{Carried, finish};
+use crate::finishing::{Carried, Telling, finish};
 use crate::reading::{Source, fetch_script, fetch_source};
 use px_journal::CreateFault;
 use px_ports::{Disk, Host};
@@ -21,10 +21,10 @@ use std::thread::Threads;
 
 /// What is to run: a plan's text, the script, and a stepper that has settled the start of the plan.
 #[derive(Drop)]
-struct Prepared<S: Stepper> {
-    text: Vec<u8>,
-    script: Script,
-    stepper: S,
+pub(crate) struct Prepared<S: Stepper> {
+    pub(crate) text: Vec<u8>,
+    pub(crate) script: Script,
+    pub(crate) stepper: S,
 }
 
 /// Runs the plan in one file by the script in another, with a journal of this name on the disk, whose history may grow to
@@ -47,7 +47,17 @@ pub fn run<H: Host, D: Disk + Send, S: Stepper + Send, P: Pace, R: Threads + Wai
     ensures keeps { KeepsFiles (view H.Host host.old) (view H.Host host.new) }
 {
     match prepare::<H, S>(alloc, plan, script, host) {
-        Ok(prepared) => run_prepared(rt, alloc, prepared, journal, limit, host, disk, pace),
+        Ok(prepared) => run_prepared(
+            rt,
+            alloc,
+            prepared,
+            journal,
+            limit,
+            Telling::Text,
+            host,
+            disk,
+            pace,
+        ),
         Err(stop) => Carried {
             result: Err(stop),
             disk,
@@ -76,13 +86,20 @@ fn prepare<H: Host, S: Stepper>(
     })
 }
 
-/// Makes the journal, lets the script's threads post, and prints the text of the log.
-fn run_prepared<H: Host, D: Disk + Send, S: Stepper + Send, P: Pace, R: Threads + Wait + Sync>(
+/// Makes the journal, lets the script's threads post, and prints the text of the log, or its summary.
+pub(crate) fn run_prepared<
+    H: Host,
+    D: Disk + Send,
+    S: Stepper + Send,
+    P: Pace,
+    R: Threads + Wait + Sync,
+>(
     rt: &R,
     alloc: Global,
     prepared: Prepared<S>,
     journal: &str,
     limit: u32,
+    telling: Telling,
     host: &mut H,
     disk: D,
     pace: &P,
@@ -95,7 +112,7 @@ fn run_prepared<H: Host, D: Disk + Send, S: Stepper + Send, P: Pace, R: Threads 
     requires nothing { (S.state prepared.stepper).pending ≡ Pending.Nothing }
     requires started { run (S.state prepared.stepper).nodes [] ≡ Some (S.state prepared.stepper).world }
 
-    ensures runs { PreparedCarries D.Disk (S.state prepared.stepper).nodes prepared.text.items journal.now limit prepared.script.threads
+    ensures runs { PreparedCarries D.Disk telling (S.state prepared.stepper).nodes prepared.text.items journal.now limit prepared.script.threads
         (view H.Host host.old) (view H.Host host.new) disk result }
     ensures keeps { KeepsFiles (view H.Host host.old) (view H.Host host.new) }
 {
@@ -105,7 +122,7 @@ fn run_prepared<H: Host, D: Disk + Send, S: Stepper + Send, P: Pace, R: Threads 
         stepper,
     } = prepared;
     match create(alloc, disk, journal, &text, stepper, limit) {
-        Ok(exec) => finish(rt, alloc, exec, &script, host, pace),
+        Ok(exec) => finish(rt, alloc, exec, &script, telling, host, pace),
         Err(CreateFault { disk, why }) => Carried {
             result: Err(why.into()),
             disk,

@@ -12,8 +12,10 @@ use crate::check::check;
 use crate::dry_run::dry_run;
 use crate::ending::{Refusal, Status, Stop};
 use crate::finishing::Carried;
+use crate::format::format;
 use crate::resume::resume;
 use crate::run::run;
+use crate::soak::soak;
 use crate::trace::trace;
 use crate::trace_start::trace_start;
 use px_naive::Naive;
@@ -37,8 +39,8 @@ pub struct Done<D> {
 
 /// The program: does what the words ask for, which are those after the program's own name, and
 /// answers the status that the process ends with. All text goes to the host's sink. The disk has
-/// no name yet, and gets that of the journal where the command has one. `run` and `resume` let each
-/// thread of a script post from a thread of its own.
+/// no name yet, and gets that of the journal where the command has one. `run`, `resume` and `soak` let
+/// each thread of a script post from a thread of its own.
 ///
 /// | Status | Comes |
 /// |---|---|
@@ -46,7 +48,7 @@ pub struct Done<D> {
 /// | 2 | the words are no command |
 /// | 3 | the plan's file has over 1,048,576 bytes, or spells no plan that can be run |
 /// | 4 | the script's file has over 16,777,216 bytes, or a faulty line |
-/// | 5 | a journal stands where `run` is to make one; or none stands where `resume` and `trace` need one, or it is damaged, its plan can't be run, or its history runs away |
+/// | 5 | a journal stands where `run` or `soak` is to make one; or none stands where `resume` and `trace` need one, or it is damaged, its plan can't be run, or its history runs away |
 /// | 6 | the start of the plan does not settle |
 /// | 7 | the plan's or the script's file could not be read |
 /// | 8 | the sink failed, or took nothing |
@@ -148,11 +150,21 @@ fn carry_out<H: Host, D: Disk + Send, S: Stepper + Send, P: Pace, R: Threads + W
         (view H.Host host.old) (view H.Host host.new) disk result }
     ensures keeps { KeepsFiles (view H.Host host.old) (view H.Host host.new) }
 {
-    let result = match Command::of(words) {
+    let asked = match Command::of(alloc, words) {
+        Ok(asked) => asked,
+        Err(_) => {
+            return Carried {
+                result: Err(Stop::NoMemory),
+                disk,
+            };
+        }
+    };
+    let result = match asked {
         None => Err(Stop::Refused(Refusal::Usage)),
         Some(Command::TraceStart { plan }) => trace_start::<H, S>(alloc, plan, host),
         Some(Command::DryRun { plan, script }) => dry_run::<H, S>(alloc, plan, script, host),
         Some(Command::Check { plan }) => check(alloc, plan, host),
+        Some(Command::Format { plan }) => format(alloc, plan, host),
         Some(
             Command::Run {
                 plan,
@@ -173,6 +185,13 @@ fn carry_out<H: Host, D: Disk + Send, S: Stepper + Send, P: Pace, R: Threads + W
             return resume::<H, D, S, P, R>(rt, alloc, script, journal, limit, host, disk, pace);
         }
         Some(Command::Trace { journal }) => return trace::<H, D, S>(alloc, journal, host, disk),
+        Some(
+            Command::Soak {
+                count,
+                seed,
+                journal,
+            },
+        ) => return soak::<H, D, S, P, R>(rt, alloc, count, seed, journal, host, disk, pace),
     };
     Carried { result, disk }
 }

@@ -1,5 +1,9 @@
-pub mod Parting
-pub mod Counting
 pub mod Numbers
-pub mod Fronts
 pub mod Limits
+pub mod Rows
+pub mod Spelling
+pub mod Walking
+pub mod Reading
+pub mod Finished
+pub mod Found
+pub mod Made

@@ -8,7 +8,8 @@ use Rattle.px_core.specs.Plan.{is_same}
 use Rattle.px_words.specs.Asked.{asked}
 use Rattle.px_words.specs.Limited.{event_limit, is_digits, is_limit, IsLimit, count_of, behind_text, Limited, with_limit, with_operand, limited_by, limited_by_next, behind_option, limited}
 use Rattle.px_words.specs.Operands.{is_option, operands, of_two, of_three}
-use Rattle.px_words.specs.Words.{Command, Run, Resume, HasFitLimit, run_of, resume_of}
+use Rattle.px_words.specs.Seed.{seed_of}
+use Rattle.px_words.specs.Words.{Command, Run, Resume, Soak, HasFitLimit, run_of, resume_of, soak_by, soak_of}
 use Rattle.px_words.specs.declared.command.Command.{Command as Asked}
 
 -- what holds of whatever an option has
@@ -36,10 +37,10 @@ limit_of : (count : ℕ) → is_limit count ≡ true → IsLimit count
 limit_of count is = let parts = and_parts (nat_le 1 count) (nat_le count event_limit) is in (leb-true 1 count parts.0, leb-true count event_limit parts.1)
 
 counted : (word : List ℕ) → ForSome (count_of word) IsLimit
-counted word = by (is_digits word && is_limit (digits_value 10 word)) refl
+counted word = by (is_digits 6 word && is_limit (digits_value 10 word)) refl
   where
-    by : (b : Bool) → is_digits word && is_limit (digits_value 10 word) ≡ b → ForSome (if b then Some (digits_value 10 word) else None) IsLimit
-    by true is = some_has IsLimit (digits_value 10 word) (limit_of (digits_value 10 word) (and_parts (is_digits word) (is_limit (digits_value 10 word)) is).1)
+    by : (b : Bool) → is_digits 6 word && is_limit (digits_value 10 word) ≡ b → ForSome (if b then Some (digits_value 10 word) else None) IsLimit
+    by true is = some_has IsLimit (digits_value 10 word) (limit_of (digits_value 10 word) (and_parts (is_digits 6 word) (is_limit (digits_value 10 word)) is).1)
     by false is = none_has IsLimit
 
 abbrev Fits : Limited → Type 0
@@ -85,6 +86,21 @@ run_fits words = behind HasFitLimit run_of (limited words) (λ read is. three_fi
 
 pub resume_fits : (words : List (List ℕ)) → ForSome (option_and_then resume_of (limited words)) HasFitLimit
 resume_fits words = behind HasFitLimit resume_of (limited words) (λ read is. two_fit (λ s j. Resume s j read.limit) read.operands (λ a b. limits words read is))
+
+soak_by_fits : (count seed : Option ℕ) (journal : List ℕ) → ForSome count IsLimit → ForSome (soak_by count seed journal) HasFitLimit
+soak_by_fits None seed journal fit = none_has HasFitLimit
+soak_by_fits (Some count) None journal fit = none_has HasFitLimit
+soak_by_fits (Some count) (Some seed) journal fit = some_has HasFitLimit (Soak count seed journal) (fit count refl)
+
+soaks_fit : (words : List (List ℕ)) → ForSome (soak_of words) HasFitLimit
+soaks_fit [] = none_has HasFitLimit
+soaks_fit (a ∷ []) = none_has HasFitLimit
+soaks_fit (a ∷ b ∷ []) = none_has HasFitLimit
+soaks_fit (a ∷ b ∷ c ∷ []) = soak_by_fits (count_of a) (seed_of b) c (counted a)
+soaks_fit (a ∷ b ∷ c ∷ d ∷ more) = none_has HasFitLimit
+
+pub soak_fits : (words : List (List ℕ)) → ForSome (option_and_then soak_of (operands words)) HasFitLimit
+soak_fits words = behind HasFitLimit soak_of (operands words) (λ found is. soaks_fit found)
 
 -- the command of the program's own kind
 pub fit_answer : (found : Option Asked) (o : Option Command) → option_map asked found ≡ o → ForSome o HasFitLimit → ForSome found (λ f. HasFitLimit (asked f))

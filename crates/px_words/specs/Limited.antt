@@ -11,9 +11,9 @@ use Rattle.px_words.specs.Operands.{is_option, operands}
 abbrev pub event_limit : ℕ
 event_limit = 100000
 
--- 1 to 6 digits
-abbrev pub is_digits : List ℕ → Bool
-is_digits digits = nat_le 1 (length digits) && nat_le (length digits) 6 && list_all is_digit digits
+-- digits, at least one and at most so many
+abbrev pub is_digits : ℕ → List ℕ → Bool
+is_digits most digits = nat_le 1 (length digits) && nat_le (length digits) most && list_all is_digit digits
 
 abbrev pub is_limit : ℕ → Bool
 is_limit count = nat_le 1 count && nat_le count event_limit
@@ -25,7 +25,7 @@ IsLimit count = (1 ≤ count) × (count ≤ event_limit)
 -- the number from 1 to 100,000 that 1 to 6 digits spell
 abbrev pub count_of : List ℕ → Option ℕ
 count_of digits =
-    if is_digits digits && is_limit (digits_value 10 digits) then Some (digits_value 10 digits) else None
+    if is_digits 6 digits && is_limit (digits_value 10 digits) then Some (digits_value 10 digits) else None
 
 -- what stands behind a text at the front of a word
 abbrev pub behind_text : List ℕ → List ℕ → Option (List ℕ)

@@ -1,13 +1,8 @@
--- The lists that runs of words stand for.
-use Rattle.std.specs.Prelude.{ℕ, List, ◌++◌, map}
-use Rattle.std.specs.String.{string_bytes}
-use Rattle.px_words.specs.declared.operands.Operands.{Operands}
-use Rattle.px_words.specs.declared.limited.Limited.{Limited as HasLimit}
+-- The operands and the limit that a line stands for.
+use Rattle.clap.specs.Words.{found_of, rows_of}
+use Rattle.px_words.specs.declared.line.Line.{Line}
 use Rattle.px_words.specs.Limited.{Limited, with_limit}
+use Rattle.px_words.specs.Line.{operands_in}
 
-abbrev pub listed : Operands → List (List ℕ)
-listed operands =
-    map string_bytes operands.front.now ++ (map string_bytes operands.middle.now ++ map string_bytes operands.back.now)
-
-abbrev pub limited_list : HasLimit → Limited
-limited_list read = with_limit read.limit (listed read.operands)
+abbrev pub listed : Line → Limited
+listed line = with_limit line.limit (operands_in (rows_of (found_of line.found)))

@@ -1,6 +1,5 @@
 -- The operands of a command.
-use Rattle.std.specs.Prelude.{ℕ, Bool, false, ◌==◌, List, [], ◌∷◌, drop, Option, Some, None, codes, if◌then◌else◌}
-use Rattle.std.specs.List.{position_or_len, before_first}
+use Rattle.std.specs.Prelude.{ℕ, Bool, false, ◌==◌, List, [], ◌∷◌, Option, Some, None, codes, if◌then◌else◌}
 use Rattle.std.specs.Option.{option_map}
 use Rattle.px_core.specs.Plan.{is_same}
 
@@ -17,13 +16,6 @@ operands (word ∷ words) =
     if is_same word (codes "--") then Some words
     else if is_option word then None
     else option_map (λ more. word ∷ more) (operands words)
-
--- the words before the first that looks like an option, and those from it on
-abbrev pub before_option : List (List ℕ) → List (List ℕ)
-before_option words = before_first is_option words
-
-abbrev pub from_option : List (List ℕ) → List (List ℕ)
-from_option words = drop (position_or_len is_option words) words
 
 -- what is made of one operand; of two; of three
 abbrev pub of_one : {A : Type 0} → (List ℕ → A) → List (List ℕ) → Option A

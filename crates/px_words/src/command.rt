@@ -1,13 +1,16 @@
 // What the command words ask for.
-ghost use Rattle.std.specs.Prelude.{◌≡◌, map};
+ghost use Rattle.std.specs.Prelude.{◌≡◌, IfOk, map};
 ghost use Rattle.std.specs.Option.{option_map, option_and_then, ForSome};
 ghost use Rattle.std.specs.String.{string_bytes};
-ghost use Rattle.px_words.specs.Limited.{limited};
+ghost use Rattle.px_words.specs.Limited.{count_of, limited};
 ghost use Rattle.px_words.specs.Operands.{operands, of_one, of_two};
-ghost use Rattle.px_words.specs.Words.{TraceStart, DryRun, Check, Trace, HasFitLimit, run_of, resume_of, command};
+ghost use Rattle.px_words.specs.Seed.{seed_of};
+ghost use Rattle.px_words.specs.Words.{TraceStart, DryRun, Check, Format, Trace, HasFitLimit, run_of, resume_of, soak_of, command};
 
-use crate::limited::Limited;
-use crate::operands::Operands;
+use crate::count::{count_of, seed_of};
+use crate::line::Line;
+use px_value::NoMemory;
+use std::alloc::Global;
 
 /// What the program can do.
 #[derive(Clone, Copy)]
@@ -23,6 +26,10 @@ pub enum Command<'a> {
     },
     /// Prints how many nodes the plan has.
     Check {
+        plan: &'a str,
+    },
+    /// Prints the plan in its layout.
+    Format {
         plan: &'a str,
     },
     /// Makes a journal, and runs the script, up to so many events.
@@ -42,6 +49,12 @@ pub enum Command<'a> {
     Trace {
         journal: &'a str,
     },
+    /// Makes a journal, runs the plan and so many lines of the script that are made from the seed, and prints a summary.
+    Soak {
+        count: u32,
+        seed: u32,
+        journal: &'a str,
+    },
 }
 
 impl<'a> Command<'a> {
@@ -53,79 +66,110 @@ impl<'a> Command<'a> {
     /// After a word `--` each word is an operand. Before it none may look like an option, but
     /// `run` and `resume` have one that may stand once: `--events N` or `--events=N`, where N is 1
     /// to 6 digits for a number from 1 to [`EVENT_LIMIT`](crate::EVENT_LIMIT). Without it the limit
-    /// is that greatest one.
-    pub fn of(words: &'a [String]) -> Option<Command<'a>>
-        ensures asked { option_map asked result ≡ command (map string_bytes words.now) }
-        ensures within { ForSome result (λ found. HasFitLimit (asked found)) }
+    /// is that greatest one. The first operand of `soak` is such a number too, and its second 1 to 10
+    /// digits for a number below 2^32.
+    pub fn of(alloc: Global, words: &'a [String]) -> Result<Option<Command<'a>>, NoMemory>
+        ensures asked { IfOk result (λ found. option_map asked found ≡ command (map string_bytes words.now)) }
+        ensures within { IfOk result (λ found. ForSome found (λ asks. HasFitLimit (asked asks))) }
     {
-        let (name, words) = words.split_first()?;
+        let Some((name, words)) = words.split_first() else {
+            return Ok(None);
+        };
         match name.as_str() {
-            "trace-start" => Command::trace_start(words),
-            "dry-run" => Command::dry_run(words),
-            "check" => Command::check(words),
-            "run" => Command::run(words),
-            "resume" => Command::resume(words),
-            "trace" => Command::trace(words),
-            _ => None,
+            "trace-start" => Ok(operand(alloc, words)?.map(|plan| Command::TraceStart { plan })),
+            "dry-run" => Command::dry_run(alloc, words),
+            "check" => Ok(operand(alloc, words)?.map(|plan| Command::Check { plan })),
+            "format" => Ok(operand(alloc, words)?.map(|plan| Command::Format { plan })),
+            "run" => Command::run(alloc, words),
+            "resume" => Command::resume(alloc, words),
+            "trace" => Ok(operand(alloc, words)?.map(|journal| Command::Trace { journal })),
+            "soak" => Command::soak(alloc, words),
+            _ => Ok(None),
         }
     }
 
-    fn trace_start(words: &'a [String]) -> Option<Command<'a>>
-        ensures { option_map asked result
-            ≡ option_and_then (of_one TraceStart) (operands (map string_bytes words.now)) }
+    fn dry_run(alloc: Global, words: &'a [String]) -> Result<Option<Command<'a>>, NoMemory>
+        ensures { IfOk result (λ found. option_map asked found
+            ≡ option_and_then (of_two DryRun) (operands (map string_bytes words.now))) }
     {
-        let plan = Operands::of(words)?.one()?;
-        Some(Command::TraceStart { plan })
+        let Some(line) = Line::plain(alloc, words)? else {
+            return Ok(None);
+        };
+        let &[plan, script] = line.operands() else {
+            return Ok(None);
+        };
+        Ok(Some(Command::DryRun { plan, script }))
     }
 
-    fn dry_run(words: &'a [String]) -> Option<Command<'a>>
-        ensures { option_map asked result
-            ≡ option_and_then (of_two DryRun) (operands (map string_bytes words.now)) }
+    fn run(alloc: Global, words: &'a [String]) -> Result<Option<Command<'a>>, NoMemory>
+        ensures { IfOk result (λ found. option_map asked found
+            ≡ option_and_then run_of (limited (map string_bytes words.now))) }
     {
-        let (plan, script) = Operands::of(words)?.two()?;
-        Some(Command::DryRun { plan, script })
-    }
-
-    fn check(words: &'a [String]) -> Option<Command<'a>>
-        ensures { option_map asked result
-            ≡ option_and_then (of_one Check) (operands (map string_bytes words.now)) }
-    {
-        let plan = Operands::of(words)?.one()?;
-        Some(Command::Check { plan })
-    }
-
-    fn run(words: &'a [String]) -> Option<Command<'a>>
-        ensures { option_map asked result
-            ≡ option_and_then run_of (limited (map string_bytes words.now)) }
-    {
-        let Limited { operands, limit } = Limited::of(words)?;
-        let (plan, script, journal) = operands.three()?;
-        Some(Command::Run {
+        let Some(line) = Line::limited(alloc, words)? else {
+            return Ok(None);
+        };
+        let &[plan, script, journal] = line.operands() else {
+            return Ok(None);
+        };
+        Ok(Some(Command::Run {
             plan,
             script,
             journal,
-            limit,
-        })
+            limit: line.limit,
+        }))
     }
 
-    fn resume(words: &'a [String]) -> Option<Command<'a>>
-        ensures { option_map asked result
-            ≡ option_and_then resume_of (limited (map string_bytes words.now)) }
+    fn resume(alloc: Global, words: &'a [String]) -> Result<Option<Command<'a>>, NoMemory>
+        ensures { IfOk result (λ found. option_map asked found
+            ≡ option_and_then resume_of (limited (map string_bytes words.now))) }
     {
-        let Limited { operands, limit } = Limited::of(words)?;
-        let (script, journal) = operands.two()?;
-        Some(Command::Resume {
+        let Some(line) = Line::limited(alloc, words)? else {
+            return Ok(None);
+        };
+        let &[script, journal] = line.operands() else {
+            return Ok(None);
+        };
+        Ok(Some(Command::Resume {
             script,
             journal,
-            limit,
-        })
+            limit: line.limit,
+        }))
     }
 
-    fn trace(words: &'a [String]) -> Option<Command<'a>>
-        ensures { option_map asked result
-            ≡ option_and_then (of_one Trace) (operands (map string_bytes words.now)) }
+    fn soak(alloc: Global, words: &'a [String]) -> Result<Option<Command<'a>>, NoMemory>
+        ensures { IfOk result (λ found. option_map asked found
+            ≡ option_and_then soak_of (operands (map string_bytes words.now))) }
     {
-        let journal = Operands::of(words)?.one()?;
-        Some(Command::Trace { journal })
+        let Some(line) = Line::plain(alloc, words)? else {
+            return Ok(None);
+        };
+        Ok(Command::soak_of(line.operands()))
     }
+
+    fn soak_of(operands: &[&'a str]) -> Option<Command<'a>>
+        ensures { option_map asked result ≡ soak_of (map (λ word. word.now) operands.now) }
+    {
+        let &[count, seed, journal] = operands else {
+            return None;
+        };
+        Some(Command::Soak {
+            count: count_of(count)?,
+            seed: seed_of(seed)?,
+            journal,
+        })
+    }
+}
+
+/// The operand of a command that has one.
+fn operand<'a>(alloc: Global, words: &'a [String]) -> Result<Option<&'a str>, NoMemory>
+    ensures { IfOk result (λ found. option_map (λ word. word.now) found
+        ≡ option_and_then (of_one (λ word. word)) (operands (map string_bytes words.now))) }
+{
+    let Some(line) = Line::plain(alloc, words)? else {
+        return Ok(None);
+    };
+    let &[operand] = line.operands() else {
+        return Ok(None);
+    };
+    Ok(Some(operand))
 }

@@ -14,7 +14,7 @@ returns-in-Ok-clause-runs g c =
     let exec = c.in-Ok.exec in
     let made : Creates g.D.Disk c.args.journal.now ready.text.items ready.stepper c.args.limit c.args.disk exec =
     subst (λ text. Creates g.D.Disk c.args.journal.now text ready.stepper c.args.limit c.args.disk exec) c.deref.ensures.value c.in-Ok.ensures.created in
-    made_runs g.D.Disk (g.S.Stepper.state ready.stepper).nodes ready.text.items c.args.journal.now c.args.limit ready.script.threads before now c.args.disk
+    made_runs g.D.Disk c.args.telling (g.S.Stepper.state ready.stepper).nodes ready.text.items c.args.journal.now c.args.limit ready.script.threads before now c.args.disk
     (rest_whole ready.script.threads c.requires.lines.lines) g.S.Stepper ready.stepper exec c.finish.result refl made
     (c.finish.ensures.finishes ready.text.items made.stands)
 
@@ -23,7 +23,7 @@ returns-clause-runs g c =
     let ready = c.args.prepared in
     let before = view g.H.Host c.args.host.now in
     let fault = c.in-Err.field-0 in
-    not_made_runs g.D.Disk (g.S.Stepper.state ready.stepper).nodes ready.text.items c.args.journal.now c.args.limit ready.script.threads before before c.args.disk
+    not_made_runs g.D.Disk c.args.telling (g.S.Stepper.state ready.stepper).nodes ready.text.items c.args.journal.now c.args.limit ready.script.threads before before c.args.disk
     (rest_whole ready.script.threads c.requires.lines.lines) fault.why fault.disk c.into.result
     (some_run _ [] _ c.requires.started)
     c.into.ensures
