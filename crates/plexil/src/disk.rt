@@ -5,32 +5,50 @@ ghost use Rattle.std.specs.String.{string_bytes};
 ghost use Rattle.std.proofs.lemmas.Option.{none-some};
 ghost use Rattle.px_ports.specs.Disk.{CountsFaults};
 
+use crate::tail::Tail;
 use px_ports::{Disk, DiskFault};
 use std::alloc::Global;
-use std::fs::{File, OpenFile};
-use std::io;
+use std::fs::File;
 use std::io::{ErrorKind, Read, Seek, SeekFrom, Write};
 use std::path::Path;
 use std::rt::Files;
+use std::{fs, io};
+
+// A file of fewer bytes is no journal.
+const LEAST_JOURNAL: u64 = 13;
+
+/// What a disk does with its file.
+#[derive(Clone, Copy)]
+pub enum Access {
+    /// It reads, and each write fails. Another disk may write to the file meanwhile: its end is read as it was when the
+    /// length was asked for, until it is asked for again.
+    Read,
+    /// It reads and writes, and holds the file by its lock until it is dropped, so that no other disk writes to it, of this
+    /// process or of another.
+    Write,
+}
 
 /// A disk over what the runtime reaches, with its count of faults. It is bound where it is attached.
 #[derive(Drop)]
-pub struct StdDisk<R: Files> {
+pub struct StdDisk<R: Files<File = File>> {
     rt: R,
     alloc: Global,
+    access: Access,
     name: Option<String>,
     // None where nothing has the name yet.
-    file: Option<R::File>,
-    // This disk has made the file, and not yet synced its folder.
+    file: Option<File>,
+    // The end of the file when its length was told last, where the disk only reads.
+    tail: Option<Tail>,
+    // This disk has made the file, or another one may have, and the folder isn't synced yet.
     is_new: bool,
     // A sync has failed. The system may forget what it couldn't write then, so that no later sync can vouch for it.
     is_lost: bool,
     faults: u64,
 }
 
-impl<R: Files> StdDisk<R> {
+impl<R: Files<File = File>> StdDisk<R> {
     /// A disk with no call yet.
-    pub fn new(alloc: Global, rt: R) -> Self
+    pub fn new(alloc: Global, rt: R, access: Access) -> Self
         ensures bound { ⟦<StdDisk<R> as Disk>⟧.bound_to result ≡ None }
         ensures attached { ⟦<StdDisk<R> as Disk>⟧.is_attached result ≡ false }
         ensures faults { ⟦<StdDisk<R> as Disk>⟧.faults result ≡ 0 }
@@ -38,8 +56,10 @@ impl<R: Files> StdDisk<R> {
         StdDisk {
             rt,
             alloc,
+            access,
             name: None,
             file: None,
+            tail: None,
             is_new: false,
             is_lost: false,
             faults: 0,
@@ -53,9 +73,50 @@ impl<R: Files> StdDisk<R> {
         ensures faults { self.new.faults ≡ self.old.faults }
     {
         let kept = String::from_str(self.alloc, name)?;
-        self.file = open_if_there(&self.rt, name)?;
+        let file = open_if_there(&self.rt, self.access, name)?;
+        self.is_new = may_be_new(self.access, &file)?;
+        self.file = file;
         self.name = Some(kept);
         Ok(())
+    }
+
+    // The length of the file. Where the disk only reads, it keeps the file's end.
+    fn measure(&mut self) -> io::Result<u64>
+        ensures name { self.new.name ≡ self.old.name }
+        ensures faults { self.new.faults ≡ self.old.faults }
+    {
+        let Some(file) = &mut self.file else {
+            return Ok(0);
+        };
+        match self.access {
+            Access::Read => {
+                let tail = Tail::read(self.alloc, file)?;
+                let length = tail.end();
+                self.tail = Some(tail);
+                Ok(length)
+            }
+            Access::Write => Ok(file.metadata()?.len()),
+        }
+    }
+
+    // Fills `into` with the bytes from a place on.
+    fn fill(&mut self, at: u64, into: &mut [u8]) -> io::Result<()>
+        ensures name { self.new.name ≡ self.old.name }
+        ensures faults { self.new.faults ≡ self.old.faults }
+    {
+        let Some(file) = &mut self.file else {
+            return if into.is_empty() {
+                Ok(())
+            } else {
+                Err(ErrorKind::UnexpectedEof.into())
+            };
+        };
+        file.seek(SeekFrom::Start(at))?;
+        file.read_exact(into)?;
+        match &self.tail {
+            Some(tail) => tail.cover(at, into),
+            None => Ok(()),
+        }
     }
 
     // Writes all of the bytes, to a file that is made if there is none.
@@ -64,9 +125,14 @@ impl<R: Files> StdDisk<R> {
         ensures name { self.new.name ≡ self.old.name }
         ensures faults { self.new.faults ≡ self.old.faults }
     {
+        if matches!(self.access, Access::Read) {
+            return Err(ErrorKind::PermissionDenied.into());
+        }
         let name = self.name.as_ref().unwrap();
         if self.file.is_none() {
-            self.file = Some(File::create_new(&self.rt, name.as_str())?);
+            let file = File::create_new(&self.rt, name.as_str())?;
+            file.try_lock()?;
+            self.file = Some(file);
             self.is_new = true;
         }
         let file = self.file.as_mut().unwrap();
@@ -75,7 +141,7 @@ impl<R: Files> StdDisk<R> {
         file.flush()
     }
 
-    // Syncs the file, and where this disk has made it, that its folder has it.
+    // Syncs the file, and where it may be new, that its folder has it.
     fn sync_all(&mut self) -> io::Result<()>
         requires { IsTrue (is_some self.old.name) }
         ensures name { self.new.name ≡ self.old.name }
@@ -95,7 +161,7 @@ impl<R: Files> StdDisk<R> {
     }
 }
 
-impl<R: Files> Disk for StdDisk<R> {
+impl<R: Files<File = File>> Disk for StdDisk<R> {
     ghost bound_to = { λ disk. option_map string_bytes disk.name };
 
     ghost is_attached = { λ disk. is_some disk.name };
@@ -125,12 +191,12 @@ impl<R: Files> Disk for StdDisk<R> {
     }
 
     fn len(&mut self) -> Result<u64, DiskFault> {
-        let answer = length_of(&self.file);
+        let answer = self.measure();
         counted(&mut self.faults, answer)
     }
 
     fn read_at(&mut self, at: u64, into: &mut [u8]) -> Result<(), DiskFault> {
-        let answer = read_exactly(&mut self.file, at, into);
+        let answer = self.fill(at, into);
         counted(&mut self.faults, answer)
     }
 
@@ -164,10 +230,38 @@ fn counted<T>(faults: &mut u64, answer: io::Result<T>) -> Result<T, DiskFault>
     }
 }
 
-// The file of this name, or none where nothing has it. One that may only be read can be attached: a write to it fails.
-fn open_if_there<R: Files>(rt: &R, name: &str) -> io::Result<Option<R::File>> {
-    let opened = match File::options().read(true).write(true).open(rt, name) {
+// The file of this name, or none where nothing has it.
+fn open_if_there<R: Files<File = File>>(
+    rt: &R,
+    access: Access,
+    name: &str,
+) -> io::Result<Option<File>> {
+    let opened = match access {
+        Access::Read => open_to_read(rt, name),
+        Access::Write => open_to_write(rt, name),
+    };
+    let file = match opened {
         Err(fault) if fault.kind() == ErrorKind::NotFound => return Ok(None),
+        opened => opened?,
+    };
+    if !file.metadata()?.is_file() {
+        return Err(ErrorKind::InvalidInput.into());
+    }
+    Ok(Some(file))
+}
+
+// Opens a file for reading alone. What is none is refused by its name: to open a pipe would wait for its writer.
+fn open_to_read<R: Files<File = File>>(rt: &R, name: &str) -> io::Result<File> {
+    if !fs::metadata(rt, name)?.is_file() {
+        return Err(ErrorKind::InvalidInput.into());
+    }
+    File::open(rt, name)
+}
+
+// Opens a file for writing and takes its lock, or fails where another disk has it. One that may only be read is opened all
+// the same: a write to it fails.
+fn open_to_write<R: Files<File = File>>(rt: &R, name: &str) -> io::Result<File> {
+    let opened = match File::options().read(true).write(true).open(rt, name) {
         Err(fault)
             if matches!(
                 fault.kind(),
@@ -176,32 +270,20 @@ fn open_if_there<R: Files>(rt: &R, name: &str) -> io::Result<Option<R::File>> {
         opened => opened,
     };
     let file = opened?;
-    if !file.metadata()?.is_file() {
-        return Err(ErrorKind::InvalidInput.into());
-    }
-    Ok(Some(file))
+    file.try_lock()?;
+    Ok(file)
 }
 
-fn length_of<F: OpenFile>(file: &Option<F>) -> io::Result<u64> {
-    match file {
-        Some(file) => Ok(file.metadata()?.len()),
-        None => Ok(0),
-    }
-}
-
-fn read_exactly<F: Read + Seek>(file: &mut Option<F>, at: u64, into: &mut [u8]) -> io::Result<()> {
-    match file {
-        Some(file) => {
-            file.seek(SeekFrom::Start(at))?;
-            file.read_exact(into)
-        }
-        None if into.is_empty() => Ok(()),
-        None => Err(ErrorKind::UnexpectedEof.into()),
+// Whether a file may be one that another disk has made and whose folder it hasn't synced: it is too short for a journal.
+fn may_be_new(access: Access, file: &Option<File>) -> io::Result<bool> {
+    match (access, file) {
+        (Access::Write, Some(file)) => Ok(file.metadata()?.len() < LEAST_JOURNAL),
+        _ => Ok(false),
     }
 }
 
 // Makes sure that the folder of a file has it. Some file systems can't sync a folder, and refuse it as no fit argument.
-fn sync_folder<R: Files>(rt: &R, name: &str) -> io::Result<()> {
+fn sync_folder<R: Files<File = File>>(rt: &R, name: &str) -> io::Result<()> {
     let folder = match Path::new(name).parent() {
         Some(folder) if !folder.as_str().is_empty() => folder.as_str(),
         _ => ".",
@@ -233,7 +315,7 @@ mod tests {
         let folder = folder(&rt, "written")?;
         let name = format!(in alloc; "{folder}/journal")?;
 
-        let mut disk = StdDisk::new(alloc, &rt);
+        let mut disk = StdDisk::new(alloc, &rt, Access::Write);
         disk.attach(name.as_str())?;
         disk.sync()?;
         assert_eq!(rt; disk.len(), Ok(0));
@@ -242,13 +324,66 @@ mod tests {
         disk.write_at(3, b"xyz")?;
         disk.sync()?;
 
-        let mut next = StdDisk::new(alloc, &rt);
+        let mut next = StdDisk::new(alloc, &rt, Access::Read);
         next.attach(name.as_str())?;
         let mut read = [0; 4];
         next.read_at(1, &mut read)?;
         assert_eq!(rt; read, *b"bcxy");
         assert_eq!(rt; next.len(), Ok(6));
         assert_eq!(rt; next.faults(), 0);
+        fs::remove_dir_all(&rt, folder.as_str())?;
+        Ok(())
+    }
+
+    #[test]
+    fn one_disk_at_a_time_writes(rt: HostRuntime) -> Result<(), Fail> {
+        let alloc = rt.alloc();
+        let folder = folder(&rt, "held")?;
+        let name = format!(in alloc; "{folder}/journal")?;
+
+        // the first that writes has the file, though another was attached before it was there
+        let mut early = StdDisk::new(alloc, &rt, Access::Write);
+        early.attach(name.as_str())?;
+        let mut disk = StdDisk::new(alloc, &rt, Access::Write);
+        disk.attach(name.as_str())?;
+        disk.write_at(0, b"a")?;
+        assert_eq!(rt; early.write_at(0, b"b"), Err(DiskFault));
+        let mut late = StdDisk::new(alloc, &rt, Access::Write);
+        assert_eq!(rt; late.attach(name.as_str()), Err(DiskFault));
+        disk.write_at(1, b"c")?;
+
+        drop(disk);
+        late.attach(name.as_str())?;
+        late.write_at(2, b"d")?;
+        fs::remove_dir_all(&rt, folder.as_str())?;
+        Ok(())
+    }
+
+    #[test]
+    fn one_that_reads_keeps_what_it_has_told(rt: HostRuntime) -> Result<(), Fail> {
+        let alloc = rt.alloc();
+        let folder = folder(&rt, "read")?;
+        let name = format!(in alloc; "{folder}/journal")?;
+
+        let mut early = StdDisk::new(alloc, &rt, Access::Read);
+        early.attach(name.as_str())?;
+        assert_eq!(rt; early.write_at(0, b"a"), Err(DiskFault));
+        assert!(rt; !fs::exists(&rt, name.as_str())?);
+
+        let mut disk = StdDisk::new(alloc, &rt, Access::Write);
+        disk.attach(name.as_str())?;
+        disk.write_at(0, b"ab")?;
+        let mut reader = StdDisk::new(alloc, &rt, Access::Read);
+        reader.attach(name.as_str())?;
+        assert_eq!(rt; reader.write_at(0, b"b"), Err(DiskFault));
+        assert_eq!(rt; reader.len(), Ok(2));
+        disk.write_at(1, b"cd")?;
+        let mut read = [0; 2];
+        reader.read_at(0, &mut read)?;
+        assert_eq!(rt; read, *b"ab");
+        assert_eq!(rt; reader.len(), Ok(3));
+        reader.read_at(1, &mut read)?;
+        assert_eq!(rt; read, *b"cd");
         fs::remove_dir_all(&rt, folder.as_str())?;
         Ok(())
     }
@@ -261,11 +396,11 @@ mod tests {
         let name = format!(in alloc; "{folder}/journal")?;
         let below = format!(in alloc; "{name}/journal")?;
 
-        let mut disk = StdDisk::new(alloc, &rt);
+        let mut disk = StdDisk::new(alloc, &rt, Access::Write);
         disk.attach(name.as_str())?;
         disk.write_at(0, b"abcde")?;
         for refused in [folder.as_str(), below.as_str(), "/dev/null", "a\0b"] {
-            let mut other = StdDisk::new(alloc, &rt);
+            let mut other = StdDisk::new(alloc, &rt, Access::Write);
             assert_eq!(rt; other.attach(refused), Err(DiskFault), "{refused:?}");
             assert_eq!(rt; other.faults(), 1, "{refused:?}");
         }

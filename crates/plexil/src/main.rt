@@ -4,8 +4,9 @@
 
 mod disk;
 mod host;
+mod tail;
 
-use disk::StdDisk;
+use disk::{Access, StdDisk};
 use host::StdHost;
 use px_run::plexil;
 use px_script::NoPace;
@@ -22,9 +23,17 @@ fn main(rt: HostRuntime) -> ExitCode {
     let Ok(words) = command_words(&rt) else {
         return ExitCode::from(WANT_OF_MEMORY);
     };
-    let disk = StdDisk::new(alloc, rt);
+    let disk = StdDisk::new(alloc, rt, access_for(&words));
     let mut host = StdHost::new(alloc, rt);
     ExitCode::from(plexil(&rt, alloc, &words, &mut host, disk, &NoPace).status)
+}
+
+// What the command does with its journal: `trace` writes nothing, so that it can stand beside a command that does.
+fn access_for(words: &[String]) -> Access {
+    match words.first() {
+        Some(name) if name.as_str() == "trace" => Access::Read,
+        _ => Access::Write,
+    }
 }
 
 // The words behind the program's own name. A command line that isn't UTF-8 is faulty, and stands as one

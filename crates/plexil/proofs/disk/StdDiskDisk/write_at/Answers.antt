@@ -1,5 +1,5 @@
 -- A write of a disk that tells nothing, and of which a crash may leave anything.
-use Rattle.std.proofs.Common.{◌≡◌, ℕ, List, [], length, refl}
+use Rattle.std.proofs.Common.{◌≡◌, ℕ, List, length, refl}
 use Rattle.std.specs.Prelude.{Result, Ok, Err, OnOk, None}
 use Rattle.std.specs.Option.{option_map}
 use Rattle.std.proofs.lemmas.Option.{none-some}
