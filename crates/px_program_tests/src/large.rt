@@ -17,7 +17,7 @@ plan running
 
 const GO: &str = "A: { Start Lookup(go); }";
 
-// What a call answers that needs no disk.
+// What a call answers over an empty disk.
 fn answer<R: Threads + Wait + Sync>(
     rt: &R,
     alloc: Global,
@@ -175,19 +175,28 @@ fn a_plan_of_4096_blocks_and_64_levels_runs(rt: HostRuntime) -> Result<(), Fail>
     let alloc = rt.alloc();
     let finished = "quiet 319\nplan finished SUCCESS\n";
     let refusal = "plan refused: too many nodes 4097\n";
-    for (blocks, wanted, end) in [(4033, 0, finished), (4034, 3, refusal)] {
+    let cases: [(usize, &str, u8, &str); 3] = [
+        (4033, "trace-start P", 0, finished),
+        (4034, "trace-start P", 3, refusal),
+        (4034, "format P", 3, refusal),
+    ];
+    for (blocks, words, wanted, end) in cases {
         let plan = deep_plan(alloc, blocks)?;
-        let answer = answer(
-            &rt,
-            alloc,
-            "trace-start P",
-            plan.as_bytes(),
-            b"",
-            Faults::NONE,
-        )?;
-        assert_eq!(rt; answer.status, wanted, "{blocks}");
-        assert!(rt; answer.text.as_str().ends_with(end), "{blocks}");
+        let answer = answer(&rt, alloc, words, plan.as_bytes(), b"", Faults::NONE)?;
+        assert_eq!(rt; answer.status, wanted, "{words}: {blocks}");
+        assert!(rt; answer.text.as_str().ends_with(end), "{words}: {blocks}");
     }
+    Ok(())
+}
+
+// Each line of a soak takes 12 micro steps, and the start one; the rests of a hundred lines add up to 4950.
+#[test]
+fn a_soak_posts_each_of_its_lines(rt: HostRuntime) -> Result<(), Fail> {
+    let alloc = rt.alloc();
+    let answer = answer(&rt, alloc, "soak 1000 7 J", b"", b"", Faults::NONE)?;
+    let text = "soak events 1000\nsoak refused 0\nsoak steps 12001\nsoak sum 49500\n";
+    assert_eq!(rt; answer.text.as_str(), text);
+    assert_eq!(rt; answer.status, 0);
     Ok(())
 }
 

@@ -3,9 +3,9 @@
 //! The rows are the file `stdin`, in tables: the transitions in the order of their rows, the conflicts of writers, the
 //! effects of moves, the values of expressions, the events, scripts, whole runs, refusals, sessions over a journal, the
 //! bytes of its entries, command words, scripts of several threads and their waits, the faults of plans with a sound plan
-//! beside each, operators, syntax, depth, tokens, numbers of nodes, values, and the names of paths. All texts and bytes in
-//! it were worked out by hand, from the tables of docs/LANGUAGE.md and docs/SEMANTICS.md and the forms of docs/FORMATS.md.
-//! A row is
+//! beside each, operators, syntax, depth, tokens, numbers of nodes, values, the names of paths, layouts, and soaks. All
+//! texts and bytes in it were worked out by hand, from the tables of docs/LANGUAGE.md and docs/SEMANTICS.md and the forms
+//! of docs/FORMATS.md. A row is
 //!
 //! ```text
 //! NAME
@@ -38,6 +38,10 @@
 #![tactic(auto)]
 
 mod bytes;
+#[cfg(test)]
+mod closed;
+#[cfg(test)]
+mod eight_threads;
 mod faults;
 #[cfg(test)]
 mod large;

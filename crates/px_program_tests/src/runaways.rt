@@ -168,7 +168,7 @@ runaway at start",
 ];
 
 // Sessions an event of which is refused, spelled as the rows are.
-const SESSION_EVENTS: [&str; 2] = [
+const SESSION_EVENTS: [&str; 3] = [
     // The event that is refused isn't in the journal.
     "an event that runs away is not in the journal
 run P S J
@@ -199,6 +199,19 @@ resume S J
 
 ---- script
 set go = true
+---- journal 01 50 4c 58 4a 52 4e 4c 31 00 00 00 25
+41 3a 20 7b 20 53 74 61 72 74 20 4c 6f 6f 6b 75 70 28 67 6f 29 3b 20 52 65 70 65 61 74 20 74 72
+75 65 3b 20 7d
+01 00 0c 01 00 00 00 01 01 00 02 67 6f 00 02
+00
+---- answers 5
+journal refused: runaway at event 1",
+    "the history of a journal that is printed runs away
+trace J
+---- plan
+
+---- script
+
 ---- journal 01 50 4c 58 4a 52 4e 4c 31 00 00 00 25
 41 3a 20 7b 20 53 74 61 72 74 20 4c 6f 6f 6b 75 70 28 67 6f 29 3b 20 52 65 70 65 61 74 20 74 72
 75 65 3b 20 7d
