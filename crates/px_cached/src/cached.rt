@@ -1,5 +1,5 @@
 // The truth of each condition, kept.
-ghost use Rattle.std.specs.Prelude.{◌≡◌, ◌<◌, ◌≤◌, length, IfOk, OnOk};
+ghost use Rattle.std.specs.Prelude.{◌≡◌, ◌<◌, ◌≤◌, ◌^◌, length, IfOk, OnOk};
 ghost use Rattle.px_flat.specs.Flat.{plan_of};
 ghost use Rattle.px_flat.specs.Layout.{all_cells};
 ghost use Rattle.px_cached.specs.Cached.{AreFresh, HasTouchedCell, IsSeen, IsSeenBut, IsTouched, TellsChanged, kept_truth, plan_in, present_in};
@@ -65,6 +65,7 @@ impl Cached {
         requires { length cells.now.contents.values ≡ all_cells (plan_of flat.now) }
         ensures flat { IfOk result (λ made. made.flat ≡ flat.now) }
         ensures seen { IfOk result (λ made. IsSeen made (present_in cells.now reports.now)) }
+        ensures few { IfOk result (λ _. all_sources (plan_of flat.now) < 2 ^ 32) }
     {
         let kept = Kept::of(alloc, flat)?;
         let listeners = listeners(alloc, flat, &kept.network.parts)?;
