@@ -1,0 +1,54 @@
+-- Where nodes go by what is kept is where they go in the world, once all is seen and caught up: from the six inputs of a node
+-- to its destination.
+use Rattle.std.proofs.Common.{◌≡◌, ℕ, ◌+◌, ◌<◌, [], length, Option, ap, sym, ◌∙◌, arith}
+use Rattle.px_sem.specs.declared.guards.Arrival.{Arrival}
+use Rattle.px_sem.specs.Conflicts.{destination}
+use Rattle.px_sem.specs.Table.{dest}
+use Rattle.px_sem.specs.World.{NodeRecord}
+use Rattle.px_flat.specs.Row.{site_in, parent_number}
+use Rattle.px_told.specs.Told.{told_at}
+use Rattle.px_parts.specs.declared.parts.Parts.{Parts}
+use Rattle.px_parts.specs.Parts.{AreStanding, plan_in, world_in, record_of}
+use Rattle.px_micro.specs.Guarded.{guards_at, guards_in}
+use Rattle.px_micro.proofs.Guarding.{guards_are}
+use Rattle.px_micro.proofs.Seeing.{record_is}
+use Rattle.px_machine.specs.declared.kept.Kept.{Kept}
+use Rattle.px_machine.specs.Kept.{arrival_of, is_rest, own_seen, parent_state, truths_of}
+use Rattle.px_machine.specs.Right.{IsNow, IsRight}
+use Rattle.px_machine.proofs.Asking.{told_now}
+use Rattle.px_machine.proofs.Present.{own_now, parent_now, truths_now}
+use Rattle.px_machine.proofs.Resting.{rest_now}
+
+-- ---- the frame: the same six, the same arrival
+
+-- a node's six inputs but its kind, which is the plan's
+pub record HasTheSame (parts parts' : Parts) (kept kept' : Kept) (node : ℕ) : Type 0 where
+  pub plan : plan_in parts' ≡ plan_in parts
+  pub own : own_seen parts' node ≡ own_seen parts node
+  pub parent : parent_state kept' (parent_number (plan_in parts') node) ≡ parent_state kept (parent_number (plan_in parts) node)
+  pub told : told_at kept'.told node ≡ told_at kept.told node
+  pub rest : is_rest kept' node ≡ is_rest kept node
+  pub truths : truths_of kept' node ≡ truths_of kept node
+
+pub same_arrival : (parts parts' : Parts) (kept kept' : Kept) (node : ℕ) → HasTheSame parts parts' kept kept' node
+    → arrival_of parts' kept' node ≡ arrival_of parts kept node
+same_arrival parts parts' kept kept' node same i =
+    dest (site_in (same.plan i) node).head.kind (same.own i).state
+    (guards_in (site_in (same.plan i) node).head.kind (same.own i) (same.parent i) (same.told i) (same.rest i) (same.truths i))
+
+-- ---- the present
+
+-- where a node goes by a record, with all else as the world has it
+abbrev by_record : Parts → ℕ → NodeRecord → Option Arrival
+by_record parts node r = dest (site_in (plan_in parts) node).head.kind r.state (guards_at parts node)
+
+pub arrival_now : (parts : Parts) (kept : Kept) (node : ℕ) → AreStanding parts → IsRight parts kept → IsNow parts kept
+    → node < length (plan_in parts)
+    → arrival_of parts kept node ≡ destination (plan_in parts) (world_in parts) (site_in (plan_in parts) node)
+arrival_now parts kept node stand right now here =
+    (λ i. dest (site_in (plan_in parts) node).head.kind (own_now parts node kept now i).state
+    (guards_in (site_in (plan_in parts) node).head.kind (own_now parts node kept now i)
+    (parent_now parts kept node right now here i) (told_now parts kept node (node + 1) stand right now here (omega arith) i)
+    (rest_now parts kept node right now here i) (truths_now parts kept node stand right now here i)))
+    ∙ ap (dest (site_in (plan_in parts) node).head.kind (record_of parts node).state) (guards_are parts node here)
+    ∙ ap (by_record parts node) (sym (record_is parts node here))

@@ -1,0 +1,229 @@
+-- The queue's two lists.
+use Rattle.std.proofs.Common.{◌≡◌, ◌≢◌, ◌⊎◌, ℕ, zero, suc, ◌<◌, Bool, true, false, nat_eq, List, [], ◌∷◌, ◌++◌, length, map, drop, Contains, Option, Some, None, is_none, slice_get, refl, ap, sym, ◌∙◌, subst, arith, inl, inr, if◌then◌else◌}
+use Rattle.std.specs.Cmp.{nat_eq_equiv}
+use Rattle.std.specs.List.{list_any}
+use Rattle.std.proofs.lemmas.Bool.{cases_eq, cases_lt, eq-eqb, eqb-true, false≢true, ne_eqb}
+use Rattle.std.proofs.lemmas.List.{get_or_past, get_or-set_other, get_or-set_same, length-drop, map-append}
+use Rattle.std.proofs.lemmas.List.Elements.{Contains-append_cases, Contains-append_left, Contains-append_right}
+use Rattle.std.proofs.lemmas.List.Quantifiers.{position-Some}
+use Rattle.std.proofs.lemmas.Map.Views.{Contains-from_any, list_any-from_Contains}
+use Rattle.px_links.specs.Links.{LinksData, HoldsOthersAsBefore, SameCounts, first_of, holder_of, is_absent, popped, pushed}
+use Rattle.px_links.specs.Lists.{has, nth}
+use Rattle.px_micro.specs.declared.sight.Going.{Going}
+use Rattle.px_machine.specs.Queue.{AddsTo, FallBehind, HaveGone, IsBehind, IsWoken, NobodyIsWoken, Wakes, behind_in}
+
+-- who waits is not absent
+pub not_both : (queue : LinksData) (node list : ℕ) → holder_of queue node ≡ Some list → is_absent queue node ≡ true → ⊥
+not_both queue node list held absent =
+    let none : is_none (Some list) ≡ true = ap is_none (sym held) ∙ absent in
+    absurd (cc)
+
+-- where a list is empty nobody is in it
+no_cell : (cells : List ℕ) (node : ℕ) → slice_get cells 0 ≡ None → has cells node ≡ true → ⊥
+no_cell [] node none has_it = absurd (cc)
+no_cell (first ∷ cells) node none has_it = absurd (cc)
+
+pub nobody_in : (queue : LinksData) (list : ℕ) → first_of queue list ≡ None → (node : ℕ) → holder_of queue node ≢ Some list
+nobody_in queue list none node held =
+    no_cell (nth queue.lists list) node none (position-Some (λ list. has list node) queue.lists list [] held).1
+
+-- without its first one a list is shorter
+some_cell : (cells : List ℕ) (node : ℕ) → slice_get cells 0 ≡ Some node → 0 < length cells
+some_cell [] node first = absurd (cc)
+some_cell (cell ∷ cells) node first = omega arith
+
+pub shorter_at : (queue : LinksData) (list node : ℕ) → first_of queue list ≡ Some node
+    → length (nth (popped queue list).lists list) < length (nth queue.lists list)
+shorter_at queue list node first =
+    let cells : List ℕ = nth queue.lists list in
+    let some : 0 < length cells = some_cell cells node first in
+    let inside : list < length queue.lists = elim (cases_lt list (length queue.lists)) [
+      | inl below ↦ below
+      | inr past ↦ absurd (omega (arith, some, ap length (get_or_past queue.lists list [] past)))
+    ] in
+    omega (arith, some, ap length (get_or-set_same queue.lists list (drop 1 cells) [] inside), length-drop 1 cells)
+
+-- who waits at all waits in one of the two
+pub in_one_of_two : (queue : LinksData) (node : ℕ) → length queue.lists ≡ 2 → is_absent queue node ≡ false
+    → IsBehind queue node ⊎ IsWoken queue node
+in_one_of_two queue node lists waits = by (holder_of queue node) refl
+  where
+    by : (held : Option ℕ) → holder_of queue node ≡ held → IsBehind queue node ⊎ IsWoken queue node
+    by None is =
+        let none : true ≡ false = ap is_none (sym is) ∙ waits in
+        absurd (cc)
+    by (Some list) is =
+        let inside : list < length queue.lists = (position-Some (λ cells. has cells node) queue.lists list [] is).0 in
+        elim (cases_lt list 1) [
+          | inl below ↦
+              let first : list ≡ 0 = omega (arith, below) in
+              inl (is ∙ ap Some first)
+          | inr not_below ↦
+              let second : list ≡ 1 = omega (arith, not_below, inside, lists) in
+              inr (is ∙ ap Some second)
+        ]
+
+-- who waits nowhere did before
+pub was_absent : (old new : LinksData) (list node : ℕ) → AddsTo list old new → is_absent new node ≡ true → is_absent old node ≡ true
+was_absent old new list node added absent = elim (added node) [
+  | inl same ↦ ap is_none (sym same) ∙ absent
+  | inr pushed ↦ pushed.0
+]
+
+-- who was behind is
+pub still_behind : (old new : LinksData) (list node : ℕ) → AddsTo list old new → IsBehind old node → IsBehind new node
+still_behind old new list node added behind = elim (added node) [
+  | inl same ↦ same ∙ behind
+  | inr pushed ↦ absurd (not_both old node 0 behind pushed.0)
+]
+
+-- who falls behind isn't woken
+pub none_woken : (old new : LinksData) → FallBehind old new → NobodyIsWoken old → NobodyIsWoken new
+none_woken old new falls nobody node woken = elim (falls.added node) [
+  | inl same ↦ nobody node (sym same ∙ woken)
+  | inr pushed ↦
+      let lists : Some 0 ≡ Some 1 = sym pushed.1 ∙ woken in
+      absurd (cc lists)
+]
+
+-- who waited waits
+pub still_waits : (list : ℕ) (old new : LinksData) (node : ℕ) → AddsTo list old new → is_absent old node ≡ false
+    → is_absent new node ≡ false
+still_waits list old new node added waits = elim (added node) [
+  | inl same ↦ ap is_none same ∙ waits
+  | inr pushed ↦ absurd (cc (sym pushed.0 ∙ waits))
+]
+
+-- pushes into one list, one after another
+pub adds_both : (list : ℕ) (first middle last : LinksData) → AddsTo list first middle → AddsTo list middle last → AddsTo list first last
+adds_both list first middle last one two node = elim (two node) [
+  | inl same ↦ elim (one node) [
+    | inl before ↦ inl (same ∙ before)
+    | inr added ↦ inr (added.0, same ∙ added.1)
+  ]
+  | inr now ↦ elim (one node) [
+    | inl before ↦ inr (ap is_none (sym before) ∙ now.0, now.1)
+    | inr added ↦ absurd (not_both middle node list added.1 now.0)
+  ]
+]
+
+pub falls_none : (queue : LinksData) → FallBehind queue queue
+falls_none queue = record { added = λ node. inl refl; counts = (refl, refl) }
+
+pub falls_both : (first middle last : LinksData) → FallBehind first middle → FallBehind middle last → FallBehind first last
+falls_both first middle last one two = record {
+  added = adds_both 0 first middle last one.added two.added;
+  counts = (two.counts.0 ∙ one.counts.0, two.counts.1 ∙ one.counts.1);
+}
+
+pub wakes_none : (queue : LinksData) → Wakes queue queue
+wakes_none queue = record { added = λ node. inl refl; behind = refl; counts = (refl, refl) }
+
+pub wakes_both : (first middle last : LinksData) → Wakes first middle → Wakes middle last → Wakes first last
+wakes_both first middle last one two = record {
+  added = adds_both 1 first middle last one.added two.added;
+  behind = two.behind ∙ one.behind;
+  counts = (two.counts.0 ∙ one.counts.0, two.counts.1 ∙ one.counts.1);
+}
+
+-- ---- one push
+
+module _ (old new : LinksData) (cell list : ℕ)
+    (holders : HoldsOthersAsBefore old new cell (if is_absent old cell then Some list else holder_of old cell)) where
+  pub pushed_here : is_absent old cell ≡ true → holder_of new cell ≡ Some list
+  pushed_here absent = rw (eq-eqb cell cell refl, absent) at (holders cell)
+
+  pub kept_here : is_absent old cell ≡ false → holder_of new cell ≡ holder_of old cell
+  kept_here waits = rw (eq-eqb cell cell refl, waits) at (holders cell)
+
+  pub pushed_elsewhere : (other : ℕ) → cell ≢ other → holder_of new other ≡ holder_of old other
+  pushed_elsewhere other apart = rw (ne_eqb cell other apart) at (holders other)
+
+-- so it adds to that list
+pub push_adds : (list : ℕ) (old new : LinksData) (cell : ℕ)
+    → HoldsOthersAsBefore old new cell (if is_absent old cell then Some list else holder_of old cell) → AddsTo list old new
+push_adds list old new cell holders node = elim (cases_eq cell node) [
+  | inl same ↦
+      subst (λ node. (holder_of new node ≡ holder_of old node) ⊎ ((is_absent old node ≡ true) × (holder_of new node ≡ Some list)))
+      same (by (is_absent old cell) refl)
+  | inr apart ↦ inl (pushed_elsewhere old new cell list holders node apart)
+]
+  where
+    by : (absent : Bool) → is_absent old cell ≡ absent
+        → (holder_of new cell ≡ holder_of old cell) ⊎ ((is_absent old cell ≡ true) × (holder_of new cell ≡ Some list))
+    by true is = inr (is, pushed_here old new cell list holders is)
+    by false is = inl (kept_here old new cell list holders is)
+
+-- and the cell waits
+pub push_waits : (list : ℕ) (old new : LinksData) (cell : ℕ)
+    → HoldsOthersAsBefore old new cell (if is_absent old cell then Some list else holder_of old cell) → is_absent new cell ≡ false
+push_waits list old new cell holders = by (is_absent old cell) refl
+  where
+    by : (absent : Bool) → is_absent old cell ≡ absent → is_absent new cell ≡ false
+    by true is = ap is_none (pushed_here old new cell list holders is)
+    by false is = ap is_none (kept_here old new cell list holders is) ∙ is
+
+-- one push into the list of those woken
+pub push_wakes : (old new : LinksData) (cell : ℕ)
+    → HoldsOthersAsBefore old new cell (if is_absent old cell then Some 1 else holder_of old cell)
+    → new ≡ (if is_absent old cell then pushed old 1 cell else old) → SameCounts old new → Wakes old new
+push_wakes old new cell holders links counts = record {
+  added = push_adds 1 old new cell holders;
+  behind = by (is_absent old cell) links;
+  counts = counts;
+}
+  where
+    by : (absent : Bool) → new ≡ (if absent then pushed old 1 cell else old) → behind_in new ≡ behind_in old
+    by true is = ap behind_in is ∙ get_or-set_other old.lists 1 0 _ [] (λ same. absurd (omega (arith, same)))
+    by false is = ap behind_in is
+
+-- ---- those that have gone are behind
+
+abbrev nodes_of : List Going → List ℕ
+nodes_of going = map (λ (one : Going). one.node) going
+
+-- whoever waits has gone, and is behind
+gone_behind : (first queue : LinksData) (some : List Going) (node : ℕ) → HaveGone first queue some → is_absent queue node ≡ false
+    → IsBehind queue node
+gone_behind first queue some node gone waits = by (list_any (nat_eq node) (nodes_of some)) refl
+  where
+    by : (goes : Bool) → list_any (nat_eq node) (nodes_of some) ≡ goes → IsBehind queue node
+    by true is = gone.gone node (Contains-from_any eqb-true node (nodes_of some) is)
+    by false is =
+        let absent : is_absent queue node ≡ true =
+        gone.others node (λ goes. absurd (false≢true (sym is ∙ list_any-from_Contains nat_eq_equiv node (nodes_of some) goes))) in
+        absurd (false≢true (sym waits ∙ absent))
+
+module _ (first old new : LinksData) (some : List Going) (one : Going) (gone : HaveGone first old some)
+    (holders : HoldsOthersAsBefore old new one.node (if is_absent old one.node then Some 0 else holder_of old one.node))
+    (counts : SameCounts old new) where
+  behind_now : (absent : Bool) → is_absent old one.node ≡ absent → IsBehind new one.node
+  behind_now true is = pushed_here old new one.node 0 holders is
+  behind_now false is = kept_here old new one.node 0 holders is ∙ gone_behind first old some one.node gone is
+
+  pub gone_more : HaveGone first new (some ++ one ∷ [])
+  gone_more = record {
+    gone = λ node goes. elim (cases_eq one.node node) [
+      | inl same ↦ subst (IsBehind new) same (behind_now (is_absent old one.node) refl)
+      | inr apart ↦
+          pushed_elsewhere old new one.node 0 holders node apart
+          ∙ elim (Contains-append_cases (nodes_of some) (one.node ∷ []) node
+          (subst (λ nodes. Contains nodes node) (map-append (λ (one : Going). one.node) some (one ∷ [])) goes)) [
+            | inl before ↦ gone.gone node before
+            | inr this ↦ absurd (apart (only this))
+          ]
+    ];
+    others = λ node apart.
+        let differs : one.node ≢ node = λ same. apart (subst (λ nodes. Contains nodes node)
+        (sym (map-append (λ (one : Going). one.node) some (one ∷ [])))
+        (Contains-append_right (nodes_of some) (one.node ∷ []) node (0, omega arith, same))) in
+        ap is_none (pushed_elsewhere old new one.node 0 holders node differs)
+        ∙ gone.others node (λ goes. apart (subst (λ nodes. Contains nodes node)
+        (sym (map-append (λ (one : Going). one.node) some (one ∷ [])))
+        (Contains-append_left (nodes_of some) (one.node ∷ []) node goes)));
+    counts = (counts.0 ∙ gone.counts.0, counts.1 ∙ gone.counts.1);
+  }
+    where
+      only : {cell node : ℕ} → Contains (cell ∷ []) node → cell ≡ node
+      only (zero, within, is) = is
+      only (suc k, within, is) = absurd (omega (arith, within))

@@ -1,0 +1,15 @@
+pub mod Begun
+pub mod CatchingUp
+pub mod Contest
+pub mod Hearing
+pub mod Kept
+pub mod Looking
+pub mod Machine
+pub mod Noticing
+pub mod Queue
+pub mod Right
+pub mod Seen
+pub mod Stepping
+pub mod Still
+pub mod TermCodes
+pub mod Told

@@ -1,0 +1,23 @@
+-- The plan, the world and what is begun that a machine stands for.
+use Rattle.std.specs.Prelude.{◌≡◌, Bool, true, false, List, []}
+use Rattle.px_sem.specs.declared.moves.Move.{Move}
+use Rattle.px_sem.specs.Conflicts.{is_quiet}
+use Rattle.px_sem.specs.Stepper.{State, stepped}
+use Rattle.px_parts.specs.Marks.{marked_world}
+use Rattle.px_parts.specs.Parts.{plan_in, world_in}
+use Rattle.px_machine.specs.declared.machine.Machine.{Machine}
+use Rattle.px_machine.specs.Begun.{begun_in}
+
+abbrev pub state_in : Machine → State
+state_in machine = record {
+  nodes = plan_in machine.parts;
+  world = world_in machine.parts;
+  pending = begun_in machine.begun (marked_world machine.parts);
+}
+
+-- Where it answers true, the world was not quiet, and took one micro step, and the moves are those of before; else nothing
+-- changed, and there are no moves.
+abbrev pub StepsOn : State → State → List Move → List Move → Bool → Type 0
+StepsOn old new before now true =
+    (is_quiet old.nodes old.world ≡ false) × (new ≡ stepped old) × (now ≡ before)
+StepsOn old new before now false = (is_quiet old.nodes old.world ≡ true) × (new ≡ old) × (now ≡ [])

@@ -1,0 +1,91 @@
+// What a machine keeps of the world as it was last seen.
+ghost use Rattle.std.specs.Prelude.{◌≡◌, ◌<◌, length, IfOk};
+ghost use Rattle.px_flat.specs.Flat.{plan_of};
+ghost use Rattle.px_flat.specs.Row.{parent_number};
+ghost use Rattle.px_cached.specs.Cached.{plan_in as plan_of_conditions};
+ghost use Rattle.px_parts.specs.Parts.{AreStanding};
+ghost use Rattle.px_parts.specs.Seen.{AreAllSeen};
+ghost use Rattle.px_machine.specs.Kept.{IsOfPlan, parent_state, truths_of};
+ghost use Rattle.px_machine.specs.Right.{IsRight};
+ghost use Rattle.px_machine.specs.Seen.{IsSeen};
+
+use crate::queue::all_behind;
+use crate::tree::{parents, places};
+use px_cached::Cached;
+use px_claims::Claims;
+use px_core::ConditionKind;
+use px_flat::Flat;
+use px_links::Links;
+use px_micro::Truths;
+use px_parts::Parts;
+use px_tally::Tally;
+use px_told::Told;
+use px_value::{NoMemory, NodeState};
+use std::alloc::Global;
+
+/// What is kept of each node. `Right` in the specs says of what it is right.
+#[derive(Drop)]
+pub(crate) struct Kept {
+    pub(crate) conditions: Cached,
+    /// The state of each node where it was last caught up.
+    pub(crate) states: Vec<NodeState>,
+    /// What each node asks of those below it, and is told.
+    pub(crate) told: Told,
+    /// By their parents, the nodes that are neither WAITING nor FINISHED.
+    pub(crate) busy: Tally,
+    /// The writers that would start, and those at work.
+    pub(crate) claims: Claims,
+    pub(crate) queue: Links,
+}
+
+impl Kept {
+    /// Nothing is known, and each node is to be caught up: this is right of any world.
+    pub(crate) fn of(alloc: Global, parts: &Parts) -> Result<Kept, NoMemory>
+        requires stand { AreStanding parts.now }
+        requires seen { AreAllSeen parts.now }
+        ensures right { IfOk result (IsRight parts.now) }
+        ensures seen { IfOk result (λ kept. IsSeen parts.now kept.conditions) }
+    {
+        let flat = &parts.flat;
+        let nodes = flat.nodes();
+        Ok(Kept {
+            queue: all_behind(alloc, nodes)?,
+            // As if all waited: nobody is busy, and nobody at work.
+            states: vec![in alloc; NodeState::Waiting; nodes as usize]?,
+            busy: Tally::new(alloc, nodes, parents(alloc, flat)?)?,
+            told: Told::new(alloc, places(alloc, flat)?)?,
+            claims: Claims::new(alloc, flat)?,
+            conditions: Cached::new(alloc, flat, &parts.cells, &parts.reports)?,
+        })
+    }
+
+    /// The kept state of a node's parent. The root's virtual parent is always EXECUTING.
+    pub(crate) fn parent_state(&self, flat: &Flat, node: u32) -> NodeState
+        requires node { node < length (plan_of flat.now) }
+        requires plan { IsOfPlan (plan_of flat.now) self.now }
+        ensures { result ≡ parent_state self.now (parent_number (plan_of flat.now) node) }
+    {
+        match flat.row(node).parent {
+            Some(parent) => self.states[parent as usize],
+            None => NodeState::Executing,
+        }
+    }
+
+    /// The kept truths of a node's conditions.
+    pub(crate) fn truths(&self, node: u32) -> Truths
+        requires { node < length (plan_of_conditions self.now.conditions) }
+        ensures { result ≡ truths_of self.now node }
+    {
+        let conditions = &self.conditions;
+        Truths {
+            start: conditions.condition(node, ConditionKind::Start),
+            end: conditions.condition(node, ConditionKind::End),
+            exit: conditions.condition(node, ConditionKind::Exit),
+            skip: conditions.condition(node, ConditionKind::Skip),
+            repeat: conditions.condition(node, ConditionKind::Repeat),
+            pre: conditions.condition(node, ConditionKind::Pre),
+            post: conditions.condition(node, ConditionKind::Post),
+            invariant: conditions.condition(node, ConditionKind::Invariant),
+        }
+    }
+}

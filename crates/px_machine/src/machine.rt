@@ -1,0 +1,152 @@
+// The stepper: the parts of a world, and what is kept of them.
+ghost use Rattle.std.proofs.Props.{props};
+ghost use Rattle.std.specs.Coded.{codes};
+ghost use Rattle.px_machine.specs.Begun.{IsMarkedFor};
+ghost use Rattle.px_machine.specs.Stepping.{IsReady};
+ghost use Rattle.px_machine.specs.TermCodes.{term_code};
+
+use crate::begun::Begun;
+use crate::kept::Kept;
+use crate::noticing::{hear, hear_all, heard_by};
+use crate::queue::{have_gone, rest};
+use crate::stepping::goers;
+use px_core::Plan;
+use px_event::Event;
+use px_micro::{act, act_untold};
+use px_parts::Parts;
+use px_sem::{Move, STEP_LIMIT, Standing, StepFault, Stepper};
+use px_value::{Name, NoMemory, NodeState, Path};
+use std::alloc::Global;
+
+/// A plan and its world, with what is kept of it. A step looks at the nodes for which something has changed.
+#[derive(Drop)]
+pub struct Machine {
+    parts: Parts,
+    kept: Kept,
+    begun: Begun,
+    ghost ready: { IsReady parts kept } by { Prim.hlevel (term_code, codes) },
+    ghost marked: { IsMarkedFor begun parts } by { Prim.hlevel (props, codes) },
+}
+
+impl Machine {
+    ghost use Rattle.std.specs.Prelude.{◌≡◌, IfOk, IsTrue, OnErr};
+    ghost use Rattle.px_sem.specs.Stepper.{is_pending};
+    ghost use Rattle.px_machine.specs.Machine.{StepsOn, state_in};
+
+    // A step whose moves nobody reads: they stay those of before until the world is quiet.
+    fn step_untold(&mut self, alloc: Global) -> Result<bool, NoMemory>
+        requires pending { IsTrue (is_pending (state_in self.old).pending) }
+        ensures ok { IfOk result (StepsOn (state_in self.old) (state_in self.new)
+            self.old.parts.moves.items self.new.parts.moves.items) }
+        ensures err { OnErr result (state_in self.new ≡ state_in self.old) }
+        ensures kept { OnErr result (self.new.parts.moves.items ≡ self.old.parts.moves.items) }
+    {
+        let going = goers(alloc, &mut self.parts, &mut self.kept)?;
+        if going.is_empty() {
+            self.parts.moves.clear();
+            rest(&mut self.kept.queue);
+            return Ok(false);
+        }
+        act_untold(alloc, &mut self.parts, &going)?;
+        have_gone(&mut self.kept.queue, &going);
+        Ok(true)
+    }
+}
+
+impl Stepper for Machine {
+    ghost use Rattle.px_machine.specs.Machine.{state_in};
+
+    ghost state = { state_in };
+
+    ghost last_moves = { λ machine. machine.parts.moves.items };
+
+    fn fresh(alloc: Global, plan: &Plan) -> Result<Self, NoMemory> {
+        let parts = Parts::fresh(alloc, plan)?;
+        let kept = Kept::of(alloc, &parts)?;
+        Ok(Machine {
+            parts,
+            kept,
+            begun: Begun::Start,
+        })
+    }
+
+    fn rewind(&mut self) {
+        self.parts.rewind();
+        hear_all(&self.parts.flat, &mut self.kept.conditions);
+        self.begun = Begun::Start;
+    }
+
+    fn begin(&mut self, alloc: Global, event: &Event) -> Result<(), NoMemory> {
+        self.parts.mark();
+        if let Err(fault) = self.parts.take(alloc, event) {
+            self.parts.rollback();
+            return Err(fault);
+        }
+        let heard = heard_by(&self.parts.flat, event);
+        hear(&self.parts.flat, &mut self.kept.conditions, heard);
+        self.begun = Begun::Event { heard };
+        Ok(())
+    }
+
+    fn step(&mut self, alloc: Global) -> Result<bool, NoMemory> {
+        let going = goers(alloc, &mut self.parts, &mut self.kept)?;
+        if going.is_empty() {
+            self.parts.moves.clear();
+            rest(&mut self.kept.queue);
+            return Ok(false);
+        }
+        act(alloc, &mut self.parts, &going)?;
+        have_gone(&mut self.kept.queue, &going);
+        Ok(true)
+    }
+
+    fn moves(&self) -> &[Move] {
+        &self.parts.moves
+    }
+
+    fn advance(&mut self, alloc: Global, event: &Event) -> Result<u32, StepFault> {
+        self.begin(alloc, event)?;
+        for taken in 0..STEP_LIMIT + 1 {
+            match self.step_untold(alloc) {
+                Ok(true) => {}
+                Ok(false) => return Ok(taken),
+                Err(fault) => {
+                    self.give_up();
+                    return Err(fault.into());
+                }
+            }
+        }
+        self.give_up();
+        Err(StepFault::Runaway)
+    }
+
+    fn settle(&mut self) {
+        if let Begun::Event { .. } = self.begun {
+            self.parts.commit();
+        }
+        self.begun = Begun::Nothing;
+    }
+
+    fn give_up(&mut self) {
+        self.parts.rollback();
+        // What was reported goes back, so it is news once more.
+        hear(
+            &self.parts.flat,
+            &mut self.kept.conditions,
+            self.begun.heard(),
+        );
+        self.begun = Begun::Nothing;
+    }
+
+    fn standing(&self) -> Standing {
+        self.parts.standing()
+    }
+
+    fn state_of(&self, node: &Path) -> Option<NodeState> {
+        self.parts.known_state(node)
+    }
+
+    fn integer(&self, owner: &Path, name: &Name) -> Option<i32> {
+        self.parts.integer(owner, name)
+    }
+}
