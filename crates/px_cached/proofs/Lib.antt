@@ -9,3 +9,4 @@ pub mod OneList
 pub mod Pushing
 pub mod Refreshing
 pub mod Seeing
+pub mod Sending

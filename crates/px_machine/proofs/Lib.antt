@@ -13,6 +13,7 @@ pub mod Present
 pub mod Readying
 pub mod Requeueing
 pub mod Resting
+pub mod Sending
 pub mod Starting
 pub mod Waiting
 pub mod Waking
