@@ -1,7 +1,7 @@
 -- Readers one after another, and listeners to which they are added.
 use Rattle.std.specs.List.{list_any}
 use Rattle.std.proofs.Common.{◌≡◌, ℕ, ◌+◌, ◌<◌, ◌≤◌, Bool, true, false, nat_eq, ◌||◌, List, [], ◌∷◌, ◌++◌, length, get_or, refl, ap, sym, ◌∙◌, subst, arith, inl, inr, All, if◌then◌else◌}
-use Rattle.std.proofs.lemmas.Bool.{cases_lt, eq-eqb}
+use Rattle.std.proofs.lemmas.Bool.{cases_lt, eq-eqb, or_left, or_right}
 use Rattle.std.proofs.lemmas.Bool.Decides.{eqb_tells}
 use Rattle.std.proofs.lemmas.List.{get_or_append_left, get_or-append-add, get_or-set_same, get_or-set_other, get_or-map, length-append, length-map, length-set}
 use Rattle.std.proofs.lemmas.List.Elements.{All-append, All-map, All-nil, All-push}
@@ -110,14 +110,6 @@ module _ (plan : List Site) (network : List Part) where
   }
 
 -- ---- one pair more
-
-or_left : (a b : Bool) → a ≡ true → (a || b) ≡ true
-or_left true b is = refl
-or_left false b is = absurd (cc)
-
-or_right : (a b : Bool) → b ≡ true → (a || b) ≡ true
-or_right true b is = refl
-or_right false b is = is
 
 module _ (listeners : ListenData) (source watcher : ℕ) (there : source < length listeners.dependents) where
   abbrev dependents : List ℕ

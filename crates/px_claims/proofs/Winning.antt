@@ -1,6 +1,7 @@
 -- Who goes first of each contested variable are the winners.
 use Rattle.std.proofs.Common.{◌≡◌, ◌≢◌, ℕ, suc, ◌<◌, Bool, true, false, not, ◌&&◌, ◌||◌, List, [], ◌∷◌, length, get_or, filter, Option, Some, None, is_some, refl, ap, sym, ◌∙◌, subst, arith, inl, inr, All, AllPairs}
 use Rattle.std.specs.Prelude.{nat_eq, nat_lt, if◌then◌else◌}
+use Rattle.std.specs.Cmp.{nat_eq_equiv}
 use Rattle.std.specs.List.{list_any, range_with_len, filter_map, position, position_or_len}
 use Rattle.std.proofs.lemmas.Bool.{and_parts, and_from, cases_Bool, cases_eq, cases_lt, eqb-true, eq-eqb, false_from_ne_true, false≢true, lt-ltb, not-true, or_from, or_left, or_parts, or_right}
 use Rattle.std.proofs.lemmas.List.{get_or_past}
@@ -82,10 +83,6 @@ among_numbers flags test number is passes =
 
 -- ---- what is found of each of a list
 
-same_test : (a b : ℕ) → nat_eq a b ≡ nat_eq b a
-same_test a b = same_bool (nat_eq a b) (nat_eq b a) (λ is. eq-eqb b a (sym (eqb-true a b is)))
-    (λ is. eq-eqb a b (sym (eqb-true b a is)))
-
 any_found : (found : ℕ → Option ℕ) (node : ℕ) (cells : List ℕ)
     → list_any (nat_eq node) (filter_map found cells) ≡ list_any (λ cell. is_node node (found cell)) cells
 any_found found node [] = refl
@@ -96,7 +93,7 @@ any_found found node (cell ∷ cells) = by (found cell) refl (any_found found no
         → list_any (nat_eq node) (filter_map found (cell ∷ cells))
         ≡ list_any (λ cell. is_node node (found cell)) (cell ∷ cells)
     by None is rest = rw is rest
-    by (Some other) is rest = rw is (λ i. same_test node other i || rest i)
+    by (Some other) is rest = rw is (λ i. nat_eq_equiv.symm node other i || rest i)
 
 found_here : (node : ℕ) (found : Option ℕ) → is_node node found ≡ true → found ≡ Some node
 found_here node None is = absurd (false≢true is)

@@ -6,7 +6,7 @@ use Rattle.px_links.specs.declared.cell.Cell.{Cell}
 use Rattle.px_links.specs.Keeping.{IsTable}
 use Rattle.px_links.proofs.Tables.{no_ends}
 
-replicate-same : {X : Type 0} (count at : ℕ) (x : X) → get_or (replicate count x) at x ≡ x
+pub replicate-same : {X : Type 0} (count at : ℕ) (x : X) → get_or (replicate count x) at x ≡ x
 replicate-same count at x = elim (cases_lt at count) [
   | inl below ↦ get_or-replicate count at x x below
   | inr past ↦ get_or_past (replicate count x) at x (omega (arith, past, length-replicate count x))

@@ -1,7 +1,7 @@
 -- What linked cells are, and how the links of one list change.
 use Rattle.std.proofs.Common.{◌≡◌, ◌≢◌, ℕ, zero, suc, ◌-◌, ◌≤◌, Bool, true, false, ◌||◌, nat_eq, List, [], ◌∷◌, ◌++◌, length, slice_get, Option, Some, None, IfSome, refl, ap, sym, ◌∙◌, arith, inl, inr, ◌⊎◌}
 use Rattle.std.specs.Option.{option_or}
-use Rattle.std.proofs.lemmas.Bool.{eqb-true, eq-eqb}
+use Rattle.std.proofs.lemmas.Bool.{eqb-true, eq-eqb, or_left}
 use Rattle.std.proofs.lemmas.Bool.Decides.{eqb_tells}
 use Rattle.px_links.specs.Lists.{has, without, behind}
 use Rattle.px_links.specs.Keeping.{walk, AreLinked, is_number}
@@ -12,12 +12,8 @@ pub or_true : (a : Bool) {b : Bool} → b ≡ true → (a || b) ≡ true
 or_true true is = refl
 or_true false is = is
 
-or_first : (a b : Bool) → a ≡ true → (a || b) ≡ true
-or_first true b is = refl
-or_first false b is = absurd (cc)
-
 pub has_head : (cell : ℕ) (list : List ℕ) → has (cell ∷ list) cell ≡ true
-has_head cell list = or_first (nat_eq cell cell) (has list cell) (eq-eqb cell cell refl)
+has_head cell list = or_left (nat_eq cell cell) (has list cell) (eq-eqb cell cell refl)
 
 module _ (next before : ℕ → Option ℕ) where
   -- a walk goes over a list that is no longer than it may be
@@ -119,7 +115,7 @@ module _ (next before : ℕ → Option ℕ) where
       → (has (head ∷ list) cell ≡ true) × (next cell ≡ None)
   last_leads ahead first head [] last cell linked is =
       let same : head ≡ cell = cc in
-      (or_first (nat_eq cell head) false (eq-eqb cell head (sym same)), ap next (sym same) ∙ linked.2.0)
+      (or_left (nat_eq cell head) false (eq-eqb cell head (sym same)), ap next (sym same) ∙ linked.2.0)
   last_leads ahead first head (other ∷ list) last cell linked is =
       let behind = last_leads (Some head) (next head) other list last cell linked.2 is in
       (or_true (nat_eq cell head) behind.0, behind.1)
@@ -134,7 +130,7 @@ module _ (next before : ℕ → Option ℕ) where
   first_is ahead first [] last cell linked is = absurd (cc)
   first_is ahead first (head ∷ list) last cell linked is =
       let same : head ≡ cell = cc in
-      or_first (nat_eq cell head) (has list cell) (eq-eqb cell head (sym same))
+      or_left (nat_eq cell head) (has list cell) (eq-eqb cell head (sym same))
 
 -- ---- links that change
 

@@ -1,5 +1,5 @@
 -- Who goes: those that go without asking for a variable, and the winners of the others.
-use Rattle.std.proofs.Common.{◌≡◌, ◌≢◌, ◌⊎◌, ℕ, zero, suc, ◌+◌, ◌-◌, ◌<◌, ◌≤◌, Bool, true, false, ◌&&◌, not, ◌++◌, [], ◌∷◌, List, length, map, get_or, Option, Some, None, All, AllPairs, Contains, IsSome, is_some, nat_eq, refl, ap, sym, ◌∙◌, subst, arith, inl, inr, if◌then◌else◌}
+use Rattle.std.proofs.Common.{◌≡◌, ◌≢◌, ◌⊎◌, ℕ, suc, ◌+◌, ◌-◌, ◌<◌, ◌≤◌, Bool, true, false, ◌&&◌, not, ◌++◌, [], ◌∷◌, List, length, map, get_or, Option, Some, None, All, AllPairs, Contains, IsSome, is_some, nat_eq, refl, ap, sym, ◌∙◌, subst, arith, inl, inr, if◌then◌else◌}
 use Rattle.std.specs.Cmp.{nat_eq_equiv}
 use Rattle.std.specs.List.{filter_map, cons_option, list_any}
 use Rattle.std.specs.List.Sorted.{IsNonDecreasingBy, IsPermutation}
@@ -14,13 +14,12 @@ use Rattle.std.proofs.lemmas.Map.Made.{AllPairs-from_IsDistinct, IsDistinct-from
 use Rattle.std.proofs.lemmas.Map.Views.{Contains-from_any, list_any-from_Contains}
 use Rattle.std.proofs.Math.Bool.{and-false}
 use Rattle.px_value.proofs.General.{same_bool}
-use Rattle.px_value.specs.declared.enums.NodeState.{NodeState}
 use Rattle.px_value.specs.declared.enums.NodeState.TheVariants as states
 use Rattle.px_core.specs.Plan.{Site, TargetData}
 use Rattle.px_sem.specs.declared.guards.Arrival.{Arrival}
 use Rattle.px_sem.specs.Conflicts.{destination, holds_variable, keeps_back, target_of, transition, would_start}
 use Rattle.px_sem.specs.Conflicts as semantics
-use Rattle.px_sem.specs.Guards.{is_active, is_executing, is_waiting}
+use Rattle.px_sem.specs.Guards.{is_active, is_waiting}
 use Rattle.px_sem.specs.World.{NodeRecord, World, state_at}
 use Rattle.px_flat.specs.Row.{site_in}
 use Rattle.px_assign.specs.Conflicts.{is_loser_in, is_writer, AreWriters}
@@ -31,13 +30,14 @@ use Rattle.px_parts.specs.declared.parts.Parts.{Parts}
 use Rattle.px_parts.specs.Parts.{AreStanding, plan_in, world_in}
 use Rattle.px_micro.specs.declared.sight.Going.{Going}
 use Rattle.px_micro.specs.Going.{AreAllGoing, with_node}
+use Rattle.px_micro.proofs.Choosing.{start_goes}
 use Rattle.px_micro.proofs.Resting.{state_is}
 use Rattle.px_machine.specs.declared.kept.Kept.{Kept}
 use Rattle.px_machine.specs.Contest.{HasLooked, IsEachGoing}
-use Rattle.px_machine.specs.Kept.{arrival_of, kept_state, own_seen}
+use Rattle.px_machine.specs.Kept.{arrival_of, own_seen}
 use Rattle.px_machine.specs.Queue.{IsGoer}
 use Rattle.px_machine.specs.Right.{IsNow, IsRight}
-use Rattle.px_machine.specs.Still.{claims_now, free_arrival, is_marked, is_start}
+use Rattle.px_machine.specs.Still.{claims_now, free_arrival, is_start}
 use Rattle.px_machine.proofs.Arrivals.{arrival_now}
 use Rattle.px_machine.proofs.Present.{own_now}
 use Rattle.px_machine.proofs.Resting.{state_now}
@@ -60,15 +60,6 @@ claims_are parts kept node stand right now here =
     ap (λ starts. is_writer plan node && starts)
     ((λ i. is_start (state i) (arrival_now parts kept node stand right now here i))
     ∙ starts_are plan (world_in parts) site (destination plan (world_in parts) site) refl)
-
--- a start leads somewhere
-start_leads : (plan : List Site) (world : World) (site : Site) → would_start plan world site ≡ true → IsSome (destination plan world site)
-start_leads plan world site starts = by (destination plan world site) refl
-  where
-    by : (to : Option Arrival) → destination plan world site ≡ to → IsSome (destination plan world site)
-    by (Some arrival) is = subst IsSome (sym is) refl
-    by None is =
-        absurd (false≢true (starts_are plan world site None is ∙ starts))
 
 -- a loser would start, and writes a variable
 pub writer_loses : (plan : List Site) (world : World) (node : ℕ) → is_loser_in plan world node ≡ true
@@ -256,7 +247,7 @@ module _ (parts : Parts) (kept : Kept) (going : List Going) (winners : List ℕ)
 
   goes_somewhere : (node : ℕ) → Wins node → IsSome (to node)
   goes_somewhere node one =
-      subst IsSome (sym (arrival_now parts kept node stand right now one.within)) (start_leads plan world (site_in plan node) one.starts)
+      subst IsSome (sym (arrival_now parts kept node stand right now one.within)) (start_goes plan world (site_in plan node) one.starts)
 
   abbrev chosen : List Going
   chosen = map (with_there to) winners

@@ -1,17 +1,17 @@
 -- Where nothing is known yet, what is kept is right of any world.
-use Rattle.std.proofs.Common.{◌≡◌, ℕ, ◌<◌, false, not, List, length, get_or, replicate, Option, Some, None, refl, ap, sym, ◌∙◌, subst, arith, inl, inr}
-use Rattle.std.proofs.lemmas.Bool.{cases_lt}
-use Rattle.std.proofs.lemmas.List.{get_or-replicate, get_or_past, length-replicate}
+use Rattle.std.proofs.Common.{◌≡◌, ℕ, ◌<◌, false, not, List, length, get_or, replicate, Option, Some, None, refl, ap, sym, ◌∙◌, subst}
+use Rattle.std.proofs.lemmas.List.{get_or-replicate}
 use Rattle.px_value.specs.declared.enums.NodeState.TheVariants as states
 use Rattle.px_sem.specs.Guards.{is_active, is_at_rest}
 use Rattle.px_tally.specs.Tally.{is_counted, nobody}
 use Rattle.px_told.specs.declared.asks.Asks.{Asks}
 use Rattle.px_told.specs.declared.place.Place.{Place}
-use Rattle.px_told.specs.Asking.{asks_at, either, nothing}
+use Rattle.px_told.specs.Asking.{either, nothing}
 use Rattle.px_told.specs.Preorder.{parent_of}
 use Rattle.px_told.specs.Told.{AreTold, asked_under, silent}
 use Rattle.px_claims.specs.Claims.{AreNobodys}
 use Rattle.px_parts.specs.declared.parts.Parts.{Parts}
+use Rattle.px_links.proofs.Empty.{replicate-same}
 use Rattle.px_parts.specs.Parts.{plan_in}
 use Rattle.px_machine.specs.declared.kept.Kept.{Kept}
 use Rattle.px_machine.specs.Kept.{IsOfPlan, kept_state, parents_of}
@@ -19,16 +19,9 @@ use Rattle.px_machine.specs.Queue.{IsBehind}
 use Rattle.px_machine.specs.Right.{IsRight}
 use Rattle.px_machine.proofs.Waiting.{not_both}
 
--- the same everywhere, and where a list has ended
-all_same : {X : Type 0} (count k : ℕ) (x : X) → get_or (replicate count x) k x ≡ x
-all_same count k x = elim (cases_lt k count) [
-  | inl inside ↦ get_or-replicate count k x x inside
-  | inr past ↦ get_or_past (replicate count x) k x (omega (arith, past, length-replicate count x))
-]
-
 -- nobody asks, so nobody is told
 pub silent_told : (tree : List Place) → AreTold (silent tree)
-silent_told tree node inside = all_same (length tree) node nothing ∙ by (parent_of tree node)
+silent_told tree node inside = replicate-same (length tree) node nothing ∙ by (parent_of tree node)
   where
     asks : List Asks
     asks = replicate (length tree) nothing
@@ -36,7 +29,7 @@ silent_told tree node inside = all_same (length tree) node nothing ∙ by (paren
     by : (parent : Option ℕ) → nothing ≡ asked_under asks asks parent
     by None = refl
     by (Some parent) = λ i.
-        either (sym (all_same (length tree) parent nothing) i) (sym (all_same (length tree) parent nothing) i)
+        either (sym (replicate-same (length tree) parent nothing) i) (sym (replicate-same (length tree) parent nothing) i)
 
 -- everybody is behind, and all wait, so nobody counts
 pub right_at_first : (parts : Parts) (kept : Kept) → IsOfPlan (plan_in parts) kept
@@ -48,10 +41,10 @@ right_at_first parts kept of_plan behind waiting told busy claims = record {
   of_plan = of_plan;
   agrees = record {
     busy = λ node here.
-        ap (λ tally. is_counted tally node) busy ∙ all_same (length (parents_of (plan_in parts))) node false
+        ap (λ tally. is_counted tally node) busy ∙ replicate-same (length (parents_of (plan_in parts))) node false
         ∙ ap (λ state. not (is_at_rest state)) (sym (waits node here));
     holding = λ node here.
-        ap (λ holding. get_or holding node false) claims.holding ∙ all_same (length (plan_in parts)) node false
+        ap (λ holding. get_or holding node false) claims.holding ∙ replicate-same (length (plan_in parts)) node false
         ∙ ap is_active (sym (waits node here));
     told = subst AreTold (sym told) (silent_told kept.told.tree);
   };

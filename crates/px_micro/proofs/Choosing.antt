@@ -83,7 +83,7 @@ among_starting plan now nodes node =
     any-filter_same (nat_eq node) (starting plan now) (starting plan now node)
     (λ other same. ap (starting plan now) (sym (eqb-true node other same))) nodes
 
-start_goes : (plan : List Site) (now : World) (site : Site) → would_start plan now site ≡ true
+pub start_goes : (plan : List Site) (now : World) (site : Site) → would_start plan now site ≡ true
     → IsSome (destination plan now site)
 start_goes plan now site starts = by (destination plan now site) (sym (would_start_is plan now site) ∙ starts)
   where

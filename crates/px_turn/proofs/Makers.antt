@@ -1,7 +1,6 @@
 -- Who made which position.
-use Rattle.std.proofs.Common.{◌≡◌, ℕ, zero, suc, ◌+◌, ◌<◌, ◌≤◌, Bool, true, false, nat_eq, if◌then◌else◌, List, [], ◌∷◌, ◌++◌, map, length, Option, Some, None, refl, sym, ap, ◌∙◌, arith, length-append, eq-eqb, ne_eqb, All}
-use mathlib.Core.Logic.{dite}
-use native.Mathlib.Decide.{ℕ_discrete}
+use Rattle.std.proofs.Common.{◌≡◌, ℕ, zero, suc, ◌+◌, ◌<◌, ◌≤◌, Bool, true, false, if◌then◌else◌, List, [], ◌∷◌, ◌++◌, map, length, Option, Some, None, refl, ap, ◌∙◌, arith, length-append, All}
+use Rattle.std.specs.Cmp.{nat_eq_equiv}
 use Rattle.std.proofs.lemmas.List.Elements.{All-head, All-tail}
 use Rattle.px_turn.specs.declared.view.Record.{Record}
 use Rattle.px_turn.specs.declared.view.Stamped.{Stamped}
@@ -13,10 +12,6 @@ use Rattle.px_turn.specs.Seats.{IsWhole, makers_at, AreMadeOnce}
 use Rattle.px_turn.proofs.Positions.{length_opened}
 use Rattle.px_turn.proofs.Seating.{one_if_same, one_if_other}
 
-turned : (a b : ℕ) → nat_eq a b ≡ nat_eq b a
-turned a b = dite (ℕ_discrete a b) (λ same. eq-eqb a b same ∙ sym (eq-eqb b a (sym same)))
-    (λ apart. ne_eqb a b apart ∙ sym (ne_eqb b a (λ same. apart (sym same))))
-
 -- of an entry that carries no number, and of one that carries this
 none_makes : (list : List Record) → total (λ (r : Record). one_if (is_number None r.number)) list ≡ 0
 none_makes [] = refl
@@ -27,7 +22,7 @@ one_makes : (number : ℕ) (list : List Record)
     ≡ times number (map (λ (r : Record). r.number) list)
 one_makes number [] = refl
 one_makes number (r ∷ list) =
-    let here = ap one_if (turned number r.number) in
+    let here = ap one_if (nat_eq_equiv.symm number r.number) in
     let rest = one_makes number list in
     omega arith
 
