@@ -7,4 +7,4 @@
 pub mod laws;
 mod plan;
 
-pub use plan::{TEXT_LIMIT, compile, compile_tree};
+pub use plan::{Compiled, TEXT_LIMIT, compile, compile_tree};

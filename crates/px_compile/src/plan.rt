@@ -24,10 +24,16 @@ use std::str::from_utf8;
 /// How many bytes the text of a plan may have.
 pub const TEXT_LIMIT: usize = 1_048_576;
 
-/// The plan that the bytes of a text spell.
-///
-/// The bytes are read as UTF-8, then as tokens, then as a tree; then the faults of the tree are looked for, and its core
-/// plan is made. The first of these that refuses decides the error.
+/// What the bytes of a text spell: a tree, and its core plan.
+#[derive(Drop)]
+pub struct Compiled {
+    /// The tree.
+    pub tree: Surface,
+    /// The core plan that is made of it.
+    pub plan: Plan,
+}
+
+/// The plan that the bytes of a text spell: that of `compile_tree`, or the same error.
 pub fn compile(alloc: Global, bytes: &[u8]) -> Result<Plan, PlanFault>
     requires { length bytes.now ≤ 1048576 }
     ensures ok { IfOk result (λ plan. IsCompiled bytes.now (tree_of plan)) }
@@ -35,30 +41,31 @@ pub fn compile(alloc: Global, bytes: &[u8]) -> Result<Plan, PlanFault>
     ensures typed { IfOk result (λ plan. IsTrue (has_typed_values (tree_of plan))) }
     ensures fault { IfErr result (λ fault. IsRefused bytes.now fault) }
 {
-    let text = text_in(bytes)?;
-    let tree = tree_in(alloc, text)?;
-    look_for_faults(alloc, &tree)?;
-    core_plan(alloc, &tree)
+    let Compiled { tree, plan } = compile_tree(alloc, bytes)?;
+    // By name: the proof then doesn't follow each shape that a tree may have on the way out.
+    drop(tree);
+    Ok(plan)
 }
 
-/// The tree of the plan that the bytes of a text spell, exactly where `compile` gives the plan; else the same error.
-pub fn compile_tree(alloc: Global, bytes: &[u8]) -> Result<Surface, PlanFault>
+/// The tree that the bytes of a text spell, and its plan.
+///
+/// The bytes are read as UTF-8, then as tokens, then as a tree; then the faults of the tree are looked for, and its core
+/// plan is made. The first of these that refuses decides the error.
+pub fn compile_tree(alloc: Global, bytes: &[u8]) -> Result<Compiled, PlanFault>
     requires { length bytes.now ≤ 1048576 }
-    ensures ok { IfOk result (λ tree. IsSpelled bytes.now (tree_of_surface tree)) }
-    ensures compiled { IfOk result (λ tree. (plan : Tree) × IsCompiled bytes.now plan) }
+    ensures tree { IfOk result (λ made. IsSpelled bytes.now (tree_of_surface made.tree)) }
+    ensures plan { IfOk result (λ made. IsCompiled bytes.now (tree_of made.plan)) }
+    ensures fit { IfOk result (λ made. IsFit (tree_of made.plan)) }
+    ensures typed { IfOk result (λ made. IsTrue (has_typed_values (tree_of made.plan))) }
     ensures fault { IfErr result (λ fault. IsRefused bytes.now fault) }
 {
     let text = text_in(bytes)?;
     let tree = tree_in(alloc, text)?;
     look_for_faults(alloc, &tree)?;
-    let plan = core_plan(alloc, &tree);
-    match plan {
-        Ok(plan) => {
-            // By name: the proof then doesn't follow each shape that a plan may have on the way out.
-            drop(plan);
-            Ok(tree)
-        }
+    match core_plan(alloc, &tree) {
+        Ok(plan) => Ok(Compiled { tree, plan }),
         Err(fault) => {
+            // By name, as above.
             drop(tree);
             Err(fault)
         }

@@ -3,7 +3,7 @@ ghost use Rattle.std.specs.Prelude.{◌≡◌, ◌≤◌, ℕ, List, length, IfO
 ghost use Rattle.std.specs.List.{list_all};
 ghost use Rattle.px_compile.specs.Compiled.{IsSpelled};
 ghost use Rattle.px_core.specs.Fit.{IsFit};
-ghost use Rattle.px_core.specs.Plan.{Tree, tree_of, sites};
+ghost use Rattle.px_core.specs.Plan.{tree_of, sites};
 ghost use Rattle.px_script.specs.Fit.{IsFitScript};
 ghost use Rattle.px_syntax.specs.Plan.{tree_of_surface};
 ghost use Rattle.px_run.specs.Reading.{Content, Shows, Reads, with_text};
@@ -12,11 +12,10 @@ ghost use Rattle.px_run.specs.Stops.{StopsFetching, StopsReading};
 ghost use Rattle.px_output.specs.View.{view, OnlyReads};
 
 use crate::ending::{Refusal, Stop};
-use px_compile::{TEXT_LIMIT, compile, compile_tree};
+use px_compile::{Compiled, TEXT_LIMIT, compile, compile_tree};
 use px_core::Plan;
 use px_ports::{Fetched, Host, HostFault};
 use px_script::{SCRIPT_LIMIT, Script, ScriptFault, read_script};
-use px_syntax::Surface;
 use std::alloc::Global;
 
 /// A plan with the text that spells it.
@@ -56,11 +55,11 @@ pub fn fetch_plan<H: Host>(alloc: Global, name: &str, host: &mut H) -> Result<Pl
     Ok(fetch_source(alloc, name, host)?.plan)
 }
 
-/// Reads the tree of the plan in the file of this name. It stops where `fetch_source` does.
-pub fn fetch_tree<H: Host>(alloc: Global, name: &str, host: &mut H) -> Result<Surface, Stop>
-    ensures ok { IfOk result (λ tree. (source : List ℕ × Tree)
-        × Reads (with_text plan_file) (view H.Host host.old) (view H.Host host.new) name.now source
-        × IsSpelled source.0 (tree_of_surface tree)) }
+/// Reads the plan in the file of this name, and keeps its tree. It stops where `fetch_source` does.
+pub fn fetch_tree<H: Host>(alloc: Global, name: &str, host: &mut H) -> Result<Compiled, Stop>
+    ensures ok { IfOk result (λ made. (text : List ℕ)
+        × Reads (with_text plan_file) (view H.Host host.old) (view H.Host host.new) name.now (text, tree_of made.plan)
+        × IsSpelled text (tree_of_surface made.tree)) }
     ensures err { IfErr result
         (StopsReading plan_file (view H.Host host.old) (view H.Host host.new) name.now) }
     ensures only { OnlyReads (view H.Host host.old) (view H.Host host.new) }

@@ -13,8 +13,7 @@ returns-in_err-compile_tree-clause-err g c =
 pub returns-clause-ok : goal.returns-clause-ok
 returns-clause-ok g c =
     let bytes = c.in_ok-text.text.items in
-    let (plan, compiled) = c.in_ok-compile_tree.ensures.compiled in (
-      (bytes, plan),
-      (Content bytes, c.in_ok-text.ensures.ok, (refl, rw (sym c.deref.ensures.value) compiled)),
-      rw (sym c.deref.ensures.value) c.in_ok-compile_tree.ensures.ok,
+    (bytes,
+      (Content bytes, c.in_ok-text.ensures.ok, (refl, rw (sym c.deref.ensures.value) c.in_ok-compile_tree.ensures.plan)),
+      rw (sym c.deref.ensures.value) c.in_ok-compile_tree.ensures.tree,
     )
