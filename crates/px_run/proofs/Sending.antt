@@ -1,12 +1,13 @@
--- The stepper that the program runs may go to another thread, since its parts may.
+-- The stepper that the program runs may go to another thread, since its parts and what it keeps of them may.
 use Rattle.std.proofs.Crossing.{crosses}
 use denote.Param.Send.{IsSend, sendable}
 use denote.Param.SendFields.{as_row_send, declared_send}
-use Rattle.px_naive.proofs.begun.Begun.TheSendSync as begun
+use Rattle.px_machine.proofs.Sending.{kept_send}
+use Rattle.px_machine.proofs.begun.Begun.TheSendSync as begun
 use Rattle.px_parts.proofs.Sending.{parts_send}
-use Rattle.px_naive.specs.contracts.naive.Naive as naive
+use Rattle.px_machine.specs.contracts.machine.Machine as machine
 
-pub naive_send : IsSend naive.the_row
-naive_send =
-    declared_send naive.the_type
-    (search (sendable, crosses, as_row_send, parts_send, begun.the_field_send) depth 20)
+pub machine_send : IsSend machine.the_row
+machine_send =
+    declared_send machine.the_type
+    (search (sendable, crosses, as_row_send, parts_send, kept_send, begun.the_field_send) depth 20)

@@ -23,4 +23,4 @@ mod top;
 mod trace;
 mod trace_start;
 
-pub use top::{Done, plexil};
+pub use top::{Done, plexil, plexil_over};

@@ -18,7 +18,7 @@ use crate::run::run;
 use crate::soak::soak;
 use crate::trace::trace;
 use crate::trace_start::trace_start;
-use px_naive::Naive;
+use px_machine::Machine;
 use px_output::emit_all;
 use px_ports::{Disk, Host};
 use px_script::Pace;
@@ -80,12 +80,11 @@ pub fn plexil<H: Host, D: Disk + Send, P: Pace, R: Threads + Wait + Sync>(
     ensures refused { RefusesFiles D.Disk (map string_bytes words.now)
         (view H.Host host.old) (view H.Host host.new) disk result.disk result.status }
 {
-    plexil_with::<H, D, Naive, P, R>(rt, alloc, words, host, disk, pace)
+    plexil_over::<H, D, Machine, P, R>(rt, alloc, words, host, disk, pace)
 }
 
-// The same over any stepper. What each status tells follows from the headline alone, so it is shown here, apart from the
-// body.
-fn plexil_with<H: Host, D: Disk + Send, S: Stepper + Send, P: Pace, R: Threads + Wait + Sync>(
+/// The same over any stepper.
+pub fn plexil_over<H: Host, D: Disk + Send, S: Stepper + Send, P: Pace, R: Threads + Wait + Sync>(
     rt: &R,
     alloc: Global,
     words: &[String],
@@ -106,6 +105,7 @@ fn plexil_with<H: Host, D: Disk + Send, S: Stepper + Send, P: Pace, R: Threads +
     ensures refused { RefusesFiles D.Disk (map string_bytes words.now)
         (view H.Host host.old) (view H.Host host.new) disk result.disk result.status }
 {
+    // What each status tells follows from the headline alone, so it is shown here, apart from the body.
     ended::<H, D, S, P, R>(rt, alloc, words, host, disk, pace)
 }
 

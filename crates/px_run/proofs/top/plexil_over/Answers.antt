@@ -3,7 +3,7 @@ use Rattle.std.specs.String.{string_bytes}
 use Rattle.px_output.specs.View.{view}
 use Rattle.px_run.proofs.Causing.{causes}
 use Rattle.px_run.proofs.Completing.{complete, refused}
-use Rattle.px_run.proofs.top.plexil_with.Goals as goal
+use Rattle.px_run.proofs.top.plexil_over.Goals as goal
 
 pub returns-clause-causes : goal.returns-clause-causes
 returns-clause-causes g c =
