@@ -2,7 +2,7 @@
 use px_compile::compile;
 use px_event::Event;
 use px_exec::PostFault;
-use px_naive::Naive;
+use px_machine::Machine;
 use px_ports::MemDisk;
 use px_sem::start;
 use px_session::create;
@@ -19,7 +19,7 @@ fn a_closed_executive_answers_its_count(rt: HostRuntime) -> Result<(), Fail> {
     let Ok(plan) = compile(alloc, PLAN) else {
         panic!(rt; "the plan is fit");
     };
-    let Ok(stepper) = start::<Naive>(alloc, &plan) else {
+    let Ok(stepper) = start::<Machine>(alloc, &plan) else {
         panic!(rt; "the plan starts");
     };
     let failing = vec![in alloc; 10]?;

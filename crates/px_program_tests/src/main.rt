@@ -33,8 +33,8 @@
 //!
 //! The threads of a script run side by side: a row with several has the waits by which each order comes to the same.
 //!
-//! A row that doesn't hold is printed with what was answered in place of what had to be, and at the end the number of rows
-//! that hold.
+//! Each row is run on both steppers, the queued machine and the plain one. A row that doesn't hold is printed with what was
+//! answered in place of what had to be and on which, and at the end the number of rows that hold on both.
 #![tactic(auto)]
 
 mod bytes;
@@ -55,8 +55,12 @@ mod side_by_side;
 mod two_seats;
 
 use bytes::{bytes_of, digits_of};
+use px_machine::Machine;
+use px_naive::Naive;
+use px_script::NoPace;
+use px_sem::Stepper;
 use row::Row;
-use running::{Answer, Call, answer_of};
+use running::{Answer, Call, answer_over};
 use std::alloc::Global;
 use std::io;
 use std::sync::Wait;
@@ -79,11 +83,11 @@ fn main(rt: HostRuntime) -> anyhow::Result<()> {
     if !rest.is_empty() {
         println!(rt; "not ended: {rest}")?;
     }
-    println!(rt; "{held} rows hold")?;
+    println!(rt; "{held} rows hold, on both steppers")?;
     Ok(())
 }
 
-// Whether the row that is spelled so holds; else it is told.
+// Whether the row that is spelled so holds on both steppers; else it is told.
 fn holds<R: Print + Threads + Wait + Sync>(
     rt: &R,
     alloc: Global,
@@ -93,7 +97,19 @@ fn holds<R: Print + Threads + Wait + Sync>(
         println!(rt; "no row: {spelled}")?;
         return Ok(false);
     };
-    let Answer { status, text, left } = answer_to(rt, alloc, row)?;
+    let on_machine = holds_on::<Machine, R>(rt, alloc, row, "the queued machine")?;
+    let on_plain = holds_on::<Naive, R>(rt, alloc, row, "the plain stepper")?;
+    Ok(on_machine && on_plain)
+}
+
+// Whether the row holds on a stepper of this type and name; else it is told.
+fn holds_on<S: Stepper + Send, R: Print + Threads + Wait + Sync>(
+    rt: &R,
+    alloc: Global,
+    row: Row<'_>,
+    stepper: &str,
+) -> anyhow::Result<bool> {
+    let Answer { status, text, left } = answer_to::<S, R>(rt, alloc, row)?;
     let answered = format!(in alloc; "{status}\n{text}")?;
     let wanted = format!(in alloc; "{}\n", row.answer)?;
     if answered.as_str() == wanted.as_str() && left == bytes_of(alloc, row.leaves)? {
@@ -101,14 +117,14 @@ fn holds<R: Print + Threads + Wait + Sync>(
     }
     let left = digits_of(alloc, &left)?;
     println!(rt;
-        "{}\n{}\n{answered}---- leaves{left}\n====",
+        "{}\non {stepper}\n{}\n{answered}---- leaves{left}\n====",
         row.name, row.words
     )?;
     Ok(false)
 }
 
-// What the row's call answers.
-fn answer_to<R: Threads + Wait + Sync>(
+// What the row's call answers on a stepper of this type.
+fn answer_to<S: Stepper + Send, R: Threads + Wait + Sync>(
     rt: &R,
     alloc: Global,
     row: Row<'_>,
@@ -121,5 +137,5 @@ fn answer_to<R: Threads + Wait + Sync>(
         journal: &journal,
         faults: row.faults,
     };
-    answer_of(rt, alloc, call)
+    answer_over::<S, NoPace, R>(rt, alloc, call, &NoPace)
 }

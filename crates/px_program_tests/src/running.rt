@@ -1,8 +1,13 @@
 // A call of the program over a host in memory that has two files, and a disk in memory.
 use crate::faults::Faults;
+#[cfg(test)]
+use px_machine::Machine;
 use px_ports::{MemDisk, MemFile, MemHost};
-use px_run::{Done, plexil};
-use px_script::{NoPace, Pace};
+use px_run::{Done, plexil_over};
+#[cfg(test)]
+use px_script::NoPace;
+use px_script::Pace;
+use px_sem::Stepper;
 use std::alloc::Global;
 use std::sync::Wait;
 use std::thread::Threads;
@@ -59,7 +64,8 @@ fn host_of(alloc: Global, call: Call<'_>) -> anyhow::Result<MemHost> {
     Ok(MemHost::new(alloc, files, fetches, emits, call.faults.piece)?)
 }
 
-/// What the call answers.
+/// What the call answers on the stepper that the program runs on.
+#[cfg(test)]
 pub(crate) fn answer_of<R: Threads + Wait + Sync>(
     rt: &R,
     alloc: Global,
@@ -68,8 +74,19 @@ pub(crate) fn answer_of<R: Threads + Wait + Sync>(
     paced_answer_of(rt, alloc, call, &NoPace)
 }
 
-/// What the call answers whose threads have this pace.
+/// The same where the threads have this pace.
+#[cfg(test)]
 pub(crate) fn paced_answer_of<P: Pace, R: Threads + Wait + Sync>(
+    rt: &R,
+    alloc: Global,
+    call: Call<'_>,
+    pace: &P,
+) -> anyhow::Result<Answer> {
+    answer_over::<Machine, P, R>(rt, alloc, call, pace)
+}
+
+/// What the call answers on a stepper of this type, where the threads have this pace.
+pub(crate) fn answer_over<S: Stepper + Send, P: Pace, R: Threads + Wait + Sync>(
     rt: &R,
     alloc: Global,
     call: Call<'_>,
@@ -85,7 +102,8 @@ pub(crate) fn paced_answer_of<P: Pace, R: Threads + Wait + Sync>(
         call.faults.stop,
     )?;
 
-    let Done { status, disk } = plexil(rt, alloc, &words, &mut host, disk, pace);
+    let Done { status, disk } =
+        plexil_over::<MemHost, MemDisk, S, P, R>(rt, alloc, &words, &mut host, disk, pace);
     Ok(Answer {
         status,
         text: String::from_utf8(host.emitted().to_vec(alloc)?)?,

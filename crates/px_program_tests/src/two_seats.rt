@@ -2,7 +2,7 @@
 use px_compile::compile;
 use px_desk::{Desk, EventDesk};
 use px_event::{Event, Values};
-use px_naive::Naive;
+use px_machine::Machine;
 use px_ports::MemDisk;
 use px_sem::start;
 use px_session::create;
@@ -27,7 +27,7 @@ fn a_seat_counts_what_another_posts(rt: HostRuntime) -> Result<(), Fail> {
     let Ok(plan) = compile(alloc, PLAN) else {
         panic!(rt; "the plan is fit");
     };
-    let Ok(stepper) = start::<Naive>(alloc, &plan) else {
+    let Ok(stepper) = start::<Machine>(alloc, &plan) else {
         panic!(rt; "the plan starts");
     };
     let disk = MemDisk::new(alloc, Vec::new(alloc), Vec::new(alloc), None)?;

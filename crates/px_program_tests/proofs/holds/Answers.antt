@@ -1,0 +1,10 @@
+use denote.Param.Send.{sendable}
+use Rattle.px_run.proofs.Sending.{machine_send}
+use Rattle.px_program_tests.proofs.Sending.{naive_send}
+use Rattle.px_program_tests.proofs.holds.Goals as goal
+
+pub holds_on-requires-send-S : goal.holds_on-requires-send-S
+holds_on-requires-send-S g c = λ _ _. search (sendable, machine_send)
+
+pub holds_on-2-requires-send-S : goal.holds_on-2-requires-send-S
+holds_on-2-requires-send-S g c = λ _ _. search (sendable, naive_send)
