@@ -23,18 +23,22 @@ def check(holds, found):
         raise Failed(found)
 
 
-def run_trial(trial, description, count):
-    """Reads the words of a trial, runs it in a new folder, and removes the folder where the trial holds."""
+def run_trial(trial, description, count, **further):
+    """Reads the words of a trial, runs it in a new folder, and removes the folder where the trial holds. Of further words it
+    has the name and the help; the trial gets each by its name."""
     words = argparse.ArgumentParser(description=description)
     words.add_argument("program", help="the built program")
     words.add_argument("--count", type=int, default=count, help=f"how often, {count} where it isn't given")
     words.add_argument("--seed", type=int, default=1, help="of the trial's choices")
     words.add_argument("--below", help="the folder in which the trial makes its own")
+    for name, told in further.items():
+        words.add_argument(f"--{name}", required=True, help=told)
     given = words.parse_args()
     program = pathlib.Path(given.program).resolve()
     folder = pathlib.Path(tempfile.mkdtemp(prefix="plexil-trial-", dir=given.below))
     try:
-        print(trial(program, given.count, random.Random(given.seed), folder))
+        more = {name: getattr(given, name) for name in further}
+        print(trial(program, given.count, random.Random(given.seed), folder, **more))
     except Failed as failed:
         print(f"FAILED: {failed}\nthe files: {folder}", file=sys.stderr)
         return 1

@@ -1,50 +1,13 @@
 """Refuses each allocation of a call in turn, one number at a time, until a call has made them all.
 
 The status is then the call's own or 10, or 8 or 9 where what was refused was wanted by the sink or the disk; what was printed
-is a front of the text, and the journal stands for a front of its history. It needs a C compiler, `cc`, for a library that is
-loaded before the program and counts; and a program that was built to run, without a sanitizer of its own.
+is a front of the text, and the journal stands for a front of its history. refusing.py says what it needs.
 """
 
-import os
-import shutil
-import subprocess
 import sys
 
+import refusing
 from common import EXAMPLES, Failed, START, answer, check, journal_at, journal_bytes, journal_of, report, run_trial
-
-# The allocation with the number REFUSED, counted from 1, gets nothing; COUNTED is the file that tells that there was one.
-REFUSING = r"""
-#define _GNU_SOURCE
-#include <dlfcn.h>
-#include <errno.h>
-#include <fcntl.h>
-#include <stdatomic.h>
-#include <stdlib.h>
-#include <unistd.h>
-
-static atomic_long count;
-static long refused;
-static int begun;
-
-__attribute__((constructor)) static void begin(void) {
-    char *number = getenv("REFUSED");
-    refused = number ? atol(number) : 0;
-    begun = 1;
-}
-
-static int is_refused(void) {
-    if (!begun || atomic_fetch_add(&count, 1) + 1 != refused) return 0;
-    char *path = getenv("COUNTED");
-    if (path) close(open(path, O_CREAT | O_WRONLY, 0644));
-    errno = ENOMEM;
-    return 1;
-}
-
-extern void *__libc_malloc(size_t), *__libc_calloc(size_t, size_t), *__libc_realloc(void *, size_t);
-void *malloc(size_t size) { return is_refused() ? NULL : __libc_malloc(size); }
-void *calloc(size_t many, size_t size) { return is_refused() ? NULL : __libc_calloc(many, size); }
-void *realloc(void *old, size_t size) { return is_refused() ? NULL : __libc_realloc(old, size); }
-"""
 
 DRIVE = "A: { Drive(3); }"
 HANDLED = bytes.fromhex("01 00000001 02 0001 41 06")
@@ -82,11 +45,9 @@ class Whole:
 
 
 def main(program, count, chance, folder):
-    if shutil.which("cc") is None:
+    library = refusing.library(folder)
+    if library is None:
         return "refused memory: skipped, there is no cc"
-    (folder / "refusing.c").write_text(REFUSING)
-    library = folder / "refusing.so"
-    subprocess.run(["cc", "-shared", "-fPIC", "-O1", "-o", library, folder / "refusing.c"], check=True)
     told = []
     for row in rows(program, folder):
         wholes = ORDERS if row.name == "two threads" else [whole_of(program, folder, row)]
@@ -117,7 +78,7 @@ def rows(program, folder):
 def begun(program, folder, plan, script):
     """The journal of a run."""
     row = Row("", "run P S J", plan, script)
-    check(called(program, folder, row, {}).status == 0, "a run that makes a journal")
+    check(called(program, folder, row).status == 0, "a run that makes a journal")
     return (folder / "J").read_bytes()
 
 
@@ -145,34 +106,37 @@ ORDERS = list(orders())
 
 
 def whole_of(program, folder, row):
-    now = called(program, folder, row, {})
+    now = called(program, folder, row)
     check(now.status in (0, 11), f"{row.name}: {now}")
     return Whole(now.status, now.text, journal_at(folder / "J"))
 
 
-def called(program, folder, row, how):
-    """What the call answers in an environment with these words."""
+def called(program, folder, row):
+    """What the call answers."""
+    lay(folder, row)
+    return answer(program, folder, *row.words)
+
+
+def lay(folder, row):
+    """Writes the files that the call finds."""
     (folder / "P").write_text(row.plan)
     (folder / "S").write_text(row.script)
     (folder / "J").unlink(missing_ok=True)
     if row.journal:
         (folder / "J").write_bytes(row.journal)
-    return answer(program, folder, *row.words, env={**os.environ, **how})
 
 
 def refuse_each(program, folder, library, row, wholes, most):
     """Refuses at most so many allocations, and answers how many there were."""
     before = journal_of(row.journal)
     at_first = len(before[1]) if before else 0
-    refused = folder / "refused"
     for number in range(1, most + 1):
-        refused.unlink(missing_ok=True)
-        how = {"LD_PRELOAD": str(library), "REFUSED": str(number), "COUNTED": str(refused)}
-        now = called(program, folder, row, how)
+        lay(folder, row)
+        now, is_refused = refusing.refused_answer(library, number, program, folder, *row.words)
         journal = journal_at(folder / "J")
         is_allowed = any(whole.allows(now, journal, at_first) for whole in wholes)
         check(is_allowed, f"{row.name}, allocation {number}: {now}, {journal}")
-        if not refused.exists():
+        if not is_refused:
             check(number > 1 and now.status in (0, 11), f"{row.name}: no allocation is counted")
             return number - 1
     raise Failed(f"{row.name}: over {most} allocations; give a greater --count")

@@ -102,8 +102,9 @@ pub(crate) fn answer_over<S: Stepper + Send, P: Pace, R: Threads + Wait + Sync>(
         call.faults.stop,
     )?;
 
-    let Done { status, disk } =
-        plexil_over::<MemHost, MemDisk, S, P, R>(rt, alloc, &words, &mut host, disk, pace);
+    let Done { status, disk } = plexil_over::<MemHost, MemDisk, S, P, R>(
+        rt, alloc, &words, &mut host, disk, pace,
+    );
     Ok(Answer {
         status,
         text: String::from_utf8(host.emitted().to_vec(alloc)?)?,
