@@ -3,18 +3,17 @@ use Rattle.std.proofs.Common.{◌≡◌, Bool, true, [], ◌∷◌, ◌++◌, Op
 use Rattle.std.specs.Option.{option_map_or}
 use Rattle.px_syntax.specs.Expr.{term_of}
 use Rattle.px_syntax.specs.ExprFaults.{name_faults, faults_as}
-use Rattle.px_syntax.specs.Fault.{Fault}
 use Rattle.px_syntax.specs.Scope.{Scope}
 use Rattle.px_syntax.specs.declared.expr.Identifier.{Identifier}
 use Rattle.px_syntax.specs.declared.expr.SurfaceExpr.{SurfaceExpr}
 use Rattle.px_syntax.specs.declared.fault.FaultKind.TheVariants.{NotAssignable}
 use Rattle.px_syntax.specs.declared.value_type.ValueType.TheVariants.{Integer}
-use Rattle.px_check.specs.Found.{noted}
+use Rattle.px_check.specs.Found.{Sought, noted}
 use Rattle.px_check.proofs.Noting.{noted_then}
 
 -- a target with an index
 pub target_noted : (scope : Scope) (name : Identifier) (index : Option SurfaceExpr) (part : SurfaceExpr)
-    (has_index : Bool) (found between new : Option Fault) → has_index ≡ is_some index → index ≡ Some part
+    (has_index : Bool) (found between new : Sought) → has_index ≡ is_some index → index ≡ Some part
     → between ≡ noted found (name_faults NotAssignable scope name has_index)
     → new ≡ noted between (faults_as (Integer ∷ []) scope (term_of part))
     → new ≡ noted found (name_faults NotAssignable scope name (is_some (option_map term_of index))

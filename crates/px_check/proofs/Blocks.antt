@@ -15,7 +15,7 @@ use Rattle.px_syntax.specs.ExprFaults.{faults_as}
 use Rattle.px_syntax.specs.Fault.{Fault}
 use Rattle.px_syntax.specs.Scope.{Scope, Head, Node, own_action, head_of}
 use Rattle.px_syntax.proofs.Trees.{block_is, action_is, branch_is, guarded_is}
-use Rattle.px_check.specs.Found.{noted}
+use Rattle.px_check.specs.Found.{Sought, noted}
 use Rattle.px_check.specs.Scope.{outside}
 use Rattle.px_check.proofs.Naming.{dropped_over}
 use Rattle.px_check.proofs.Noting.{noted_append, noted_then}
@@ -34,7 +34,7 @@ pub own_told : {X : Type 0} (f : X → BodyTree) (own : Option X) (tree : Option
 own_told f own tree own_is = is_some_mapped f own ∙ ap is_some own_is
 
 pub block_noted : (scope : Scope) (label : Option Identifier) (block : Block) (own : Bool) (entered : Scope)
-    (labels : List Identifier) (found after_items after_labels new : Option Fault)
+    (labels : List Identifier) (found after_items after_labels new : Sought)
     → entered ≡ inside_block scope label (block_of block)
     → after_items ≡ noted found (items_faults entered (map item_data (out-Block block).items.items))
     → labels ≡ action_labels (in_turn (out-Block block).actions.items)
@@ -60,7 +60,7 @@ block_noted scope label block own entered labels found after_items after_labels 
 
 -- an action more
 pub action_walked : (scope : Scope) (is_one_node : Bool) (actions : List Action) (place : ℕ) (action : Action)
-    (found new : Option Fault) → place < length actions → action ≡ get_or actions place action
+    (found new : Sought) → place < length actions → action ≡ get_or actions place action
     → new ≡ noted found (body_faults scope is_one_node (out-Action action).label (body_of (out-Action action).body))
     → noted new (actions_faults scope is_one_node (in_turn (drop (place + 1) actions)))
     ≡ noted found (actions_faults scope is_one_node (in_turn (drop place actions)))
@@ -73,13 +73,13 @@ action_walked scope is_one_node actions place action found new within is own =
 
 -- ---- a branch, and a test with its branch
 
-pub branch_noted : (scope : Scope) (branch : Branch) (found new : Option Fault)
+pub branch_noted : (scope : Scope) (branch : Branch) (found new : Sought)
     → new ≡ noted found (block_faults scope (out-Branch branch).label (block_of (out-Branch branch).block))
     → new ≡ noted found (branch_faults scope (branch_of branch))
 branch_noted scope branch found new own =
     own ∙ ap (λ tree. noted found (branch_faults scope tree)) (sym (branch_is branch))
 
-pub guarded_noted : (scope : Scope) (guarded : Guarded) (found between new : Option Fault)
+pub guarded_noted : (scope : Scope) (guarded : Guarded) (found between new : Sought)
     → between ≡ noted found (faults_as (Boolean ∷ []) scope (term_of (out-Guarded guarded).test))
     → new ≡ noted between (branch_faults scope (branch_of (out-Guarded guarded).branch))
     → new ≡ noted found (guarded_faults scope (guarded_of guarded))
@@ -91,12 +91,12 @@ guarded_noted scope guarded found between new test branch =
 -- ---- lists: `while`, `for` and `if`
 
 -- what is found inside, where it is said of another name of that place
-pub found_at : (faults_at : Scope → List Fault) (entered place : Scope) (found new : Option Fault) → entered ≡ place
+pub found_at : (faults_at : Scope → List Fault) (entered place : Scope) (found new : Sought) → entered ≡ place
     → new ≡ noted found (faults_at entered) → new ≡ noted found (faults_at place)
 found_at faults_at entered place found new place_is own = own ∙ ap (λ place. noted found (faults_at place)) place_is
 
 pub for_noted : (scope : Scope) (one : Bool) (label : Option Identifier) (variable : Identifier) (first : ℤ)
-    (test step : Term) (branch : BranchTree) (entered : Scope) (found between new : Option Fault)
+    (test step : Term) (branch : BranchTree) (entered : Scope) (found between new : Sought)
     → entered ≡ inside_for scope label variable branch
     → between ≡ noted found (faults_as (Boolean ∷ []) entered test ++ faults_as (Integer ∷ []) entered step)
     → new ≡ noted between (branch_faults entered branch)
@@ -149,7 +149,7 @@ if_left scope label first others last entered deepest new entered_is deepest_is 
 
 -- an `if` with its labels, and the parts of its chain
 pub if_noted : (scope : Scope) (one : Bool) (label : Option Identifier) (first : GuardedTree) (others : ElseIfs)
-    (otherwise : ElseTree) (entered tested deepest : Scope) (found after_labels after_first after_others new : Option Fault)
+    (otherwise : ElseTree) (entered tested deepest : Scope) (found after_labels after_first after_others new : Sought)
     → entered ≡ inside_if scope label first others (else_child otherwise) → tested ≡ entered
     → deepest ≡ inside_last tested others (else_child otherwise)
     → after_labels ≡ noted found (if_label_faults first others otherwise)
@@ -174,7 +174,7 @@ if_noted scope one label first others otherwise entered tested deepest found aft
 
 -- an `elseif` more
 pub chain_walked : (others : List Guarded) (place : ℕ) (next : Guarded) (later : List Guarded) (last : List Head)
-    (scope entered new_scope : Scope) (found new : Option Fault) → place < length others → next ≡ get_or others place next
+    (scope entered new_scope : Scope) (found new : Sought) → place < length others → next ≡ get_or others place next
     → later ≡ drop (place + 1) others
     → entered ≡ inside_if scope None (guarded_of next) (else_ifs_in_turn (map guarded_of later)) last
     → new_scope ≡ entered → new ≡ noted found (guarded_faults entered (guarded_of next))

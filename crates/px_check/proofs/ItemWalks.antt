@@ -16,7 +16,7 @@ use Rattle.px_syntax.specs.declared.fault.FaultKind.{FaultKind}
 use Rattle.px_syntax.specs.declared.fault.FaultKind.TheVariants.{DoubleCondition}
 use Rattle.px_syntax.specs.declared.word.TypeName.{TypeName}
 use Rattle.px_syntax.specs.declared.word.TypeName.TheVariants as names
-use Rattle.px_check.specs.Found.{noted}
+use Rattle.px_check.specs.Found.{Sought, noted}
 use Rattle.px_check.specs.Once.{once_data, once_pair}
 use Rattle.px_check.specs.declared.once.Once as seen
 use Rattle.px_check.proofs.Noting.{noted_append}
@@ -82,7 +82,7 @@ module _ (items : List Item) (place : ℕ) (item : Item) (pair : Option (seen.On
       ap (λ parts. parts ++ once_left (drop (place + 1) items)) pair_is ∙ ap once_left (sym (cut_at items place item within is))
 
   -- an item that declares variables
-  pub once_none : (before more : List seen.Once) (found new : Option Fault) → pair ≡ None → new ≡ found → more ≡ before
+  pub once_none : (before more : List seen.Once) (found new : Sought) → pair ≡ None → new ≡ found → more ≡ before
       → noted new (twice more (once_left (drop (place + 1) items))) ≡ noted found (twice before (once_left (drop place items)))
   once_none before more found new none new_is more_is =
       (λ i. noted (new_is i) (twice (more_is i) (once_left (drop (place + 1) items))))
@@ -90,7 +90,7 @@ module _ (items : List Item) (place : ℕ) (item : Item) (pair : Option (seen.On
       (ap (λ pair. option_to_list (option_map once_pair pair) ++ once_left (drop (place + 1) items)) (sym none) ∙ once_cut)
 
   -- a condition, or the priority
-  pub once_some : (before more : List seen.Once) (part : seen.Once) (token : ℕ) (is_again : Bool) (found new : Option Fault)
+  pub once_some : (before more : List seen.Once) (part : seen.Once) (token : ℕ) (is_again : Bool) (found new : Sought)
       → pair ≡ Some (part, token)
       → is_again ≡ list_any (is_same_once (once_data part)) (map once_data before)
       → new ≡ noted found (fault_where is_again DoubleCondition token)

@@ -6,7 +6,7 @@ use Rattle.std.proofs.Math.ListN.{drop_of_length-le}
 use Rattle.px_value.proofs.General.{cut_at}
 use Rattle.px_syntax.specs.Expr.{Term, Terms, term_of, in_turn, More}
 use Rattle.px_syntax.specs.ExprFaults.{first_token, count_terms, count_faults, any_where_faulty, any_unless_allowed, answer_type, type_of, expr_faults, type_fault, alike_fault, argument_faults, parameters_of}
-use Rattle.px_syntax.specs.Fault.{Fault, fault_where}
+use Rattle.px_syntax.specs.Fault.{fault_where}
 use Rattle.px_syntax.specs.Scope.{Scope, Global}
 use Rattle.px_syntax.specs.ValueType.{Signature, fits, differ}
 use Rattle.px_syntax.specs.declared.expr.Identifier.{Identifier}
@@ -15,18 +15,18 @@ use Rattle.px_syntax.specs.declared.fault.FaultKind.TheVariants.{TypeDiffers}
 use Rattle.px_syntax.specs.declared.value_type.ValueType.{ValueType}
 use Rattle.px_syntax.specs.declared.value_type.ValueType.TheVariants.{Any}
 use Rattle.px_check.specs.Arguments.{allowed_next}
-use Rattle.px_check.specs.Found.{noted}
+use Rattle.px_check.specs.Found.{Sought, noted}
 use Rattle.px_check.proofs.Noting.{noted_append, noted_none, noted_then}
 
 -- an expression
-pub part_noted : (scope : Scope) (tree part : SurfaceExpr) (found new : Option Fault) → part ≡ tree
+pub part_noted : (scope : Scope) (tree part : SurfaceExpr) (found new : Sought) → part ≡ tree
     → new ≡ noted found (expr_faults scope (term_of part)) → new ≡ noted found (expr_faults scope (term_of tree))
 part_noted scope tree part found new part_is parts =
     parts ∙ ap (λ tree. noted found (expr_faults scope (term_of tree))) part_is
 
 -- its type
 pub type_noted : (allowed given_allowed : List ValueType) (scope : Scope) (tree part shown : SurfaceExpr)
-    (given : ValueType) (found new : Option Fault) → part ≡ tree → shown ≡ tree → given_allowed ≡ allowed
+    (given : ValueType) (found new : Sought) → part ≡ tree → shown ≡ tree → given_allowed ≡ allowed
     → given ≡ type_of scope (term_of part)
     → new ≡ noted found (fault_where (not (fits given_allowed given)) TypeDiffers (first_token (term_of shown)))
     → new ≡ noted found (type_fault allowed scope (term_of tree))
@@ -37,7 +37,7 @@ type_noted allowed given_allowed scope tree part shown given found new part_is s
 
 -- two operands that have to be of one type
 pub alike_noted : (known given : Signature) (scope : Scope) (left left_part right right_part shown : SurfaceExpr)
-    (left_given right_given : ValueType) (found new : Option Fault)
+    (left_given right_given : ValueType) (found new : Sought)
     → given ≡ known → left_part ≡ left → right_part ≡ right → shown ≡ right
     → left_given ≡ type_of scope (term_of left_part) → right_given ≡ type_of scope (term_of right_part)
     → new ≡ noted found (fault_where
@@ -71,7 +71,7 @@ argument_step scope (parameter ∷ parameters) first rest = refl
 
 -- an argument more
 pub argument_noted : (scope : Scope) (args : List SurfaceExpr) (parameters : List ValueType) (place : ℕ) (arg : SurfaceExpr)
-    (allowed : List ValueType) (given : ValueType) (found between new : Option Fault)
+    (allowed : List ValueType) (given : ValueType) (found between new : Sought)
     → place < length args → arg ≡ get_or args place arg → allowed ≡ allowed_next (drop place parameters)
     → given ≡ type_of scope (term_of arg) → between ≡ noted found (expr_faults scope (term_of arg))
     → new ≡ noted between (fault_where (not (fits allowed given)) TypeDiffers (first_token (term_of arg)))
@@ -93,7 +93,7 @@ argument_noted scope args parameters place arg allowed given found between new w
 
 -- no arguments are left
 pub arguments_done : (scope : Scope) (args : List SurfaceExpr) (parameters : List ValueType) (place : ℕ)
-    (found : Option Fault) → length args ≤ place
+    (found : Sought) → length args ≤ place
     → found ≡ noted found (argument_faults scope (drop place parameters) (in_turn (map term_of (drop place args))))
 arguments_done scope args parameters place found past =
     sym (noted_none found)
@@ -103,7 +103,7 @@ arguments_done scope args parameters place found past =
 -- ---- lookups
 
 pub look_noted : (scope : Scope) (name : Identifier) (args items : List SurfaceExpr) (declared known : Option Global)
-    (parameters : List ValueType) (count : ℕ) (found between new : Option Fault)
+    (parameters : List ValueType) (count : ℕ) (found between new : Sought)
     → known ≡ declared → count ≡ length args → items ≡ args → parameters ≡ parameters_of known
     → between ≡ noted found (count_faults known name count)
     → new ≡ noted between (argument_faults scope parameters (in_turn (map term_of items)))

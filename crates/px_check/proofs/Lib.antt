@@ -12,4 +12,5 @@ pub mod Repeating
 pub mod Seeing
 pub mod Blocks
 pub mod Declaring
-pub mod Firsts
+pub mod Passing
+pub mod Behind

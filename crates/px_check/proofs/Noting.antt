@@ -1,18 +1,18 @@
 -- Faults are noted one after another.
-use Rattle.std.proofs.Common.{◌≡◌, List, [], ◌++◌, Option, refl, sym, ap, ◌∙◌}
+use Rattle.std.proofs.Common.{◌≡◌, List, [], ◌++◌, refl, sym, ap, ◌∙◌}
 use Rattle.std.proofs.lemmas.List.Sums.{fold-append}
 use Rattle.px_syntax.specs.Fault.{Fault}
-use Rattle.px_check.specs.Found.{earlier, noted}
+use Rattle.px_check.specs.Found.{Sought, earlier, noted}
 
-pub noted_append : (found : Option Fault) (xs ys : List Fault) → noted found (xs ++ ys) ≡ noted (noted found xs) ys
+pub noted_append : (found : Sought) (xs ys : List Fault) → noted found (xs ++ ys) ≡ noted (noted found xs) ys
 unfolding noted
 noted_append found xs ys = fold-append earlier found xs ys
 
-pub noted_none : (found : Option Fault) → noted found [] ≡ found
+pub noted_none : (found : Sought) → noted found [] ≡ found
 unfolding noted
 noted_none found = refl
 
-pub noted_then : (found between new : Option Fault) (xs ys : List Fault) → between ≡ noted found xs → new ≡ noted between ys
+pub noted_then : (found between new : Sought) (xs ys : List Fault) → between ≡ noted found xs → new ≡ noted between ys
     → new ≡ noted found (xs ++ ys)
 noted_then found between new xs ys first second =
     second ∙ ap (λ between. noted between ys) first ∙ sym (noted_append found xs ys)

@@ -1,14 +1,14 @@
 -- Names that stand twice, noted one after another.
 use Rattle.std.proofs.Common.{◌≡◌, ℕ, ◌+◌, ◌<◌, Bool, true, false, cond, ◌||◌, List, [], ◌∷◌, map, drop, length, get_or, find}
-use Rattle.std.proofs.Common.{Option, Some, is_some, option_map, bytes_eq, refl, sym, ap, ◌∙◌}
+use Rattle.std.proofs.Common.{Some, is_some, option_map, bytes_eq, refl, sym, ap, ◌∙◌}
 use Rattle.std.specs.Borrow.{Bor}
 use Rattle.std.specs.List.{list_any}
 use Rattle.px_value.proofs.General.{cut_at}
 use Rattle.px_syntax.specs.BlockFaults.{repeated}
-use Rattle.px_syntax.specs.Fault.{Fault, fault_where}
+use Rattle.px_syntax.specs.Fault.{fault_where}
 use Rattle.px_syntax.specs.declared.expr.Identifier.{Identifier}
 use Rattle.px_syntax.specs.declared.fault.FaultKind.TheVariants.{Redeclared}
-use Rattle.px_check.specs.Found.{noted}
+use Rattle.px_check.specs.Found.{Sought, noted}
 use Rattle.px_check.specs.Repeats.{spots}
 use Rattle.px_check.specs.Scoped.{meaning_of}
 use Rattle.px_check.proofs.Noting.{noted_append}
@@ -27,7 +27,7 @@ name_again name (one ∷ before) = by (bytes_eq name one.0) (name_again name bef
 
 -- one identifier more
 pub name_walked : (identifiers : List (Bor Identifier)) (place : ℕ) (identifier : Bor Identifier)
-    (before more : List (List ℕ × Unit {0})) (is_again : Bool) (found new : Option Fault)
+    (before more : List (List ℕ × Unit {0})) (is_again : Bool) (found new : Sought)
     → place < length identifiers → identifier ≡ get_or identifiers place identifier
     → is_again ≡ list_any (bytes_eq identifier.now.name) (map (λ one. one.0) before)
     → new ≡ noted found (fault_where is_again Redeclared identifier.now.token)

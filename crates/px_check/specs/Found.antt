@@ -1,17 +1,39 @@
--- The first of faults: the one with the least token, and of several at one token that of the least kind.
-use Rattle.std.specs.Prelude.{List, Option, Some, None, if◌then◌else◌}
-use Rattle.std.specs.List.{fold}
+-- The first of faults that lie behind another one: the one with the least token, and of several at one token that of the
+-- least kind.
+use Rattle.std.specs.Prelude.{Bool, true, List, Option, Some, None, if◌then◌else◌}
+use Rattle.std.specs.List.{fold, filter}
 use Rattle.px_syntax.specs.Fault.{Fault, is_before}
 use Rattle.px_check.specs.declared.found.Spot.{Spot}
 
 abbrev pub fault_of : Spot → Fault
 fault_of spot = record { token = spot.token; kind = spot.kind }
 
--- the earlier of a fault and one that was found before, if one was
-abbrev pub earlier : Option Fault → Fault → Option Fault
-earlier None fault = Some fault
-earlier (Some other) fault = if is_before fault other then Some fault else Some other
+-- a fault lies behind the floor, or there is no floor
+abbrev pub is_behind : Option Fault → Fault → Bool
+is_behind None fault = true
+is_behind (Some floor) fault = is_before floor fault
 
--- the first of these faults and one that was found before
-unfoldable pub noted : Option Fault → List Fault → Option Fault
+-- those of faults that lie behind the floor
+abbrev pub behind : Option Fault → List Fault → List Fault
+behind floor = filter (is_behind floor)
+
+-- what is looked for, and what was found so far: the first fault behind the floor
+pub record Sought : Type 0 where
+  pub floor : Option Fault
+  pub first : Option Fault
+
+-- the earlier of a fault and one that was found before, if one was
+abbrev pub first_with : Option Fault → Fault → Option Fault
+first_with None fault = Some fault
+first_with (Some other) fault = if is_before fault other then Some fault else Some other
+
+-- a fault more
+abbrev pub earlier : Sought → Fault → Sought
+earlier sought fault =
+    if is_behind sought.floor fault
+    then record { floor = sought.floor; first = first_with sought.first fault }
+    else sought
+
+-- these faults more
+unfoldable pub noted : Sought → List Fault → Sought
 noted = fold earlier

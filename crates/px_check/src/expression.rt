@@ -10,7 +10,7 @@ ghost use Rattle.px_check.specs.Globals.{parameter_types};
 ghost use Rattle.px_check.specs.Types.{types_of};
 
 use crate::calls::{allowed_at, answer_type, note_count, parameters_of};
-use crate::found::Found;
+use crate::found::{Found, Misfit};
 use crate::scope::Scope;
 use crate::token::{first_token, reference_token};
 use crate::types::{
@@ -26,11 +26,11 @@ pub fn judge(allowed: Allowed, given: ValueType, term: &SurfaceExpr, found: &mut
     ensures { found.new ≡ noted found.old
         (fault_where (not (fits (types_of allowed) given)) TypeDiffers (first_token (term_of term.now))) }
 {
-    found.note_where(
-        !allowed.fits(given),
-        FaultKind::TypeDiffers,
-        first_token(term),
-    );
+    let misfit = Misfit {
+        wanted: allowed,
+        given,
+    };
+    found.note_misfit_where(!allowed.fits(given), misfit, first_token(term));
 }
 
 // Notes where two operands differ that have to be of one type.
@@ -46,9 +46,13 @@ fn judge_alike(
         (any_unless_allowed (types_of signature.takes) right))
         TypeDiffers (first_token (term_of right_term.now))) }
 {
-    found.note_where(
+    let misfit = Misfit {
+        wanted: Allowed::Only(left),
+        given: right,
+    };
+    found.note_misfit_where(
         signature.differ(left, right),
-        FaultKind::TypeDiffers,
+        misfit,
         first_token(right_term),
     );
 }

@@ -6,7 +6,7 @@ ghost use Rattle.px_syntax.specs.BlockFaults.{literal_fault, listed_count, is_to
 ghost use Rattle.px_syntax.specs.ValueType.{named_type};
 ghost use Rattle.px_check.specs.Found.{noted};
 
-use crate::found::Found;
+use crate::found::{Found, Misfit};
 use crate::once::note_repeated;
 use crate::repeats::note_redeclared;
 use crate::scope::Scope;
@@ -24,8 +24,11 @@ pub const ELEMENT_LIMIT: u32 = 256;
 fn note_literal(of_type: TypeName, value: &Literal, token: usize, found: &mut Found)
     ensures { found.new ≡ noted found.old (literal_fault (named_type of_type) value.now token) }
 {
-    let fits = Allowed::Only(named_type(of_type)).fits(literal_type(value));
-    found.note_where(!fits, FaultKind::TypeDiffers, token);
+    let misfit = Misfit {
+        wanted: Allowed::Only(named_type(of_type)),
+        given: literal_type(value),
+    };
+    found.note_misfit_where(!misfit.wanted.fits(misfit.given), misfit, token);
 }
 
 fn note_listed(of_type: TypeName, values: &[ListedLiteral], found: &mut Found)

@@ -1,6 +1,7 @@
-//! Whether a plan's tree has faults, and which is the first.
+//! Whether a plan's tree has faults, which is the first, and which the next behind one.
 //!
-//! `whole` has `check`, which notes the faults of a tree in one walk: `found` keeps the first of those that are noted.
+//! `whole` has `check` and `first_behind`, which notes the faults of a tree in one walk: `found` keeps the first of those
+//! that are noted, of those behind a floor where there is one.
 //! `declarations` looks at what stands before the root, and `globals` keeps it. `block` walks blocks with what stands in
 //! them (`heads`, `items`, `actions`, `branches`, `calls`); `scope` keeps what is visible there, variables in `scoped` and
 //! nodes in `nodes`, and `entering` goes into a block and back. `expression` judges expressions by the tables of `types`,
@@ -28,4 +29,6 @@ mod token;
 mod types;
 mod whole;
 
-pub use whole::check;
+pub use found::{Misfit, Spot};
+pub use types::Allowed;
+pub use whole::{check, first_behind};

@@ -1,15 +1,15 @@
 // The check of a whole plan.
-ghost use Rattle.std.specs.Prelude.{◌≡◌, [], OnOk, IfErr};
+ghost use Rattle.std.specs.Prelude.{◌≡◌, [], slice_get, option_map, OnOk, IfOk, IfErr};
 ghost use Rattle.px_syntax.specs.Block.{block_of};
 ghost use Rattle.px_syntax.specs.BlockFaults.{block_faults};
 ghost use Rattle.px_syntax.specs.Plan.{tree_of_surface};
 ghost use Rattle.px_syntax.specs.PlanFaults.{faults, outermost, block_cells, passing_fault};
 ghost use Rattle.px_check.specs.Checked.{IsFirst, all_faults};
-ghost use Rattle.px_check.specs.Found.{noted};
+ghost use Rattle.px_check.specs.Found.{fault_of, behind, noted};
 
 use crate::cells::CellCount;
 use crate::declarations::note_declarations;
-use crate::found::Found;
+use crate::found::{Found, Spot};
 use crate::globals::Globals;
 use crate::scope::Scope;
 use px_syntax::{Block, CheckFault, Surface};
@@ -24,12 +24,25 @@ pub fn check(alloc: Global, tree: &Surface) -> Result<(), CheckFault>
     ensures ok { OnOk result (faults (tree_of_surface tree.now) ≡ []) }
     ensures fault { IfErr result (IsFirst (faults (tree_of_surface tree.now))) }
 {
-    let mut found = Found::new();
-    note_tree(alloc, tree, &mut found)?;
-    match found.first() {
+    match first_behind(alloc, tree, None)? {
         None => Ok(()),
         Some(spot) => Err(spot.kind.at(spot.token)),
     }
+}
+
+/// The first fault of a plan's tree that lies behind the floor, or the first of all where there is none: by its token, and
+/// of several at one token that of the least kind. None exactly where there is no such fault.
+pub fn first_behind(
+    alloc: Global,
+    tree: &Surface,
+    floor: Option<Spot>,
+) -> Result<Option<Spot>, NoMemory>
+    ensures { IfOk result (λ first. option_map fault_of first
+        ≡ slice_get (behind (option_map fault_of floor) (faults (tree_of_surface tree.now))) 0) }
+{
+    let mut found = Found::new(floor);
+    note_tree(alloc, tree, &mut found)?;
+    Ok(found.first())
 }
 
 // Notes what a tree is at fault for.

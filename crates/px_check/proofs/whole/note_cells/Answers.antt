@@ -3,7 +3,7 @@ use Rattle.px_syntax.specs.Block.{block_of}
 use Rattle.px_syntax.specs.PlanFaults.{block_cells}
 use Rattle.px_check.specs.Cells.{Count, counted, passed_fault}
 use Rattle.px_check.specs.Found.{noted}
-use Rattle.px_check.proofs.Firsts.{passed_counted}
+use Rattle.px_check.proofs.Passing.{passed_counted}
 use Rattle.px_check.proofs.whole.note_cells.Goals as goal
 
 pub returns : goal.returns
