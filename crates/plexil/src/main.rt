@@ -2,14 +2,9 @@
 //! output to the top call, and ends with its status.
 #![tactic(auto)]
 
-mod disk;
-mod host;
-mod tail;
-
-use disk::{Access, StdDisk};
-use host::StdHost;
 use px_run::plexil;
 use px_script::NoPace;
+use px_system::{Access, StdDisk, StdHost};
 use std::env::Env;
 use std::io::ErrorKind;
 use std::process::ExitCode;

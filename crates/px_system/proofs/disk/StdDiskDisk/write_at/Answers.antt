@@ -7,7 +7,7 @@ use Rattle.px_ports.specs.Disk.{Told}
 use Rattle.px_ports.specs.Moment.{overwritten}
 use Rattle.px_ports.specs.ReplayLaws.{Torn-same}
 use Rattle.px_ports.specs.declared.disk.DiskFault.{DiskFault}
-use Rattle.plexil.proofs.disk.StdDiskDisk.write_at.Goals as goal
+use Rattle.px_system.proofs.disk.StdDiskDisk.write_at.Goals as goal
 
 nothing_told : (result : Result Unit DiskFault) (at : ℕ) (bytes : List ℕ) → OnOk result (◌≡◌ {A = Told} None (option_map (overwritten at bytes) None))
 nothing_told (Ok _) at bytes = refl
