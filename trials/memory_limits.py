@@ -1,8 +1,9 @@
 """Limits the memory that a call may have, in steps from 2 MB up, until all calls have enough.
 
 Each call prints its whole text or says that memory ran out, with status 10, or with 9 where it ran out for the disk; what it
-printed is a front of the text. Nothing is lost: a journal stands for a front of the history, and is resumed to its end. A
-limit with which the program isn't even loaded tells nothing.
+printed is a front of the text. Nothing is lost: a journal stands for a front of the history, and is resumed to its end. With
+a limit at which the system doesn't load the program, nothing is printed and no journal is touched. The program may be the
+launcher, which is loaded with less.
 """
 
 import sys
@@ -21,6 +22,8 @@ def main(program, count, chance, folder):
     wholes = {words: whole_of(program, folder, words) for words in CALLS}
     limits = [2 * MEGABYTE + step * STEP for step in range(count)]
     loaded = [limit for limit in limits if is_loaded(program, folder, limit)]
+    for limit in [limit for limit in limits if limit not in loaded]:
+        check_unloaded(program, folder, limit)
     refused, enough = 0, 0
     for limit in loaded:
         statuses = [limited(program, folder, script, words, whole, limit) for words, whole in wholes.items()]
@@ -65,6 +68,15 @@ def with_limit(limit):
 def is_loaded(program, folder, limit):
     """Whether the program comes to its first words with so much memory."""
     return answer(program, folder, "no", "command", is_loaded=False, through=with_limit(limit)).status in (2, 10)
+
+
+def check_unloaded(program, folder, limit):
+    """Calls that the system doesn't load print nothing and touch no journal."""
+    for words in CALLS:
+        fresh(folder)
+        now = answer(program, folder, *words.split(), is_loaded=False, through=with_limit(limit))
+        check(now.text == "" and not (folder / "J").exists(), f"{limit}: {now}")
+        check((folder / "H").read_bytes() == (folder / "begun").read_bytes(), f"{limit}: {now}")
 
 
 def limited(program, folder, script, words, whole, limit):
