@@ -6,7 +6,7 @@ ghost use Rattle.px_print.specs.ExprLayout.{term_text, arguments_text, as_option
 use crate::append::push_all;
 use crate::leaf::{push_attribute, push_literal, push_name, push_tolerance};
 use crate::word::{
-    binary_function_word, binary_sign, enumerated_word, look_word, unary_function_word, unary_sign,
+    binary_function_word, enumerated_word, look_word, spaced_sign, unary_function_word, unary_sign,
 };
 use px_syntax::SurfaceExpr;
 use px_value::NoMemory;
@@ -74,7 +74,7 @@ pub(crate) fn push_expression(term: &SurfaceExpr, out: &mut Vec<u8>) -> Result<(
             right,
         } => {
             push_operand(left, out)?;
-            push_all(out, &[" ", binary_sign(*operator), " "])?;
+            push_all(out, &[spaced_sign(*operator)])?;
             push_operand(right, out)
         }
     }

@@ -1,7 +1,8 @@
 // The words and signs of the grammar.
-ghost use Rattle.std.specs.Prelude.{◌≡◌};
+ghost use Rattle.std.specs.Prelude.{◌≡◌, codes};
 ghost use Rattle.px_syntax.specs.ExprGrammar.{attribute_word};
 ghost use Rattle.px_print.specs.ExprLayout.{enumerated_text, look_text, unary_function_text, binary_function_text, unary_sign, binary_sign};
+ghost use Rattle.px_print.specs.Texts.{◌then◌};
 ghost use Rattle.px_print.specs.BlockLayout.{type_text, condition_text, form_text};
 
 use px_syntax::{
@@ -69,24 +70,25 @@ pub(crate) fn unary_sign(operator: UnaryOperator) -> &'static str
     }
 }
 
-pub(crate) fn binary_sign(operator: BinaryOperator) -> &'static str
-    ensures { result.now ≡ binary_sign operator }
+/// The sign of an operator between its operands, with the blanks around it.
+pub(crate) fn spaced_sign(operator: BinaryOperator) -> &'static str
+    ensures { result.now ≡ (codes " " then binary_sign operator then codes " ") }
 {
     match operator {
-        BinaryOperator::Or => "||",
-        BinaryOperator::Xor => "XOR",
-        BinaryOperator::And => "&&",
-        BinaryOperator::Equal => "==",
-        BinaryOperator::Differs => "!=",
-        BinaryOperator::Less => "<",
-        BinaryOperator::AtMost => "<=",
-        BinaryOperator::Greater => ">",
-        BinaryOperator::AtLeast => ">=",
-        BinaryOperator::Plus => "+",
-        BinaryOperator::Minus => "-",
-        BinaryOperator::Times => "*",
-        BinaryOperator::Over => "/",
-        BinaryOperator::Rest => "%",
+        BinaryOperator::Or => " || ",
+        BinaryOperator::Xor => " XOR ",
+        BinaryOperator::And => " && ",
+        BinaryOperator::Equal => " == ",
+        BinaryOperator::Differs => " != ",
+        BinaryOperator::Less => " < ",
+        BinaryOperator::AtMost => " <= ",
+        BinaryOperator::Greater => " > ",
+        BinaryOperator::AtLeast => " >= ",
+        BinaryOperator::Plus => " + ",
+        BinaryOperator::Minus => " - ",
+        BinaryOperator::Times => " * ",
+        BinaryOperator::Over => " / ",
+        BinaryOperator::Rest => " % ",
     }
 }
 
