@@ -12,6 +12,9 @@ use std::io::{ErrorKind, Read, Seek, SeekFrom};
 // More than the program writes at a time: at most 1,048,589 bytes, all of a new journal behind its first gate.
 const MOST: u64 = 2_097_152;
 
+// A file with fewer bytes has no journal yet.
+const HEADING: u64 = 13;
+
 /// The last bytes of a file, from a place on, as they were when they were read.
 #[derive(Drop)]
 pub struct Tail {
@@ -22,10 +25,15 @@ pub struct Tail {
 impl Tail {
     /// The end of the file now.
     pub fn read(alloc: Global, file: &mut File) -> io::Result<Tail> {
-        let place = file.metadata()?.len().saturating_sub(MOST);
+        let length = file.metadata()?.len();
+        let place = length.saturating_sub(MOST);
         file.seek(SeekFrom::Start(place))?;
         let mut bytes = Vec::new(alloc);
         file.read_to_end(&mut bytes)?;
+        if length < HEADING {
+            // A journal that is made meanwhile is read in parts, of which the first may be from before.
+            bytes.truncate(length as usize);
+        }
         Ok(Tail { place, bytes })
     }
 
