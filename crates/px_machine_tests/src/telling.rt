@@ -26,7 +26,7 @@ pub(crate) struct Told {
     pub(crate) text: Vec<u8>,
     /// The micro steps of the events that were refused.
     pub(crate) refused_text: Vec<u8>,
-    /// Of each event that was offered whether it was refused.
+    /// Of each event whether it was refused, or not offered.
     pub(crate) refused: Vec<bool>,
     /// How many micro steps the start and the accepted events took.
     pub(crate) steps: u64,
@@ -34,8 +34,8 @@ pub(crate) struct Told {
     pub(crate) refusals: u64,
 }
 
-/// What a stepper of this type does in the start of a plan and over these events, without those that are left out, told by
-/// their places. A start that runs away is told as a refused event, and no event then.
+/// What a stepper of this type does in the start of a plan and over these events, where those at the places that are `true` in
+/// `left_out` aren't offered. A start that runs away is told as a refused event, and no event then.
 pub(crate) fn told_of<S: Stepper>(
     alloc: Global,
     plan: &Plan,
@@ -58,11 +58,9 @@ pub(crate) fn told_of<S: Stepper>(
     if !has_started(&mut stepper, alloc, &flat, &mut told)? {
         return Ok(told);
     }
-    for (i, entry) in entries.iter().enumerate() {
-        if left_out.get(i) == Some(&true) {
-            continue;
-        }
-        let is_accepted = accepts(&mut stepper, alloc, &flat, entry, &mut told)?;
+    for entry in entries {
+        let is_left_out = left_out.get(told.refused.len()) == Some(&true);
+        let is_accepted = !is_left_out && accepts(&mut stepper, alloc, &flat, entry, &mut told)?;
         told.refused.push(!is_accepted)?;
     }
     Ok(told)
