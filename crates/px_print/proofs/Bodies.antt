@@ -32,10 +32,10 @@ deeper_margin : (margin : List ℕ) → IsMargin margin → IsMargin (deeper mar
 deeper_margin margin blank = list_all-append is_white_space margin (codes "  ") ∙ rw blank
 
 -- a line
-prints_line : {f : Form} {text : List ℕ} (margin rest : List ℕ) → IsMargin margin → Prints f text (codes "\n" ++ rest) → Prints f (line margin text) rest
+prints_line : {source : List ℕ} {f : Form} {text : List ℕ} (margin rest : List ℕ) → IsMargin margin → Prints source f text (codes "\n" ++ rest) → Prints source f (line margin text) rest
 prints_line margin rest blank p = prints_behind margin blank (prints_before (codes "\n") rest refl p)
 
-prints_form : (form : BlockForm) (rest : List ℕ) → Prints (form_word form) (form_text form) rest
+prints_form : {source : List ℕ} (form : BlockForm) (rest : List ℕ) → Prints source (form_word form) (form_text form) rest
 prints_form forms.Plain rest = prints_nothing rest
 prints_form forms.NodeList rest = prints_nothing rest
 prints_form forms.Sequence rest = prints_before (codes " ") rest refl (prints_keyword words.Sequence (codes "Sequence") (codes " " ++ rest) refl refl)
@@ -44,8 +44,8 @@ prints_form forms.UncheckedSequence rest =
 prints_form forms.Concurrence rest = prints_before (codes " ") rest refl (prints_keyword words.Concurrence (codes "Concurrence") (codes " " ++ rest) refl refl)
 prints_form forms.Try rest = prints_before (codes " ") rest refl (prints_keyword words.Try (codes "Try") (codes " " ++ rest) refl refl)
 
-prints_node_list : (margin : List ℕ) → IsMargin margin → (form : BlockForm) (rest : List ℕ)
-    → Prints (node_list_word form) (node_list_text margin form) rest
+prints_node_list : {source : List ℕ} (margin : List ℕ) → IsMargin margin → (form : BlockForm) (rest : List ℕ)
+    → Prints source (node_list_word form) (node_list_text margin form) rest
 prints_node_list margin blank forms.Plain rest = prints_nothing rest
 prints_node_list margin blank forms.NodeList rest =
     let colon = prints_any signs.Colon (codes ":") (codes "\n" ++ rest) refl (λ c cs. refl) in
@@ -55,11 +55,11 @@ prints_node_list margin blank forms.UncheckedSequence rest = prints_nothing rest
 prints_node_list margin blank forms.Concurrence rest = prints_nothing rest
 prints_node_list margin blank forms.Try rest = prints_nothing rest
 
-module _ (given : List Token) (all : AllCan given) where
+module _ {source : List ℕ} (given : List Token) (all : AllCan source given) where
   -- ---- simple actions
 
   pub prints_label : (name : Option Identifier) (from to : ℕ) → label name given from to → (rest : List ℕ)
-      → Prints (Alike label (option_map plain_name) name) (label_text name) rest
+      → Prints source (Alike label (option_map plain_name) name) (label_text name) rest
   prints_label None from to h rest = prints_as (prints_nothing rest) (λ tokens from to r. (None, refl, r))
   prints_label (Some name) from to h rest =
       let colon = prints_before (codes " ") rest refl (prints_any signs.Colon (codes ":") (codes " " ++ rest) refl (λ c cs. refl)) in
@@ -67,14 +67,14 @@ module _ (given : List Token) (all : AllCan given) where
       (λ tokens from to r. (Some r.1.0, ap (λ n. Some n) r.1.1, (r.0, r.1.2, r.2)))
 
   prints_target : (part : TargetData) (from to : ℕ) → target part given from to → (rest : List ℕ) → Ends rest
-      → Prints (Alike target plain_target part) (target_text part) rest
+      → Prints source (Alike target plain_target part) (target_text part) rest
   prints_target part from to h rest ends = of_index part.index h.2
     where
       index_form : Term → Form
       index_form index = sign signs.OpenBracket then expression index then sign signs.CloseBracket
 
       of_index : (index : Option Term) → maybe index_form index given h.0 to
-          → Prints (Alike target plain_target (record { name = part.name; index = index })) (part.name.name ++ index_text index) rest
+          → Prints source (Alike target plain_target (record { name = part.name; index = index })) (part.name.name ++ index_text index) rest
       of_index None nothing_is =
           let none = prints_nothing rest in
           prints_as (prints_then none (prints_name given all part.name from h.0 h.1 (follow none) ends))
@@ -91,7 +91,7 @@ module _ (given : List Token) (all : AllCan given) where
           ))
 
   prints_call : (part : CallData) (from to : ℕ) → call part given from to → (rest : List ℕ)
-      → Prints (Alike call plain_call part) (call_text part) rest
+      → Prints source (Alike call plain_call part) (call_text part) rest
   prints_call part from to h rest =
       let close = prints_close rest in
       let inside = prints_then close (prints_arguments given all part.args h.2.0 h.2.2.0 h.2.2.1 (follow close) (refl, refl)) in
@@ -104,7 +104,7 @@ module _ (given : List Token) (all : AllCan given) where
       ))
 
   prints_pair : (part : PairData) (from to : ℕ) → pair part given from to → (rest : List ℕ) → Stops rest
-      → Prints (Alike pair plain_pair part) (pair_text part) rest
+      → Prints source (Alike pair plain_pair part) (pair_text part) rest
   prints_pair part from to h rest stops =
       let equals = prints_equals (prints_whole given all part.value h.2.0 to h.2.2 rest stops) in
       prints_as (prints_then equals (prints_name given all part.name from h.0 h.1 (follow equals) refl))
@@ -115,14 +115,14 @@ module _ (given : List Token) (all : AllCan given) where
       ))
 
   item_line : (margin : List ℕ) → IsMargin margin → (part : ItemData) (from to : ℕ) → item part given from to → (rest : List ℕ) → Unit {0}
-      → Prints (Alike item plain_item part) (line margin (item_text part)) rest
+      → Prints source (Alike item plain_item part) (line margin (item_text part)) rest
   item_line margin blank part from to h rest any = prints_line margin rest blank (prints_item given all part from to h (codes "\n" ++ rest))
 
   -- ---- blocks
 
   mutual
     pub prints_block : (tree : BlockTree) (from to : ℕ) → block tree given from to → (margin : List ℕ) → IsMargin margin → (rest : List ℕ)
-        → Prints (Alike block plain_block tree) (block_text margin tree) rest
+        → Prints source (Alike block plain_block tree) (block_text margin tree) rest
     prints_block (Braces form items actions) from to h margin blank rest =
         let inner = deeper_margin margin blank in
         let close = prints_behind margin blank (prints_any signs.CloseBrace (codes "}") rest refl (λ c cs. refl)) in
@@ -139,7 +139,7 @@ module _ (given : List Token) (all : AllCan given) where
         ))
 
     prints_actions : (tree : Actions) (from to : ℕ) → each_action tree given from to → (margin : List ℕ) → IsMargin margin → (rest : List ℕ)
-        → Prints (Alike each_action plain_actions tree) (actions_text margin tree) rest
+        → Prints source (Alike each_action plain_actions tree) (actions_text margin tree) rest
     prints_actions NoActions from to h margin blank rest = prints_as (prints_nothing rest) (λ tokens from to r. (NoActions, refl, r))
     prints_actions (More first others) from to h margin blank rest =
         let behind = prints_actions others h.0 to h.2 margin blank rest in
@@ -148,21 +148,21 @@ module _ (given : List Token) (all : AllCan given) where
         (λ tokens from to r. (More r.1.0 r.2.0, (λ i. More (r.1.1 i) (r.2.1 i)), (r.0, r.1.2, r.2.2)))
 
     prints_action : (tree : ActionTree) (from to : ℕ) → action tree given from to → (margin : List ℕ) → IsMargin margin → (rest : List ℕ) → Ends rest
-        → Prints (Alike action plain_action tree) (action_text margin tree) rest
+        → Prints source (Alike action plain_action tree) (action_text margin tree) rest
     prints_action (Labelled name parts) from to h margin blank rest ends =
         let behind = prints_body parts h.0 to h.2 margin blank rest ends in
         prints_as (prints_then behind (prints_label name from h.0 h.1 (follow behind)))
         (λ tokens from to r. (Labelled r.1.0 r.2.0, (λ i. Labelled (r.1.1 i) (r.2.1 i)), (r.0, r.1.2, r.2.2)))
 
     prints_branch : (tree : BranchTree) (from to : ℕ) → branch tree given from to → (margin : List ℕ) → IsMargin margin → (rest : List ℕ)
-        → Prints (Alike branch plain_branch tree) (branch_text margin tree) rest
+        → Prints source (Alike branch plain_branch tree) (branch_text margin tree) rest
     prints_branch (Branch name parts) from to h margin blank rest =
         let behind = prints_block parts h.0 to h.2 margin blank rest in
         prints_as (prints_then behind (prints_label name from h.0 h.1 (follow behind)))
         (λ tokens from to r. (Branch r.1.0 r.2.0, (λ i. Branch (r.1.1 i) (r.2.1 i)), (r.0, r.1.2, r.2.2)))
 
     prints_guarded : (tree : GuardedTree) (from to : ℕ) → guarded tree given from to → (margin : List ℕ) → IsMargin margin → (rest : List ℕ)
-        → Prints (Alike guarded plain_guarded tree) (guarded_text margin tree) rest
+        → Prints source (Alike guarded plain_guarded tree) (guarded_text margin tree) rest
     prints_guarded (Guarded test parts) from to h margin blank rest =
         let behind = prints_behind (codes " ") refl (prints_branch parts h.2.2.0 to h.2.2.2 margin blank rest) in
         let close = prints_then behind (prints_close (follow behind)) in
@@ -175,7 +175,7 @@ module _ (given : List Token) (all : AllCan given) where
         ))
 
     prints_else_ifs : (tree : ElseIfs) (from to : ℕ) → else_ifs tree given from to → (margin : List ℕ) → IsMargin margin → (rest : List ℕ)
-        → Prints (Alike else_ifs plain_else_ifs tree) (else_ifs_text margin tree) rest
+        → Prints source (Alike else_ifs plain_else_ifs tree) (else_ifs_text margin tree) rest
     prints_else_ifs NoElseIfs from to h margin blank rest = prints_as (prints_nothing rest) (λ tokens from to r. (NoElseIfs, refl, r))
     prints_else_ifs (ElseIf first others) from to h margin blank rest =
         let behind = prints_else_ifs others h.2.0 to h.2.2 margin blank rest in
@@ -184,7 +184,7 @@ module _ (given : List Token) (all : AllCan given) where
         (λ tokens from to r. (ElseIf r.2.1.0 r.2.2.0, (λ i. ElseIf (r.2.1.1 i) (r.2.2.1 i)), (r.0, r.1, (r.2.0, r.2.1.2, r.2.2.2))))
 
     prints_else : (tree : ElseTree) (from to : ℕ) → otherwise tree given from to → (margin : List ℕ) → IsMargin margin → (rest : List ℕ)
-        → Prints (Alike otherwise plain_else tree) (else_text margin tree) rest
+        → Prints source (Alike otherwise plain_else tree) (else_text margin tree) rest
     prints_else NoElse from to h margin blank rest = prints_as (prints_nothing rest) (λ tokens from to r. (NoElse, refl, r))
     prints_else (Else parts) from to h margin blank rest =
         let inside = prints_behind (codes " ") refl (prints_branch parts h.0 to h.2 margin blank rest) in
@@ -192,7 +192,7 @@ module _ (given : List Token) (all : AllCan given) where
         (λ tokens from to r. (Else r.2.0, ap (λ b. Else b) r.2.1, (r.0, r.1, r.2.2)))
 
     prints_body : (tree : BodyTree) (from to : ℕ) → body tree given from to → (margin : List ℕ) → IsMargin margin → (rest : List ℕ) → Ends rest
-        → Prints (Alike body plain_body tree) (body_text margin tree) rest
+        → Prints source (Alike body plain_body tree) (body_text margin tree) rest
     prints_body (Inner parts) from to h margin blank rest ends =
         prints_as (prints_block parts from to h margin blank rest) (λ tokens from to r. (Inner r.0, ap (λ b. Inner b) r.1, r.2))
     prints_body (Assign written value) from to h margin blank rest ends =

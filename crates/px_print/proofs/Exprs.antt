@@ -51,10 +51,10 @@ use Rattle.px_print.proofs.Tokens.{AllCan, IsName, Ends, Stops, decimal_digits, 
 abbrev pub Alike : {A : Type 0} → (A → Form) → (A → A) → A → Form
 Alike {A} form plain part tokens from to = (other : A) × (plain other ≡ plain part) × form other tokens from to
 
-pub prints_open : (rest : List ℕ) → Prints (sign signs.OpenParen) (codes "(") rest
+pub prints_open : {source : List ℕ} (rest : List ℕ) → Prints source (sign signs.OpenParen) (codes "(") rest
 prints_open rest = prints_any signs.OpenParen (codes "(") rest refl (λ c cs. refl)
 
-pub prints_close : (rest : List ℕ) → Prints (sign signs.CloseParen) (codes ")") rest
+pub prints_close : {source : List ℕ} (rest : List ℕ) → Prints source (sign signs.CloseParen) (codes ")") rest
 prints_close rest = prints_any signs.CloseParen (codes ")") rest refl (λ c cs. refl)
 
 -- ---- levels
@@ -84,22 +84,22 @@ Bare = Alike bare plain_term
 abbrev pub Leveled : ℕ → Term → Form
 Leveled floor = Alike (λ term. at_least floor term (bare term)) plain_term
 
-abbrev pub PrintsBare : Term → Type 0
-PrintsBare term = (rest : List ℕ) → Stops rest → Prints (Bare term) (term_text term) rest
+abbrev pub PrintsBare : List ℕ → Term → Type 0
+PrintsBare source term = (rest : List ℕ) → Stops rest → Prints source (Bare term) (term_text term) rest
 
-pub prints_expression : (term : Term) → PrintsBare term → (rest : List ℕ) → Stops rest
-    → Prints (Alike expression plain_term term) (term_text term) rest
+pub prints_expression : {source : List ℕ} (term : Term) → PrintsBare source term → (rest : List ℕ) → Stops rest
+    → Prints source (Alike expression plain_term term) (term_text term) rest
 prints_expression term p rest stops =
     prints_as (p rest stops) (λ tokens from to h. (h.0, h.1, (0, (λ e. omega arith), h.2)))
 
-prints_level : (floor : ℕ) (term : Term) → floor ≤ term_level term → PrintsBare term → (rest : List ℕ) → Stops rest
-    → Prints (Leveled floor term) (term_text term) rest
+prints_level : {source : List ℕ} (floor : ℕ) (term : Term) → floor ≤ term_level term → PrintsBare source term → (rest : List ℕ) → Stops rest
+    → Prints source (Leveled floor term) (term_text term) rest
 prints_level floor term low p rest stops =
     prints_as (p rest stops)
     (λ tokens from to h. (h.0, h.1, (0, (λ e. subst (λ level. floor ≤ level) (sym (same_level h.0 term h.1)) low), h.2)))
 
-prints_enclosed : (floor : ℕ) (term : Term) → PrintsBare term → (rest : List ℕ)
-    → Prints (Leveled floor term) (codes "(" ++ (term_text term ++ codes ")")) rest
+prints_enclosed : {source : List ℕ} (floor : ℕ) (term : Term) → PrintsBare source term → (rest : List ℕ)
+    → Prints source (Leveled floor term) (codes "(" ++ (term_text term ++ codes ")")) rest
 prints_enclosed floor term p rest =
     let close = prints_close rest in
     let inside = prints_then close (p (follow close) (refl, refl)) in
@@ -107,8 +107,8 @@ prints_enclosed floor term p rest =
     prints_as opened
     (λ tokens from to h. (h.2.1.0, h.2.1.1, (1, (λ e. absurd (omega arith)), (h.0, h.1, (h.2.0, h.2.1.2, h.2.2)))))
 
-prints_operand : (floor : ℕ) (term : Term) → floor ≤ 9 → PrintsBare term → (rest : List ℕ) → Stops rest
-    → Prints (Leveled floor term) (operand_text term) rest
+prints_operand : {source : List ℕ} (floor : ℕ) (term : Term) → floor ≤ 9 → PrintsBare source term → (rest : List ℕ) → Stops rest
+    → Prints source (Leveled floor term) (operand_text term) rest
 prints_operand floor (Unary operator token operand) low p rest stops = prints_enclosed floor (Unary operator token operand) p rest
 prints_operand floor (Binary operator left right) low p rest stops = prints_enclosed floor (Binary operator left right) p rest
 prints_operand floor term low p rest stops = prints_level floor term low p rest stops
@@ -121,12 +121,12 @@ unpaired (suc pairs) form tokens from to h = unpaired pairs form tokens h.0 h.2.
 
 -- ---- operators
 
-prints_as_binary : (operator : BinaryOperator) (kind : TokenKind) (text rest : List ℕ) → binary_of kind ≡ Some operator
-    → Prints (one kind) text rest → Prints (binary_operator operator) text rest
+prints_as_binary : {source : List ℕ} (operator : BinaryOperator) (kind : TokenKind) (text rest : List ℕ) → binary_of kind ≡ Some operator
+    → Prints source (one kind) text rest → Prints source (binary_operator operator) text rest
 prints_as_binary operator kind text rest is p =
     prints_as p (λ tokens from to h. (ap (option_and_then binary_of) h.0 ∙ is, h.1))
 
-prints_binary : (operator : BinaryOperator) (rest : List ℕ) → Prints (binary_operator operator) (binary_sign operator) (32 ∷ rest)
+prints_binary : {source : List ℕ} (operator : BinaryOperator) (rest : List ℕ) → Prints source (binary_operator operator) (binary_sign operator) (32 ∷ rest)
 unfolding binary_of
 prints_binary binary.Or rest = prints_as_binary binary.Or (kinds.Sign signs.OrOr) _ _ refl (prints_sign signs.OrOr (codes "||") (32 ∷ rest) refl refl)
 prints_binary binary.Xor rest = prints_as_binary binary.Xor (kinds.Keyword words.Xor) _ _ refl (prints_keyword words.Xor (codes "XOR") (32 ∷ rest) refl refl)
@@ -147,12 +147,12 @@ prints_binary binary.Rest rest = prints_as_binary binary.Rest (kinds.Sign signs.
 abbrev Negates : List ℕ → Type 0
 Negates rest = ends_sign (codes "!") rest ≡ true
 
-prints_as_unary : (operator : UnaryOperator) (kind : TokenKind) (text rest : List ℕ) → unary_of kind ≡ Some operator
-    → Prints (one kind) text rest → Prints (unary_operator operator) text rest
+prints_as_unary : {source : List ℕ} (operator : UnaryOperator) (kind : TokenKind) (text rest : List ℕ) → unary_of kind ≡ Some operator
+    → Prints source (one kind) text rest → Prints source (unary_operator operator) text rest
 prints_as_unary operator kind text rest is p =
     prints_as p (λ tokens from to h. (ap (option_and_then unary_of) h.0 ∙ is, h.1))
 
-prints_unary : (operator : UnaryOperator) (rest : List ℕ) → Negates rest → Prints (unary_operator operator) (unary_sign operator) rest
+prints_unary : {source : List ℕ} (operator : UnaryOperator) (rest : List ℕ) → Negates rest → Prints source (unary_operator operator) (unary_sign operator) rest
 unfolding unary_of
 prints_unary unary.Not rest ends = prints_as_unary unary.Not (kinds.Sign signs.Bang) _ _ refl (prints_sign signs.Bang (codes "!") rest refl ends)
 prints_unary unary.Negative rest ends =
@@ -213,15 +213,15 @@ keyword_word word which found = row_of-all is_identifier keyword_rows word which
 
 -- ---- expressions
 
-module _ (given : List Token) (all : AllCan given) where
+module _ {source : List ℕ} (given : List Token) (all : AllCan source given) where
   pub prints_name : (name : Identifier) (from to : ℕ) → identifier name given from to → (rest : List ℕ) → Ends rest
-      → Prints (Alike identifier plain_name name) name.name rest
+      → Prints source (Alike identifier plain_name name) name.name rest
   prints_name name from to h rest ends =
       prints_as (prints_word name.name rest (all from (kinds.Identifier name.name) h.1.0) ends)
       (λ tokens from to r. (record { name = name.name; token = from }, refl, (refl, r)))
 
   prints_node : (node : NodeReference) (from to : ℕ) → node_reference node given from to → (rest : List ℕ) → Ends rest
-      → Prints (Alike node_reference plain_node node) (node_text node) rest
+      → Prints source (Alike node_reference plain_node node) (node_text node) rest
   prints_node (nodes.Named name) from to h rest ends =
       prints_as (prints_name name from to h rest ends) (λ tokens from to r. (nodes.Named r.0, ap (λ n. nodes.Named n) r.1, r.2))
   prints_node (nodes.SelfNode token) from to h rest ends =
@@ -250,10 +250,10 @@ module _ (given : List Token) (all : AllCan given) where
       ))
 
   pub prints_literal : (value : LiteralValue) (from to : ℕ) → one (literal_kind value) given from to → (rest : List ℕ) → Stops rest
-      → Prints (one (literal_kind value)) (literal_text value) rest
+      → Prints source (one (literal_kind value)) (literal_text value) rest
   prints_literal (literals.Integer value) from to h rest stops =
       let size = all from (kinds.Integer value) h.0 in
-      subst (λ z. Prints (one (kinds.Integer z)) (signed_decimal z) rest) (sym size.1) (prints_integer size.0 rest size.2 stops)
+      subst (λ z. Prints source (one (kinds.Integer z)) (signed_decimal z) rest) (sym size.1) (prints_integer size.0 rest size.2 stops)
   prints_literal (literals.Boolean true) from to h rest stops = prints_keyword words.True (codes "true") rest refl stops.0
   prints_literal (literals.Boolean false) from to h rest stops = prints_keyword words.False (codes "false") rest refl stops.0
   prints_literal (literals.Text content) from to h rest stops = prints_string content rest (all from (kinds.Text content) h.0)
@@ -309,7 +309,7 @@ module _ (given : List Token) (all : AllCan given) where
   further_stops (More first others) rest stops = (refl, refl)
 
   mutual
-    pub prints_term : (term : Term) (from to : ℕ) → bare term given from to → PrintsBare term
+    pub prints_term : (term : Term) (from to : ℕ) → bare term given from to → PrintsBare source term
     prints_term (Literal value token) from to h rest stops =
         prints_as (prints_literal value from to h.1 rest stops) (λ tokens from to r. (Literal value from, refl, (refl, r)))
     prints_term (Enumerated value token) from to h rest stops =
@@ -429,7 +429,7 @@ module _ (given : List Token) (all : AllCan given) where
         ))
 
     pub prints_further : (args : Terms) (from to : ℕ) → further_arguments args given from to → (rest : List ℕ) → Stops rest
-        → Prints (Alike further_arguments plain_terms args) (further_text args) rest
+        → Prints source (Alike further_arguments plain_terms args) (further_text args) rest
     prints_further NoTerms from to h rest stops = prints_as (prints_nothing rest) (λ tokens from to r. (NoTerms, refl, r))
     prints_further (More first others) from to h rest stops =
         let inner = stripped first h.0 h.2.0 h.2.1 in
@@ -441,13 +441,13 @@ module _ (given : List Token) (all : AllCan given) where
 
   -- an expression that may stand in parentheses
   pub prints_whole : (term : Term) (from to : ℕ) → expression term given from to → (rest : List ℕ) → Stops rest
-      → Prints (Alike expression plain_term term) (term_text term) rest
+      → Prints source (Alike expression plain_term term) (term_text term) rest
   prints_whole term from to h rest stops =
       let inner = stripped term from to h in
       prints_expression term (prints_term term inner.0 inner.1 inner.2) rest stops
 
   pub prints_arguments : (args : Terms) (from to : ℕ) → arguments args given from to → (rest : List ℕ) → Stops rest
-      → Prints (Alike arguments plain_terms args) (arguments_text args) rest
+      → Prints source (Alike arguments plain_terms args) (arguments_text args) rest
   prints_arguments NoTerms from to h rest stops = prints_as (prints_nothing rest) (λ tokens from to r. (NoTerms, refl, r))
   prints_arguments (More first others) from to h rest stops =
       let behind = prints_further others h.0 to h.2 rest stops in

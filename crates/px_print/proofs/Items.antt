@@ -26,21 +26,21 @@ use Rattle.px_print.proofs.Lists.{prints_each, next_each, prints_commas}
 use Rattle.px_print.proofs.Printing.{Prints, follow, prints_as, prints_then, prints_nothing, prints_behind}
 use Rattle.px_print.proofs.Tokens.{AllCan, Ends, Stops, prints_keyword, prints_sign, prints_any, prints_integer}
 
-pub prints_semicolon : (rest : List ℕ) → Prints (sign signs.Semicolon) (codes ";") rest
+pub prints_semicolon : {source : List ℕ} (rest : List ℕ) → Prints source (sign signs.Semicolon) (codes ";") rest
 prints_semicolon rest = prints_any signs.Semicolon (codes ";") rest refl (λ c cs. refl)
 
 -- `=` between blanks
-pub prints_equals : {g : Form} {text rest : List ℕ} → Prints g text rest → Prints (sign signs.Assign then g) (codes " = " ++ text) rest
+pub prints_equals : {source : List ℕ} {g : Form} {text rest : List ℕ} → Prints source g text rest → Prints source (sign signs.Assign then g) (codes " = " ++ text) rest
 prints_equals p =
     let next = prints_behind (codes " ") refl p in
     prints_behind (codes " ") refl (prints_then next (prints_sign signs.Assign (codes "=") (follow next) refl refl))
 
-pub prints_type : (of_type : TypeName) (rest : List ℕ) → Ends rest → Prints (type_word of_type) (type_text of_type) rest
+pub prints_type : {source : List ℕ} (of_type : TypeName) (rest : List ℕ) → Ends rest → Prints source (type_word of_type) (type_text of_type) rest
 prints_type types.Integer rest ends = prints_keyword words.Integer (codes "Integer") rest refl ends
 prints_type types.Boolean rest ends = prints_keyword words.Boolean (codes "Boolean") rest refl ends
 prints_type types.String rest ends = prints_keyword words.String (codes "String") rest refl ends
 
-prints_condition : (condition : Condition) (rest : List ℕ) → Ends rest → Prints (condition_word condition) (condition_text condition) rest
+prints_condition : {source : List ℕ} (condition : Condition) (rest : List ℕ) → Ends rest → Prints source (condition_word condition) (condition_text condition) rest
 prints_condition conditions.Start rest ends = prints_as (prints_keyword words.Start (codes "Start") rest refl ends) (λ tokens from to r. inl r)
 prints_condition conditions.End rest ends = prints_as (prints_keyword words.End (codes "End") rest refl ends) (λ tokens from to r. inl r)
 prints_condition conditions.Exit rest ends = prints_as (prints_keyword words.Exit (codes "Exit") rest refl ends) (λ tokens from to r. inl r)
@@ -50,7 +50,7 @@ prints_condition conditions.Pre rest ends = prints_as (prints_keyword words.Pre 
 prints_condition conditions.Post rest ends = prints_as (prints_keyword words.Post (codes "Post") rest refl ends) (λ tokens from to r. inl r)
 prints_condition conditions.Invariant rest ends = prints_as (prints_keyword words.Invariant (codes "Invariant") rest refl ends) (λ tokens from to r. inl r)
 
-module _ (given : List Token) (all : AllCan given) where
+module _ {source : List ℕ} (given : List Token) (all : AllCan source given) where
   number_small : (value : ℕ) (from to : ℕ) → number value given from to → value < 2 ^ 31
   number_small value from to h =
       let size = all from (kinds.Integer (pos value)) h.0 in
@@ -58,11 +58,11 @@ module _ (given : List Token) (all : AllCan given) where
       subst (λ n. n < 2 ^ 31) (sym same) size.2
 
   pub prints_number : (value : ℕ) (from to : ℕ) → number value given from to → (rest : List ℕ) → Stops rest
-      → Prints (number value) (decimal value) rest
+      → Prints source (number value) (decimal value) rest
   prints_number value from to h rest stops = prints_integer value rest (number_small value from to h) stops
 
   negated : (size : ℕ) (from to : ℕ) → number size given from to → (rest : List ℕ) → Stops rest
-      → Prints (signed (neg_ℤ (pos size))) (signed_decimal (neg_ℤ (pos size))) rest
+      → Prints source (signed (neg_ℤ (pos size))) (signed_decimal (neg_ℤ (pos size))) rest
   negated zero from to h rest stops = prints_as (prints_number zero from to h rest stops) (λ tokens from to r. inl r)
   negated (suc size) from to h rest stops =
       let behind = prints_number (suc size) from to h rest stops in
@@ -70,33 +70,33 @@ module _ (given : List Token) (all : AllCan given) where
       (λ tokens from to r. inr (suc size, refl, r))
 
   pub prints_signed : (value : ℤ) (from to : ℕ) → signed value given from to → (rest : List ℕ) → Stops rest
-      → Prints (signed value) (signed_decimal value) rest
+      → Prints source (signed value) (signed_decimal value) rest
   prints_signed value from to (inl h) rest stops =
       let size = all from (kinds.Integer value) h.0 in
-      subst (λ z. Prints (signed z) (signed_decimal z) rest) (sym size.1)
+      subst (λ z. Prints source (signed z) (signed_decimal z) rest) (sym size.1)
       (prints_as (prints_integer size.0 rest size.2 stops) (λ tokens from to r. inl r))
   prints_signed value from to (inr h) rest stops =
-      subst (λ z. Prints (signed z) (signed_decimal z) rest) (sym h.1) (negated h.0 h.2.0 to h.2.2 rest stops)
+      subst (λ z. Prints source (signed z) (signed_decimal z) rest) (sym h.1) (negated h.0 h.2.0 to h.2.2 rest stops)
 
   prints_value : (value : LiteralValue) (from to : ℕ) → literal value given from to → (rest : List ℕ) → Stops rest
-      → Prints (literal value) (literal_text value) rest
+      → Prints source (literal value) (literal_text value) rest
   prints_value (literals.Integer value) from to h rest stops = prints_signed value from to h rest stops
   prints_value (literals.Boolean value) from to h rest stops = prints_literal given all (literals.Boolean value) from to h rest stops
   prints_value (literals.Text content) from to h rest stops = prints_literal given all (literals.Text content) from to h rest stops
 
   prints_listed : (part : ListedLiteral) (from to : ℕ) → listed part given from to → (rest : List ℕ) → Stops rest
-      → Prints (Alike listed plain_listed part) (literal_text part.value) rest
+      → Prints source (Alike listed plain_listed part) (literal_text part.value) rest
   prints_listed part from to h rest stops =
       prints_as (prints_value part.value from h.0 h.1.1 rest stops)
       (λ tokens from to r. (record { value = part.value; token = from }, refl, (to, (refl, r), inl refl)))
 
   -- behind a blank
   prints_next : (part : ListedLiteral) (from to : ℕ) → listed part given from to → (rest : List ℕ) → Stops rest
-      → Prints (Alike listed plain_listed part) (codes " " ++ literal_text part.value) rest
+      → Prints source (Alike listed plain_listed part) (codes " " ++ literal_text part.value) rest
   prints_next part from to h rest stops = prints_behind (codes " ") refl (prints_listed part from to h rest stops)
 
   prints_values : (parts : List ListedLiteral) (from to : ℕ) → each listed parts given from to → (rest : List ℕ) → Stops rest
-      → Prints (Alike (each listed) (map plain_listed) parts) (join_by (λ part. literal_text part.value) (codes " ") parts) rest
+      → Prints source (Alike (each listed) (map plain_listed) parts) (join_by (λ part. literal_text part.value) (codes " ") parts) rest
   prints_values [] from to h rest stops = prints_as (prints_nothing rest) (λ tokens from to r. ([], refl, r))
   prints_values (part ∷ parts) from to h rest stops =
       let text = λ (part : ListedLiteral). codes " " ++ literal_text part.value in
@@ -106,7 +106,7 @@ module _ (given : List Token) (all : AllCan given) where
       (λ tokens from to r. (r.1.0 ∷ r.2.0, (λ i. r.1.1 i ∷ r.2.1 i), (r.0, r.1.2, r.2.2)))
 
   prints_initial : (value : InitialData) (from to : ℕ) → initial value given from to → (rest : List ℕ) → Stops rest
-      → Prints (Alike initial plain_initial value) (initial_text value) rest
+      → Prints source (Alike initial plain_initial value) (initial_text value) rest
   prints_initial (Value value token) from to h rest stops =
       prints_as (prints_value value from to h.1 rest stops) (λ tokens from to r. (Value value from, refl, (refl, r)))
   prints_initial (Listed values token) from to h rest stops =
@@ -119,14 +119,14 @@ module _ (given : List Token) (all : AllCan given) where
 
   prints_first_value : (value : Option InitialData) (from to : ℕ) → maybe (λ value. sign signs.Assign then initial value) value given from to
       → (rest : List ℕ) → Stops rest
-      → Prints (Alike (maybe (λ value. sign signs.Assign then initial value)) (option_map plain_initial) value) (first_value_text value) rest
+      → Prints source (Alike (maybe (λ value. sign signs.Assign then initial value)) (option_map plain_initial) value) (first_value_text value) rest
   prints_first_value None from to h rest stops = prints_as (prints_nothing rest) (λ tokens from to r. (None, refl, r))
   prints_first_value (Some value) from to h rest stops =
       prints_as (prints_equals (prints_initial value h.0 to h.2 rest stops))
       (λ tokens from to r. (Some r.2.0, ap (λ v. Some v) r.2.1, (r.0, r.1, r.2.2)))
 
   prints_size : (size : Option ℕ) (from to : ℕ) → maybe size_of size given from to → (rest : List ℕ)
-      → Prints (maybe size_of size) (size_text size) rest
+      → Prints source (maybe size_of size) (size_text size) rest
   prints_size None from to h rest = prints_nothing rest
   prints_size (Some size) from to h rest =
       let close = prints_any signs.CloseBracket (codes "]") rest refl (λ c cs. refl) in
@@ -140,7 +140,7 @@ module _ (given : List Token) (all : AllCan given) where
   variable_ends (Some size) value rest stops = refl
 
   prints_variable : (part : VariableData) (from to : ℕ) → variable part given from to → (rest : List ℕ) → Stops rest
-      → Prints (Alike variable plain_variable part) (variable_text part) rest
+      → Prints source (Alike variable plain_variable part) (variable_text part) rest
   prints_variable part from to h rest stops =
       let value = prints_first_value part.initial h.2.0 to h.2.2 rest stops in
       let size = prints_then value (prints_size part.size h.0 h.2.0 h.2.1 (follow value)) in
@@ -154,7 +154,7 @@ module _ (given : List Token) (all : AllCan given) where
   -- ---- items
 
   pub prints_item : (part : ItemData) (from to : ℕ) → item part given from to → (rest : List ℕ)
-      → Prints (Alike item plain_item part) (item_text part) rest
+      → Prints source (Alike item plain_item part) (item_text part) rest
   prints_item (Variables of_type variables) from to h rest =
       let end = prints_semicolon rest in
       let list = prints_then end (prints_commas given variable plain_variable variable_text prints_variable variables h.0 h.2.0 h.2.1 (follow end) (refl, refl)) in

@@ -8,4 +8,5 @@ pub mod Plans
 pub mod Printing
 pub mod Strings
 pub mod Tokens
+pub mod Utf8
 pub mod Walking

@@ -1,6 +1,8 @@
 -- Plans are printed, and read again.
-use Rattle.std.proofs.Common.{◌≡◌, ℕ, List, [], ◌∷◌, ◌++◌, map, length, Option, Some, None, refl, sym, ap, ◌∙◌, subst, inl}
+use Rattle.std.proofs.Common.{◌≡◌, ℕ, true, List, [], ◌∷◌, ◌++◌, map, length, Option, Some, None, refl, sym, ap, ◌∙◌, subst, inl}
 use Rattle.std.specs.Prelude.{codes}
+use Rattle.std.specs.Str.{is_utf8}
+use Rattle.std.proofs.lemmas.Str.{IsUtf8-from_is_utf8, is_utf8-from_IsUtf8}
 use Rattle.px_lex.specs.declared.keyword.Keyword.TheVariants as words
 use Rattle.px_lex.specs.declared.sign.Sign.TheVariants as signs
 use Rattle.px_lex.specs.declared.token.Token.{Token}
@@ -28,13 +30,13 @@ use Rattle.px_print.proofs.Lists.{prints_each, prints_commas}
 use Rattle.px_print.proofs.Printing.{Prints, follow, prints_as, prints_then, prints_nothing, prints_behind, prints_before, prints_whole}
 use Rattle.px_print.proofs.Tokens.{AllCan, Ends, Stops, split_can, prints_keyword}
 
-module _ (given : List Token) (all : AllCan given) where
+module _ {source : List ℕ} (given : List Token) (all : AllCan source given) where
   prints_parameter : (part : Parameter) (from to : ℕ) → parameter part given from to → (rest : List ℕ) → Stops rest
-      → Prints (Alike parameter plain_parameter part) (parameter_text part) rest
+      → Prints source (Alike parameter plain_parameter part) (parameter_text part) rest
   prints_parameter part from to h rest stops = of_name part.name h.2
     where
       of_name : (name : Option Identifier) → maybe identifier name given h.0 to
-          → Prints (Alike parameter plain_parameter (record { of_type = part.of_type; name = name })) (type_text part.of_type ++ name_text name) rest
+          → Prints source (Alike parameter plain_parameter (record { of_type = part.of_type; name = name })) (type_text part.of_type ++ name_text name) rest
       of_name None nothing_is =
           let none = prints_nothing rest in
           prints_as (prints_then none (prints_type part.of_type (follow none) stops.0))
@@ -59,7 +61,7 @@ module _ (given : List Token) (all : AllCan given) where
   enclosed (part ∷ parts) tokens from to h = h
 
   prints_parameters : (parts : List Parameter) (from to : ℕ) → parameters parts given from to → (rest : List ℕ)
-      → Prints (Alike parameters (map plain_parameter) parts) (parameters_text parts) rest
+      → Prints source (Alike parameters (map plain_parameter) parts) (parameters_text parts) rest
   prints_parameters [] from to h rest = prints_as (prints_nothing rest) (λ tokens from to r. ([], refl, inl r))
   prints_parameters (part ∷ parts) from to h rest =
       let close = prints_close rest in
@@ -68,12 +70,12 @@ module _ (given : List Token) (all : AllCan given) where
       prints_as (prints_then inside (prints_open (follow inside)))
       (λ tokens from to r. (r.2.1.0, r.2.1.1, enclosed r.2.1.0 tokens from to (r.0, r.1, (r.2.0, r.2.1.2, r.2.2))))
 
-  prints_answer : (answer : Option TypeName) (rest : List ℕ) → Prints (maybe type_word answer) (answer_text answer) rest
+  prints_answer : (answer : Option TypeName) (rest : List ℕ) → Prints source (maybe type_word answer) (answer_text answer) rest
   prints_answer None rest = prints_nothing rest
   prints_answer (Some of_type) rest = prints_before (codes " ") rest refl (prints_type of_type (codes " " ++ rest) refl)
 
   prints_declaration : (part : DeclarationData) (from to : ℕ) → declaration part given from to → (rest : List ℕ)
-      → Prints (Alike declaration plain_declaration part) (declaration_text part) rest
+      → Prints source (Alike declaration plain_declaration part) (declaration_text part) rest
   prints_declaration (Command answer name parts) from to h rest =
       let end = prints_semicolon rest in
       let list = prints_then end (prints_parameters parts h.2.2.0 h.2.2.2.0 h.2.2.2.1 (follow end)) in
@@ -100,10 +102,10 @@ module _ (given : List Token) (all : AllCan given) where
       ))
 
   declaration_line : (part : DeclarationData) (from to : ℕ) → declaration part given from to → (rest : List ℕ) → Unit {0}
-      → Prints (Alike declaration plain_declaration part) (line [] (declaration_text part)) rest
+      → Prints source (Alike declaration plain_declaration part) (line [] (declaration_text part)) rest
   declaration_line part from to h rest any = prints_before (codes "\n") rest refl (prints_declaration part from to h (codes "\n" ++ rest))
 
-  prints_plan : (tree : PlanTree) → plan tree given 0 (length given) → Prints (Alike plan plain_plan tree) (layout tree) []
+  prints_plan : (tree : PlanTree) → plan tree given 0 (length given) → Prints source (Alike plan plain_plan tree) (layout tree) []
   prints_plan tree h =
       let root = prints_block given all tree.root h.2.0 (length given) h.2.2 [] refl (codes "\n") in
       let named = prints_before (codes "\n") [] refl (prints_then root (prints_label given all tree.label h.0 h.2.0 h.2.1 (follow root))) in
@@ -128,6 +130,11 @@ read_again tree w =
       spelled = read.2;
       same = read.1;
     }
+
+-- the layout is UTF-8, if the text is that spells the tree
+pub utf8_again : (tree : PlanTree) (w : IsWritten tree) → is_utf8 w.text ≡ true → is_utf8 (layout tree) ≡ true
+utf8_again tree w u =
+    is_utf8-from_IsUtf8 (layout tree) ((prints_plan w.tokens (split_can w.text w.tokens w.splits) tree w.spelled).kept (IsUtf8-from_is_utf8 w.text u))
 
 pub answered_again : (tree : PlanTree) (tokens : List Token) → IsWritten tree → Splits (layout tree) tokens → too_deep tokens ≡ []
     → IsAnswered tree tokens

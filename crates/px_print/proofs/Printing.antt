@@ -1,14 +1,18 @@
 -- Texts that are pieces before a rest, and forms that their tokens have wherever these stand.
-use Rattle.std.proofs.Common.{◌≡◌, ℕ, ◌+◌, true, List, [], ◌∷◌, ◌++◌, length, Option, Some, None, refl, sym, ap, ◌∙◌, subst, append_assoc, append-nil}
+use Rattle.std.proofs.Common.{◌≡◌, ℕ, ◌+◌, ◌<◌, true, List, [], ◌∷◌, ◌++◌, length, Option, Some, None, refl, sym, ap, ◌∙◌, subst, arith, append_assoc, append-nil}
 use Rattle.std.specs.List.{list_all}
+use Rattle.std.specs.Str.{IsUtf8}
 use Rattle.std.proofs.lemmas.Bool.{and_parts}
+use Rattle.std.proofs.lemmas.Bool.Decides.{nat_tests}
 use Rattle.std.proofs.lemmas.List.{length_push}
+use Rattle.std.proofs.lemmas.Str.{IsUtf8-append, IsUtf8-nil}
 use Rattle.px_lex.specs.declared.token.Token.{Token}
 use Rattle.px_lex.specs.declared.token.TokenKind.{TokenKind}
 use Rattle.px_lex.specs.Gap.{is_white_space, IsGap}
 use Rattle.px_lex.specs.Lexer.{Piece, Stands, spelled, AllStand, token_at, tokens_from}
 use Rattle.px_lex.specs.Token.{IsToken}
 use Rattle.px_syntax.specs.Form.{Form, kind_at, one, nothing, ◌then◌}
+use Rattle.px_print.proofs.Utf8.{ascii_then}
 
 -- ---- pieces, one list behind another
 
@@ -56,29 +60,37 @@ stands_at-append (p ∷ ps) qs tokens from h =
 
 -- ---- printing
 
--- the text before a rest is pieces, whose tokens have a form wherever they stand
-pub record Prints (form : Form) (text rest : List ℕ) : Type 0 where
+-- The text before a rest is pieces, whose tokens have a form wherever they stand; and it is UTF-8, if the text is that its
+-- names and strings come from.
+pub record Prints (source : List ℕ) (form : Form) (text rest : List ℕ) : Type 0 where
   pub pieces : List Piece
   pub whole : text ≡ spelled pieces
   pub stand : AllStand pieces rest
   pub reads : (tokens : List Token) (from : ℕ) → StandsAt pieces tokens from → form tokens from (behind pieces from)
+  pub kept : IsUtf8 source → IsUtf8 text
 
-pub prints_nothing : (rest : List ℕ) → Prints nothing [] rest
-prints_nothing rest = record { pieces = []; whole = refl; stand = tt; reads = λ tokens from at. refl }
+pub prints_nothing : {source : List ℕ} (rest : List ℕ) → Prints source nothing [] rest
+prints_nothing rest = record { pieces = []; whole = refl; stand = tt; reads = λ tokens from at. refl; kept = λ u. IsUtf8-nil }
 
-pub prints_as : {f g : Form} {text rest : List ℕ} → Prints f text rest
-    → ((tokens : List Token) (from to : ℕ) → f tokens from to → g tokens from to) → Prints g text rest
+pub prints_as : {source : List ℕ} {f g : Form} {text rest : List ℕ} → Prints source f text rest
+    → ((tokens : List Token) (from to : ℕ) → f tokens from to → g tokens from to) → Prints source g text rest
 prints_as p each =
-    record { pieces = p.pieces; whole = p.whole; stand = p.stand; reads = λ tokens from at. each tokens from (behind p.pieces from) (p.reads tokens from at) }
+    record {
+      pieces = p.pieces;
+      whole = p.whole;
+      stand = p.stand;
+      reads = λ tokens from at. each tokens from (behind p.pieces from) (p.reads tokens from at);
+      kept = p.kept;
+    }
 
 -- what follows what stands before a text
-abbrev pub follow : {g : Form} {second rest : List ℕ} → Prints g second rest → List ℕ
+abbrev pub follow : {source : List ℕ} {g : Form} {second rest : List ℕ} → Prints source g second rest → List ℕ
 follow {second = second} {rest = rest} q = second ++ rest
 
 -- what is printed last comes first
-pub prints_then : {f g : Form} {first second rest : List ℕ} → Prints g second rest → Prints f first (second ++ rest)
-    → Prints (f then g) (first ++ second) rest
-prints_then {f = f} {g = g} {rest = rest} q p = record {
+pub prints_then : {source : List ℕ} {f g : Form} {first second rest : List ℕ} → Prints source g second rest → Prints source f first (second ++ rest)
+    → Prints source (f then g) (first ++ second) rest
+prints_then {f = f} {g = g} {first = first} {second = second} {rest = rest} q p = record {
   pieces = p.pieces ++ q.pieces;
   whole = (λ i. p.whole i ++ q.whole i) ∙ sym (spelled-append p.pieces q.pieces);
   stand = stand-append p.pieces q.pieces rest (subst (λ t. AllStand p.pieces (t ++ rest)) q.whole p.stand) q.stand;
@@ -86,21 +98,27 @@ prints_then {f = f} {g = g} {rest = rest} q p = record {
       let both = stands_at-append p.pieces q.pieces tokens from at in
       subst (λ to. (f then g) tokens from to) (sym (behind-append p.pieces q.pieces from))
       (behind p.pieces from, p.reads tokens from both.0, q.reads tokens (behind p.pieces from) both.1);
+  kept = λ u. IsUtf8-append first second (p.kept u) (q.kept u);
 }
 
-pub prints_token : (kind : TokenKind) (text rest : List ℕ) → IsToken kind text rest → Prints (one kind) text rest
-prints_token kind text rest is = record {
+pub prints_token : {source : List ℕ} (kind : TokenKind) (text rest : List ℕ) → IsToken kind text rest → (IsUtf8 source → IsUtf8 text)
+    → Prints source (one kind) text rest
+prints_token kind text rest is kept = record {
   pieces = record { kind = Some kind; spelling = text } ∷ [];
   whole = sym (append-nil text);
   stand = (is, tt);
   reads = λ tokens from at. (at.0, refl);
+  kept = kept;
 }
 
+blank_ascii : (c : ℕ) → is_white_space c ≡ true → c < 128
+blank_ascii c h = grind (arith, nat_tests)
+
 -- white space before a text, or behind it
-pub prints_behind : {f : Form} {text rest : List ℕ} (gap : List ℕ) → list_all is_white_space gap ≡ true → Prints f text rest
-    → Prints f (gap ++ text) rest
+pub prints_behind : {source : List ℕ} {f : Form} {text rest : List ℕ} (gap : List ℕ) → list_all is_white_space gap ≡ true → Prints source f text rest
+    → Prints source f (gap ++ text) rest
 prints_behind [] blank p = p
-prints_behind (c ∷ gap) blank p =
+prints_behind {text = text} (c ∷ gap) blank p =
     let parts = and_parts (is_white_space c) (list_all is_white_space gap) blank in
     let more = prints_behind gap parts.1 p in
     record {
@@ -108,13 +126,14 @@ prints_behind (c ∷ gap) blank p =
       whole = ap (λ t. c ∷ t) more.whole;
       stand = (IsGap.blank c refl parts.0, more.stand);
       reads = λ tokens from at. more.reads tokens from at.1;
+      kept = λ u. ascii_then c (gap ++ text) (blank_ascii c parts.0) (more.kept u);
     }
 
-pub prints_before : {f : Form} {text : List ℕ} (gap rest : List ℕ) → list_all is_white_space gap ≡ true → Prints f text (gap ++ rest)
-    → Prints f (text ++ gap) rest
-prints_before {f = f} gap rest blank p =
-    let blanks : Prints nothing gap rest =
-    subst (λ t. Prints nothing t rest) (append-nil gap) (prints_behind gap blank (prints_nothing rest)) in
+pub prints_before : {source : List ℕ} {f : Form} {text : List ℕ} (gap rest : List ℕ) → list_all is_white_space gap ≡ true → Prints source f text (gap ++ rest)
+    → Prints source f (text ++ gap) rest
+prints_before {source = source} {f = f} gap rest blank p =
+    let blanks : Prints source nothing gap rest =
+    subst (λ t. Prints source nothing t rest) (append-nil gap) (prints_behind gap blank (prints_nothing rest)) in
     prints_as (prints_then blanks p) (λ tokens from to h. subst (λ end. f tokens from end) (sym h.2) h.1)
 
 -- ---- a whole text
@@ -153,7 +172,7 @@ whole_stands (p ∷ ps) front at =
     let first = first_stands p.kind ps front at (at + length p.spelling) (λ front. whole_stands ps front (at + length p.spelling)) in
     record { stands = first.0; ends = first.1 }
 
-pub prints_whole : (f : Form) (text : List ℕ) (p : Prints f text []) → f (tokens_from 0 p.pieces) 0 (length (tokens_from 0 p.pieces))
+pub prints_whole : {source : List ℕ} (f : Form) (text : List ℕ) (p : Prints source f text []) → f (tokens_from 0 p.pieces) 0 (length (tokens_from 0 p.pieces))
 prints_whole f text p =
     let there = whole_stands p.pieces [] 0 in
     subst (λ to. f (tokens_from 0 p.pieces) 0 to) there.ends (p.reads (tokens_from 0 p.pieces) 0 there.stands)

@@ -13,14 +13,14 @@ is_spelled c = not (c == 13)
 -- ---- what was read
 
 -- a byte and what is read behind it
-record Before (byte : Option ℕ) (read : Option (List ℕ × List ℕ)) (content rest : List ℕ) : Type 0 where
+pub record Before (byte : Option ℕ) (read : Option (List ℕ × List ℕ)) (content rest : List ℕ) : Type 0 where
   pub first : ℕ
   pub less : List ℕ
   pub byte_is : byte ≡ Some first
   pub read_is : read ≡ Some (less, rest)
   pub content_is : content ≡ first ∷ less
 
-abbrev content_of : Option (List ℕ × List ℕ) → List ℕ
+abbrev pub content_of : Option (List ℕ × List ℕ) → List ℕ
 content_of None = []
 content_of (Some read) = read.0
 
@@ -28,7 +28,7 @@ abbrev rest_of : Option (List ℕ × List ℕ) → List ℕ
 rest_of None = []
 rest_of (Some read) = read.1
 
-before : (byte : Option ℕ) (read : Option (List ℕ × List ℕ)) (content rest : List ℕ) → with_byte byte read ≡ Some (content, rest)
+pub before : (byte : Option ℕ) (read : Option (List ℕ × List ℕ)) (content rest : List ℕ) → with_byte byte read ≡ Some (content, rest)
     → Before byte read content rest
 before None read content rest h = cc
 before (Some b) None content rest h = cc

@@ -1,15 +1,17 @@
 -- Which tokens a text can have, and how each is printed.
-use Rattle.std.proofs.Common.{◌≡◌, ℕ, ◌+◌, ◌<◌, ◌≤◌, ◌^◌, Bool, true, false, ◌&&◌, ◌==◌, List, [], ◌∷◌, ◌++◌, length, drop, Option, Some, None, refl, sym, ap, ◌∙◌, subst, arith, append_assoc, inl, inr}
+use Rattle.std.proofs.Common.{◌≡◌, ℕ, ◌+◌, ◌<◌, ◌≤◌, ◌^◌, Bool, true, false, ◌&&◌, ◌==◌, List, [], ◌∷◌, ◌++◌, length, drop, Option, Some, None, refl, sym, ap, ◌∙◌, subst, arith, append_assoc, append-nil, inl, inr}
 use Rattle.std.specs.Prelude.{if◌then◌else◌, ◌%◌, codes, decimal, pos, nat_lt, zero, suc}
 use Rattle.std.specs.Char.{digit_value}
 use Rattle.std.specs.List.{list_all, flat_map}
+use Rattle.std.specs.Str.{IsUtf8}
 use Rattle.std.specs.Str.Parse.{digits_value}
-use Rattle.std.proofs.lemmas.Bool.{and_parts, or_right, and_from, cases_Bool, lt-ltb}
+use Rattle.std.proofs.lemmas.Bool.{and_parts, or_right, and_from, cases_Bool, eqb-true, lt-ltb}
 use Rattle.std.proofs.lemmas.Bool.Decides.{nat_tests}
-use Rattle.std.proofs.lemmas.Fmt.{decimal_is_IsNumeral, decimal_by_steps, decimal_nonempty}
+use Rattle.std.proofs.lemmas.Fmt.{decimal_is_IsNumeral, decimal_by_steps, decimal_nonempty, IsAscii-decimal}
 use Rattle.std.proofs.lemmas.List.Folds.{list_all-append}
+use Rattle.std.proofs.lemmas.Str.{IsUtf8-from_ascii}
 use Rattle.px_value.specs.Name.{is_digit, begins_identifier, continues_identifier, is_identifier}
-use Rattle.px_value.proofs.Ascii.{list_all-weaker}
+use Rattle.px_value.proofs.Ascii.{list_all-weaker, ascii_text, identifier_text}
 use Rattle.px_lex.specs.declared.keyword.Keyword.{Keyword}
 use Rattle.px_lex.specs.declared.sign.Sign.{Sign}
 use Rattle.px_lex.specs.declared.token.Token.{Token}
@@ -24,11 +26,12 @@ use Rattle.px_lex.specs.String.{is_quote, read_string, string_from}
 use Rattle.px_lex.specs.Token.{IsToken}
 use Rattle.px_lex.specs.Word.{is_real_type}
 use Rattle.px_lex.proofs.Numbers.{numeral_some}
-use Rattle.px_lex.proofs.Signs.{row_of-all}
+use Rattle.px_lex.proofs.Signs.{row_of-all, sign_is_ascii}
 use Rattle.px_syntax.specs.Form.{kind_at, one, sign, keyword}
 use Rattle.px_value.specs.Text.{escaped, quoted}
 use Rattle.px_print.proofs.Printing.{Prints, prints_token}
 use Rattle.px_print.proofs.Strings.{is_spelled, all_spelled, read_all}
+use Rattle.px_print.proofs.Utf8.{behind_byte, content_text, quoted_text}
 
 -- ---- what holds of the tokens of a text
 
@@ -39,51 +42,67 @@ pub record IsName (name : List ℕ) : Type 0 where
   pub allowed : is_real_type name ≡ false
   pub short : length name ≤ 64
 
-pub record IsContent (content : List ℕ) : Type 0 where
+-- what a string of a text holds
+pub record IsContent (source content : List ℕ) : Type 0 where
   pub bytes : list_all is_spelled content ≡ true
   pub short : length content ≤ 1024
+  pub kept : IsUtf8 source → IsUtf8 content
 
-abbrev pub Can : TokenKind → Type 0
-Can (kinds.Identifier name) = IsName name
-Can (kinds.Keyword word) = Unit {0}
-Can (kinds.Integer z) = (value : ℕ) × (z ≡ pos value) × (value < 2 ^ 31)
-Can (kinds.Text content) = IsContent content
-Can (kinds.Sign sign) = Unit {0}
+abbrev pub Can : List ℕ → TokenKind → Type 0
+Can source (kinds.Identifier name) = IsName name
+Can source (kinds.Keyword word) = Unit {0}
+Can source (kinds.Integer z) = (value : ℕ) × (z ≡ pos value) × (value < 2 ^ 31)
+Can source (kinds.Text content) = IsContent source content
+Can source (kinds.Sign sign) = Unit {0}
 
-text_spelled : (text content rest : List ℕ) → read_string text ≡ Some (content, rest) → list_all is_spelled content ≡ true
-text_spelled [] content rest h = cc
-text_spelled (c ∷ cs) content rest h = elim (cases_Bool (is_quote c)) [
-  | inl quote ↦ all_spelled cs content rest (rw quote at h)
+-- a string is read from behind its quote
+opened : (text content rest : List ℕ) → read_string text ≡ Some (content, rest)
+    → (inside : List ℕ) × (text ≡ 34 ∷ inside) × (string_from inside ≡ Some (content, rest))
+opened [] content rest h = cc
+opened (c ∷ cs) content rest h = elim (cases_Bool (is_quote c)) [
+  | inl quote ↦ (cs, ap (λ q. q ∷ cs) (eqb-true c 34 quote), rw quote at h)
   | inr other ↦ let none : ◌≡◌ {A = Option (List ℕ × List ℕ)} None (Some (content, rest)) = rw other at h in cc
 ]
 
-can : (kind : TokenKind) (spelling rest : List ℕ) → IsToken kind spelling rest → Can kind
-can (kinds.Identifier name) spelling rest t =
+can : (source front : List ℕ) (kind : TokenKind) (spelling rest : List ℕ) → source ≡ front ++ (spelling ++ rest)
+    → IsToken kind spelling rest → Can source kind
+can source front (kinds.Identifier name) spelling rest is t =
     record { word = subst (λ w. is_identifier w ≡ true) t.same t.word.word; no_keyword = subst (λ w. keyword_of w ≡ None) t.same t.no_keyword; allowed = subst (λ w. is_real_type w ≡ false) t.same t.allowed; short = subst (λ w. length w ≤ 64) t.same t.short }
-can (kinds.Keyword word) spelling rest t = tt
-can (kinds.Integer z) spelling rest t = (t.0, t.1, t.2.small)
-can (kinds.Text content) spelling rest t = record { bytes = text_spelled (spelling ++ rest) content rest t.read; short = t.short }
-can (kinds.Sign sign) spelling rest t = tt
+can source front (kinds.Keyword word) spelling rest is t = tt
+can source front (kinds.Integer z) spelling rest is t = (t.0, t.1, t.2.small)
+can source front (kinds.Text content) spelling rest is t =
+    let string = opened (spelling ++ rest) content rest t.read in
+    record {
+      bytes = all_spelled string.0 content rest string.2;
+      short = t.short;
+      kept = λ u. content_text string.0 content rest (behind_byte front 34 string.0 (omega arith)
+          (subst IsUtf8 (is ∙ ap (λ text. front ++ text) string.1) u)) string.2;
+    }
+can source front (kinds.Sign sign) spelling rest is t = tt
 
 -- each token that stands somewhere is one that a text can have
-abbrev pub AllCan : List Token → Type 0
-AllCan tokens = (number : ℕ) (kind : TokenKind) → kind_at tokens number ≡ Some kind → Can kind
+abbrev pub AllCan : List ℕ → List Token → Type 0
+AllCan source tokens = (number : ℕ) (kind : TokenKind) → kind_at tokens number ≡ Some kind → Can source kind
 
-first_can : (kind : Option TokenKind) (spelling rest : List ℕ) (at : ℕ) (others : List Token) → Stands kind spelling rest
-    → AllCan others → AllCan (token_at at kind ++ others)
-first_can None spelling rest at others stands more number other h = more number other h
-first_can (Some kind) spelling rest at others stands more zero other h =
-    let same : kind ≡ other = cc in subst Can same (can kind spelling rest stands)
-first_can (Some kind) spelling rest at others stands more (suc number) other h = more number other h
+first_can : (source front : List ℕ) (kind : Option TokenKind) (spelling rest : List ℕ) (at : ℕ) (others : List Token)
+    → source ≡ front ++ (spelling ++ rest) → Stands kind spelling rest → AllCan source others → AllCan source (token_at at kind ++ others)
+first_can source front None spelling rest at others is stands more number other h = more number other h
+first_can source front (Some kind) spelling rest at others is stands more zero other h =
+    let same : kind ≡ other = cc in subst (Can source) same (can source front kind spelling rest is stands)
+first_can source front (Some kind) spelling rest at others is stands more (suc number) other h = more number other h
 
-pieces_can : (pieces : List Piece) (rest : List ℕ) (at : ℕ) → AllStand pieces rest → AllCan (tokens_from at pieces)
-pieces_can [] rest at stand number kind h = cc
-pieces_can (p ∷ ps) rest at stand number kind h =
-    first_can p.kind p.spelling (spelled ps ++ rest) at (tokens_from (at + length p.spelling) ps) stand.0
-    (pieces_can ps rest (at + length p.spelling) stand.1) number kind h
+pieces_can : (source front : List ℕ) (pieces : List Piece) (rest : List ℕ) (at : ℕ) → source ≡ front ++ (spelled pieces ++ rest)
+    → AllStand pieces rest → AllCan source (tokens_from at pieces)
+pieces_can source front [] rest at is stand number kind h = cc
+pieces_can source front (p ∷ ps) rest at is stand number kind h =
+    let behind = spelled ps ++ rest in
+    let here = is ∙ ap (λ text. front ++ text) (append_assoc p.spelling (spelled ps) rest) in
+    first_can source front p.kind p.spelling behind at (tokens_from (at + length p.spelling) ps) here stand.0
+    (pieces_can source (front ++ p.spelling) ps rest (at + length p.spelling) (here ∙ sym (append_assoc front p.spelling behind)) stand.1) number kind h
 
-pub split_can : (text : List ℕ) (tokens : List Token) → Splits text tokens → AllCan tokens
-split_can text tokens s = subst AllCan (sym s.listed) (pieces_can s.pieces [] 0 s.stand)
+pub split_can : (text : List ℕ) (tokens : List Token) → Splits text tokens → AllCan text tokens
+split_can text tokens s =
+    subst (AllCan text) (sym s.listed) (pieces_can text [] s.pieces [] 0 (s.whole ∙ sym (append-nil (spelled s.pieces))) s.stand)
 
 -- ---- printing one token
 
@@ -95,28 +114,30 @@ Ends rest = begins continues_identifier rest ≡ false
 abbrev pub Stops : List ℕ → Type 0
 Stops rest = Ends rest × (begins (λ c. c == 46) rest ≡ false)
 
-pub prints_keyword : (which : Keyword) (word rest : List ℕ) → keyword_of word ≡ Some which → Ends rest → Prints (keyword which) word rest
+pub prints_keyword : {source : List ℕ} (which : Keyword) (word rest : List ℕ) → keyword_of word ≡ Some which → Ends rest → Prints source (keyword which) word rest
 prints_keyword which word rest found ends =
-    prints_token (kinds.Keyword which) word rest
-    (record { word = row_of-all is_identifier keyword_rows word which refl found; longest = ends }, found)
+    let is = row_of-all is_identifier keyword_rows word which refl found in
+    prints_token (kinds.Keyword which) word rest (record { word = is; longest = ends }, found) (λ u. identifier_text word is)
 
-pub prints_sign : (which : Sign) (spelling rest : List ℕ) → sign_of spelling ≡ Some which → ends_sign spelling rest ≡ true
-    → Prints (sign which) spelling rest
-prints_sign which spelling rest found ends = prints_token (kinds.Sign which) spelling rest (found, ends)
+pub prints_sign : {source : List ℕ} (which : Sign) (spelling rest : List ℕ) → sign_of spelling ≡ Some which → ends_sign spelling rest ≡ true
+    → Prints source (sign which) spelling rest
+prints_sign which spelling rest found ends =
+    prints_token (kinds.Sign which) spelling rest (found, ends) (λ u. ascii_text spelling (sign_is_ascii spelling which found))
 
 -- a sign that no byte makes longer
-pub prints_any : (which : Sign) (spelling rest : List ℕ) → sign_of spelling ≡ Some which
-    → ((c : ℕ) (cs : List ℕ) → ends_sign spelling (c ∷ cs) ≡ true) → Prints (sign which) spelling rest
+pub prints_any : {source : List ℕ} (which : Sign) (spelling rest : List ℕ) → sign_of spelling ≡ Some which
+    → ((c : ℕ) (cs : List ℕ) → ends_sign spelling (c ∷ cs) ≡ true) → Prints source (sign which) spelling rest
 prints_any which spelling rest found each = prints_sign which spelling rest found (ends rest)
   where
     ends : (rest : List ℕ) → ends_sign spelling rest ≡ true
     ends [] = refl
     ends (c ∷ cs) = each c cs
 
-pub prints_word : (name rest : List ℕ) → IsName name → Ends rest → Prints (one (kinds.Identifier name)) name rest
+pub prints_word : {source : List ℕ} (name rest : List ℕ) → IsName name → Ends rest → Prints source (one (kinds.Identifier name)) name rest
 prints_word name rest is ends =
     prints_token (kinds.Identifier name) name rest
     (record { same = refl; word = record { word = is.word; longest = ends }; no_keyword = is.no_keyword; allowed = is.allowed; short = is.short })
+    (λ u. identifier_text name is.word)
 
 -- ---- integers
 
@@ -172,7 +193,7 @@ no_fraction ds rest stop =
     of_all true y = refl
     of_all false y = refl
 
-pub prints_integer : (value : ℕ) (rest : List ℕ) → value < 2 ^ 31 → Stops rest → Prints (one (kinds.Integer (pos value))) (decimal value) rest
+pub prints_integer : {source : List ℕ} (value : ℕ) (rest : List ℕ) → value < 2 ^ 31 → Stops rest → Prints source (one (kinds.Integer (pos value))) (decimal value) rest
 prints_integer value rest small stops =
     let some = decimal_nonempty value (omega arith) in
     let all = decimal_digits value (omega arith) in
@@ -186,10 +207,12 @@ prints_integer value rest small stops =
         small = small;
       },
     )
+    (λ u. IsUtf8-from_ascii (decimal value) (IsAscii-decimal value (omega arith)))
 
 -- ---- strings
 
-pub prints_string : (content rest : List ℕ) → IsContent content → Prints (one (kinds.Text content)) (quoted content) rest
+pub prints_string : {source : List ℕ} (content rest : List ℕ) → IsContent source content → Prints source (one (kinds.Text content)) (quoted content) rest
 prints_string content rest is =
     prints_token (kinds.Text content) (quoted content) rest
     (record { read = ap string_from (append_assoc (flat_map escaped content) (codes "\"") rest) ∙ read_all content rest is.bytes; short = is.short })
+    (λ u. quoted_text content (is.kept u))

@@ -1,5 +1,6 @@
 // What the layout of a tree is read as.
-ghost use Rattle.std.specs.Prelude.{◌≡◌, List, []};
+ghost use Rattle.std.specs.Prelude.{◌≡◌, true, List, []};
+ghost use Rattle.std.specs.Str.{is_utf8};
 ghost use Rattle.px_lex.specs.Lexer.{Splits};
 ghost use Rattle.px_lex.specs.declared.token.Token.{Token as AnyToken};
 ghost use Rattle.px_syntax.specs.Depth.{too_deep};
@@ -17,6 +18,11 @@ pub fn plan_to_text(tree: &Surface)
     ensures splits { IsWritten (tree_of_surface tree.now) → IsReadAs (layout (tree_of_surface tree.now)) (tree_of_surface tree.now) }
     ensures parsed { (tokens : List AnyToken) → IsWritten (tree_of_surface tree.now) → Splits (layout (tree_of_surface tree.now)) tokens
         → too_deep tokens ≡ [] → IsAnswered (tree_of_surface tree.now) tokens }
+{}
+
+/// Where some UTF-8 text splits into tokens that spell a tree, its layout is UTF-8 too.
+pub fn utf8_layout(tree: &Surface)
+    ensures { (written : IsWritten (tree_of_surface tree.now)) → is_utf8 written.text ≡ true → is_utf8 (layout (tree_of_surface tree.now)) ≡ true }
 {}
 
 /// Trees that are the same, apart from the numbers of tokens, have one layout. So what is laid out and read is laid out
