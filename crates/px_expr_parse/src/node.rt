@@ -17,11 +17,11 @@ fn attribute_of(name: &str) -> Option<Attribute>
     ensures { MatchOption result ((which : AttributeWord) → name.now ≡ attribute_word which → ⊥)
         (λ which. name.now ≡ attribute_word which) }
 {
-    match name.as_bytes() {
-        b"state" => Some(Attribute::State),
-        b"outcome" => Some(Attribute::Outcome),
-        b"failure" => Some(Attribute::Failure),
-        b"command_handle" => Some(Attribute::CommandHandle),
+    match name {
+        "state" => Some(Attribute::State),
+        "outcome" => Some(Attribute::Outcome),
+        "failure" => Some(Attribute::Failure),
+        "command_handle" => Some(Attribute::CommandHandle),
         _ => None,
     }
 }
