@@ -6,7 +6,7 @@ use Rattle.std.proofs.lemmas.List.{get_or_append_left, get_or-set_same, get_or-s
 use Rattle.std.proofs.Math.Seq.{get_or-append_seam}
 use Rattle.px_core.specs.Plan.{Site}
 use Rattle.px_flat.specs.declared.numbered.NumberedExpr.{NumberedExpr}
-use Rattle.px_flat.specs.Numbered.{Numbered, Binary}
+use Rattle.px_flat.specs.Numbered.{Numbered}
 use Rattle.px_flat.specs.NumberedData.{expr_data}
 use Rattle.px_flat.specs.Sources.{Source, sources_in}
 use Rattle.px_flat.specs.Within.{IsWithin}
@@ -17,7 +17,7 @@ use Rattle.px_cached.specs.declared.part.Joint.TheVariants as joints
 use Rattle.px_cached.specs.declared.part.Part.{Part}
 use Rattle.px_cached.specs.declared.part.Part.TheVariants as parts
 use Rattle.px_cached.specs.Laying.{IsLaid, IsReadIn, IsStretch}
-use Rattle.px_cached.specs.Network.{IsNetwork, IsOver, IsUnder, Spells, Whole, Joined, above_at, operator_of, part_at}
+use Rattle.px_cached.specs.Network.{IsNetwork, IsOver, IsUnder, Spells, Whole, Joined, above_at, joined, part_at}
 
 abbrev no_part : Part
 no_part = parts.Joined joints.And 0 0
@@ -174,6 +174,13 @@ read_right plan sources more (parts.Whole expr) read =
     (read.0, stretch_right (sources_in plan (expr_data expr)) sources more read.1)
 read_right plan sources more (parts.Joined joint left right) read = tt
 
+-- what a joint reads is what both sides read
+joined_sources : (plan : List Site) (joint : Joint) (a b : Numbered)
+    → sources_in plan a ++ sources_in plan b ≡ sources_in plan (joined joint a b)
+joined_sources plan joints.And a b = refl
+joined_sources plan joints.Or a b = refl
+joined_sources plan joints.Nor a b = refl
+
 module _ (plan : List Site) (node : ℕ) (joint : Joint) (a b : Numbered) (old one two : List Part)
     (old_above one_above two_above : List Above) (left right : ℕ)
     (left_laid : IsLaid plan node a old one old_above one_above left)
@@ -186,7 +193,7 @@ module _ (plan : List Site) (node : ℕ) (joint : Joint) (a b : Numbered) (old o
   joined_new = two ++ joined_part ∷ []
 
   abbrev joined_expr : Numbered
-  joined_expr = Binary (operator_of joint) a b
+  joined_expr = joined joint a b
 
   abbrev pushed_above : List Above
   pushed_above = two_above ++ aboves.Condition node ∷ []
@@ -287,11 +294,12 @@ module _ (plan : List Site) (node : ℕ) (joint : Joint) (a b : Numbered) (old o
       → IsReadIn plan (sources_in plan joined_expr) (part_at joined_new k)
   joined_read k past inside = elim (cases_lt k (length two)) [
     | inl below ↦ subst (IsReadIn plan (sources_in plan joined_expr)) (sym (pushed_same two joined_part k below))
+        (subst (λ sources. IsReadIn plan sources (part_at two k)) (joined_sources plan joint a b)
         (elim (cases_lt k (length one)) [
-          | inl first ↦ subst (IsReadIn plan (sources_in plan joined_expr)) (sym (right_laid.same k first))
+          | inl first ↦ subst (IsReadIn plan (sources_in plan a ++ sources_in plan b)) (sym (right_laid.same k first))
               (read_left plan (sources_in plan a) (sources_in plan b) (part_at one k) (left_laid.read k past first))
           | inr second ↦ read_right plan (sources_in plan b) (sources_in plan a) (part_at two k) (right_laid.read k second below)
-        ])
+        ]))
     | inr beyond ↦
         let last : k ≡ length two = omega (arith, beyond, inside, pushed_long two joined_part) in
         subst (IsReadIn plan (sources_in plan joined_expr)) (sym (ap (part_at joined_new) last ∙ pushed_at two joined_part)) tt
@@ -343,7 +351,7 @@ whole_ok plan node expr of is within old new above new_above network (Ok at) at_
     (whole_laid plan node expr of is within old above network (subst (λ (new : List Part). length new < 2 ^ 32) new_is few))))
 
 pub joined_ok : {E : Type 0} (plan : List Site) (node : ℕ) (joint : Joint) (expr a b : Numbered)
-    → expr ≡ Binary (operator_of joint) a b
+    → expr ≡ joined joint a b
     → (old one two new : List Part) (old_above one_above two_above new_above : List Above) (left right : ℕ)
     → IsLaid plan node a old one old_above one_above left → IsLaid plan node b one two one_above two_above right
     → (result : Result ℕ E) → IfOk result (λ at. at ≡ length two)
@@ -355,13 +363,13 @@ joined_ok plan node joint expr a b is old one two new old_above one_above two_ab
     (Err error) at_is new_is above_is few = tt
 joined_ok plan node joint expr a b is old one two new old_above one_above two_above new_above left right left_laid right_laid
     (Ok at) at_is new_is above_is few =
-    let joined : List Part = two ++ parts.Joined joint left right ∷ [] in
-    let of : Numbered = Binary (operator_of joint) a b in
+    let with_it : List Part = two ++ parts.Joined joint left right ∷ [] in
+    let of : Numbered = joined joint a b in
     let linked : ℕ → List Above =
     λ at. set (set (two_above ++ aboves.Condition node ∷ []) left (aboves.Part at)) right (aboves.Part at) in
     subst (λ expr. IsLaid plan node expr old new old_above new_above at) (sym is)
     (subst (λ new. IsLaid plan node of old new old_above new_above at) (sym new_is)
-    (subst (λ new_above. IsLaid plan node of old joined old_above new_above at) (sym above_is)
-    (subst (λ at. IsLaid plan node of old joined old_above (linked at) at) (sym at_is)
+    (subst (λ new_above. IsLaid plan node of old with_it old_above new_above at) (sym above_is)
+    (subst (λ at. IsLaid plan node of old with_it old_above (linked at) at) (sym at_is)
     (joined_laid plan node joint a b old one two old_above one_above two_above left right left_laid right_laid
     (subst (λ (new : List Part). length new < 2 ^ 32) new_is few)))))

@@ -31,6 +31,7 @@ unknown count part = elim (cases_lt part count) [
 joint_unknown : (joint : Joint) → kleene joint None None ≡ None
 joint_unknown joints.And = refl
 joint_unknown joints.Or = refl
+joint_unknown joints.Nor = refl
 
 settled_unknown : (count part : ℕ) (p : Part)
     → IsSettled (replicate count None) (truth_at (replicate count None) part) p

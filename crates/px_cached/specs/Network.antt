@@ -1,10 +1,10 @@
 -- Parts of conditions, what each spells, and when their truths agree.
 use Rattle.std.specs.Prelude.{◌≡◌, ℕ, ◌<◌, ◌^◌, Bool, List, length, slice_index_or, Option, None}
-use Rattle.px_value.specs.Truth.{kleene_and, kleene_or}
-use Rattle.px_core.specs.declared.expr.BinaryOp.{BinaryOp}
+use Rattle.px_value.specs.Truth.{kleene_and, kleene_not, kleene_or}
 use Rattle.px_core.specs.declared.expr.BinaryOp.TheVariants as operators
+use Rattle.px_core.specs.declared.expr.UnaryOp.TheVariants.{Not}
 use Rattle.px_flat.specs.declared.numbered.NumberedExpr.{NumberedExpr}
-use Rattle.px_flat.specs.Numbered.{Numbered, Binary}
+use Rattle.px_flat.specs.Numbered.{Numbered, Unary, Binary}
 use Rattle.px_flat.specs.NumberedData.{expr_data}
 use Rattle.px_cached.specs.declared.part.Above.{Above}
 use Rattle.px_cached.specs.declared.part.Above.TheVariants as aboves
@@ -13,13 +13,16 @@ use Rattle.px_cached.specs.declared.part.Joint.TheVariants as joints
 use Rattle.px_cached.specs.declared.part.Part.{Part}
 use Rattle.px_cached.specs.declared.part.Part.TheVariants as parts
 
-abbrev pub operator_of : Joint → BinaryOp
-operator_of joints.And = operators.And
-operator_of joints.Or = operators.Or
+-- the expression that a joint makes of two
+abbrev pub joined : Joint → Numbered → Numbered → Numbered
+joined joints.And a b = Binary operators.And a b
+joined joints.Or a b = Binary operators.Or a b
+joined joints.Nor a b = Unary Not (Binary operators.Or a b)
 
 abbrev pub kleene : Joint → Option Bool → Option Bool → Option Bool
 kleene joints.And left right = kleene_and left right
 kleene joints.Or left right = kleene_or left right
+kleene joints.Nor left right = kleene_not (kleene_or left right)
 
 abbrev pub part_at : List Part → ℕ → Part
 part_at network part = slice_index_or network part (parts.Joined joints.And 0 0)
@@ -32,7 +35,7 @@ pub data Spells (network : List Part) : ℕ → Numbered → Type 0 where
   Whole : {part : ℕ} {expr : Numbered} (of : NumberedExpr) → part < length network
       → part_at network part ≡ parts.Whole of → expr ≡ expr_data of → Spells network part expr
   Joined : {part : ℕ} {expr : Numbered} (joint : Joint) (left right : ℕ) (a b : Numbered) → part < length network
-      → part_at network part ≡ parts.Joined joint left right → expr ≡ Binary (operator_of joint) a b
+      → part_at network part ≡ parts.Joined joint left right → expr ≡ joined joint a b
       → Spells network left a → Spells network right b → Spells network part expr
 
 -- ---- how parts stand

@@ -4,12 +4,13 @@ ghost use Rattle.px_flat.specs.Flat.{plan_of};
 ghost use Rattle.px_flat.specs.NumberedData.{expr_data};
 ghost use Rattle.px_flat.specs.Within.{IsWithin};
 ghost use Rattle.px_cached.specs.Laying.{HasLaid, IsLaid};
-ghost use Rattle.px_cached.specs.Network.{IsNetwork, operator_of};
+ghost use Rattle.px_flat.specs.Numbered.{Numbered, Unary, Binary};
+ghost use Rattle.px_cached.specs.Network.{IsNetwork, joined};
 
 use crate::copies::copy;
 use crate::kinds::condition;
 use crate::part::{Above, Joint, Part};
-use px_core::BinaryOp;
+use px_core::{BinaryOp, UnaryOp};
 use px_flat::{Flat, NumberedExpr};
 use px_value::NoMemory;
 use std::alloc::{AllocError, Global};
@@ -27,11 +28,21 @@ pub(crate) struct Network {
 
 // How an operation joins parts, if it does.
 fn joint_of(op: BinaryOp) -> Option<Joint>
-    ensures { IfSome result (λ joint. op ≡ operator_of joint) }
+    ensures { IfSome result (λ joint. (a b : Numbered) → Binary op a b ≡ joined joint a b) }
 {
     match op {
         BinaryOp::And => Some(Joint::And),
         BinaryOp::Or => Some(Joint::Or),
+        _ => None,
+    }
+}
+
+// The same of an operation over another one.
+fn joint_of_both(op: UnaryOp, inner: BinaryOp) -> Option<Joint>
+    ensures { IfSome result (λ joint. (a b : Numbered) → Unary op (Binary inner a b) ≡ joined joint a b) }
+{
+    match (op, inner) {
+        (UnaryOp::Not, BinaryOp::Or) => Some(Joint::Nor),
         _ => None,
     }
 }
@@ -84,6 +95,20 @@ impl Network {
                 let left = self.lay(alloc, flat, node, left)?;
                 let right = self.lay(alloc, flat, node, right)?;
                 return self.join(node, joint, left, right);
+            }
+        }
+        if let NumberedExpr::Unary { op, arg } = expr {
+            if let NumberedExpr::Binary {
+                op: inner,
+                left,
+                right,
+            } = &**arg
+            {
+                if let Some(joint) = joint_of_both(*op, *inner) {
+                    let left = self.lay(alloc, flat, node, left)?;
+                    let right = self.lay(alloc, flat, node, right)?;
+                    return self.join(node, joint, left, right);
+                }
             }
         }
         let whole = copy(alloc, expr)?;

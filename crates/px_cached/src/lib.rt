@@ -1,10 +1,10 @@
 //! Kept conditions: the truth of each condition of a plan's nodes, looked at again where a source of it was touched.
 //!
-//! A condition is made of parts (`part`): what is evaluated whole, and `&&` or `||` over two parts. `laying` lays the parts
-//! of all conditions (`kinds` numbers these, `copies` copies what is evaluated whole), those in a part before it; `reading`
-//! lists which parts read which sources; `noticing` notes what depends on touched sources, `looking` looks at it again, and
-//! `carrying` carries a truth that changed up as far as something changes; `firsts` tells the source that has a cell.
-//! `cached` is the table.
+//! A condition is made of parts (`part`): what is evaluated whole, and `&&`, `||` or a negated `||` over two parts.
+//! `laying` lays the parts of all conditions (`kinds` numbers these, `copies` copies what is evaluated whole), those in a
+//! part before it; `reading` lists which parts read which sources; `noticing` notes what depends on touched sources,
+//! `looking` looks at it again, and `carrying` carries a truth that changed up as far as something changes; `firsts` tells
+//! the source that has a cell. `cached` is the table.
 //!
 //! `specs/Network.antt` says what parts spell and when their truths agree, `specs/Laying.antt` which parts are laid,
 //! `specs/Carrying.antt` what a change does, `specs/Firsts.antt` which source has a cell, `specs/Cached.antt` what the table

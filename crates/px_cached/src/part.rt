@@ -9,6 +9,8 @@ use px_flat::NumberedExpr;
 pub(crate) enum Joint {
     And,
     Or,
+    /// The negation of `Or`, as in the Invariant of a `Sequence`.
+    Nor,
 }
 
 impl Joint {
@@ -25,6 +27,11 @@ impl Joint {
             Joint::Or => match (left, right) {
                 (Some(true), _) | (_, Some(true)) => Some(true),
                 (Some(false), Some(false)) => Some(false),
+                _ => None,
+            },
+            Joint::Nor => match (left, right) {
+                (Some(true), _) | (_, Some(true)) => Some(false),
+                (Some(false), Some(false)) => Some(true),
                 _ => None,
             },
         }
