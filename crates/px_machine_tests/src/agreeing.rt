@@ -14,7 +14,7 @@ use std::alloc::Global;
 /// What the steppers of a row come to.
 #[derive(Clone, Copy)]
 pub(crate) struct Agreement {
-    /// Whether both tell the same, and the first the same of fewer events.
+    /// Whether both tell the same, and the first the same of fewer events and of detours.
     pub(crate) holds: bool,
     /// How many micro steps the start and the accepted events took on the first.
     pub(crate) steps: u64,
@@ -23,7 +23,7 @@ pub(crate) struct Agreement {
 }
 
 /// Whether steppers of two types tell the same of the start of a plan and of these events, and whether the first tells the same
-/// of those that it accepts where the others aren't offered.
+/// of those that it accepts where the others aren't offered, and each is begun and taken back before each.
 pub(crate) fn agrees<A: Stepper, B: Stepper>(
     rt: &impl Print,
     alloc: Global,
@@ -33,9 +33,9 @@ pub(crate) fn agrees<A: Stepper, B: Stepper>(
     requires plan { IsFit (tree_of plan.now) }
     requires entries { IsTrue (list_all is_fit_entry entries.now) }
 {
-    let first = told_of::<A>(alloc, plan, entries, &[])?;
-    let second = told_of::<B>(alloc, plan, entries, &[])?;
-    let fewer = told_of::<A>(alloc, plan, entries, &first.refused)?;
+    let first = told_of::<A>(alloc, plan, entries, &[], &[])?;
+    let second = told_of::<B>(alloc, plan, entries, &[], &[])?;
+    let fewer = told_of::<A>(alloc, plan, entries, &first.refused, entries)?;
     let holds = first.refused == second.refused
         && is_same(rt, &first.text, &second.text)?
         && is_same(rt, &first.refused_text, &second.refused_text)?

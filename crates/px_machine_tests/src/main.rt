@@ -11,14 +11,16 @@
 //!
 //! where the line feed before a mark belongs to the mark. The posts of the script are offered in file order. `telling` tells
 //! what a stepper does then, step by step: a row holds where both tell the same, and where the machine tells the same of the
-//! events that it accepts when those that it refuses aren't offered. `stepping` has the calls of a stepper that take memory:
-//! one that had none is made again.
+//! events that it accepts when those that it refuses aren't offered, and when there are detours between them: each event is
+//! begun and taken back before each (`detours`). `stepping` has the calls of a stepper that take memory: one that had none is
+//! made again.
 //!
 //! Of a row that doesn't hold the first lines are printed in which they differ, and the row; at the end the number of rows
 //! that hold and of their micro steps, and that of the calls that were made again, where there were any.
 #![tactic(auto)]
 
 mod agreeing;
+mod detours;
 mod reading;
 mod row;
 mod stepping;

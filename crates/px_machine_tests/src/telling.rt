@@ -7,6 +7,7 @@ ghost use Rattle.px_event.specs.Fit.{is_fit_entry};
 ghost use Rattle.px_sem.specs.Conflicts.{is_quiet};
 ghost use Rattle.px_sem.specs.Stepper.{Pending, is_pending};
 
+use crate::detours::take_back_each;
 use crate::stepping::{begin, step};
 use px_core::Plan;
 use px_event::Entry;
@@ -35,15 +36,18 @@ pub(crate) struct Told {
 }
 
 /// What a stepper of this type does in the start of a plan and over these events, where those at the places that are `true` in
-/// `left_out` aren't offered. A start that runs away is told as a refused event, and no event then.
+/// `left_out` aren't offered, and before each the detours are begun and taken back. A start that runs away is told as a refused
+/// event, and no event then.
 pub(crate) fn told_of<S: Stepper>(
     alloc: Global,
     plan: &Plan,
     entries: &[Entry],
     left_out: &[bool],
+    detours: &[Entry],
 ) -> Result<Told, NoMemory>
     requires plan { IsFit (tree_of plan.now) }
     requires entries { IsTrue (list_all is_fit_entry entries.now) }
+    requires detours { IsTrue (list_all is_fit_entry detours.now) }
 {
     let flat = flatten(alloc, plan)?;
     let mut told = Told {
@@ -59,6 +63,7 @@ pub(crate) fn told_of<S: Stepper>(
         return Ok(told);
     }
     for entry in entries {
+        take_back_each(&mut stepper, alloc, detours, &mut told.refusals)?;
         let is_left_out = left_out.get(told.refused.len()) == Some(&true);
         let is_accepted = !is_left_out && accepts(&mut stepper, alloc, &flat, entry, &mut told)?;
         told.refused.push(!is_accepted)?;

@@ -1,0 +1,9 @@
+use Rattle.std.proofs.Common.{◌≡◌, ◌<◌}
+use Rattle.px_sem.specs.Stepper.{Pending}
+use Rattle.px_machine_tests.proofs.detours.take_back_each.Given as goal
+
+abbrev pub invariant-loop-entry : goal.invariant-loop-entry
+invariant-loop-entry g l = record {
+  nothing : (g.S.Stepper.state l.stepper).pending ≡ Pending.Nothing;
+  few : l.steps < 7;
+}
