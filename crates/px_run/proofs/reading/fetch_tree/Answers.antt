@@ -12,8 +12,8 @@ returns-in_err-compile_tree-clause-err g c =
 
 pub returns-clause-ok : goal.returns-clause-ok
 returns-clause-ok g c =
-    let bytes = c.in_ok-text.text.items in
-    (bytes,
+    let bytes = c.in_ok-text.text.items in (
+      bytes,
       (Content bytes, c.in_ok-text.ensures.ok, (refl, rw (sym c.deref.ensures.value) c.in_ok-compile_tree.ensures.plan)),
       rw (sym c.deref.ensures.value) c.in_ok-compile_tree.ensures.tree,
     )
