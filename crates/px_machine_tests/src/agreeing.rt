@@ -36,15 +36,22 @@ pub(crate) fn agrees<A: Stepper, B: Stepper>(
     let first = told_of::<A>(alloc, plan, entries, &[], &[])?;
     let second = told_of::<B>(alloc, plan, entries, &[], &[])?;
     let fewer = told_of::<A>(alloc, plan, entries, &first.refused, entries)?;
-    let holds = first.refused == second.refused
-        && is_same(rt, &first.text, &second.text)?
-        && is_same(rt, &first.refused_text, &second.refused_text)?
-        && is_same(rt, &first.text, &fewer.text)?;
+    let holds = are_same(rt, &first, &second, &fewer)?;
     Ok(Agreement {
         holds,
         steps: first.steps,
         refusals: first.refusals.saturating_add(fewer.refusals),
     })
+}
+
+// Whether the first and the second tell the same, and the first the same as that of fewer events.
+fn are_same(rt: &impl Print, first: &Told, second: &Told, fewer: &Told) -> anyhow::Result<bool> {
+    Ok(
+        first.refused == second.refused
+            && is_same(rt, &first.text, &second.text)?
+            && is_same(rt, &first.refused_text, &second.refused_text)?
+            && is_same(rt, &first.text, &fewer.text)?,
+    )
 }
 
 // Whether two texts are the same; else the first lines are printed that aren't.

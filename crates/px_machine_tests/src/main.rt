@@ -19,6 +19,9 @@
 //! that hold and of their micro steps, and that of the calls that were made again, where there were any.
 #![tactic(auto)]
 
+ghost use Rattle.px_core.specs.Fit.{IsFit};
+ghost use Rattle.px_core.specs.Plan.{tree_of};
+
 mod agreeing;
 mod detours;
 mod reading;
@@ -28,6 +31,7 @@ mod telling;
 
 use agreeing::{Agreement, agrees};
 use anyhow::bail;
+use px_core::Plan;
 use px_machine::Machine;
 use px_naive::Naive;
 use reading::{entries_of, plan_of};
@@ -70,9 +74,23 @@ fn agreement_of(rt: &impl Print, alloc: Global, spelled: &str) -> anyhow::Result
         bail!("no row: {spelled}");
     };
     let plan = plan_of(alloc, plan)?;
-    let entries = entries_of(alloc, script, &plan)?;
-    let agreement = agrees::<Machine, Naive>(rt, alloc, &plan, &entries);
-    drop(entries);
+    let agreement = agreement_over(rt, alloc, &plan, script);
+    // By name: the proof then doesn't follow each shape that a plan may have on the way out.
     drop(plan);
+    agreement
+}
+
+// The same over a plan and what the script's text posts to it.
+fn agreement_over(
+    rt: &impl Print,
+    alloc: Global,
+    plan: &Plan,
+    script: &str,
+) -> anyhow::Result<Agreement>
+    requires { IsFit (tree_of plan.now) }
+{
+    let entries = entries_of(alloc, script, plan)?;
+    let agreement = agrees::<Machine, Naive>(rt, alloc, plan, &entries);
+    drop(entries);
     agreement
 }

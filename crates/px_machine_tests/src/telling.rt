@@ -50,6 +50,25 @@ pub(crate) fn told_of<S: Stepper>(
     requires detours { IsTrue (list_all is_fit_entry detours.now) }
 {
     let flat = flatten(alloc, plan)?;
+    let told = told_over::<S>(alloc, plan, &flat, entries, left_out, detours);
+    // By name: the proof then doesn't follow each shape that tables may have on the way out.
+    drop(flat);
+    told
+}
+
+// The same over the plan's tables.
+fn told_over<S: Stepper>(
+    alloc: Global,
+    plan: &Plan,
+    flat: &Flat,
+    entries: &[Entry],
+    left_out: &[bool],
+    detours: &[Entry],
+) -> Result<Told, NoMemory>
+    requires plan { IsFit (tree_of plan.now) }
+    requires entries { IsTrue (list_all is_fit_entry entries.now) }
+    requires detours { IsTrue (list_all is_fit_entry detours.now) }
+{
     let mut told = Told {
         text: Vec::new(alloc),
         refused_text: Vec::new(alloc),
@@ -59,13 +78,13 @@ pub(crate) fn told_of<S: Stepper>(
     };
     let mut stepper = S::fresh(alloc, plan)?;
     push_start(alloc, &mut told.text)?;
-    if !has_started(&mut stepper, alloc, &flat, &mut told)? {
+    if !has_started(&mut stepper, alloc, flat, &mut told)? {
         return Ok(told);
     }
     for entry in entries {
         take_back_each(&mut stepper, alloc, detours, &mut told.refusals)?;
         let is_left_out = left_out.get(told.refused.len()) == Some(&true);
-        let is_accepted = !is_left_out && accepts(&mut stepper, alloc, &flat, entry, &mut told)?;
+        let is_accepted = !is_left_out && accepts(&mut stepper, alloc, flat, entry, &mut told)?;
         told.refused.push(!is_accepted)?;
     }
     Ok(told)

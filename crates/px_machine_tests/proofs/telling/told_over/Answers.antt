@@ -1,7 +1,7 @@
 use Rattle.std.proofs.Common.{IsTrue, sym, subst}
 use Rattle.std.proofs.lemmas.List.Sums.{AllPass-from_list_all}
 use Rattle.px_event.specs.Fit.{is_fit_entry}
-use Rattle.px_machine_tests.proofs.telling.told_of.Goals as goal
+use Rattle.px_machine_tests.proofs.telling.told_over.Goals as goal
 
 pub accepts-requires-clause-fit : goal.accepts-requires-clause-fit
 accepts-requires-clause-fit g c =
