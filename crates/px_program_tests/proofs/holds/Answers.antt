@@ -6,5 +6,5 @@ use Rattle.px_program_tests.proofs.holds.Goals as goal
 pub holds_on-requires-send-S : goal.holds_on-requires-send-S
 holds_on-requires-send-S g c = λ _ _. search (sendable, machine_send)
 
-pub holds_on-2-requires-send-S : goal.holds_on-2-requires-send-S
-holds_on-2-requires-send-S g c = λ _ _. search (sendable, naive_send)
+pub holds_on-requires-2-send-S : goal.holds_on-requires-2-send-S
+holds_on-requires-2-send-S g c = λ _ _. search (sendable, naive_send)
