@@ -1,0 +1,80 @@
+// What is told of a fault: in words, with its line, and with what helps.
+use crate::place::Place;
+use px_value::NoMemory;
+
+/// What is wrong, and what to do about it.
+#[derive(Debug, Drop)]
+pub struct Words {
+    pub message: String,
+    pub help: Option<String>,
+}
+
+impl Words {
+    /// Without a hint.
+    pub fn plain(message: String) -> Words {
+        Words {
+            message,
+            help: None,
+        }
+    }
+
+    /// With a hint.
+    pub fn with_help(message: String, help: String) -> Words {
+        Words {
+            message,
+            help: Some(help),
+        }
+    }
+}
+
+/// Appends a fault at a place of a file.
+pub fn push_fault(
+    out: &mut String,
+    name: &str,
+    place: &Place<'_>,
+    words: &Words,
+) -> Result<(), NoMemory> {
+    let line = place.line;
+    let column = place.column();
+    write!(out, "error: {}\n", words.message)?;
+    write!(out, "  --> {name}:{line}:{column}\n")?;
+    push_excerpt(out, place)?;
+    push_help(out, words)
+}
+
+/// Appends a fault that has no place in a file.
+pub fn push_whole(out: &mut String, name: &str, words: &Words) -> Result<(), NoMemory> {
+    write!(out, "error: {}\n  --> {name}\n", words.message)?;
+    push_help(out, words)
+}
+
+fn push_help(out: &mut String, words: &Words) -> Result<(), NoMemory> {
+    if let Some(help) = &words.help {
+        write!(out, "   = help: {help}\n")?;
+    }
+    out.push_str("\n")
+}
+
+// The line, and marks under what is meant.
+fn push_excerpt(out: &mut String, place: &Place<'_>) -> Result<(), NoMemory> {
+    let line = place.line;
+    write!(out, "     |\n{line:>4} | ")?;
+    for c in place.shown() {
+        out.push(if c.is_control() && c != '\t' { ' ' } else { c })?;
+    }
+    out.push_str("\n     | ")?;
+    push_marks(out, place)?;
+    out.push_str("\n")
+}
+
+fn push_marks(out: &mut String, place: &Place<'_>) -> Result<(), NoMemory> {
+    let before = place.before.saturating_sub(place.shown_from());
+    for c in place.shown().take(before) {
+        out.push(if c == '\t' { '\t' } else { ' ' })?;
+    }
+    let left = place.shown().skip(before).count();
+    for _ in 0..place.width().min(left.max(1)) {
+        out.push('^')?;
+    }
+    Ok(())
+}

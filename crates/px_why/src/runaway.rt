@@ -1,0 +1,48 @@
+// Whether a plan's start settles, and which nodes go on where it doesn't.
+ghost use Rattle.px_core.specs.Fit.{IsFit};
+ghost use Rattle.px_core.specs.Plan.{tree_of};
+
+use crate::report::{Words, push_whole};
+use px_core::Plan;
+use px_sem::{Move, STEP_LIMIT, Stepper};
+use px_value::NoMemory;
+use std::alloc::Global;
+
+/// How many nodes are told.
+const TOLD: usize = 5;
+
+/// Appends, where the start of a plan doesn't settle, which nodes go on, and answers whether it settles.
+pub fn why_start<S: Stepper>(
+    alloc: Global,
+    name: &str,
+    plan: &Plan,
+    out: &mut String,
+) -> Result<bool, NoMemory>
+    requires fit { IsFit (tree_of plan.now) }
+{
+    let mut stepper = S::fresh(alloc, plan)?;
+    for _ in 0..STEP_LIMIT + 1 {
+        if !stepper.step(alloc)? {
+            return Ok(true);
+        }
+    }
+    let words = runaway_words(alloc, stepper.moves())?;
+    drop(stepper);
+    push_whole(out, name, &words)?;
+    Ok(false)
+}
+
+fn runaway_words(alloc: Global, moves: &[Move]) -> Result<Words, NoMemory> {
+    let mut message = String::from_str(
+        alloc,
+        "the start doesn't settle within 100,000 steps: these nodes go on without an event from outside:",
+    )?;
+    for moved in moves.iter().take(TOLD) {
+        write!(message, " {}", moved.node.as_str())?;
+    }
+    let help = String::from_str(
+        alloc,
+        "let a node that repeats wait for the outside, as by `Start Lookup(go);`, or give it a Repeat that becomes false",
+    )?;
+    Ok(Words::with_help(message, help))
+}

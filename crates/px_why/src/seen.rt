@@ -1,0 +1,98 @@
+// What is known of a plan that is explained: its text, its tokens and the names that it declares.
+use crate::declared::{Declared, What};
+use crate::nearest::Nearest;
+use crate::place::{Place, place_of};
+use px_lex::{Keyword, Sign, Token, TokenKind};
+use px_value::NoMemory;
+use std::alloc::Global;
+
+/// A plan's text with its tokens and names.
+#[derive(Clone, Copy)]
+pub struct Seen<'a> {
+    pub text: &'a str,
+    pub tokens: &'a [Token],
+    pub names: &'a [Declared<'a>],
+}
+
+impl<'a> Seen<'a> {
+    /// The place of a token; behind the last, the text's end.
+    pub fn place(&self, token: usize) -> Place<'a> {
+        let at = match self.tokens.get(token) {
+            Some(token) => token.at,
+            None => self.text.len(),
+        };
+        place_of(self.text, at)
+    }
+
+    /// The number of the line in which a token stands.
+    pub fn line(&self, token: usize) -> usize {
+        self.place(token).line
+    }
+
+    fn kind(&self, token: usize) -> Option<&'a TokenKind> {
+        match self.tokens.get(token) {
+            Some(token) => Some(&token.kind),
+            None => None,
+        }
+    }
+
+    /// The name at a token; empty where none is.
+    pub fn name(&self, token: usize) -> &'a str {
+        match self.kind(token) {
+            Some(TokenKind::Identifier(name)) => name.as_str(),
+            _ => "",
+        }
+    }
+
+    /// The sign at a token.
+    pub fn sign(&self, token: usize) -> Option<Sign> {
+        match self.kind(token) {
+            Some(TokenKind::Sign(sign)) => Some(*sign),
+            _ => None,
+        }
+    }
+
+    /// The keyword at a token.
+    pub fn keyword(&self, token: usize) -> Option<Keyword> {
+        match self.kind(token) {
+            Some(TokenKind::Keyword(keyword)) => Some(*keyword),
+            _ => None,
+        }
+    }
+
+    /// The first declaration of a name that is of this sort.
+    pub fn first_of(&self, like: What, name: &str) -> Option<Declared<'a>> {
+        self.names
+            .iter()
+            .copied()
+            .find(|one| one.what.is_like(like) && one.name == name)
+    }
+
+    /// What is declared at a token.
+    pub fn declared_at(&self, token: usize) -> Option<Declared<'a>> {
+        self.names.iter().copied().find(|one| one.token == token)
+    }
+
+    /// The first declaration of the same sort, name and place.
+    pub fn first_like(&self, other: Declared<'a>) -> Option<Declared<'a>> {
+        self.names.iter().copied().find(|one| {
+            one.place == other.place && one.what.is_like(other.what) && one.name == other.name
+        })
+    }
+
+    /// The declared name of this sort that is nearest to one, if one is near.
+    pub fn nearest(
+        &self,
+        alloc: Global,
+        like: What,
+        name: &'a str,
+    ) -> Result<Option<&'a str>, NoMemory> {
+        let mut nearest = Nearest::to(name);
+        for one in self.names {
+            if one.what.is_like(like) {
+                nearest.look_at(alloc, one.name)?;
+            }
+        }
+        Ok(nearest.found())
+    }
+}
