@@ -1,0 +1,31 @@
+// The program over a host.
+use crate::answer::{Answer, Stop, WANT_OF_MEMORY};
+use crate::journal::journal_file;
+use crate::nodes::nodes_file;
+use crate::why::{why_plan_file, why_script_file};
+use crate::words::{Task, task_in};
+use px_machine::Machine;
+use px_ports::Host;
+use px_sem::Stepper;
+use std::alloc::Global;
+
+/// Does what the words ask for, which are those behind the program's own name. The host is asked for files alone.
+pub fn view<H: Host>(alloc: Global, words: &[String], host: &mut H) -> Answer {
+    match answer::<H, Machine>(alloc, words, host) {
+        Ok(answer) | Err(Stop::Refused(answer)) => answer,
+        Err(Stop::NoMemory) => Answer::new(WANT_OF_MEMORY, String::new(alloc)),
+    }
+}
+
+fn answer<H: Host, S: Stepper>(
+    alloc: Global,
+    words: &[String],
+    host: &mut H,
+) -> Result<Answer, Stop> {
+    match task_in(alloc, words)? {
+        Task::WhyPlan { plan } => why_plan_file::<H, S>(alloc, plan, host),
+        Task::WhyScript { script, plan } => why_script_file(alloc, script, plan, host),
+        Task::Nodes { plan, like } => nodes_file(alloc, plan, like, host),
+        Task::Journal { journal } => journal_file(alloc, journal, host),
+    }
+}

@@ -1,0 +1,105 @@
+// The command words.
+use crate::answer::{Answer, DONE, Stop, USAGE};
+use clap::error::{Error, ErrorKind};
+use clap::{Arg, ArgMatches, Command};
+use px_value::NoMemory;
+use std::alloc::Global;
+
+/// What the program can do.
+#[derive(Clone, Copy)]
+pub enum Task<'a> {
+    /// Says in words what a plan is refused for.
+    WhyPlan { plan: &'a str },
+    /// Says in words what a script is refused for.
+    WhyScript { script: &'a str, plan: &'a str },
+    /// Lists the nodes of a plan whose paths have a word in them.
+    Nodes { plan: &'a str, like: &'a str },
+    /// Says what a journal holds.
+    Journal { journal: &'a str },
+}
+
+/// The task that the words ask for, which are those behind the program's own name; else what is told to who wrote them.
+pub fn task_in<'a>(alloc: Global, words: &'a [String]) -> Result<Task<'a>, Stop> {
+    match syntax(alloc)?.try_get_matches_from(words) {
+        Ok(found) => match task_of(&found) {
+            Some(task) => Ok(task),
+            None => Err(Stop::NoMemory),
+        },
+        Err(error) => Err(told(alloc, &error)?),
+    }
+}
+
+fn told(alloc: Global, error: &Error) -> Result<Stop, NoMemory> {
+    let status = match error.kind() {
+        ErrorKind::OutOfMemory => return Ok(Stop::NoMemory),
+        ErrorKind::DisplayHelp | ErrorKind::DisplayVersion => DONE,
+        _ => USAGE,
+    };
+    Ok(Stop::Refused(Answer::new(status, error.to_string(alloc)?)))
+}
+
+fn task_of<'a>(found: &ArgMatches<'a>) -> Option<Task<'a>> {
+    let (name, rest) = found.subcommand()?;
+    let file = rest.get_str("FILE")?;
+    match name {
+        "why" => Some(match rest.get_str("plan") {
+            Some(plan) => Task::WhyScript { script: file, plan },
+            None => Task::WhyPlan { plan: file },
+        }),
+        "nodes" => Some(Task::Nodes {
+            plan: file,
+            like: rest.get_str("like").unwrap_or(""),
+        }),
+        "journal" => Some(Task::Journal { journal: file }),
+        _ => None,
+    }
+}
+
+fn syntax<'a>(alloc: Global) -> Result<Command<'a>, NoMemory> {
+    Command::new(alloc, "plexil-view")
+        .no_binary_name(true)
+        .about("Explains plans, scripts and journals of plexil")
+        .version("1.0")
+        .subcommand_required(true)
+        .arg_required_else_help(true)
+        .subcommand(why(alloc)?)?
+        .subcommand(nodes(alloc)?)?
+        .subcommand(journal(alloc)?)
+}
+
+fn file<'a>(alloc: Global, name: &'a str, help: &'a str) -> Arg<'a> {
+    Arg::new(alloc, "FILE")
+        .value_name(name)
+        .help(help)
+        .required(true)
+}
+
+fn why<'a>(alloc: Global) -> Result<Command<'a>, NoMemory> {
+    let plan = Arg::new(alloc, "plan")
+        .long("plan")
+        .value_name("PLAN")
+        .help("The file is a script for this plan");
+    Command::new(alloc, "why")
+        .about("Says what a plan or a script is refused for, and where")
+        .arg(file(alloc, "FILE", "A plan, or with --plan a script"))?
+        .arg(plan)
+}
+
+fn nodes<'a>(alloc: Global) -> Result<Command<'a>, NoMemory> {
+    let like = Arg::new(alloc, "like")
+        .long("like")
+        .value_name("WORD")
+        .help("Only nodes whose paths have this in them");
+    Command::new(alloc, "nodes")
+        .about(
+            "Lists the nodes of a plan, what each waits for, and which lines a script may have for it",
+        )
+        .arg(file(alloc, "PLAN", "A plan"))?
+        .arg(like)
+}
+
+fn journal<'a>(alloc: Global) -> Result<Command<'a>, NoMemory> {
+    Command::new(alloc, "journal")
+        .about("Says what a journal holds, entry by entry, and where it is damaged")
+        .arg(file(alloc, "JOURNAL", "A journal"))
+}
