@@ -4,13 +4,13 @@
 // SafeDrive: Start isKnown(Lookup(WheelStuck)), End d(#1) && d(#2)
 // #1: End d(#1.#set) && d(#1.#body), Repeat #test
 // #1.#body: Start d(#1.#set) && #test, End d(OneMeter) && (d(TakePic) && d(Counter)), Skip d(#1.#set) && !#test,
-//     Invariant that none of the three is FINISHED with FAILURE
+//     Invariant !(f(OneMeter) || (f(TakePic) || f(Counter))), where f(A) is that A is FINISHED, and that its outcome is FAILURE
 // OneMeter: End isKnown(its handle); TakePic: Start d(OneMeter), End isKnown(its handle); Counter: Start d(TakePic)
 // #2: Start d(#1), End d(#2.#set) && (d(#2.#then) && d(#2.#else))
 // #2.#then, #2.#else: Start and Skip of d(#2.#set) and #2's #test, End isKnown(the node's handle)
 //
 // A change costs a look at each part that reads the source, and one at each part above as far as something changes. What
-// is joined by `&&` and `||` are parts; all else is looked at whole.
+// is joined by `&&`, `||` and a negated `||` are parts; all else is looked at whole.
 use crate::bench::Bench;
 use px_value::{Handle, NodeState, Outcome, Value};
 use std::alloc::Global;
@@ -112,32 +112,34 @@ const CHANGES: &[(Change<'static>, &str, u32)] = &[
         ONE_METER,
         1,
     ),
-    // Invariant of #body.
-    (Change::Outcome(ONE_METER, Outcome::Success), "", 1),
-    // d(OneMeter) and the `&&` over it in End of #body, its Invariant, Start of TakePic.
-    (Change::State(ONE_METER, NodeState::Finished), TAKE_PIC, 4),
+    // Its outcome in the Invariant of #body, and f(OneMeter), which is false as before.
+    (Change::Outcome(ONE_METER, Outcome::Success), "", 2),
+    // d(OneMeter) and the `&&` over it in End of #body, d(OneMeter) and f(OneMeter) in its Invariant, Start of TakePic.
+    (Change::State(ONE_METER, NodeState::Finished), TAKE_PIC, 5),
     // End of TakePic.
     (
         Change::Handle(TAKE_PIC, Handle::CommandSuccess),
         TAKE_PIC,
         1,
     ),
-    // Invariant of #body: TakePic isn't FINISHED yet.
-    (Change::Outcome(TAKE_PIC, Outcome::Failure), "", 1),
-    // d(TakePic) and the `&&` over it in End of #body, its Invariant, Start of Counter.
+    // Its outcome in the Invariant of #body, and f(TakePic): TakePic isn't FINISHED yet.
+    (Change::Outcome(TAKE_PIC, Outcome::Failure), "", 2),
+    // d(TakePic) and the `&&` over it in End of #body; d(TakePic), f(TakePic) and both `||` over it in its Invariant, of which
+    // the upper one is negated; Start of Counter.
     (
         Change::State(TAKE_PIC, NodeState::Finished),
         "SafeDrive.#1.#body SafeDrive.#1.#body.Counter",
-        4,
+        7,
     ),
-    // Invariant of #body.
-    (Change::Outcome(TAKE_PIC, Outcome::Success), BODY, 1),
+    // Its outcome in the Invariant of #body, f(TakePic) and both `||` over it.
+    (Change::Outcome(TAKE_PIC, Outcome::Success), BODY, 4),
     // No condition reads it.
     (Change::Integer(PICTURES, 1), "", 0),
-    // d(Counter) and both `&&` over it in End of #body; its Invariant, UNKNOWN without an outcome.
-    (Change::State(COUNTER, NodeState::Finished), BODY, 4),
-    // Invariant of #body.
-    (Change::Outcome(COUNTER, Outcome::Success), BODY, 1),
+    // d(Counter) and both `&&` over it in End of #body; d(Counter), f(Counter) and both `||` over it in its Invariant, UNKNOWN
+    // without an outcome.
+    (Change::State(COUNTER, NodeState::Finished), BODY, 7),
+    // Its outcome in the Invariant of #body, f(Counter) and both `||` over it.
+    (Change::Outcome(COUNTER, Outcome::Success), BODY, 4),
     // d(#body) and the `&&` over it in End of #1.
     (Change::State(BODY, NodeState::Finished), WHILE, 2),
     // Start of SafeDrive: what is reported is known as before.
