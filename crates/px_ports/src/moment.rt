@@ -46,6 +46,6 @@ pub enum Moment {
     Wrote { at: u64, bytes: Bytes },
     /// A write of so many bytes at this place failed.
     FailedToWrite { at: u64, length: u64 },
-    /// A sync synced the bytes that a read gives.
+    /// The bytes that a read gives were synced.
     Synced,
 }
