@@ -1,9 +1,9 @@
 -- An entry that is read is the entry that was spelled, and one that was spelled is read again.
-use Rattle.std.proofs.Common.{◌≡◌, ℕ, zero, suc, ◌^◌, ◌<◌, ◌≤◌, Bool, true, cond, eqb, List, [], ◌∷◌, ◌++◌, length, Some, None, refl, sym, ap, subst, ◌∙◌, append_assoc, arith}
-use Rattle.std.specs.Prelude.{◌&&◌, nat_le, nat_lt, IsTrue, Result, Ok, Err, IfOk, IsErrOf}
+use Rattle.std.proofs.Common.{◌≡◌, ℕ, zero, suc, ◌^◌, ◌<◌, ◌≤◌, Bool, true, List, [], ◌∷◌, ◌++◌, length, Some, refl, sym, ap, subst, ◌∙◌, append_assoc, arith}
+use Rattle.std.specs.Prelude.{◌&&◌, nat_le, nat_lt, IsTrue, Result, IfOk, IsErrOf}
 use Rattle.std.specs.List.{list_all, flat_map}
-use Rattle.std.proofs.lemmas.Bool.{and_parts, and_from, leb-true, ltb-true, lt-ltb, eqb-true}
-use Rattle.std.proofs.lemmas.List.{length-append, append-nil, nil_from_length}
+use Rattle.std.proofs.lemmas.Bool.{and_parts, and_from, leb-true, ltb-true, lt-ltb}
+use Rattle.std.proofs.lemmas.List.{length-append}
 use Rattle.byteorder.specs.Endian.{big_bytes}
 use Rattle.px_value.specs.Name.{is_identifier, is_name}
 use Rattle.px_value.specs.Path.{is_path, pieces}
@@ -13,14 +13,15 @@ use Rattle.px_value.specs.declared.value.Value.{Value}
 use Rattle.px_event.specs.Fit.{is_report_name, is_fit_event, is_fit_entry}
 use Rattle.px_event.specs.Values.{is_plain, is_plain_or_unknown}
 use Rattle.px_event.specs.Bytes.{text_bytes, value_bytes, handle_code, event_bytes, entry_bytes}
-use Rattle.px_event.specs.Reading.{Read, ◌>>=◌, only, byte_at, number_at, name_at, path_at, value_at, arguments_at, handle_of, handle_at, report_at, handle_event_at, return_at, event_behind, event_at, entry_at, decoded, Gives}
+use Rattle.px_event.specs.Reading.{Read, ◌>>=◌, only, byte_at, number_at, name_at, path_at, value_at, arguments_at, handle_of, handle_at, report_at, handle_event_at, return_at, event_behind, event_at, source_at, entry_at, decoded, Gives}
 use Rattle.px_event.specs.declared.fault.DecodeFault.{DecodeFault}
-use Rattle.px_event.specs.declared.fault.DecodeFault.TheVariants.{Bad, NoMemory}
+use Rattle.px_event.specs.declared.fault.DecodeFault.TheVariants.{Bad}
 use Rattle.px_event.specs.declared.event.Event.{Event}
 use Rattle.px_event.specs.declared.event.Event.TheVariants as events
 use Rattle.px_event.specs.declared.entry.Entry.{Entry}
 use Rattle.px_event.proofs.Spelled.{report_name_text, path_text}
-use Rattle.px_event.proofs.Fields.{tagged, IsBytes, bind_some, after, some_is, only_some, only_passes, Takes, Takes-then, byte_takes, four_back, number_takes, number_again, tested_takes, tested_again, passed}
+use Rattle.px_event.proofs.Fields.{tagged, IsBytes, bind_some, after, some_is, only_some, only_passes, Takes, Takes-then, byte_takes, four_back, number_takes, number_again, tested_takes, tested_again}
+use Rattle.px_event.proofs.Wholes.{all_takes, all_again, answers, answers_bad, one_spelled}
 use Rattle.px_event.proofs.ToldValues.{value_takes, value_again, arguments_takes, arguments_again, value_short, arguments_short}
 
 -- ---- names, paths and handles
@@ -220,14 +221,14 @@ event_behind_takes (suc (suc (suc (suc (suc zero))))) bytes read fits e =
     subst (Happened bytes 5) (some_is (events.Acknowledged n.0.0, n.0.1) read n.2) (tagged 5 bytes (text_bytes n.0.0) n.0.1 nt.0, nt.1)
 event_behind_takes (suc (suc (suc (suc (suc (suc kind)))))) bytes read fits e = absurd cc
 
-event_takes : (bytes : List ℕ) (read : Event × List ℕ) → IsBytes bytes → event_at bytes ≡ Some read → Takes bytes (event_bytes read.0) read.1 × (is_fit_event read.0 ≡ true)
+pub event_takes : (bytes : List ℕ) (read : Event × List ℕ) → IsBytes bytes → event_at bytes ≡ Some read → Takes bytes (event_bytes read.0) read.1 × (is_fit_event read.0 ≡ true)
 unfolding event_at
 event_takes bytes read fits e =
     let b = bind_some (byte_at bytes) (λ kind. event_behind kind.0 kind.1) read e in
     let t = byte_takes bytes b.0.0 b.0.1 fits b.1 in
     subst (λ (l : List ℕ). Takes l (event_bytes read.0) read.1 × (is_fit_event read.0 ≡ true)) (sym t.0.parts) (event_behind_takes b.0.0 b.0.1 read t.0.rest_fits b.2)
 
-event_again : (event : Event) (rest : List ℕ) → is_fit_event event ≡ true → event_at (event_bytes event ++ rest) ≡ Some (event, rest)
+pub event_again : (event : Event) (rest : List ℕ) → is_fit_event event ≡ true → event_at (event_bytes event ++ rest) ≡ Some (event, rest)
 unfolding event_at event_behind
 event_again (events.Report name args value) rest fit = report_again name args value rest fit
 event_again (events.Handle node handle) rest fit = handle_event_again node handle rest fit
@@ -237,7 +238,7 @@ event_again (events.AbortDone node) rest fit =
 event_again (events.Acknowledged node) rest fit =
     after (path_at (text_bytes node ++ rest)) (node_read events.Acknowledged) (node, rest) _ (path_again node rest fit) refl
 
--- ---- entries
+-- ---- where an entry comes from
 
 abbrev is_thread : ℕ → Bool
 is_thread n = nat_le 1 n && nat_le n 8
@@ -245,27 +246,30 @@ is_thread n = nat_le 1 n && nat_le n 8
 abbrev is_line : ℕ → Bool
 is_line n = nat_le 1 n
 
-abbrev entry_of : ℕ → ℕ → Event → Entry
-entry_of thread line event = record { thread = thread; line = line; event = event }
+abbrev Source : Type 0
+Source = ℕ × ℕ
 
-abbrev entry_read : ℕ → ℕ → Event × List ℕ → Read Entry
-entry_read thread line event = Some (entry_of thread line event.0, event.1)
+abbrev pub is_source : Source → Bool
+is_source source = is_thread source.0 && is_line source.1 && nat_lt source.1 (2 ^ 32)
 
-abbrev event_then : ℕ → ℕ × List ℕ → Read Entry
-event_then thread line = event_at line.1 >>= entry_read thread line.0
+abbrev pub source_bytes : Source → List ℕ
+source_bytes source = source.0 ∷ big_bytes 4 source.1
 
-abbrev line_then : ℕ → ℕ × List ℕ → Read Entry
-line_then thread number = only is_line number >>= event_then thread
+abbrev source_read : ℕ → ℕ × List ℕ → Read Source
+source_read thread line = Some ((thread, line.0), line.1)
 
-abbrev number_then : ℕ × List ℕ → Read Entry
+abbrev line_then : ℕ → ℕ × List ℕ → Read Source
+line_then thread number = only is_line number >>= source_read thread
+
+abbrev number_then : ℕ × List ℕ → Read Source
 number_then thread = number_at 4 thread.1 >>= line_then thread.0
 
-abbrev thread_then : ℕ × List ℕ → Read Entry
+abbrev thread_then : ℕ × List ℕ → Read Source
 thread_then byte = only is_thread byte >>= number_then
 
-entry_takes : (bytes : List ℕ) (read : Entry × List ℕ) → IsBytes bytes → entry_at bytes ≡ Some read → Takes bytes (entry_bytes read.0) read.1 × (is_fit_entry read.0 ≡ true)
-unfolding entry_at
-entry_takes bytes read fits e =
+pub source_takes : (bytes : List ℕ) (read : Source × List ℕ) → IsBytes bytes → source_at bytes ≡ Some read → Takes bytes (source_bytes read.0) read.1 × (is_source read.0 ≡ true)
+unfolding source_at
+source_takes bytes read fits e =
     let b = bind_some (byte_at bytes) thread_then read e in
     let bt = byte_takes bytes b.0.0 b.0.1 fits b.1 in
     let t = bind_some (only is_thread b.0) number_then read b.2 in
@@ -274,72 +278,85 @@ entry_takes bytes read fits e =
     let is : is_thread t.0.0 ≡ true = subst (λ (p : ℕ × List ℕ). is_thread p.0 ≡ true) to.1 to.0 in
     let n = bind_some (number_at 4 t.0.1) (line_then t.0.0) read t.2 in
     let nt = number_takes 4 four_back t.0.1 n.0.0 n.0.1 tt'.rest_fits n.1 in
-    let l = bind_some (only is_line n.0) (event_then t.0.0) read n.2 in
+    let l = bind_some (only is_line n.0) (source_read t.0.0) read n.2 in
     let lo = only_some is_line n.0 l.0 l.1 in
     let lt : Takes t.0.1 (big_bytes 4 l.0.0) l.0.1 × (l.0.0 < 2 ^ 32) = subst (λ (p : ℕ × List ℕ). Takes t.0.1 (big_bytes 4 p.0) p.1 × (p.0 < 2 ^ 32)) lo.1 nt in
     let positive : is_line l.0.0 ≡ true = subst (λ (p : ℕ × List ℕ). is_line p.0 ≡ true) lo.1 lo.0 in
-    let v = bind_some (event_at l.0.1) (entry_read t.0.0 l.0.0) read l.2 in
-    let vt = event_takes l.0.1 v.0 lt.0.rest_fits v.1 in
-    let numbered = Takes-then t.0.1 (big_bytes 4 l.0.0) l.0.1 (event_bytes v.0.0) v.0.1 lt.0 vt.0 in
-    let whole = Takes-then bytes (t.0.0 ∷ []) t.0.1 (big_bytes 4 l.0.0 ++ event_bytes v.0.0) v.0.1 tt' numbered in
-    let fit : is_fit_entry (entry_of t.0.0 l.0.0 v.0.0) ≡ true =
-    and_from (is_thread t.0.0 && is_line l.0.0 && nat_lt l.0.0 (2 ^ 32)) (is_fit_event v.0.0)
-    (and_from (is_thread t.0.0 && is_line l.0.0) (nat_lt l.0.0 (2 ^ 32)) (and_from (is_thread t.0.0) (is_line l.0.0) is positive) (lt-ltb l.0.0 (2 ^ 32) lt.1)) vt.1 in
-    subst (λ (p : Entry × List ℕ). Takes bytes (entry_bytes p.0) p.1 × (is_fit_entry p.0 ≡ true)) (some_is (entry_of t.0.0 l.0.0 v.0.0, v.0.1) read v.2) (whole, fit)
+    let whole = Takes-then bytes (t.0.0 ∷ []) t.0.1 (big_bytes 4 l.0.0) l.0.1 tt' lt.0 in
+    let fit : is_source (t.0.0, l.0.0) ≡ true =
+    and_from (is_thread t.0.0 && is_line l.0.0) (nat_lt l.0.0 (2 ^ 32)) (and_from (is_thread t.0.0) (is_line l.0.0) is positive) (lt-ltb l.0.0 (2 ^ 32) lt.1) in
+    subst (λ (p : Source × List ℕ). Takes bytes (source_bytes p.0) p.1 × (is_source p.0 ≡ true)) (some_is ((t.0.0, l.0.0), l.0.1) read l.2) (whole, fit)
+
+pub source_again : (source : Source) (rest : List ℕ) → is_source source ≡ true → source_at (source_bytes source ++ rest) ≡ Some (source, rest)
+unfolding source_at
+source_again source rest fit =
+    let third = and_parts (is_thread source.0 && is_line source.1) (nat_lt source.1 (2 ^ 32)) fit in
+    let first = and_parts (is_thread source.0) (is_line source.1) third.0 in
+    let below : source.1 < 2 ^ 32 = ltb-true source.1 (2 ^ 32) third.1 in
+    let line = big_bytes 4 source.1 ++ rest in
+    after (only is_thread (source.0, line)) number_then (source.0, line) _ (only_passes is_thread (source.0, line) first.0)
+    (after (number_at 4 line) (line_then source.0) (source.1, rest) _ (number_again 4 source.1 rest below)
+    (after (only is_line (source.1, rest)) (source_read source.0) (source.1, rest) _ (only_passes is_line (source.1, rest) first.1) refl))
+
+-- ---- entries
+
+abbrev entry_of : Source → Event → Entry
+entry_of source event = record { thread = source.0; line = source.1; event = event }
+
+abbrev entry_read : Source → Event × List ℕ → Read Entry
+entry_read source event = Some (entry_of source event.0, event.1)
+
+abbrev event_then : Source × List ℕ → Read Entry
+event_then source = event_at source.1 >>= entry_read source.0
+
+entry_takes : (bytes : List ℕ) (read : Entry × List ℕ) → IsBytes bytes → entry_at bytes ≡ Some read → Takes bytes (entry_bytes read.0) read.1 × (is_fit_entry read.0 ≡ true)
+unfolding entry_at
+entry_takes bytes read fits e =
+    let s = bind_some (source_at bytes) event_then read e in
+    let st = source_takes bytes s.0 fits s.1 in
+    let v = bind_some (event_at s.0.1) (entry_read s.0.0) read s.2 in
+    let vt = event_takes s.0.1 v.0 st.0.rest_fits v.1 in
+    let whole = Takes-then bytes (source_bytes s.0.0) s.0.1 (event_bytes v.0.0) v.0.1 st.0 vt.0 in
+    let fit : is_fit_entry (entry_of s.0.0 v.0.0) ≡ true = and_from (is_source s.0.0) (is_fit_event v.0.0) st.1 vt.1 in
+    subst (λ (p : Entry × List ℕ). Takes bytes (entry_bytes p.0) p.1 × (is_fit_entry p.0 ≡ true)) (some_is (entry_of s.0.0 v.0.0, v.0.1) read v.2) (whole, fit)
 
 entry_again : (entry : Entry) (rest : List ℕ) → is_fit_entry entry ≡ true → entry_at (entry_bytes entry ++ rest) ≡ Some (entry, rest)
 unfolding entry_at
 entry_again entry rest fit =
-    let last = and_parts (is_thread entry.thread && is_line entry.line && nat_lt entry.line (2 ^ 32)) (is_fit_event entry.event) fit in
-    let third = and_parts (is_thread entry.thread && is_line entry.line) (nat_lt entry.line (2 ^ 32)) last.0 in
-    let first = and_parts (is_thread entry.thread) (is_line entry.line) third.0 in
-    let below : entry.line < 2 ^ 32 = ltb-true entry.line (2 ^ 32) third.1 in
+    let source : Source = (entry.thread, entry.line) in
+    let last = and_parts (is_source source) (is_fit_event entry.event) fit in
     let event = event_bytes entry.event ++ rest in
-    let line = big_bytes 4 entry.line ++ event in
-    after (only is_thread (entry.thread, line)) number_then (entry.thread, line) _ (only_passes is_thread (entry.thread, line) first.0)
-    (after (number_at 4 line) (line_then entry.thread) (entry.line, event) _ (number_again 4 entry.line event below)
-    (after (only is_line (entry.line, event)) (event_then entry.thread) (entry.line, event) _ (only_passes is_line (entry.line, event) first.1)
-    (after (event_at event) (entry_read entry.thread entry.line) (entry.event, rest) _ (event_again entry.event rest last.1) refl)))
+    let parts : entry_bytes entry ++ rest ≡ source_bytes source ++ event = append_assoc (source_bytes source) (event_bytes entry.event) rest in
+    ap (λ (l : List ℕ). source_at l >>= event_then) parts
+    ∙ after (source_at (source_bytes source ++ event)) event_then (source, event) _ (source_again source event last.0)
+    (after (event_at event) (entry_read source) (entry.event, rest) _ (event_again entry.event rest last.1) refl)
 
 -- ---- the whole
 
 pub decoded_takes : (bytes : List ℕ) (entry : Entry) → IsBytes bytes → decoded bytes ≡ Some entry → (is_fit_entry entry ≡ true) × (bytes ≡ entry_bytes entry)
 unfolding decoded
-decoded_takes bytes entry fits e =
-    let b = bind_some (entry_at bytes) (λ read. cond (eqb (length read.1) 0) (Some read.0) None) entry e in
-    let t = entry_takes bytes b.0 fits b.1 in
-    let o = passed (eqb (length b.0.1) 0) b.0.0 entry b.2 in
-    let none : b.0.1 ≡ [] = nil_from_length b.0.1 (eqb-true (length b.0.1) 0 o.0) in
-    let whole : bytes ≡ entry_bytes b.0.0 = t.0.parts ∙ ap (λ (l : List ℕ). entry_bytes b.0.0 ++ l) none ∙ append-nil (entry_bytes b.0.0) in
-    subst (λ (x : Entry). (is_fit_entry x ≡ true) × (bytes ≡ entry_bytes x)) o.1 (t.1, whole)
+decoded_takes = all_takes entry_at entry_bytes is_fit_entry entry_takes
 
 pub decoded_again : (entry : Entry) → is_fit_entry entry ≡ true → decoded (entry_bytes entry) ≡ Some entry
 unfolding decoded
-decoded_again entry fit =
-    after (entry_at (entry_bytes entry)) (λ read. cond (eqb (length read.1) 0) (Some read.0) None) (entry, []) _
-    (ap entry_at (sym (append-nil (entry_bytes entry))) ∙ entry_again entry [] fit) refl
+decoded_again = all_again entry_at entry_bytes is_fit_entry entry_again
 
 -- what decoding answers, where it goes as reading does
 pub decodes : (bytes : List ℕ) (result : Result Entry DecodeFault) → IsBytes bytes → Gives (λ (entry : Entry). entry) (decoded bytes) result
     → IfOk result (λ entry. IsTrue (is_fit_entry entry) × (bytes ≡ entry_bytes entry))
-decodes bytes (Ok entry) fits gives = decoded_takes bytes entry fits gives
-decodes bytes (Err fault) fits gives = tt
+decodes = answers decoded entry_bytes is_fit_entry decoded_takes
 
 pub refuses : (bytes : List ℕ) (result : Result Entry DecodeFault) → Gives (λ (entry : Entry). entry) (decoded bytes) result → IsErrOf result Bad
     → (entry : Entry) → IsTrue (is_fit_entry entry) → bytes ≡ entry_bytes entry → ⊥
-refuses bytes (Ok found) gives bad entry fit is = cc
-refuses bytes (Err Bad) gives bad entry fit is =
-    let some : decoded bytes ≡ Some entry = ap decoded is ∙ decoded_again entry fit in
-    cc
-refuses bytes (Err NoMemory) gives bad entry fit is = cc
+refuses = answers_bad decoded entry_bytes is_fit_entry decoded_again
 
 -- no bytes are those of two entries
 pub one_entry : (a b : Entry) → is_fit_entry a ≡ true → is_fit_entry b ≡ true → entry_bytes a ≡ entry_bytes b → a ≡ b
-one_entry a b fit_a fit_b same = some_is a b (sym (decoded_again a fit_a) ∙ ap decoded same ∙ decoded_again b fit_b)
+one_entry = one_spelled decoded entry_bytes is_fit_entry decoded_again
 
 -- ---- how long they are
 
-event_short : (event : Event) → is_fit_event event ≡ true → length (event_bytes event) ≤ 9311
+pub event_short : (event : Event) → is_fit_event event ≡ true → length (event_bytes event) ≤ 9311
 event_short (events.Report name args value) fit =
     let last = and_parts (is_report_name name && is_count (length args) && list_all is_plain args) (is_plain_or_unknown value) fit in
     let third = and_parts (is_report_name name && is_count (length args)) (list_all is_plain args) last.0 in

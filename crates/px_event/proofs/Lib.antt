@@ -2,6 +2,9 @@ pub mod Appends
 pub mod Equality
 pub mod Spelled
 pub mod Fields
+pub mod Wholes
 pub mod ToldValues
 pub mod Arguments
 pub mod Entries
+pub mod Interfaces
+pub mod Naming

@@ -1,5 +1,5 @@
 -- The bytes of an entry, field by field. A number has its highest byte first.
-use Rattle.std.specs.Prelude.{ℕ, ℤ, List, [], ◌∷◌, ◌++◌, length, true, false}
+use Rattle.std.specs.Prelude.{ℕ, ℤ, List, [], ◌∷◌, ◌++◌, length, true, false, Option, Some, None}
 use Rattle.std.specs.List.{flat_map}
 use Rattle.std.specs.Int.{w32, cast_unsigned}
 use Rattle.byteorder.specs.Endian.{big_bytes}
@@ -49,3 +49,13 @@ event_bytes (events.Acknowledged node) = 5 ∷ text_bytes node
 -- an entry: the thread in one byte, the line in four, and the event
 abbrev pub entry_bytes : Entry → List ℕ
 entry_bytes entry = entry.thread ∷ (big_bytes 4 entry.line ++ event_bytes entry.event)
+
+-- the name of an interface: a text, which is empty where there is none
+abbrev pub interface_bytes : Option (List ℕ) → List ℕ
+interface_bytes None = text_bytes []
+interface_bytes (Some name) = text_bytes name
+
+-- an entry with the name of its interface, which stands between the line and the event
+abbrev pub named_bytes : Option (List ℕ) → Entry → List ℕ
+named_bytes name entry =
+    entry.thread ∷ (big_bytes 4 entry.line ++ (interface_bytes name ++ event_bytes entry.event))

@@ -1,5 +1,5 @@
 -- What makes an event and an entry fit to be posted.
-use Rattle.std.specs.Prelude.{ℕ, Bool, ◌&&◌, ◌^◌, nat_le, nat_lt, List, length}
+use Rattle.std.specs.Prelude.{ℕ, Bool, true, ◌&&◌, ◌^◌, nat_le, nat_lt, List, length, Option, Some, None}
 use Rattle.std.specs.List.{list_all}
 use Rattle.px_value.specs.Name.{is_identifier}
 use Rattle.px_value.specs.Path.{is_path}
@@ -7,6 +7,7 @@ use Rattle.px_event.specs.Values.{is_plain, is_plain_or_unknown}
 use Rattle.px_event.specs.declared.event.Event.{Event}
 use Rattle.px_event.specs.declared.event.Event.TheVariants as events
 use Rattle.px_event.specs.declared.entry.Entry.{Entry}
+use Rattle.px_event.specs.declared.named.NamedEntry.{NamedEntry}
 
 -- what a report may be about: an identifier of at most 64 bytes
 abbrev pub is_report_name : List ℕ → Bool
@@ -26,3 +27,12 @@ abbrev pub is_fit_entry : Entry → Bool
 is_fit_entry entry =
     nat_le 1 entry.thread && nat_le entry.thread 8 && nat_le 1 entry.line && nat_lt entry.line (2 ^ 32)
     && is_fit_event entry.event
+
+-- the name of an interface, where there is one, is such a name too
+abbrev pub is_interface : Option (List ℕ) → Bool
+is_interface None = true
+is_interface (Some name) = is_report_name name
+
+-- a fit entry, with the name of an interface or none
+abbrev pub is_fit_named : NamedEntry → Bool
+is_fit_named named = is_interface named.name && is_fit_entry named.entry

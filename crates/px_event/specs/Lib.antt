@@ -1,5 +1,6 @@
 pub mod Values
 pub mod Fit
+pub mod Names
 pub mod Appending
 pub mod Bytes
 pub mod Reading

@@ -14,6 +14,7 @@ use Rattle.px_value.specs.Value.{is_known}
 use Rattle.px_event.specs.declared.event.Event.{Event}
 use Rattle.px_event.specs.declared.event.Event.TheVariants as events
 use Rattle.px_event.specs.declared.entry.Entry.{Entry}
+use Rattle.px_event.specs.declared.named.NamedEntry.{NamedEntry}
 use Rattle.px_event.specs.declared.fault.DecodeFault.{DecodeFault}
 use Rattle.px_event.specs.declared.fault.DecodeFault.TheVariants.{Bad, NoMemory}
 
@@ -146,21 +147,58 @@ event_at bytes = do
   kind ← byte_at bytes
   event_behind kind.0 kind.1
 
--- an entry, and then bytes that may be anything
-unfoldable pub entry_at : List ℕ → Read Entry
-entry_at bytes = do
+-- the thread and the line of an entry
+unfoldable pub source_at : List ℕ → Read (ℕ × ℕ)
+source_at bytes = do
   byte ← byte_at bytes
   thread ← only (λ n. nat_le 1 n && nat_le n 8) byte
   number ← number_at 4 thread.1
   line ← only (λ n. nat_le 1 n) number
-  event ← event_at line.1
-  Some (record { thread = thread.0; line = line.0; event = event.0 }, event.1)
+  Some ((thread.0, line.0), line.1)
+
+-- an entry, and then bytes that may be anything
+unfoldable pub entry_at : List ℕ → Read Entry
+entry_at bytes = do
+  source ← source_at bytes
+  event ← event_at source.1
+  Some (record { thread = source.0.0; line = source.0.1; event = event.0 }, event.1)
+
+-- the name that a text is, or none where it is empty
+abbrev pub interface_behind : List ℕ × List ℕ → Read (Option (List ℕ))
+interface_behind text = if length text.0 == 0 then Some (None, text.1) else do
+  name ← only is_report_name text
+  Some (Some name.0, name.1)
+
+-- the name of an interface, or none
+unfoldable pub interface_at : List ℕ → Read (Option (List ℕ))
+interface_at bytes = do
+  text ← text_at bytes
+  interface_behind text
+
+-- the same of an entry with the name of its interface
+unfoldable pub named_at : List ℕ → Read NamedEntry
+named_at bytes = do
+  source ← source_at bytes
+  name ← interface_at source.1
+  event ← event_at name.1
+  Some (
+    record { name = name.0; entry = record { thread = source.0.0; line = source.0.1; event = event.0 } },
+    event.1,
+  )
+
+-- what was read, if it is read of all bytes
+abbrev pub whole : {X : Type 0} → Read X → Option X
+whole read = do
+  found ← read
+  if length found.1 == 0 then Some found.0 else None
 
 -- an entry of which these are all bytes
 unfoldable pub decoded : List ℕ → Option Entry
-decoded bytes = do
-  entry ← entry_at bytes
-  if length entry.1 == 0 then Some entry.0 else None
+decoded bytes = whole (entry_at bytes)
+
+-- the same with the name of its interface
+unfoldable pub decoded_named : List ℕ → Option NamedEntry
+decoded_named bytes = whole (named_at bytes)
 
 -- a call went as reading goes, or memory ran out
 abbrev pub Gives : {X Y : Type 0} → (X → Y) → Option Y → Result X DecodeFault → Type 0

@@ -1,9 +1,10 @@
 // The bytes of an entry: its thread, its line, and its event behind a byte that says of which kind it is.
-ghost use Rattle.std.specs.Prelude.{◌≡◌, ◌≢◌, ◌<◌, IsTrue, IfOk, IsErrOf};
+ghost use Rattle.std.specs.Prelude.{◌≡◌, ◌≢◌, ◌<◌, ◌∷◌, IsTrue, IfOk, IsErrOf};
+ghost use Rattle.byteorder.specs.Endian.{big_bytes};
 ghost use Rattle.px_event.specs.Appending.{Appends};
 ghost use Rattle.px_event.specs.Bytes.{handle_code, event_bytes, entry_bytes};
 ghost use Rattle.px_event.specs.Fit.{is_fit_event, is_fit_entry};
-ghost use Rattle.px_event.specs.Reading.{Gives, Reads, name_at, path_at, handle_of, handle_at, report_at, handle_event_at, return_at, event_at, entry_at, decoded};
+ghost use Rattle.px_event.specs.Reading.{Gives, Reads, name_at, path_at, handle_of, handle_at, report_at, handle_event_at, return_at, event_at, source_at, entry_at, decoded};
 ghost use Rattle.px_event.specs.declared.entry.Entry.{Entry as AnyEntry};
 
 use crate::bytes::fields::{Reader, push_text, push_u32};
@@ -44,12 +45,20 @@ pub fn push_entry(out: &mut Vec<u8>, entry: &Entry) -> Result<(), NoMemory>
     requires { IsTrue (is_fit_entry entry.now) }
     ensures { Appends (entry_bytes entry.now) out.old out.new result }
 {
-    out.push(entry.thread)?;
-    push_u32(out, entry.line)?;
+    push_source(out, entry)?;
     push_event(out, &entry.event)
 }
 
-fn push_event(out: &mut Vec<u8>, event: &Event) -> Result<(), NoMemory>
+/// Appends the thread and the line of an entry.
+pub(super) fn push_source(out: &mut Vec<u8>, entry: &Entry) -> Result<(), NoMemory>
+    ensures { Appends (entry.now.thread ∷ big_bytes 4 entry.now.line) out.old out.new result }
+{
+    out.push(entry.thread)?;
+    push_u32(out, entry.line)
+}
+
+/// Appends the bytes of an event.
+pub(super) fn push_event(out: &mut Vec<u8>, event: &Event) -> Result<(), NoMemory>
     requires { IsTrue (is_fit_event event.now) }
     ensures { Appends (event_bytes event.now) out.old out.new result }
 {
@@ -124,14 +133,7 @@ fn read_whole(alloc: Global, bytes: &[u8]) -> Result<Entry, DecodeFault>
 fn entry_of(alloc: Global, reader: &mut Reader<'_>) -> Result<Entry, DecodeFault>
     ensures { Reads (λ entry. entry) (entry_at reader.old) result reader.new }
 {
-    let thread = reader.byte()?;
-    if thread < 1 || THREAD_LIMIT < thread {
-        return Err(DecodeFault::Bad);
-    }
-    let line = reader.u32()?;
-    if line < 1 {
-        return Err(DecodeFault::Bad);
-    }
+    let (thread, line) = source_of(reader)?;
     let event = event_of(alloc, reader)?;
     Ok(Entry {
         thread,
@@ -140,8 +142,26 @@ fn entry_of(alloc: Global, reader: &mut Reader<'_>) -> Result<Entry, DecodeFault
     })
 }
 
+/// The next thread and line.
+#[tactic(auto, unfolding(crate::specs::Reading::source_at))]
+pub(super) fn source_of(reader: &mut Reader<'_>) -> Result<(u8, u32), DecodeFault>
+    ensures { Reads (λ source. source) (source_at reader.old) result reader.new }
+{
+    let thread = reader.byte()?;
+    if thread < 1 || THREAD_LIMIT < thread {
+        return Err(DecodeFault::Bad);
+    }
+    let line = reader.u32()?;
+    if line < 1 {
+        return Err(DecodeFault::Bad);
+    }
+    Ok((thread, line))
+}
+
+/// The next event.
+
 #[tactic(auto, unfolding(crate::specs::Reading::event_at, crate::specs::Reading::event_behind))]
-fn event_of(alloc: Global, reader: &mut Reader<'_>) -> Result<Event, DecodeFault>
+pub(super) fn event_of(alloc: Global, reader: &mut Reader<'_>) -> Result<Event, DecodeFault>
     ensures { Reads (λ event. event) (event_at reader.old) result reader.new }
 {
     match reader.byte()? {
