@@ -29,4 +29,4 @@ mod shaped;
 mod simple;
 mod words;
 
-pub use plan::{NODE_LIMIT, expand};
+pub use plan::{NODE_LIMIT, check_size, expand};

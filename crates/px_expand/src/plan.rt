@@ -1,8 +1,9 @@
 // The core plan of a tree.
-ghost use Rattle.std.specs.Prelude.{◌≡◌, ◌≤◌, nat_le, IfOk, IfErr};
-ghost use Rattle.px_core.specs.Plan.{tree_of};
+ghost use Rattle.std.specs.Prelude.{◌≡◌, ◌≤◌, false, nat_le, IfOk, IfErr, OnOk};
+ghost use Rattle.px_core.specs.Plan.{count_of, tree_of};
 ghost use Rattle.px_syntax.specs.Block.{block_of};
 ghost use Rattle.px_syntax.specs.Plan.{tree_of_surface};
+ghost use Rattle.px_expand.specs.Bound.{is_too_large};
 ghost use Rattle.px_expand.specs.Core.{core, root_place};
 ghost use Rattle.px_expand.specs.Placed.{place_terms};
 ghost use Rattle.px_expand.specs.Size.{block_nodes, longest};
@@ -24,20 +25,30 @@ use std::alloc::Global;
 pub const NODE_LIMIT: u32 = 4096;
 
 /// The core plan of a tree: derived forms are Lists, conditions and assignments, names are paths, and each condition that
-/// isn't given is its default.
-///
-/// `TooMany` comes exactly where the core plan would have over 4,096 nodes or a path of over 5,000 bytes; `nodes` is the
-/// number of its nodes. It is found before such a plan is made.
+/// isn't given is its default. It is refused where `check_size` refuses, before any of it is made.
 pub fn expand(alloc: Global, tree: &Surface) -> Result<Plan, ExpandFault>
     requires { IsChecked (tree_of_surface tree.now) }
     ensures ok { IfOk result (λ plan. IsExpanded (tree_of_surface tree.now) plan) }
+    ensures fault { IfErr result (λ fault. IsRefused (tree_of_surface tree.now) fault) }
+{
+    check_size(alloc, tree)?;
+    Ok(core(alloc, tree)?)
+}
+
+/// How many nodes the core plan of a tree has. The plan isn't made for it.
+///
+/// `TooMany` comes exactly where the core plan would have over 4,096 nodes or a path of over 5,000 bytes; `nodes` is the
+/// number of its nodes.
+pub fn check_size(alloc: Global, tree: &Surface) -> Result<u32, ExpandFault>
+    ensures nodes { IfOk result (λ nodes. nodes ≡ count_of (core (tree_of_surface tree.now))) }
+    ensures within { OnOk result (is_too_large (core (tree_of_surface tree.now)) ≡ false) }
     ensures fault { IfErr result (λ fault. IsRefused (tree_of_surface tree.now) fault) }
 {
     let nodes = block_nodes(&tree.root);
     if nodes > NODE_LIMIT || !has_short_paths(alloc, tree)? {
         return Err(ExpandFault::TooMany { nodes });
     }
-    Ok(core(alloc, tree)?)
+    Ok(nodes)
 }
 
 /// No path has over 5,000 bytes.
