@@ -1,20 +1,22 @@
 // The plan of a text, and its tree.
-ghost use Rattle.std.specs.Prelude.{◌≡◌, ℕ, ◌≤◌, true, List, [], length, IfOk, IfErr, OnOk, IsTrue};
+ghost use Rattle.std.specs.Prelude.{◌≡◌, ℕ, ◌≤◌, true, false, List, [], length, IfOk, IfErr, OnOk, IsTrue};
 ghost use Rattle.std.specs.Str.{is_utf8};
 ghost use Rattle.px_core.specs.Fit.{IsFit};
-ghost use Rattle.px_core.specs.Plan.{Tree, tree_of};
+ghost use Rattle.px_core.specs.Plan.{Tree, count_of, tree_of};
 ghost use Rattle.px_lex.specs.Lexer.{FirstFault, Splits};
 ghost use Rattle.px_lex.specs.declared.token.Token.{Token as TokenData};
 ghost use Rattle.px_plan_parse.specs.Verdict.{IsRefused as IsNoTree};
 ghost use Rattle.px_syntax.specs.Plan.{tree_of_surface};
 ghost use Rattle.px_syntax.specs.PlanFaults.{faults};
+ghost use Rattle.px_expand.specs.Bound.{is_too_large};
+ghost use Rattle.px_expand.specs.Core.{core};
 ghost use Rattle.px_expand.specs.Typed.{has_typed_values};
 ghost use Rattle.px_expand.specs.Verdict.{IsChecked, IsExpanded};
 ghost use Rattle.px_compile.specs.Compiled.{AllRefused, IsCompiled, IsRefused, IsSpelled, IsSplit};
 
 use px_check::check;
 use px_core::Plan;
-use px_expand::expand;
+use px_expand::{check_size, expand};
 use px_lex::{LexFault, Token, lex};
 use px_plan_parse::parse;
 use px_syntax::{CheckFault, ExpandFault, ParseFault, PlanFault, Surface};
@@ -24,16 +26,19 @@ use std::str::from_utf8;
 /// How many bytes the text of a plan may have.
 pub const TEXT_LIMIT: usize = 1_048_576;
 
-/// What the bytes of a text spell: a tree, and its core plan.
+/// What the bytes of a text spell: a tree, and the size of its core plan.
 #[derive(Drop)]
 pub struct Compiled {
     /// The tree.
     pub tree: Surface,
-    /// The core plan that is made of it.
-    pub plan: Plan,
+    /// How many nodes its core plan has.
+    pub nodes: u32,
 }
 
-/// The plan that the bytes of a text spell: that of `compile_tree`, or the same error.
+/// The plan that the bytes of a text spell.
+///
+/// The bytes are read as UTF-8, then as tokens, then as a tree; then the faults of the tree are looked for, and its core
+/// plan is made. The first of these that refuses decides the error.
 pub fn compile(alloc: Global, bytes: &[u8]) -> Result<Plan, PlanFault>
     requires { length bytes.now ≤ 1048576 }
     ensures ok { IfOk result (λ plan. IsCompiled bytes.now (tree_of plan)) }
@@ -41,35 +46,34 @@ pub fn compile(alloc: Global, bytes: &[u8]) -> Result<Plan, PlanFault>
     ensures typed { IfOk result (λ plan. IsTrue (has_typed_values (tree_of plan))) }
     ensures fault { IfErr result (λ fault. IsRefused bytes.now fault) }
 {
-    let Compiled { tree, plan } = compile_tree(alloc, bytes)?;
-    // By name: the proof then doesn't follow each shape that a tree may have on the way out.
-    drop(tree);
-    Ok(plan)
+    let tree = faultless_tree(alloc, bytes)?;
+    core_plan(alloc, &tree)
 }
 
-/// The tree that the bytes of a text spell, and its plan.
-///
-/// The bytes are read as UTF-8, then as tokens, then as a tree; then the faults of the tree are looked for, and its core
-/// plan is made. The first of these that refuses decides the error.
+/// The tree that the bytes of a text spell, exactly where `compile` gives its plan; else the same error. The plan isn't
+/// made.
 pub fn compile_tree(alloc: Global, bytes: &[u8]) -> Result<Compiled, PlanFault>
     requires { length bytes.now ≤ 1048576 }
     ensures tree { IfOk result (λ made. IsSpelled bytes.now (tree_of_surface made.tree)) }
-    ensures plan { IfOk result (λ made. IsCompiled bytes.now (tree_of made.plan)) }
-    ensures fit { IfOk result (λ made. IsFit (tree_of made.plan)) }
-    ensures typed { IfOk result (λ made. IsTrue (has_typed_values (tree_of made.plan))) }
+    ensures plan { IfOk result (λ made. IsCompiled bytes.now (core (tree_of_surface made.tree))) }
+    ensures nodes { IfOk result (λ made. made.nodes ≡ count_of (core (tree_of_surface made.tree))) }
+    ensures fault { IfErr result (λ fault. IsRefused bytes.now fault) }
+{
+    let tree = faultless_tree(alloc, bytes)?;
+    let nodes = core_size(alloc, &tree)?;
+    Ok(Compiled { tree, nodes })
+}
+
+// The tree that the bytes of a text spell, where it has no fault.
+fn faultless_tree(alloc: Global, bytes: &[u8]) -> Result<Surface, PlanFault>
+    ensures spelled { IfOk result (λ tree. IsSpelled bytes.now (tree_of_surface tree)) }
+    ensures faultless { IfOk result (λ tree. faults (tree_of_surface tree) ≡ []) }
     ensures fault { IfErr result (λ fault. IsRefused bytes.now fault) }
 {
     let text = text_in(bytes)?;
     let tree = tree_in(alloc, text)?;
     look_for_faults(alloc, &tree)?;
-    match core_plan(alloc, &tree) {
-        Ok(plan) => Ok(Compiled { tree, plan }),
-        Err(fault) => {
-            // By name, as above.
-            drop(tree);
-            Err(fault)
-        }
-    }
+    Ok(tree)
 }
 
 fn text_in(bytes: &[u8]) -> Result<&str, PlanFault>
@@ -144,6 +148,19 @@ fn core_plan(alloc: Global, tree: &Surface) -> Result<Plan, PlanFault>
 {
     match expand(alloc, tree) {
         Ok(plan) => Ok(plan),
+        Err(ExpandFault::NoMemory) => Err(PlanFault::NoMemory),
+        Err(fault) => Err(PlanFault::Expand(fault)),
+    }
+}
+
+fn core_size(alloc: Global, tree: &Surface) -> Result<u32, PlanFault>
+    requires { faults (tree_of_surface tree.now) ≡ [] }
+    ensures nodes { IfOk result (λ nodes. nodes ≡ count_of (core (tree_of_surface tree.now))) }
+    ensures within { OnOk result (is_too_large (core (tree_of_surface tree.now)) ≡ false) }
+    ensures fault { IfErr result (λ fault. AllRefused (tree_of_surface tree.now) fault) }
+{
+    match check_size(alloc, tree) {
+        Ok(nodes) => Ok(nodes),
         Err(ExpandFault::NoMemory) => Err(PlanFault::NoMemory),
         Err(fault) => Err(PlanFault::Expand(fault)),
     }

@@ -31,7 +31,7 @@ use Rattle.px_run.specs.Soak.{soak_plan, SoakCalls}
 use Rattle.px_run.specs.declared.finishing.Telling.{Telling}
 use Rattle.px_run.specs.declared.finishing.Telling.TheVariants as tellings
 use Rattle.px_run.proofs.FileKinds.{IsKind, plan_kind, script_kind, text_kind}
-use Rattle.px_run.proofs.SeenFiles.{WhereDue}
+use Rattle.px_run.proofs.SeenFiles.{WhereDue, without_text}
 use Rattle.px_run.proofs.Starting.{some_start}
 
 -- a dry run has the status of its start
@@ -85,12 +85,6 @@ module _ {D : Type 0} (members : Disk.Ghosts D) (words : List (List ℕ)) (befor
       → AfterFile plan_file before now plan Untouched Next course due → AreCaused due
   after_plan plan Next course due has behind after =
       after_operand Tree plan_file 3 HasPlan plan Untouched Next course due plan_kind has (λ r. Cause.plan_refused r) (λ fails. Cause.read_fault (inl fails)) behind after
-
-  -- a plan of which the text was asked for too
-  without_text : (name : List ℕ) (source : List ℕ × Tree) → Reads (with_text plan_file) before now name source → Reads plan_file before now name source.1
-  without_text name source (Content bytes, shows, spells) = (Content bytes, shows, spells.1)
-  without_text name source (Longer, shows, spells) = absurd spells
-  without_text name source (Unreadable, shows, spells) = absurd spells
 
   -- the script that was read is the one that the words ask for
   reads_script : (tree : Tree) (name : List ℕ) (threads : List Todo) → HasScript words name → Reads (script_file (sites tree)) before now name threads
@@ -200,9 +194,9 @@ module _ {D : Type 0} (members : Disk.Ghosts D) (words : List (List ℕ)) (befor
     run_is_caused script journal limit course due asked asks has_journal after =
         after_operand (List ℕ × Tree) (with_text plan_file) 3 HasPlan plan Untouched _ course due (text_kind Tree plan_file 3 plan_kind) has
         (λ r. Cause.plan_refused r) (λ fails. Cause.read_fault (inl fails))
-        (λ source reads next. behind_plan source.1 script _ course due asks (without_text plan source reads)
+        (λ source reads next. behind_plan source.1 script _ course due asks (without_text before now plan source reads)
         (λ threads read calls. run_caused source.1 source.0 limit script journal threads course due (started (sites source.1)) asked asks has_journal
-        (without_text plan source reads) read refl calls) next) after
+        (without_text before now plan source reads) read refl calls) next) after
 
   -- ---- a journal that is to be taken up
 
@@ -323,7 +317,7 @@ module _ {D : Type 0} (members : Disk.Ghosts D) (words : List (List ℕ)) (befor
   caused_by (Some (Format plan)) course due asks (same, calls) =
       after_operand (List ℕ × Tree) (with_text plan_file) 3 HasPlan plan Untouched (λ source. LaysOut source.0) course due (text_kind Tree plan_file 3 plan_kind)
       (ap (option_and_then plan_operand) asks) (λ r. Cause.plan_refused r) (λ fails. Cause.read_fault (inl fails))
-      (λ source reads (tree, spelled, ends). laid_out source tree due (without_text plan source reads) ends.1) calls
+      (λ source reads (tree, spelled, ends). laid_out source tree due (without_text before now plan source reads) ends.1) calls
     where
       laid_out : (source : List ℕ × Tree) (tree : PlanTree) (d : Due) → Reads plan_file before now plan source.1 → d ≡ Some (layout_ending tree) → AreCaused d
       laid_out source tree d reads is =

@@ -1,12 +1,13 @@
 -- Files that were read, seen from further off, and what stops the reading of one.
 use Rattle.std.proofs.Common.{◌≡◌, ℕ, ◌≤◌, List, Some, None, Result, Ok, Err, IfErr, IsErrAnd, refl, ap, ◌∙◌, arith}
 use Rattle.px_compile.specs.Compiled.{IsRefused}
+use Rattle.px_core.specs.Plan.{Tree}
 use Rattle.px_syntax.specs.declared.fault.PlanFault.{PlanFault}
 use Rattle.px_syntax.specs.declared.fault.PlanFault.TheVariants as plans
 use Rattle.px_output.specs.View.{View, OnlyPrints, OnlyReads, KeepsFiles}
 use Rattle.px_run.specs.Course.{Course, Due, AfterFile}
 use Rattle.px_run.specs.Ending.{Ending}
-use Rattle.px_run.specs.Reading.{FileKind, Seen, Content, Longer, Unreadable, Shows, Reads}
+use Rattle.px_run.specs.Reading.{FileKind, Seen, Content, Longer, Unreadable, Shows, Reads, with_text}
 use Rattle.px_run.specs.Kinds.{plan_file}
 use Rattle.px_run.specs.Stops.{stop_of_plan, StopsReading}
 use Rattle.px_run.specs.declared.ending.Stop.{Stop}
@@ -32,6 +33,13 @@ reads_later A kind old mid new name part later (seen, shows, spells) = (seen, sh
 pub reads_since : (A : Type 0) (kind : FileKind A) (old mid new : View) (name : List ℕ) (part : A) → OnlyReads old mid
     → Reads kind mid new name part → Reads kind old new name part
 reads_since A kind old mid new name part only (seen, shows, spells) = (seen, shows_since kind.limit old mid new name seen only shows, spells)
+
+-- a plan of which the text was asked for too
+pub without_text : (old new : View) (name : List ℕ) (source : List ℕ × Tree) → Reads (with_text plan_file) old new name source
+    → Reads plan_file old new name source.1
+without_text old new name source (Content bytes, shows, spells) = (Content bytes, shows, spells.1)
+without_text old new name source (Longer, shows, spells) = absurd spells
+without_text old new name source (Unreadable, shows, spells) = absurd spells
 
 -- ---- and what is called for behind it
 

@@ -41,7 +41,7 @@ fn fetch_layout<H: Host>(alloc: Global, plan: &str, host: &mut H) -> Result<Vec<
 {
     let made = fetch_tree(alloc, plan, host)?;
     let text = print(alloc, &made.tree);
-    // Left to the end of the process, since to free a large plan and its tree piece by piece takes a sixth of the time.
+    // Left to the end of the process, since to free a large tree piece by piece takes a tenth of the time.
     forget(made);
     Ok(text?)
 }

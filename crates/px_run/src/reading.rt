@@ -3,7 +3,7 @@ ghost use Rattle.std.specs.Prelude.{◌≡◌, ◌≤◌, ℕ, List, length, IfO
 ghost use Rattle.std.specs.List.{list_all};
 ghost use Rattle.px_compile.specs.Compiled.{IsSpelled};
 ghost use Rattle.px_core.specs.Fit.{IsFit};
-ghost use Rattle.px_core.specs.Plan.{tree_of, sites};
+ghost use Rattle.px_core.specs.Plan.{Tree, count_of, tree_of, sites};
 ghost use Rattle.px_script.specs.Fit.{IsFitScript};
 ghost use Rattle.px_syntax.specs.Plan.{tree_of_surface};
 ghost use Rattle.px_run.specs.Reading.{Content, Shows, Reads, with_text};
@@ -55,11 +55,12 @@ pub fn fetch_plan<H: Host>(alloc: Global, name: &str, host: &mut H) -> Result<Pl
     Ok(fetch_source(alloc, name, host)?.plan)
 }
 
-/// Reads the plan in the file of this name, and keeps its tree. It stops where `fetch_source` does.
+/// Reads the tree of the plan in the file of this name, and how many nodes the plan has, which isn't made. It stops where
+/// `fetch_source` does.
 pub fn fetch_tree<H: Host>(alloc: Global, name: &str, host: &mut H) -> Result<Compiled, Stop>
-    ensures ok { IfOk result (λ made. (text : List ℕ)
-        × Reads (with_text plan_file) (view H.Host host.old) (view H.Host host.new) name.now (text, tree_of made.plan)
-        × IsSpelled text (tree_of_surface made.tree)) }
+    ensures ok { IfOk result (λ made. (text : List ℕ) × (plan : Tree)
+        × Reads (with_text plan_file) (view H.Host host.old) (view H.Host host.new) name.now (text, plan)
+        × IsSpelled text (tree_of_surface made.tree) × (made.nodes ≡ count_of plan)) }
     ensures err { IfErr result
         (StopsReading plan_file (view H.Host host.old) (view H.Host host.new) name.now) }
     ensures only { OnlyReads (view H.Host host.old) (view H.Host host.new) }

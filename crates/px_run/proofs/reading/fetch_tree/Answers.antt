@@ -11,9 +11,10 @@ returns-in_err-compile_tree-clause-err g c =
     (rw (sym c.deref.ensures.value) c.in_err-compile_tree.ensures.fault)
 
 pub returns-clause-ok : goal.returns-clause-ok
-returns-clause-ok g c =
-    let bytes = c.in_ok-text.text.items in (
-      bytes,
-      (Content bytes, c.in_ok-text.ensures.ok, (refl, rw (sym c.deref.ensures.value) c.in_ok-compile_tree.ensures.plan)),
-      rw (sym c.deref.ensures.value) c.in_ok-compile_tree.ensures.tree,
-    )
+returns-clause-ok g c = (
+  c.in_ok-text.text.items,
+  _,
+  (Content c.in_ok-text.text.items, c.in_ok-text.ensures.ok, (refl, rw (sym c.deref.ensures.value) c.in_ok-compile_tree.ensures.plan)),
+  rw (sym c.deref.ensures.value) c.in_ok-compile_tree.ensures.tree,
+  c.in_ok-compile_tree.ensures.nodes,
+)
