@@ -1,0 +1,203 @@
+// The real disk.
+ghost use Rattle.std.specs.Prelude.{◌≡◌, None};
+ghost use Rattle.px_ports.specs.Disk.{IsFreeFor};
+
+use crate::folder::folder;
+use px_ports::Disk;
+use px_system::{Access, StdDisk};
+use std::alloc::Global;
+use std::fs;
+use std::fs::File;
+use std::rt::Files;
+use std::test::Fail;
+
+// Whether no file has the name.
+fn is_absent(rt: &impl Files, name: &str) -> bool {
+    matches!(fs::exists(rt, name), Ok(false))
+}
+
+#[test]
+fn what_was_written_is_read_by_the_next_disk(rt: HostRuntime) -> Result<(), Fail> {
+    let alloc = rt.alloc();
+    let folder = folder(&rt, "written")?;
+    let name = format!(in alloc; "{folder}/journal")?;
+    assert!(rt; is_read_again(rt, alloc, name.as_str()));
+    fs::remove_dir_all(&rt, folder.as_str())?;
+    Ok(())
+}
+
+fn is_read_again<R: Files<File = File> + Copy>(rt: R, alloc: Global, name: &str) -> bool {
+    let mut disk = StdDisk::new(alloc, rt, Access::Write);
+    let mut next = StdDisk::new(alloc, rt, Access::Read);
+    writes(&rt, &mut disk, name) && reads(&mut next, name)
+}
+
+// The first write makes the file.
+fn writes<R: Files<File = File>>(rt: &R, disk: &mut StdDisk<R>, name: &str) -> bool
+    requires { ⟦<StdDisk<R> as Disk>⟧.bound_to disk.old ≡ None }
+{
+    disk.attach(name).is_ok()
+        && disk.sync().is_ok()
+        && disk.len() == Ok(0)
+        && is_absent(rt, name)
+        && disk.write_at(0, b"abcde").is_ok()
+        && disk.write_at(3, b"xyz").is_ok()
+        && disk.sync().is_ok()
+}
+
+fn reads<R: Files<File = File>>(disk: &mut StdDisk<R>, name: &str) -> bool
+    requires { ⟦<StdDisk<R> as Disk>⟧.bound_to disk.old ≡ None }
+{
+    let mut read = [0; 4];
+    disk.attach(name).is_ok()
+        && disk.read_at(1, &mut read).is_ok()
+        && read == *b"bcxy"
+        && disk.len() == Ok(6)
+        && disk.faults() == 0
+}
+
+#[test]
+fn one_disk_at_a_time_writes(rt: HostRuntime) -> Result<(), Fail> {
+    let alloc = rt.alloc();
+    let folder = folder(&rt, "held")?;
+    let name = format!(in alloc; "{folder}/journal")?;
+    assert!(rt; is_held_by_one(rt, alloc, name.as_str()));
+    fs::remove_dir_all(&rt, folder.as_str())?;
+    Ok(())
+}
+
+fn is_held_by_one<R: Files<File = File> + Copy>(rt: R, alloc: Global, name: &str) -> bool {
+    let mut early = StdDisk::new(alloc, rt, Access::Write);
+    let mut disk = StdDisk::new(alloc, rt, Access::Write);
+    let mut late = StdDisk::new(alloc, rt, Access::Write);
+    let is_held = holds(&mut early, &mut disk, &mut late, name);
+    drop(disk);
+    is_held && takes_over(&mut late, name)
+}
+
+// The first that writes has the file, though another was attached before it was there.
+fn holds<R: Files<File = File>>(
+    early: &mut StdDisk<R>,
+    disk: &mut StdDisk<R>,
+    late: &mut StdDisk<R>,
+    name: &str,
+) -> bool
+    requires early { ⟦<StdDisk<R> as Disk>⟧.bound_to early.old ≡ None }
+    requires disk { ⟦<StdDisk<R> as Disk>⟧.bound_to disk.old ≡ None }
+    requires late { ⟦<StdDisk<R> as Disk>⟧.bound_to late.old ≡ None }
+    ensures { IsFreeFor name.now (⟦<StdDisk<R> as Disk>⟧.bound_to late.new) }
+{
+    early.attach(name).is_ok()
+        && disk.attach(name).is_ok()
+        && disk.write_at(0, b"a").is_ok()
+        && early.write_at(0, b"b").is_err()
+        && late.attach(name).is_err()
+        && disk.write_at(1, b"c").is_ok()
+}
+
+fn takes_over<R: Files<File = File>>(disk: &mut StdDisk<R>, name: &str) -> bool
+    requires { IsFreeFor name.now (⟦<StdDisk<R> as Disk>⟧.bound_to disk.old) }
+{
+    disk.attach(name).is_ok() && disk.write_at(2, b"d").is_ok()
+}
+
+#[test]
+fn one_that_reads_keeps_what_it_has_told(rt: HostRuntime) -> Result<(), Fail> {
+    let alloc = rt.alloc();
+    let folder = folder(&rt, "read")?;
+    let name = format!(in alloc; "{folder}/journal")?;
+    assert!(rt; makes_nothing(rt, alloc, name.as_str()));
+    assert!(rt; keeps_its_end(rt, alloc, name.as_str()));
+    fs::remove_dir_all(&rt, folder.as_str())?;
+    Ok(())
+}
+
+fn makes_nothing<R: Files<File = File> + Copy>(rt: R, alloc: Global, name: &str) -> bool {
+    let mut early = StdDisk::new(alloc, rt, Access::Read);
+    refuses(&mut early, name) && is_absent(&rt, name)
+}
+
+// One that reads attaches, and each write fails.
+fn refuses<R: Files<File = File>>(disk: &mut StdDisk<R>, name: &str) -> bool
+    requires { ⟦<StdDisk<R> as Disk>⟧.bound_to disk.old ≡ None }
+{
+    disk.attach(name).is_ok() && disk.write_at(0, b"b").is_err()
+}
+
+fn keeps_its_end<R: Files<File = File> + Copy>(rt: R, alloc: Global, name: &str) -> bool {
+    let mut disk = StdDisk::new(alloc, rt, Access::Write);
+    let mut reader = StdDisk::new(alloc, rt, Access::Read);
+    keeps(&mut disk, &mut reader, name)
+}
+
+// What one that reads was told of a file is what it reads, until it asks for the length again.
+fn keeps<R: Files<File = File>>(disk: &mut StdDisk<R>, reader: &mut StdDisk<R>, name: &str) -> bool
+    requires disk { ⟦<StdDisk<R> as Disk>⟧.bound_to disk.old ≡ None }
+    requires reader { ⟦<StdDisk<R> as Disk>⟧.bound_to reader.old ≡ None }
+{
+    let mut kept = [0; 2];
+    let mut grown = [0; 2];
+    disk.attach(name).is_ok()
+        && disk.write_at(0, b"ab").is_ok()
+        && reader.attach(name).is_ok()
+        && reader.write_at(0, b"b").is_err()
+        && reader.len() == Ok(2)
+        && disk.write_at(1, b"cd").is_ok()
+        && reader.read_at(0, &mut kept).is_ok()
+        && kept == *b"ab"
+        && reader.len() == Ok(3)
+        && reader.read_at(1, &mut grown).is_ok()
+        && grown == *b"cd"
+}
+
+#[test]
+fn a_failure_is_a_failed_call(rt: HostRuntime) -> Result<(), Fail> {
+    let alloc = rt.alloc();
+    let folder = folder(&rt, "failures")?;
+    let name = format!(in alloc; "{folder}/journal")?;
+    let below = format!(in alloc; "{name}/journal")?;
+    let moved = format!(in alloc; "{folder}-moved")?;
+    assert!(rt; is_counted(rt, alloc, name.as_str(), folder.as_str(), moved.as_str()));
+    for refused in [folder.as_str(), below.as_str(), "/dev/null", "a\0b"] {
+        assert!(rt; is_refused(rt, alloc, refused), "{refused:?}");
+    }
+    fs::remove_dir_all(&rt, folder.as_str())?;
+    Ok(())
+}
+
+fn is_refused<R: Files<File = File> + Copy>(rt: R, alloc: Global, name: &str) -> bool {
+    let mut disk = StdDisk::new(alloc, rt, Access::Write);
+    disk.attach(name).is_err() && disk.faults() == 1
+}
+
+fn is_counted<R: Files<File = File> + Copy>(
+    rt: R,
+    alloc: Global,
+    name: &str,
+    folder: &str,
+    moved: &str,
+) -> bool {
+    let mut disk = StdDisk::new(alloc, rt, Access::Write);
+    fails(&rt, &mut disk, name, folder, moved) && disk.faults() == 4
+}
+
+// Neither behind the end nor at no place of a file are bytes read or written. The folder of the new file can't be synced where
+// it is gone, nor is the disk trusted when it can again.
+fn fails<R: Files<File = File>>(
+    rt: &R,
+    disk: &mut StdDisk<R>,
+    name: &str,
+    folder: &str,
+    moved: &str,
+) -> bool
+    requires { ⟦<StdDisk<R> as Disk>⟧.bound_to disk.old ≡ None }
+{
+    disk.attach(name).is_ok()
+        && disk.write_at(0, b"abcde").is_ok()
+        && disk.read_at(2, &mut [0; 4]).is_err()
+        && disk.write_at(u64::MAX, b"f").is_err()
+        && fs::rename(rt, folder, moved).is_ok()
+        && disk.sync().is_err()
+        && fs::rename(rt, moved, folder).is_ok()
+        && disk.sync().is_err()
+}
