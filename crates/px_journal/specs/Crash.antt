@@ -2,11 +2,13 @@
 use Rattle.std.specs.Prelude.{◌≡◌, ◌≤◌, ◌⊎◌, ℕ, List, [], ◌∷◌, ◌++◌, length, take, Result, OnOk, IsTrue}
 use Rattle.std.specs.Option.{option_map, ForSome}
 use Rattle.px_event.specs.declared.entry.Entry.{Entry}
+use Rattle.px_event.specs.declared.named.NamedEntry.{NamedEntry}
 use Rattle.px_ports.specs.Disk.{Told}
 use Rattle.px_ports.specs.Moment.{Images, LeftSince, overwritten, Torn, Elapses}
 use Rattle.px_ports.specs.declared.disk.DiskFault.{DiskFault}
 use Rattle.px_ports.specs.declared.moment.Moment.{Moment}
-use Rattle.px_journal.specs.Layout.{Stands, is_nothing}
+use Rattle.px_journal.specs.Layout.{Stands, StandsAs, is_nothing}
+use Rattle.px_journal.specs.declared.version.Version.{Version}
 
 -- a write and then a sync: at Ok they are written and nothing else is left; whatever the answer, a crash may tear the
 -- range and nothing else
@@ -25,9 +27,18 @@ IsNothingOrStands bytes =
 abbrev pub WithOrWithout : List ℕ → List Entry → Entry → List ℕ → Type 0
 WithOrWithout text history entry bytes = Stands bytes text history ⊎ Stands bytes text (history ++ entry ∷ [])
 
+-- the same in one version, with the names
+abbrev pub WithOrWithoutAs : Version → List ℕ → List NamedEntry → NamedEntry → List ℕ → Type 0
+WithOrWithoutAs version text named next bytes =
+    StandsAs version bytes text named ⊎ StandsAs version bytes text (named ++ next ∷ [])
+
 -- the bytes are an image from before, or nothing, or they stand for the text and the empty history
 abbrev pub OldOrNew : (List ℕ → Type 0) → List ℕ → List ℕ → Type 0
 OldOrNew old text bytes = old bytes ⊎ (IsTrue (is_nothing bytes) ⊎ Stands bytes text [])
+
+-- the same in one version
+abbrev pub OldOrNewAs : Version → (List ℕ → Type 0) → List ℕ → List ℕ → Type 0
+OldOrNewAs version old text bytes = old bytes ⊎ (IsTrue (is_nothing bytes) ⊎ StandsAs version bytes text [])
 
 -- a call adds moments, and a crash at each of them leaves only such images
 pub record LeavesOnly (images : Images) (left : List ℕ → Type 0) (old new : List Moment) : Type 0 where
@@ -44,3 +55,14 @@ abbrev pub KeepsHistories : Images → List Moment → List Moment → Type 0
 KeepsHistories images old new =
     (t : ℕ) → t ≤ length old → (text : List ℕ) (front : List Entry)
     → KeepsSince images t text front old → KeepsSince images t text front new
+
+-- the same of a journal of one version, with the names of its entries
+abbrev pub KeepsSinceAs : Version → Images → ℕ → List ℕ → List NamedEntry → List Moment → Type 0
+KeepsSinceAs version images t text front moments =
+    (image : List ℕ) → LeftSince images moments t image
+    → (later : List NamedEntry) × StandsAs version image text (front ++ later)
+
+abbrev pub KeepsNames : Images → List Moment → List Moment → Type 0
+KeepsNames images old new =
+    (t : ℕ) → t ≤ length old → (version : Version) (text : List ℕ) (front : List NamedEntry)
+    → KeepsSinceAs version images t text front old → KeepsSinceAs version images t text front new

@@ -1,38 +1,58 @@
 -- What a journal stands for, and what its calls answer.
-use Rattle.std.specs.Prelude.{◌≡◌, ◌≤◌, ℕ, List, length, IsTrue, Result, Ok, Err, vec_capacity}
+use Rattle.std.specs.Prelude.{◌≡◌, ◌≤◌, ℕ, Option, None, List, length, IsTrue, Result, Ok, Err, vec_capacity}
 use Rattle.std.specs.List.{list_all}
 use Rattle.std.specs.Option.{ForSome}
-use Rattle.px_event.specs.Fit.{is_fit_entry}
+use Rattle.px_event.specs.Names.{name_of}
 use Rattle.px_event.specs.declared.entry.Entry.{Entry}
+use Rattle.px_event.specs.declared.named.NamedEntry.{NamedEntry}
+use Rattle.px_event.specs.declared.names.ThreadName.{ThreadName}
 use Rattle.px_ports.specs.Moment.{Elapses, Stays}
 use Rattle.px_ports.specs.declared.disk.Disk
 use Rattle.px_journal.specs.Crash.{IsNothingOrStands}
-use Rattle.px_journal.specs.Layout.{next_gate, Stands}
+use Rattle.px_journal.specs.Layout.{entries, is_fit, next_gate, StandsAs}
 use Rattle.px_journal.specs.declared.fault.CreateFault.{CreateFault}
 use Rattle.px_journal.specs.declared.fault.CreateWhy.{CreateWhy}
 use Rattle.px_journal.specs.declared.fault.RecoverFault.{RecoverFault}
 use Rattle.px_journal.specs.declared.fault.RecoverWhy.{RecoverWhy}
 use Rattle.px_journal.specs.declared.journal.Journal.{Journal}
 use Rattle.px_journal.specs.declared.journal.Recovered.{Recovered}
+use Rattle.px_journal.specs.declared.version.Version.{Version}
+use Rattle.px_journal.specs.declared.version.Version.TheVariants as versions
 
 -- a crash now leaves just what a read gives, where the disk tells it
 abbrev pub IsSynced : {D : Type 0} → Disk.Ghosts D → D → Type 0
 IsSynced members disk = ForSome (members.content disk)
     (λ told. (image : List ℕ) → members.images (members.moments disk) image → image ≡ told)
 
--- THE JOURNAL STANDS FOR A TEXT AND A HISTORY, and is ready for the next entry. What it says of the bytes, it says
--- where the disk tells them: each image that a crash now may leave stands for the text and the history.
+-- THE JOURNAL STANDS FOR A TEXT AND ENTRIES WITH THEIR NAMES, and is ready for the next entry. What it says of the bytes,
+-- it says where the disk tells them: each image that a crash now may leave stands for the text and the entries.
+pub record IsReadyAs {D : Type 0} (members : Disk.Ghosts D) (journal : Journal D) (text : List ℕ)
+    (named : List NamedEntry) : Type 0 where
+  pub synced : IsSynced members journal.disk
+  pub stands : ForSome (members.content journal.disk) (λ told. StandsAs journal.version told text named)
+  pub gate : journal.gate ≡ next_gate journal.version text named
+  pub count : journal.count ≡ length named
+  pub text_fits : length text ≤ 1048576
+  pub fit : IsTrue (list_all (is_fit journal.version) named)
+  pub few : length named ≤ 100000
+  pub attached : IsTrue (members.is_attached journal.disk)
+  pub room : 9385 ≤ vec_capacity journal.buffer
+
+-- the same of a text and a history, whatever the names
 pub record IsReady {D : Type 0} (members : Disk.Ghosts D) (journal : Journal D) (text : List ℕ)
     (history : List Entry) : Type 0 where
-  pub synced : IsSynced members journal.disk
-  pub stands : ForSome (members.content journal.disk) (λ told. Stands told text history)
-  pub gate : journal.gate ≡ next_gate text history
-  pub count : journal.count ≡ length history
-  pub text_fits : length text ≤ 1048576
-  pub fit : IsTrue (list_all is_fit_entry history)
-  pub few : length history ≤ 100000
-  pub attached : IsTrue (members.is_attached journal.disk)
-  pub room : 9319 ≤ vec_capacity journal.buffer
+  pub named : List NamedEntry
+  pub ready : IsReadyAs members journal text named
+  pub history : entries named ≡ history
+
+-- the entry with the name that the next append gives it: in the second version that of its thread, where it has one
+abbrev pub name_given : Version → List ThreadName → ℕ → Option (List ℕ)
+name_given versions.One names thread = None
+name_given versions.Two names thread = name_of thread names
+
+abbrev pub with_name : {D : Type 0} → Journal D → Entry → NamedEntry
+with_name journal entry =
+    record { name = name_given journal.version journal.names entry.thread; entry = entry }
 
 -- no write was made, not even one of no byte, and each image since is one of before
 pub record IsUnwritten {D : Type 0} (members : Disk.Ghosts D) (old new : D) : Type 0 where
