@@ -9,8 +9,9 @@ use Rattle.px_ports.specs.Disk.{Told}
 use Rattle.px_ports.specs.Moment.{Images, Torn, Elapses, Stays, overwritten}
 use Rattle.px_ports.specs.declared.disk.DiskFault.{DiskFault}
 use Rattle.px_ports.specs.declared.moment.Moment.{Moment}
-use Rattle.px_journal.specs.Crash.{Puts, LeavesOnly, OldOrNew}
-use Rattle.px_journal.specs.Layout.{heading, is_open, is_closed, is_nothing, next_gate, Stands}
+use Rattle.px_journal.specs.Crash.{Puts, LeavesOnly, OldOrNew, OldOrNewAs}
+use Rattle.px_journal.specs.Layout.{heading, is_open, is_closed, is_nothing, next_gate, StandsAs}
+use Rattle.px_journal.specs.declared.version.Version.{Version}
 use Rattle.px_journal.proofs.Appending.{closed_within, open_or_closed, same_told, told_before}
 use Rattle.px_journal.proofs.Fronts.{is_closed-front}
 use Rattle.px_journal.proofs.Moments.{leaves, leaves_more, leaves_on}
@@ -59,7 +60,7 @@ module _ (images : Images) (old : List Moment) where
 
 -- ---- behind the closed master gate
 
-module _ (text told content : List ℕ) (short : length text ≤ 1048576) (content_is : content ≡ heading text ++ 0 ∷ []) (closed : IsTrue (is_closed told)) where
+module _ (version : Version) (text told content : List ℕ) (short : length text ≤ 1048576) (content_is : content ≡ heading version text ++ 0 ∷ []) (closed : IsTrue (is_closed told)) where
   within : 1 ≤ length told
   within = omega (arith, closed_within 0 told closed)
 
@@ -78,25 +79,25 @@ module _ (text told content : List ℕ) (short : length text ≤ 1048576) (conte
   abbrev rest : List ℕ
   rest = drop (1 + length content) told
 
-  filled_from : drop 1 filled ≡ heading text ++ 0 ∷ rest
-  filled_from = written_from 1 content told within ∙ ap (λ (l : List ℕ). l ++ rest) content_is ∙ append_assoc (heading text) (0 ∷ []) rest
+  filled_from : drop 1 filled ≡ heading version text ++ 0 ∷ rest
+  filled_from = written_from 1 content told within ∙ ap (λ (l : List ℕ). l ++ rest) content_is ∙ append_assoc (heading version text) (0 ∷ []) rest
 
   filled_within : 1 ≤ length filled
   filled_within = omega (arith, closed_within 0 filled filled_closed)
 
-  open_gate : (image : List ℕ) → drop 1 image ≡ drop 1 filled → IsTrue (is_open image) → Stands image text []
+  open_gate : (image : List ℕ) → drop 1 image ≡ drop 1 filled → IsTrue (is_open image) → StandsAs version image text []
   open_gate image above gate =
-      let from : drop 1 image ≡ heading text ++ 0 ∷ rest = above ∙ filled_from in
-      let place : drop (next_gate text []) image ≡ 0 ∷ rest =
-      ap (λ (n : ℕ). drop n image) (let sum : next_gate text [] ≡ 1 + length (heading text) = omega arith in sum)
-      ∙ sym (drop-drop (length (heading text)) 1 image)
-      ∙ ap (λ (l : List ℕ). drop (length (heading text)) l) from
-      ∙ drop_at (heading text) (0 ∷ rest) (length (heading text)) refl in
+      let from : drop 1 image ≡ heading version text ++ 0 ∷ rest = above ∙ filled_from in
+      let place : drop (next_gate version text []) image ≡ 0 ∷ rest =
+      ap (λ (n : ℕ). drop n image) (let sum : next_gate version text [] ≡ 1 + length (heading version text) = omega arith in sum)
+      ∙ sym (drop-drop (length (heading version text)) 1 image)
+      ∙ ap (λ (l : List ℕ). drop (length (heading version text)) l) from
+      ∙ drop_at (heading version text) (0 ∷ rest) (length (heading version text)) refl in
       record {
         front = record {
           opens = record {
             gate = gate;
-            content = ap (λ (l : List ℕ). take (length (heading text)) l) from ∙ take_at (heading text) (0 ∷ rest) (length (heading text)) refl;
+            content = ap (λ (l : List ℕ). take (length (heading version text)) l) from ∙ take_at (heading version text) (0 ∷ rest) (length (heading version text)) refl;
           };
           records = tt;
           text_fits = short;
@@ -106,7 +107,7 @@ module _ (text told content : List ℕ) (short : length text ≤ 1048576) (conte
         few = omega arith;
       }
 
-  torn_gate : (image : List ℕ) → Torn 0 1 filled image → IsTrue (is_nothing image) ⊎ Stands image text []
+  torn_gate : (image : List ℕ) → Torn 0 1 filled image → IsTrue (is_nothing image) ⊎ StandsAs version image text []
   torn_gate image torn =
       let above = torn_above 0 1 filled image torn filled_within in
       let long : 1 ≤ length image = omega (arith, filled_within, torn.no_shorter) in
@@ -115,14 +116,14 @@ module _ (text told content : List ℕ) (short : length text ≤ 1048576) (conte
         | inr not_shut ↦ inr (open_gate image above (open_or_closed image long not_shut))
       ]
 
-  opened_stands : Stands (overwritten 0 (1 ∷ []) filled) text []
+  opened_stands : StandsAs version (overwritten 0 (1 ∷ []) filled) text []
   opened_stands =
       open_gate (overwritten 0 (1 ∷ []) filled) (written_above 0 (1 ∷ []) filled (omega arith)) refl
 
   module _ (images : Images) (was mid : Told) (old half : List Moment) (is : was ≡ Some told) (synced : (image : List ℕ) → images old image → image ≡ told) where
     pub content_leaves : (result : Result Unit DiskFault) → Puts images 1 content was mid old half result
-        → LeavesOnly images (λ image. IsTrue (is_nothing image) ⊎ Stands image text []) old half
-    content_leaves result puts = leaves images (λ image. IsTrue (is_nothing image) ⊎ Stands image text []) (Torn 1 (length content)) old half puts.elapses
+        → LeavesOnly images (λ image. IsTrue (is_nothing image) ⊎ StandsAs version image text []) old half
+    content_leaves result puts = leaves images (λ image. IsTrue (is_nothing image) ⊎ StandsAs version image text []) (Torn 1 (length content)) old half puts.elapses
         (λ before image left torn. inl (torn_content image (subst (λ (b : List ℕ). Torn 1 (length content) b image) (synced before left) torn)))
 
     module _ (first : Puts images 1 content was mid old half (Ok tt)) where
@@ -130,27 +131,27 @@ module _ (text told content : List ℕ) (short : length text ≤ 1048576) (conte
       mid_told = first.written ∙ ap (option_map (overwritten 1 content)) is
 
       pub opened_leaves : (then : Told) (new : List Moment) (result : Result Unit DiskFault) → Puts images 0 (1 ∷ []) mid then half new result
-          → LeavesOnly images (λ image. IsTrue (is_nothing image) ⊎ Stands image text []) old new
-      opened_leaves then new result puts = leaves_on images (λ image. IsTrue (is_nothing image) ⊎ Stands image text []) old half new (content_leaves (Ok tt) first)
-          (leaves images (λ image. IsTrue (is_nothing image) ⊎ Stands image text []) (Torn 0 1) half new puts.elapses
+          → LeavesOnly images (λ image. IsTrue (is_nothing image) ⊎ StandsAs version image text []) old new
+      opened_leaves then new result puts = leaves_on images (λ image. IsTrue (is_nothing image) ⊎ StandsAs version image text []) old half new (content_leaves (Ok tt) first)
+          (leaves images (λ image. IsTrue (is_nothing image) ⊎ StandsAs version image text []) (Torn 0 1) half new puts.elapses
           (λ before image left torn. torn_gate image (subst (λ (b : List ℕ). Torn 0 1 b image) (first.synced filled mid_told before left) torn)))
 
-      pub opened_told : (then : Told) (new : List Moment) → Puts images 0 (1 ∷ []) mid then half new (Ok tt) → ForSome then (λ now. Stands now text [])
+      pub opened_told : (then : Told) (new : List Moment) → Puts images 0 (1 ∷ []) mid then half new (Ok tt) → ForSome then (λ now. StandsAs version now text [])
       opened_told then new puts now now_is =
           let then_is : then ≡ Some (overwritten 0 (1 ∷ []) filled) = puts.written ∙ ap (option_map (overwritten 0 (1 ∷ []))) mid_told in
-          subst (λ (b : List ℕ). Stands b text []) (same_told then _ now then_is now_is) opened_stands
+          subst (λ (b : List ℕ). StandsAs version b text []) (same_told then _ now then_is now_is) opened_stands
 
 -- at Ok, over the answer of the second write
-pub if_opened : (images : Images) (was mid then : Told) (old half new : List Moment) (text content : List ℕ) (result : Result Unit DiskFault)
-    → length text ≤ 1048576 → content ≡ heading text ++ 0 ∷ [] → ForSome was (λ told. IsTrue (is_closed told))
+pub if_opened : (version : Version) (images : Images) (was mid then : Told) (old half new : List Moment) (text content : List ℕ) (result : Result Unit DiskFault)
+    → length text ≤ 1048576 → content ≡ heading version text ++ 0 ∷ [] → ForSome was (λ told. IsTrue (is_closed told))
     → ForSome was (λ told. (image : List ℕ) → images old image → image ≡ told)
     → Puts images 1 content was mid old half (Ok tt) → Puts images 0 (1 ∷ []) mid then half new result
-    → OnOk result (ForSome then (λ now. Stands now text []))
-if_opened images was mid then old half new text content (Err fault) short content_is closed synced first second = tt
-if_opened images was mid then old half new text content (Ok unit) short content_is closed synced first second = λ now now_is.
+    → OnOk result (ForSome then (λ now. StandsAs version now text []))
+if_opened version images was mid then old half new text content (Err fault) short content_is closed synced first second = tt
+if_opened version images was mid then old half new text content (Ok unit) short content_is closed synced first second = λ now now_is.
     let middle = told_before mid then (overwritten 0 (1 ∷ [])) now second.written now_is in
     let told = told_before was mid (overwritten 1 content) (middle.0) first.written (middle.1) in
-    opened_told text (told.0) content short content_is (closed (told.0) (told.1)) images was mid old half (told.1) (synced (told.0) (told.1)) first then new second now now_is
+    opened_told version text (told.0) content short content_is (closed (told.0) (told.1)) images was mid old half (told.1) (synced (told.0) (told.1)) first then new second now now_is
 
 -- what was told before is told after
 pub told_after : (was now : Told) (told : List ℕ) → is_some now ≡ is_some was → was ≡ Some told → (after : List ℕ) × (now ≡ Some after)
@@ -158,9 +159,15 @@ told_after was None told same is = absurd (let both : false ≡ true = same ∙ 
 told_after was (Some after) told same is = (after, refl)
 
 -- the whole of a creation
-pub old_or_new : (images : Images) (text : List ℕ) (old mid new : List Moment)
+pub old_or_new : (version : Version) (images : Images) (text : List ℕ) (old mid new : List Moment)
     → LeavesOnly images (λ image. images old image ⊎ IsTrue (is_nothing image)) old mid
-    → LeavesOnly images (λ image. IsTrue (is_nothing image) ⊎ Stands image text []) mid new → LeavesOnly images (OldOrNew (images old) text) old new
-old_or_new images text old mid new first second = leaves_on images (OldOrNew (images old) text) old mid new
+    → LeavesOnly images (λ image. IsTrue (is_nothing image) ⊎ StandsAs version image text []) mid new → LeavesOnly images (OldOrNewAs version (images old) text) old new
+old_or_new version images text old mid new first second = leaves_on images (OldOrNewAs version (images old) text) old mid new
     (leaves_more images _ _ old mid (λ image left. ⊎_elim (λ was. inl was) (λ none. inr (inl none)) left) first)
     (leaves_more images _ _ mid new (λ image left. inr left) second)
+
+-- without the version
+pub in_some_version : (version : Version) (old : List ℕ → Type 0) (text image : List ℕ) → OldOrNewAs version old text image → OldOrNew old text image
+in_some_version version old text image = ⊎_elim
+    (λ was. inl was)
+    (⊎_elim (λ none. inr (inl none)) (λ stands. inr (inr (record { version = version; named = []; stands = stands; history = refl }))))

@@ -3,9 +3,9 @@ use Rattle.std.proofs.Common.{◌≡◌, ◌≤◌, ◌+◌, ◌-◌, ℕ, List,
 use Rattle.std.proofs.lemmas.List.{take-take, drop-take, drop-drop}
 use Rattle.std.specs.List.{list_all}
 use Rattle.std.proofs.lemmas.Bool.{and_from, and_parts}
-use Rattle.px_event.specs.Fit.{is_fit_entry}
-use Rattle.px_event.specs.declared.entry.Entry.{Entry}
-use Rattle.px_journal.specs.Layout.{heading, record_bytes, is_open, is_closed, Opens, Records, records_size, next_gate, Front, Stands}
+use Rattle.px_event.specs.declared.named.NamedEntry.{NamedEntry}
+use Rattle.px_journal.specs.Layout.{heading, record_bytes, is_fit, is_open, is_closed, Opens, Records, records_size, next_gate, Front, StandsAs}
+use Rattle.px_journal.specs.declared.version.Version.{Version}
 
 -- what two lists share up to n, they share in each part below n
 pub same_part : (n k m : ℕ) (a b : List ℕ) → take n a ≡ take n b → k + m ≤ n → take m (drop k a) ≡ take m (drop k b)
@@ -36,62 +36,63 @@ Opens-local n behind a b same fits opens = record {
   content = sym (same_part n 1 (length behind) a b same fits) ∙ opens.content;
 }
 
-Records-local : (n : ℕ) (history : List Entry) (a b : List ℕ) → take n a ≡ take n b → records_size history ≤ n → Records history a → Records history b
-Records-local n [] a b same fits records = tt
-Records-local n (entry ∷ later) a b same fits records = (
-  Opens-local n (record_bytes entry) a b same (omega (arith, fits)) records.0,
-  Records-local (n - (1 + length (record_bytes entry))) later (drop (1 + length (record_bytes entry)) a) (drop (1 + length (record_bytes entry)) b)
-      (same_rest n (1 + length (record_bytes entry)) a b same (omega (arith, fits))) (omega (arith, fits)) records.1,
-)
+module _ (version : Version) where
+  Records-local : (n : ℕ) (history : List NamedEntry) (a b : List ℕ) → take n a ≡ take n b → records_size version history ≤ n → Records version history a → Records version history b
+  Records-local n [] a b same fits records = tt
+  Records-local n (entry ∷ later) a b same fits records = (
+    Opens-local n (record_bytes version entry) a b same (omega (arith, fits)) records.0,
+    Records-local (n - (1 + length (record_bytes version entry))) later (drop (1 + length (record_bytes version entry)) a) (drop (1 + length (record_bytes version entry)) b)
+        (same_rest n (1 + length (record_bytes version entry)) a b same (omega (arith, fits))) (omega (arith, fits)) records.1,
+  )
 
-pub Front-local : (a b text : List ℕ) (history : List Entry) → take (next_gate text history) a ≡ take (next_gate text history) b → Front a text history → Front b text history
-Front-local a b text history same front =
-    let n = next_gate text history in record {
-      opens = Opens-local n (heading text) a b same (omega arith) front.opens;
-      records = Records-local (n - (1 + length (heading text))) history (drop (1 + length (heading text)) a) (drop (1 + length (heading text)) b)
-          (same_rest n (1 + length (heading text)) a b same (omega arith)) (omega arith) front.records;
-      text_fits = front.text_fits;
-      fit = front.fit;
-    }
+  pub Front-local : (a b text : List ℕ) (history : List NamedEntry) → take (next_gate version text history) a ≡ take (next_gate version text history) b → Front version a text history → Front version b text history
+  Front-local a b text history same front =
+      let n = next_gate version text history in record {
+        opens = Opens-local n (heading version text) a b same (omega arith) front.opens;
+        records = Records-local (n - (1 + length (heading version text))) history (drop (1 + length (heading version text)) a) (drop (1 + length (heading version text)) b)
+            (same_rest n (1 + length (heading version text)) a b same (omega arith)) (omega arith) front.records;
+        text_fits = front.text_fits;
+        fit = front.fit;
+      }
 
--- what stands for a text and a history does so whatever stands behind the closed gate
-pub Stands-local : (a b text : List ℕ) (history : List Entry) → take (next_gate text history + 1) a ≡ take (next_gate text history + 1) b → Stands a text history → Stands b text history
-Stands-local a b text history same stands =
-    let n = next_gate text history in record {
-      front = Front-local a b text history (sym (take-take n (n + 1) a (omega arith)) ∙ ap (λ (l : List ℕ). take n l) same ∙ take-take n (n + 1) b (omega arith)) stands.front;
-      closed = subst IsTrue (is_closed-front (drop n a) (drop n b) (same_part (n + 1) n 1 a b same (omega arith))) stands.closed;
-      few = stands.few;
-    }
+  -- what stands for a text and a history does so whatever stands behind the closed gate
+  pub Stands-local : (a b text : List ℕ) (history : List NamedEntry) → take (next_gate version text history + 1) a ≡ take (next_gate version text history + 1) b → StandsAs version a text history → StandsAs version b text history
+  Stands-local a b text history same stands =
+      let n = next_gate version text history in record {
+        front = Front-local a b text history (sym (take-take n (n + 1) a (omega arith)) ∙ ap (λ (l : List ℕ). take n l) same ∙ take-take n (n + 1) b (omega arith)) stands.front;
+        closed = subst IsTrue (is_closed-front (drop n a) (drop n b) (same_part (n + 1) n 1 a b same (omega arith))) stands.closed;
+        few = stands.few;
+      }
 
--- ---- one record more
+  -- ---- one record more
 
-records_size-push : (history : List Entry) (entry : Entry) → records_size (history ++ entry ∷ []) ≡ records_size history + 1 + length (record_bytes entry)
-records_size-push [] entry = omega arith
-records_size-push (first ∷ later) entry = omega (arith, records_size-push later entry)
+  records_size-push : (history : List NamedEntry) (entry : NamedEntry) → records_size version (history ++ entry ∷ []) ≡ records_size version history + 1 + length (record_bytes version entry)
+  records_size-push [] entry = omega arith
+  records_size-push (first ∷ later) entry = omega (arith, records_size-push later entry)
 
-pub next_gate-push : (text : List ℕ) (history : List Entry) (entry : Entry) → next_gate text (history ++ entry ∷ []) ≡ next_gate text history + 1 + length (record_bytes entry)
-next_gate-push text history entry = omega (arith, records_size-push history entry)
+  pub next_gate-push : (text : List ℕ) (history : List NamedEntry) (entry : NamedEntry) → next_gate version text (history ++ entry ∷ []) ≡ next_gate version text history + 1 + length (record_bytes version entry)
+  next_gate-push text history entry = omega (arith, records_size-push history entry)
 
-Records-push : (history : List Entry) (entry : Entry) (bytes : List ℕ) → Records history bytes → Opens (record_bytes entry) (drop (records_size history) bytes)
-    → Records (history ++ entry ∷ []) bytes
-Records-push [] entry bytes records opens = (opens, tt)
-Records-push (first ∷ later) entry bytes records opens = (
-  records.0,
-  Records-push later entry (drop (1 + length (record_bytes first)) bytes) records.1
-      (subst (Opens (record_bytes entry)) (sym (drop-drop (records_size later) (1 + length (record_bytes first)) bytes)) opens),
-)
+  Records-push : (history : List NamedEntry) (entry : NamedEntry) (bytes : List ℕ) → Records version history bytes → Opens (record_bytes version entry) (drop (records_size version history) bytes)
+      → Records version (history ++ entry ∷ []) bytes
+  Records-push [] entry bytes records opens = (opens, tt)
+  Records-push (first ∷ later) entry bytes records opens = (
+    records.0,
+    Records-push later entry (drop (1 + length (record_bytes version first)) bytes) records.1
+        (subst (Opens (record_bytes version entry)) (sym (drop-drop (records_size version later) (1 + length (record_bytes version first)) bytes)) opens),
+  )
 
-pub fits-push : (history : List Entry) (entry : Entry) → IsTrue (list_all is_fit_entry history) → IsTrue (is_fit_entry entry)
-    → IsTrue (list_all is_fit_entry (history ++ entry ∷ []))
-fits-push [] entry all fit = and_from _ _ fit refl
-fits-push (first ∷ later) entry all fit = let parts = and_parts _ _ all in and_from _ _ (parts.0) (fits-push later entry (parts.1) fit)
+  pub fits-push : (history : List NamedEntry) (entry : NamedEntry) → IsTrue (list_all (is_fit version) history) → IsTrue (is_fit version entry)
+      → IsTrue (list_all (is_fit version) (history ++ entry ∷ []))
+  fits-push [] entry all fit = and_from _ _ fit refl
+  fits-push (first ∷ later) entry all fit = let parts = and_parts _ _ all in and_from _ _ (parts.0) (fits-push later entry (parts.1) fit)
 
-pub Front-push : (bytes text : List ℕ) (history : List Entry) (entry : Entry) → Front bytes text history → IsTrue (is_fit_entry entry)
-    → Opens (record_bytes entry) (drop (next_gate text history) bytes) → Front bytes text (history ++ entry ∷ [])
-Front-push bytes text history entry front is_fit opens = record {
-  opens = front.opens;
-  records = Records-push history entry (drop (1 + length (heading text)) bytes) front.records
-      (subst (Opens (record_bytes entry)) (sym (drop-drop (records_size history) (1 + length (heading text)) bytes)) opens);
-  text_fits = front.text_fits;
-  fit = fits-push history entry front.fit is_fit;
-}
+  pub Front-push : (bytes text : List ℕ) (history : List NamedEntry) (entry : NamedEntry) → Front version bytes text history → IsTrue (is_fit version entry)
+      → Opens (record_bytes version entry) (drop (next_gate version text history) bytes) → Front version bytes text (history ++ entry ∷ [])
+  Front-push bytes text history entry front is_fit opens = record {
+    opens = front.opens;
+    records = Records-push history entry (drop (1 + length (heading version text)) bytes) front.records
+        (subst (Opens (record_bytes version entry)) (sym (drop-drop (records_size version history) (1 + length (heading version text)) bytes)) opens);
+    text_fits = front.text_fits;
+    fit = fits-push history entry front.fit is_fit;
+  }

@@ -2,6 +2,8 @@ pub mod Moments
 pub mod Going
 pub mod Torn
 pub mod Fronts
+pub mod Bodies
+pub mod Digits
 pub mod Meaning
 pub mod Histories
 pub mod Appending
@@ -11,3 +13,4 @@ pub mod Walking
 pub mod Undamaged
 pub mod Verdicts
 pub mod Windows
+pub mod Ready

@@ -1,15 +1,18 @@
--- Bytes stand for at most one text and one history.
-use Rattle.std.proofs.Common.{◌≡◌, ◌≤◌, ◌<◌, ◌+◌, ◌^◌, ℕ, List, [], ◌∷◌, ◌++◌, length, take, drop, refl, sym, ◌∙◌, ap, subst, arith, length-append, IsTrue}
-use Rattle.std.proofs.lemmas.List.{take_at, drop_at, drop-drop, take-take, drop-take}
+-- Bytes are of at most one version, and stand for at most one text and one history.
+use Rattle.std.proofs.Common.{◌≡◌, ◌≤◌, ◌<◌, ◌+◌, ◌^◌, ℕ, suc, List, [], ◌∷◌, ◌++◌, Option, length, take, drop, refl, sym, ◌∙◌, ap, subst, arith, length-append, IsTrue}
+use Rattle.std.proofs.lemmas.List.{take_at, drop_at, drop-drop, take-take, drop-take, get_or-drop}
 use Rattle.std.proofs.lemmas.Bool.{and_parts}
+use Rattle.std.specs.Prelude.{slice_index}
 use Rattle.std.specs.List.{list_all}
 use Rattle.byteorder.specs.Endian.{big_bytes, big_number}
 use Rattle.byteorder.specs.Numbers.{length-bytes_high_first, big_number-reads_back}
-use Rattle.px_event.specs.Bytes.{entry_bytes}
-use Rattle.px_event.specs.Fit.{is_fit_entry}
 use Rattle.px_event.specs.declared.entry.Entry.{Entry}
-use Rattle.px_event.proofs.Entries.{one_entry, entry_short}
-use Rattle.px_journal.specs.Layout.{magic, heading, record_bytes, is_open, is_closed, Opens, Records, records_size, Stands}
+use Rattle.px_event.specs.declared.named.NamedEntry.{NamedEntry}
+use Rattle.px_journal.specs.Damage.{HasVersion}
+use Rattle.px_journal.specs.Layout.{magic, digit, heading, body_bytes, record_bytes, entries, interfaces, is_fit, is_open, is_closed, Opens, Records, records_size, Front, StandsAs, Stands, AreNamesOf}
+use Rattle.px_journal.specs.declared.version.Version.{Version}
+use Rattle.px_journal.proofs.Bodies.{one_body, body_short}
+use Rattle.px_journal.proofs.Digits.{one_digit}
 
 -- the bytes stand at the front of a list
 abbrev pub Starts : List ℕ → List ℕ → Type 0
@@ -48,47 +51,93 @@ one_text n x y bytes x_fits y_fits x_starts y_starts =
     ∙ ap (λ (k : ℕ). take (length y) (drop k bytes)) (x_long ∙ sym y_long)
     ∙ starts_second (big_bytes n (length y)) y bytes y_starts
 
-pub one_entry_opens : (a b : Entry) (bytes : List ℕ) → IsTrue (is_fit_entry a) → IsTrue (is_fit_entry b) → Opens (record_bytes a) bytes
-    → Opens (record_bytes b) bytes → a ≡ b
-one_entry_opens a b bytes a_fit b_fit a_opens b_opens =
-    one_entry a b a_fit b_fit (one_text 2 (entry_bytes a) (entry_bytes b) (drop 1 bytes) (omega (arith, entry_short a a_fit)) (omega (arith, entry_short b b_fit))
-    a_opens.content b_opens.content)
-
-pub one_heading : (a b bytes : List ℕ) → length a ≤ 1048576 → length b ≤ 1048576 → Opens (heading a) bytes → Opens (heading b) bytes → a ≡ b
-one_heading a b bytes a_fits b_fits a_opens b_opens =
-    one_text 4 a b (drop 8 (drop 1 bytes)) (omega (arith, a_fits)) (omega (arith, b_fits))
-    (starts_second magic (big_bytes 4 (length a) ++ a) (drop 1 bytes) a_opens.content)
-    (starts_second magic (big_bytes 4 (length b) ++ b) (drop 1 bytes) b_opens.content)
+first_byte : (byte : ℕ) (later bytes : List ℕ) → Starts (byte ∷ later) bytes → slice_index bytes 0 ≡ byte
+first_byte byte later [] starts = absurd cc
+first_byte byte later (first ∷ rest) starts = ap (λ (l : List ℕ). slice_index l 0) starts
 
 pub open_and_closed : {P : Type 0} (bytes : List ℕ) → IsTrue (is_open bytes) → IsTrue (is_closed bytes) → P
 open_and_closed [] opened closed = absurd cc
 open_and_closed (gate ∷ rest) opened closed = absurd (grind (arith, opened, closed))
 
-pub one_history : (a b : List Entry) (bytes : List ℕ) → IsTrue (list_all is_fit_entry a) → IsTrue (list_all is_fit_entry b) → Records a bytes → Records b bytes
-    → IsTrue (is_closed (drop (records_size a) bytes)) → IsTrue (is_closed (drop (records_size b) bytes)) → a ≡ b
-one_history [] [] bytes a_fit b_fit a_records b_records a_closed b_closed = refl
-one_history [] (b ∷ b_later) bytes a_fit b_fit a_records b_records a_closed b_closed = open_and_closed bytes (b_records.0).gate a_closed
-one_history (a ∷ a_later) [] bytes a_fit b_fit a_records b_records a_closed b_closed = open_and_closed bytes (a_records.0).gate b_closed
-one_history (a ∷ a_later) (b ∷ b_later) bytes a_fit b_fit a_records b_records a_closed b_closed =
-    let a_parts = and_parts _ _ a_fit in
-    let b_parts = and_parts _ _ b_fit in
-    let first : a ≡ b = one_entry_opens a b bytes (a_parts.0) (b_parts.0) (a_records.0) (b_records.0) in
-    let place : drop (1 + length (record_bytes b)) bytes ≡ drop (1 + length (record_bytes a)) bytes = ap (λ (e : Entry). drop (1 + length (record_bytes e)) bytes) (sym first) in
-    let rest = drop (1 + length (record_bytes a)) bytes in
-    let closed_rest : IsTrue (is_closed (drop (records_size b_later) rest)) =
-    subst IsTrue (ap is_closed (sym (drop-drop (records_size b_later) (1 + length (record_bytes b)) bytes) ∙ ap (λ (l : List ℕ). drop (records_size b_later) l) place)) b_closed in
-    let later : a_later ≡ b_later = one_history a_later b_later rest (a_parts.1) (b_parts.1) (a_records.1) (subst (Records b_later) place (b_records.1))
-    (subst IsTrue (ap is_closed (sym (drop-drop (records_size a_later) (1 + length (record_bytes a)) bytes))) a_closed) closed_rest in
-    ap (λ (e : Entry). e ∷ a_later) first ∙ ap (λ (l : List Entry). b ∷ l) later
+module _ (version : Version) where
+  pub one_record : (a b : NamedEntry) (bytes : List ℕ) → IsTrue (is_fit version a) → IsTrue (is_fit version b) → Opens (record_bytes version a) bytes
+      → Opens (record_bytes version b) bytes → a ≡ b
+  one_record a b bytes a_fit b_fit a_opens b_opens =
+      one_body version a b a_fit b_fit (one_text 2 (body_bytes version a) (body_bytes version b) (drop 1 bytes) (omega (arith, body_short version a a_fit)) (omega (arith, body_short version b b_fit))
+      a_opens.content b_opens.content)
+
+  -- the parts of a heading
+  pub version_starts : (text bytes : List ℕ) → Opens (heading version text) bytes → Starts (digit version ∷ (big_bytes 4 (length text) ++ text)) (drop 7 (drop 1 bytes))
+  version_starts text bytes opens = starts_second magic (digit version ∷ (big_bytes 4 (length text) ++ text)) (drop 1 bytes) opens.content
+
+  pub text_starts : (text bytes : List ℕ) → Opens (heading version text) bytes → Starts (big_bytes 4 (length text) ++ text) (drop 1 (drop 7 (drop 1 bytes)))
+  text_starts text bytes opens = starts_second (digit version ∷ []) (big_bytes 4 (length text) ++ text) (drop 7 (drop 1 bytes)) (version_starts text bytes opens)
+
+  pub has_version : (text bytes : List ℕ) → Opens (heading version text) bytes → HasVersion version bytes
+  has_version text bytes opens = (
+    starts_first magic (digit version ∷ (big_bytes 4 (length text) ++ text)) (drop 1 bytes) opens.content,
+    sym (get_or-drop 1 bytes 7 0)
+        ∙ sym (get_or-drop 7 (drop 1 bytes) 0 0)
+        ∙ first_byte (digit version) (big_bytes 4 (length text) ++ text) (drop 7 (drop 1 bytes)) (version_starts text bytes opens),
+  )
+
+  pub one_heading : (a b bytes : List ℕ) → length a ≤ 1048576 → length b ≤ 1048576 → Opens (heading version a) bytes → Opens (heading version b) bytes → a ≡ b
+  one_heading a b bytes a_fits b_fits a_opens b_opens =
+      one_text 4 a b (drop 1 (drop 7 (drop 1 bytes))) (omega (arith, a_fits)) (omega (arith, b_fits))
+      (text_starts a bytes a_opens) (text_starts b bytes b_opens)
+
+  pub one_history : (a b : List NamedEntry) (bytes : List ℕ) → IsTrue (list_all (is_fit version) a) → IsTrue (list_all (is_fit version) b) → Records version a bytes → Records version b bytes
+      → IsTrue (is_closed (drop (records_size version a) bytes)) → IsTrue (is_closed (drop (records_size version b) bytes)) → a ≡ b
+  one_history [] [] bytes a_fit b_fit a_records b_records a_closed b_closed = refl
+  one_history [] (b ∷ b_later) bytes a_fit b_fit a_records b_records a_closed b_closed = open_and_closed bytes (b_records.0).gate a_closed
+  one_history (a ∷ a_later) [] bytes a_fit b_fit a_records b_records a_closed b_closed = open_and_closed bytes (a_records.0).gate b_closed
+  one_history (a ∷ a_later) (b ∷ b_later) bytes a_fit b_fit a_records b_records a_closed b_closed =
+      let a_parts = and_parts _ _ a_fit in
+      let b_parts = and_parts _ _ b_fit in
+      let first : a ≡ b = one_record a b bytes (a_parts.0) (b_parts.0) (a_records.0) (b_records.0) in
+      let place : drop (1 + length (record_bytes version b)) bytes ≡ drop (1 + length (record_bytes version a)) bytes = ap (λ (e : NamedEntry). drop (1 + length (record_bytes version e)) bytes) (sym first) in
+      let rest = drop (1 + length (record_bytes version a)) bytes in
+      let closed_rest : IsTrue (is_closed (drop (records_size version b_later) rest)) =
+      subst IsTrue (ap is_closed (sym (drop-drop (records_size version b_later) (1 + length (record_bytes version b)) bytes) ∙ ap (λ (l : List ℕ). drop (records_size version b_later) l) place)) b_closed in
+      let later : a_later ≡ b_later = one_history a_later b_later rest (a_parts.1) (b_parts.1) (a_records.1) (subst (Records version b_later) place (b_records.1))
+      (subst IsTrue (ap is_closed (sym (drop-drop (records_size version a_later) (1 + length (record_bytes version a)) bytes))) a_closed) closed_rest in
+      ap (λ (e : NamedEntry). e ∷ a_later) first ∙ ap (λ (l : List NamedEntry). b ∷ l) later
+
+-- in one version
+module _ (version : Version) (bytes text_a text_b : List ℕ) (a b : List NamedEntry) (a_stands : StandsAs version bytes text_a a) (b_stands : StandsAs version bytes text_b b) where
+  one_text_as : text_a ≡ text_b
+  one_text_as = one_heading version text_a text_b bytes a_stands.front.text_fits b_stands.front.text_fits a_stands.front.opens b_stands.front.opens
+
+  one_history_as : a ≡ b
+  one_history_as =
+      let n = 1 + length (heading version text_a) in
+      let place : drop (1 + length (heading version text_b)) bytes ≡ drop n bytes = ap (λ (t : List ℕ). drop (1 + length (heading version t)) bytes) (sym one_text_as) in
+      one_history version a b (drop n bytes) a_stands.front.fit b_stands.front.fit a_stands.front.records (subst (Records version b) place b_stands.front.records)
+      (subst IsTrue (ap is_closed (sym (drop-drop (records_size version a) n bytes))) a_stands.closed)
+      (subst IsTrue (ap is_closed (sym (drop-drop (records_size version b) (1 + length (heading version text_b)) bytes) ∙ ap (λ (l : List ℕ). drop (records_size version b) l) place)) b_stands.closed)
+
+-- an open master gate and two headings behind it are of one version
+pub one_version : (v w : Version) (a b bytes : List ℕ) → Opens (heading v a) bytes → Opens (heading w b) bytes → v ≡ w
+one_version v w a b bytes v_opens w_opens = one_digit v w (sym (has_version v a bytes v_opens).1 ∙ (has_version w b bytes w_opens).1)
+
+-- ONE MEANING: one version, one text, and one list of entries with their names
+pub one_meaning : (v w : Version) (bytes text other : List ℕ) (a b : List NamedEntry) → StandsAs v bytes text a → StandsAs w bytes other b
+    → (v ≡ w) × (text ≡ other) × (a ≡ b)
+one_meaning v w bytes text other a b first second =
+    let versions = one_version v w text other bytes first.front.opens second.front.opens in
+    let same = subst (λ (u : Version). StandsAs u bytes other b) (sym versions) second in
+    (versions, one_text_as v bytes text other a b first same, one_history_as v bytes text other a b first same)
 
 module _ (bytes text_a text_b : List ℕ) (a b : List Entry) (a_stands : Stands bytes text_a a) (b_stands : Stands bytes text_b b) where
   pub one_meaning_text : text_a ≡ text_b
-  one_meaning_text = one_heading text_a text_b bytes a_stands.front.text_fits b_stands.front.text_fits a_stands.front.opens b_stands.front.opens
+  one_meaning_text = (one_meaning a_stands.version b_stands.version bytes text_a text_b a_stands.named b_stands.named a_stands.stands b_stands.stands).1
 
   pub one_meaning_history : a ≡ b
   one_meaning_history =
-      let n = 1 + length (heading text_a) in
-      let place : drop (1 + length (heading text_b)) bytes ≡ drop n bytes = ap (λ (t : List ℕ). drop (1 + length (heading t)) bytes) (sym one_meaning_text) in
-      one_history a b (drop n bytes) a_stands.front.fit b_stands.front.fit a_stands.front.records (subst (Records b) place b_stands.front.records)
-      (subst IsTrue (ap is_closed (sym (drop-drop (records_size a) n bytes))) a_stands.closed)
-      (subst IsTrue (ap is_closed (sym (drop-drop (records_size b) (1 + length (heading text_b)) bytes) ∙ ap (λ (l : List ℕ). drop (records_size b) l) place)) b_stands.closed)
+      let same = (one_meaning a_stands.version b_stands.version bytes text_a text_b a_stands.named b_stands.named a_stands.stands b_stands.stands).2 in
+      sym a_stands.history ∙ ap entries same ∙ b_stands.history
+
+pub one_list_of_names : (bytes : List ℕ) (a b : List (Option (List ℕ))) → AreNamesOf bytes a → AreNamesOf bytes b → a ≡ b
+one_list_of_names bytes a b first second =
+    let same = (one_meaning first.version second.version bytes first.text second.text first.named second.named first.stands second.stands).2 in
+    sym first.names ∙ ap interfaces same ∙ second.names

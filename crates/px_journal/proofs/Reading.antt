@@ -5,14 +5,15 @@ use Rattle.std.proofs.lemmas.Bool.Decides.{nat_tests}
 use Rattle.std.proofs.lemmas.List.{take-take, take_all, length-take, length-drop, get_or-drop, get_or-take}
 use Rattle.byteorder.specs.Endian.{big_bytes, big_number}
 use Rattle.byteorder.specs.Numbers.{big_from-take}
-use Rattle.px_event.specs.declared.entry.Entry.{Entry}
-use Rattle.px_event.proofs.Entries.{entry_short}
+use Rattle.px_event.specs.declared.named.NamedEntry.{NamedEntry}
 use Rattle.px_event.proofs.Fields.{IsBytes, four_back}
 use Rattle.px_journal.specs.Damage as Damage
-use Rattle.px_journal.specs.Damage.{body, body_length, text_length, IsNoEntry}
-use Rattle.px_journal.specs.Damage.Damaged.{magic_differs, text_is_cut}
+use Rattle.px_journal.specs.Damage.{body, body_length, text_length, HasVersion, IsNoBody}
+use Rattle.px_journal.specs.Damage.Damaged.{magic_differs, version_differs, text_is_cut}
 use Rattle.px_journal.specs.declared.fault.RecoverWhy.TheVariants.{Damaged}
-use Rattle.px_journal.specs.Layout.{is_closed, is_open, magic, record_bytes, Opens}
+use Rattle.px_journal.specs.Layout.{digit, is_closed, is_open, magic, record_bytes, Opens}
+use Rattle.px_journal.specs.declared.version.Version.{Version}
+use Rattle.px_journal.proofs.Bodies.{body_short}
 use Rattle.px_journal.proofs.Fronts.{same_part}
 use Rattle.px_journal.proofs.Histories.{length-record}
 
@@ -53,11 +54,11 @@ module _ (rest front : List ℕ) (n : ℕ) (is : front ≡ take n rest) where
       let within : 1 + length content ≤ length front = omega (arith, long, ap length content_is, length-take (length content) (drop 1 front), length-drop 1 front) in
       sym (same_part n 1 (length content) front rest same (omega (arith, within, fits))) ∙ content_is
 
-  pub front_opens : (entry : Entry) → slice_index front 0 ≢ 0 → take (length (record_bytes entry)) (drop 1 front) ≡ record_bytes entry → Opens (record_bytes entry) rest
-  front_opens entry other content_is =
-      let long : 1 ≤ length (record_bytes entry) = omega (arith, length-record entry) in
-      let within : 1 ≤ length front = omega (arith, long, ap length content_is, length-take (length (record_bytes entry)) (drop 1 front), length-drop 1 front) in
-      record { gate = front_open within other; content = front_content (record_bytes entry) long content_is }
+  pub front_opens : (version : Version) (entry : NamedEntry) → slice_index front 0 ≢ 0 → take (length (record_bytes version entry)) (drop 1 front) ≡ record_bytes version entry → Opens (record_bytes version entry) rest
+  front_opens version entry other content_is =
+      let long : 1 ≤ length (record_bytes version entry) = omega (arith, length-record version entry) in
+      let within : 1 ≤ length front = omega (arith, long, ap length content_is, length-take (length (record_bytes version entry)) (drop 1 front), length-drop 1 front) in
+      record { gate = front_open within other; content = front_content (record_bytes version entry) long content_is }
 
   front_length : 3 ≤ length front → body_length front ≡ body_length rest
   front_length long =
@@ -73,25 +74,28 @@ module _ (rest front : List ℕ) (n : ℕ) (is : front ≡ take n rest) where
       same_part n 3 (body_length front) front rest same (omega (arith, long, fits))
       ∙ ap (λ (k : ℕ). take k (drop 3 rest)) (front_length (omega (arith, long)))
 
-  -- a body that is too long is no entry's
-  long_body : 9316 < body_length rest → 3 + body_length rest < length rest → IsNoEntry (body rest)
-  long_body long within entry fit is_entry = absurd (omega (
+  -- a body that is too long is none
+  long_body : (version : Version) → 9382 < body_length rest → 3 + body_length rest < length rest → IsNoBody version (body rest)
+  long_body version long within named fit is_body = absurd (omega (
     arith,
     long,
     within,
-    ap length is_entry,
+    ap length is_body,
     length-take (body_length rest) (drop 3 rest),
     length-drop 3 rest,
-    entry_short entry fit,
+    body_short version named fit,
   ))
 
-  pub front_no_entry : (left : ℕ) → left ≡ length rest
-      → (3 + body_length front < left) × (3 ≤ length front) × ((9316 < body_length front) ⊎ ((3 + body_length front ≤ length front) × IsNoEntry (body front)))
-      → (3 + body_length rest < length rest) × IsNoEntry (body rest)
-  front_no_entry left left_is broken =
+  pub front_no_body : (version : Version) (left : ℕ) → left ≡ length rest
+      → (3 + body_length front < left) × (3 ≤ length front)
+      × ((9382 < body_length front) ⊎ ((3 + body_length front ≤ length front) × IsNoBody version (body front)))
+      → (3 + body_length rest < length rest) × IsNoBody version (body rest)
+  front_no_body version left left_is broken =
       let long = front_length (broken.1) in
-      let within : 3 + body_length rest < length rest = omega (arith, broken.0, left_is, long) in
-      (within, ⊎_elim (λ much. long_body (omega (arith, much, long)) within) (λ none. subst IsNoEntry (front_body (none.0)) (none.1)) (broken.2))
+      let within : 3 + body_length rest < length rest = omega (arith, broken.0, left_is, long) in (
+        within,
+        ⊎_elim (λ much. long_body version (omega (arith, much, long)) within) (λ none. subst (IsNoBody version) (front_body (none.0)) (none.1)) (broken.2),
+      )
 
 pub damaged_at : {T : Type 0} (a b : ℕ) → IsErrOf {T = T} (Err (Damaged a)) (Damaged b) → b ≡ a
 damaged_at a b same = cc
@@ -110,28 +114,39 @@ module _ (told heading : List ℕ) (is : heading ≡ take 13 told) (long : lengt
   heading_same : take 13 heading ≡ take 13 told
   heading_same = ap (λ (l : List ℕ). take 13 l) is ∙ take-take 13 13 told (omega arith)
 
-  pub heading_magic : take 8 (drop 1 heading) ≡ take 8 (drop 1 told)
-  heading_magic = same_part 13 1 8 heading told heading_same (omega arith)
+  heading_magic : take 7 (drop 1 heading) ≡ take 7 (drop 1 told)
+  heading_magic = same_part 13 1 7 heading told heading_same (omega arith)
 
   pub heading_number : take 4 (drop 9 heading) ≡ take 4 (drop 9 told)
   heading_number = same_part 13 9 4 heading told heading_same (omega arith)
 
+  heading_byte : slice_index told 8 ≡ slice_index heading 8
+  heading_byte = sym (get_or-take 13 told 8 0 (omega arith)) ∙ ap (λ (l : List ℕ). slice_index l 8) (sym is)
+
+  pub heading_version : (version : Version) → take 7 (drop 1 heading) ≡ magic → slice_index heading 8 ≡ digit version → HasVersion version told
+  heading_version version is_magic is_digit = (sym heading_magic ∙ is_magic, heading_byte ∙ is_digit)
+
   -- the magic differs
-  pub magic_damaged : (i : ℕ) → i < 8 → take i (take 8 (drop 1 heading)) ≡ take i magic → slice_index (take 8 (drop 1 heading)) i ≢ slice_index magic i
+  pub magic_damaged : (i : ℕ) → i < 7 → take i (take 7 (drop 1 heading)) ≡ take i magic → slice_index (take 7 (drop 1 heading)) i ≢ slice_index magic i
       → Damage.Damaged told (1 + i)
   magic_damaged i below before differs =
       let front : take i (drop 1 told) ≡ take i magic =
-      sym (take-take i 8 (drop 1 told) (omega (arith, below))) ∙ ap (λ (l : List ℕ). take i l) (sym heading_magic) ∙ before in
-      let at : slice_index told (1 + i) ≡ slice_index (take 8 (drop 1 heading)) i =
-      sym (get_or-drop 1 told i 0) ∙ sym (get_or-take 8 (drop 1 told) i 0 below) ∙ ap (λ (l : List ℕ). slice_index l i) (sym heading_magic) in
+      sym (take-take i 7 (drop 1 told) (omega (arith, below))) ∙ ap (λ (l : List ℕ). take i l) (sym heading_magic) ∙ before in
+      let at : slice_index told (1 + i) ≡ slice_index (take 7 (drop 1 heading)) i =
+      sym (get_or-drop 1 told i 0) ∙ sym (get_or-take 7 (drop 1 told) i 0 below) ∙ ap (λ (l : List ℕ). slice_index l i) (sym heading_magic) in
       magic_differs i below front (λ same. differs (sym at ∙ same))
 
+  -- the version is none
+  pub version_damaged : take 7 (drop 1 heading) ≡ magic → ((version : Version) → slice_index heading 8 ≢ digit version) → Damage.Damaged told 8
+  version_damaged is_magic none = version_differs (sym heading_magic ∙ is_magic) (λ version same. none version (sym heading_byte ∙ same))
+
   -- the text is too long, or cut
-  pub text_damaged : (n : ℕ) → take 8 (drop 1 heading) ≡ magic → n ≡ big_number 4 (drop 9 heading) → (1048576 < n) ⊎ (length told ≤ 13 + n) → Damage.Damaged told 9
-  text_damaged n is_magic n_is cut =
+  pub text_damaged : (version : Version) (n : ℕ) → HasVersion version told → n ≡ big_number 4 (drop 9 heading) → (1048576 < n) ⊎ (length told ≤ 13 + n)
+      → Damage.Damaged told 9
+  text_damaged version n has n_is cut =
       let number : n ≡ text_length told =
       n_is
       ∙ sym (big_from-take 0 4 4 (drop 9 heading) (omega arith))
       ∙ ap (λ (l : List ℕ). big_number 4 l) heading_number
       ∙ big_from-take 0 4 4 (drop 9 told) (omega arith) in
-      text_is_cut (sym heading_magic ∙ is_magic) (⊎_elim (λ much. inl (omega (arith, much, number))) (λ short. inr (omega (arith, short, number))) cut)
+      text_is_cut version has (⊎_elim (λ much. inl (omega (arith, much, number))) (λ short. inr (omega (arith, short, number))) cut)

@@ -19,11 +19,11 @@ body bytes = take (body_length bytes) (drop 3 bytes)
 abbrev pub HasVersion : Version → List ℕ → Type 0
 HasVersion version bytes = (take 7 (drop 1 bytes) ≡ magic) × (slice_index bytes 8 ≡ digit version)
 
-module _ (version : Version) (bytes : List ℕ) where
-  -- no fit entry has this body
-  abbrev pub IsNoBody : List ℕ → Type 0
-  IsNoBody body = (named : NamedEntry) → IsTrue (is_fit version named) → body ≢ body_bytes version named
+-- no fit entry has these bytes as its body
+abbrev pub IsNoBody : Version → List ℕ → Type 0
+IsNoBody version bytes = (named : NamedEntry) → IsTrue (is_fit version named) → bytes ≢ body_bytes version named
 
+module _ (version : Version) (bytes : List ℕ) where
   -- the record whose gate stands at this place is broken, at the first row that holds
   abbrev pub IsBroken : ℕ → ℕ → Type 0
   IsBroken gate at =
@@ -31,7 +31,7 @@ module _ (version : Version) (bytes : List ℕ) where
       ((at ≡ gate + 1) × (length bytes ≤ gate + 3 + body_length (drop gate bytes)))
       -- its body is no entry, or in the second version no entry with a name or without one
       ⊎ ((at ≡ gate + 3) × (gate + 3 + body_length (drop gate bytes) < length bytes)
-      × IsNoBody (body (drop gate bytes)))
+      × IsNoBody version (body (drop gate bytes)))
 
   -- the record with an open gate at this place is damaged: before it stand as many as there may be, or it is broken
   pub record DamagedRecord (before : List NamedEntry) (gate at : ℕ) : Type 0 where

@@ -6,10 +6,11 @@ use Rattle.px_event.specs.Names.{name_of}
 use Rattle.px_event.specs.declared.entry.Entry.{Entry}
 use Rattle.px_event.specs.declared.named.NamedEntry.{NamedEntry}
 use Rattle.px_event.specs.declared.names.ThreadName.{ThreadName}
+use Rattle.px_ports.specs.Disk.{Told}
 use Rattle.px_ports.specs.Moment.{Elapses, Stays}
 use Rattle.px_ports.specs.declared.disk.Disk
 use Rattle.px_journal.specs.Crash.{IsNothingOrStands}
-use Rattle.px_journal.specs.Layout.{entries, is_fit, next_gate, StandsAs}
+use Rattle.px_journal.specs.Layout.{entries, interfaces, is_fit, next_gate, StandsAs}
 use Rattle.px_journal.specs.declared.fault.CreateFault.{CreateFault}
 use Rattle.px_journal.specs.declared.fault.CreateWhy.{CreateWhy}
 use Rattle.px_journal.specs.declared.fault.RecoverFault.{RecoverFault}
@@ -44,6 +45,17 @@ pub record IsReady {D : Type 0} (members : Disk.Ghosts D) (journal : Journal D) 
   pub named : List NamedEntry
   pub ready : IsReadyAs members journal text named
   pub history : entries named ≡ history
+
+-- the text and what stands behind it, up to the closed gate at this place, were read: entries and their names
+pub record WereRead (content : Told) (version : Version) (text : List ℕ) (history : List Entry)
+    (names : List (Option (List ℕ))) (place : ℕ) : Type 0 where
+  pub named : List NamedEntry
+  pub history : entries named ≡ history
+  pub names : interfaces named ≡ names
+  pub gate : place ≡ next_gate version text named
+  pub fit : IsTrue (list_all (is_fit version) named)
+  pub few : length named ≤ 100000
+  pub stands : ForSome content (λ told. StandsAs version told text named)
 
 -- the entry with the name that the next append gives it: in the second version that of its thread, where it has one
 abbrev pub name_given : Version → List ThreadName → ℕ → Option (List ℕ)

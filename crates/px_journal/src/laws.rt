@@ -1,15 +1,17 @@
 // What the layout means: laws that hold of it, each a clause of a function that does nothing.
-ghost use Rattle.std.specs.Prelude.{◌≡◌, ◌<◌, ◌⊎◌, ℕ, List, slice_index, IsFalse};
+ghost use Rattle.std.specs.Prelude.{◌≡◌, ◌<◌, ◌⊎◌, ℕ, List, Option, slice_index, IsFalse};
 ghost use Rattle.px_event.specs.declared.entry.Entry.{Entry as AnyEntry};
 ghost use Rattle.px_journal.specs.Damage.{Damaged};
-ghost use Rattle.px_journal.specs.Layout.{is_nothing, Stands};
+ghost use Rattle.px_journal.specs.Layout.{is_nothing, AreNamesOf, Stands};
 
-/// Bytes stand for at most one text and one history.
+/// Bytes stand for at most one text and one history, and its names are one list.
 pub fn one_meaning()
     ensures text { (bytes text other : List ℕ) (history others : List AnyEntry) → Stands bytes text history
         → Stands bytes other others → text ≡ other }
     ensures history { (bytes text other : List ℕ) (history others : List AnyEntry) → Stands bytes text history
         → Stands bytes other others → history ≡ others }
+    ensures names { (bytes : List ℕ) (names others : List (Option (List ℕ))) → AreNamesOf bytes names
+        → AreNamesOf bytes others → names ≡ others }
 {}
 
 /// Bytes that stand for a text and a history are damaged at no place.

@@ -1,8 +1,9 @@
 //! A journal: a plan's text and a history of entries on a disk, each entry whole or not there at all.
 //!
-//! `create` and `append` write it, `recover` reads what a crash has left, and `laws` says that bytes stand for at most
-//! one text and history. `docs/FORMATS.md` has the layout byte by byte, and why a torn write can't be taken for an
-//! entry.
+//! It has one of two layouts: `create` makes a journal whose records are entries, `create_named` one that keeps the name
+//! of each entry's interface too. `append` writes a record, `recover` reads what a crash has left, and `laws` says that
+//! bytes stand for at most one text and history. `docs/FORMATS.md` has the layouts byte by byte, and why a torn write
+//! can't be taken for an entry.
 #![tactic(auto)]
 
 mod append;
@@ -16,8 +17,10 @@ mod layout;
 mod put;
 mod record;
 mod recover;
+mod version;
 mod window;
 
 pub use fault::{CreateFault, CreateWhy, RecoverFault, RecoverWhy};
 pub use journal::{Journal, Recovered};
 pub use layout::{RECORD_LIMIT, TEXT_LIMIT};
+pub use version::Version;

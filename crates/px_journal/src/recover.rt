@@ -2,36 +2,37 @@
 //
 // It writes nothing: what stands behind the first closed gate may stay there, since an append closes the next gate
 // before it opens this one.
-ghost use Rattle.std.specs.Prelude.{◌≡◌, ◌≤◌, ℕ, length, IsTrue, IsFalse, IfOk, IsErrOf, is_some, vec_capacity};
-ghost use Rattle.std.specs.List.{list_all};
+ghost use Rattle.std.specs.Prelude.{◌≡◌, ◌≤◌, [], ℕ, List, length, IsTrue, IsFalse, IfOk, IsErrOf, vec_capacity};
 ghost use Rattle.std.specs.Option.{ForSome};
-ghost use Rattle.px_event.specs.Fit.{is_fit_entry};
+ghost use Rattle.px_event.specs.declared.named.NamedEntry.{NamedEntry as AnyNamed};
 ghost use Rattle.px_journal.specs.Damage.{Damaged};
 ghost use Rattle.px_journal.specs.Goes.{Goes, Reads};
-ghost use Rattle.px_journal.specs.Journal.{IsReady, IsSynced, IsUnwritten, IsNotRecovered, IsUndamaged, disk_recovered};
-ghost use Rattle.px_journal.specs.Layout.{is_nothing, next_gate, Stands};
+ghost use Rattle.px_journal.specs.Journal.{IsReady, IsReadyAs, IsSynced, IsUnwritten, IsNotRecovered, IsUndamaged, WereRead, disk_recovered};
+ghost use Rattle.px_journal.specs.Layout.{entries, interfaces, is_nothing, Stands};
 ghost use Rattle.px_journal.specs.declared.fault.RecoverWhy.TheVariants as whys;
 
 use crate::fault::{RecoverFault, RecoverWhy};
-use crate::heading::{read_length, read_text};
-use crate::history::read_history;
+use crate::heading::{read_heading, read_text};
+use crate::history::{History, read_history};
 use crate::journal::{BUFFER_ROOM, Journal, Recovered};
 use crate::layout::TEXT_PLACE;
-use px_event::Entry;
+use crate::version::Version;
+use px_event::Names;
 use px_ports::Disk;
 use std::alloc::Global;
 
-/// A text, the entries behind it, the place of the closed gate behind them, and the buffer for further ones.
+/// A version, a text, what stands behind it, and the buffer for further records.
 #[derive(Drop)]
 struct Read {
+    version: Version,
     plan: Vec<u8>,
-    history: Vec<Entry>,
-    gate: u64,
+    history: History,
     buffer: Vec<u8>,
 }
 
 impl<D: Disk> Journal<D> {
-    /// Reads the journal of an attached disk. It begins with a sync and writes nothing.
+    /// Reads the journal of an attached disk. It begins with a sync and writes nothing. The journal is of the version
+    /// that its bytes tell, and has no names for further entries.
     ///
     /// `NoJournal` comes exactly where the file has fewer than 13 bytes or its first is 0, and `Damaged` exactly where
     /// its first isn't 0 and the layout is broken, at the first place that is; an image that a journal's calls left is
@@ -41,6 +42,10 @@ impl<D: Disk> Journal<D> {
         requires { IsTrue (D.is_attached disk) }
 
         ensures read { IfOk result (λ read. IsReady D.Disk read.journal read.plan.items read.history.items) }
+        ensures named { IfOk result (λ read. (named : List AnyNamed)
+            × IsReadyAs D.Disk read.journal read.plan.items named
+            × (entries named ≡ read.history.items) × (interfaces named ≡ read.names.items)) }
+        ensures unnamed { IfOk result (λ read. read.journal.names ≡ []) }
         ensures stands { IfOk result (λ read. ForSome (D.content disk)
             (λ told. Stands told read.plan.items read.history.items)) }
 
@@ -61,12 +66,15 @@ impl<D: Disk> Journal<D> {
             Ok(read) => Ok(Recovered {
                 journal: Journal {
                     disk,
-                    gate: read.gate,
-                    count: read.history.len() as u32,
+                    version: read.version,
+                    names: Names::new(alloc),
+                    gate: read.history.gate,
+                    count: read.history.entries.len() as u32,
                     buffer: read.buffer,
                 },
                 plan: read.plan,
-                history: read.history,
+                history: read.history.entries,
+                names: read.history.names,
             }),
             Err(why) => Err(RecoverFault { disk, why }),
         }
@@ -77,13 +85,11 @@ impl<D: Disk> Journal<D> {
 fn read_journal<D: Disk>(alloc: Global, disk: &mut D) -> Result<Read, RecoverWhy>
     requires { IsTrue (D.is_attached disk.old) }
 
-    ensures room { IfOk result (λ read. 9319 ≤ vec_capacity read.buffer) }
+    ensures room { IfOk result (λ read. 9385 ≤ vec_capacity read.buffer) }
     ensures short { IfOk result (λ read. length read.plan.items ≤ 1048576) }
-    ensures fit { IfOk result (λ read. IsTrue (list_all is_fit_entry read.history.items)) }
-    ensures few { IfOk result (λ read. length read.history.items ≤ 100000) }
-    ensures gate { IfOk result (λ read. read.gate ≡ next_gate read.plan.items read.history.items) }
-    ensures stands { IfOk result (λ read. ForSome (D.content disk.old)
-        (λ told. Stands told read.plan.items read.history.items)) }
+    ensures few { IfOk result (λ read. length read.history.entries.items ≤ 100000) }
+    ensures read { IfOk result (λ read. WereRead (D.content disk.old) read.version read.plan.items
+        read.history.entries.items read.history.names.items read.history.gate) }
     ensures same { ¬ IsErrOf result whys.DiskFault → D.content disk.new ≡ D.content disk.old }
     ensures synced { ¬ IsErrOf result whys.DiskFault → IsSynced D.Disk disk.new }
 
@@ -97,28 +103,26 @@ fn read_journal<D: Disk>(alloc: Global, disk: &mut D) -> Result<Read, RecoverWhy
 {
     disk.sync()?;
     let buffer = Vec::with_capacity(alloc, BUFFER_ROOM)?;
-    let (plan, history, gate) = read_stable(alloc, disk)?;
+    let (version, plan, history) = read_stable(alloc, disk)?;
     Ok(Read {
+        version,
         plan,
         history,
-        gate,
         buffer,
     })
 }
 
-/// Reads what the bytes stand for: a text, the entries behind it, and the place of the closed gate behind them.
+/// Reads what the bytes stand for: in a version, a text and what stands behind it.
 fn read_stable<D: Disk>(
     alloc: Global,
     disk: &mut D,
-) -> Result<(Vec<u8>, Vec<Entry>, u64), RecoverWhy>
+) -> Result<(Version, Vec<u8>, History), RecoverWhy>
     requires { IsTrue (D.is_attached disk.old) }
 
-    ensures short { IfOk result (λ read. length read.0.items ≤ 1048576) }
-    ensures fit { IfOk result (λ read. IsTrue (list_all is_fit_entry read.1.items)) }
-    ensures few { IfOk result (λ read. length read.1.items ≤ 100000) }
-    ensures gate { IfOk result (λ read. read.2 ≡ next_gate read.0.items read.1.items) }
-    ensures stands { IfOk result (λ read. ForSome (D.content disk.old)
-        (λ told. Stands told read.0.items read.1.items)) }
+    ensures short { IfOk result (λ read. length read.1.items ≤ 1048576) }
+    ensures few { IfOk result (λ read. length read.2.entries.items ≤ 100000) }
+    ensures read { IfOk result (λ read. WereRead (D.content disk.old) read.0 read.1.items
+        read.2.entries.items read.2.names.items read.2.gate) }
 
     ensures no_journal { IsErrOf result whys.NoJournal
         → ForSome (D.content disk.old) (λ told. IsTrue (is_nothing told)) }
@@ -131,8 +135,8 @@ fn read_stable<D: Disk>(
     if size < TEXT_PLACE {
         return Err(RecoverWhy::NoJournal);
     }
-    let count = read_length(disk, size)?;
+    let (version, count) = read_heading(disk, size)?;
     let plan = read_text(alloc, disk, count)?;
-    let (history, gate) = read_history(alloc, disk, size, &plan)?;
-    Ok((plan, history, gate))
+    let history = read_history(alloc, disk, size, version, &plan)?;
+    Ok((version, plan, history))
 }

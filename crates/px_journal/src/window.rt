@@ -62,9 +62,9 @@ impl Window {
         ensures shows { OnOk result (ForSome (D.content disk.old) (Shows self.new)) }
         ensures inside { OnOk result (self.new.place + length self.new.bytes ≤ size) }
         ensures reaches { OnOk result (self.new.place ≤ gate) }
-        ensures covers { OnOk result (gate + min (size - gate) 9320 ≤ self.new.place + length self.new.bytes) }
+        ensures covers { OnOk result (gate + min (size - gate) 9386 ≤ self.new.place + length self.new.bytes) }
 
-        ensures once { self.old.place ≤ gate → gate + min (size - gate) 9320 ≤ self.old.place + length self.old.bytes
+        ensures once { self.old.place ≤ gate → gate + min (size - gate) 9386 ≤ self.old.place + length self.old.bytes
             → (disk.new ≡ disk.old) × (self.new ≡ self.old) }
         ensures reads { Reads D.Disk (IsErr result) disk.old disk.new }
     {
