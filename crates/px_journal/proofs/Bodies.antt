@@ -33,8 +33,13 @@ some_unnamed : (read : Option Entry) (named : NamedEntry) → option_map unnamed
 some_unnamed None named e = absurd cc
 some_unnamed (Some entry) named e = (entry, refl, some_is (unnamed entry) named e)
 
+-- in either version the entry is fit
+pub entry_fits : (version : Version) (named : NamedEntry) → is_fit version named ≡ true → is_fit_entry named.entry ≡ true
+entry_fits versions.One named fit = (and_parts (is_none named.name) (is_fit_entry named.entry) fit).1
+entry_fits versions.Two named fit = (and_parts (is_interface named.name) (is_fit_entry named.entry) fit).1
+
 pub no_entry_no_body : (bytes : List ℕ) → ((entry : Entry) → IsTrue (is_fit_entry entry) → bytes ≢ entry_bytes entry) → IsNoBody versions.One bytes
-no_entry_no_body bytes none named fit = none named.entry (and_parts (is_none named.name) (is_fit_entry named.entry) fit).1
+no_entry_no_body bytes none named fit = none named.entry (entry_fits versions.One named fit)
 
 -- ---- what is read
 

@@ -170,4 +170,4 @@ old_or_new version images text old mid new first second = leaves_on images (OldO
 pub in_some_version : (version : Version) (old : List ℕ → Type 0) (text image : List ℕ) → OldOrNewAs version old text image → OldOrNew old text image
 in_some_version version old text image = ⊎_elim
     (λ was. inl was)
-    (⊎_elim (λ none. inr (inl none)) (λ stands. inr (inr (record { version = version; named = []; stands = stands; history = refl }))))
+    (⊎_elim (λ none. inr (inl none)) (λ stands. inr (inr (record { version = version; named = []; stands = stands; entries_are = refl }))))

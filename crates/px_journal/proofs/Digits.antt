@@ -1,5 +1,5 @@
 -- The byte that tells a version.
-use Rattle.std.proofs.Common.{◌≡◌, ◌≢◌, ◌⊎◌, inl, inr, ℕ, refl, sym, ◌∙◌}
+use Rattle.std.proofs.Common.{◌≡◌, ◌≢◌, ◌⊎◌, inl, inr, ℕ, refl, arith}
 use Rattle.std.proofs.lemmas.Bool.{cases_eq}
 use Rattle.px_journal.specs.Layout.{digit}
 use Rattle.px_journal.specs.declared.version.Version.{Version}
@@ -8,8 +8,8 @@ use Rattle.px_journal.specs.declared.version.Version.TheVariants as versions
 -- no byte tells two versions
 pub one_digit : (a b : Version) → digit a ≡ digit b → a ≡ b
 one_digit versions.One versions.One same = refl
-one_digit versions.One versions.Two same = absurd cc
-one_digit versions.Two versions.One same = absurd cc
+one_digit versions.One versions.Two same = absurd (omega (arith, same))
+one_digit versions.Two versions.One same = absurd (omega (arith, same))
 one_digit versions.Two versions.Two same = refl
 
 pub no_digit : (byte : ℕ) → byte ≢ 49 → byte ≢ 50 → (version : Version) → byte ≢ digit version

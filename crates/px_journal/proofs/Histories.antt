@@ -69,12 +69,12 @@ map-push part named next parts are = map-append part named (next ∷ []) ∙ ap 
 pub without_names : (version : Version) (text : List ℕ) (named : List NamedEntry) (next : NamedEntry) (history : List Entry) (image : List ℕ) → entries named ≡ history
     → WithOrWithoutAs version text named next image → WithOrWithout text history next.entry image
 without_names version text named next history image are = ⊎_elim
-    (λ without. inl (record { version = version; named = named; stands = without; history = are }))
+    (λ without. inl (record { version = version; named = named; stands = without; entries_are = are }))
     (λ with. inr (record {
       version = version;
       named = named ++ next ∷ [];
       stands = with;
-      history = map-push (λ n. n.entry) named next history are;
+      entries_are = map-push (λ n. n.entry) named next history are;
     }))
 
 module _ (version : Version) where
@@ -87,7 +87,7 @@ module _ (version : Version) where
   records_small : (history : List NamedEntry) → IsTrue (list_all (is_fit version) history) → records_size version history ≤ 9385 * length history
   records_small [] fit = omega arith
   records_small (entry ∷ later) fit =
-      let parts = and_parts _ _ fit in
+      let parts = and_parts (is_fit version entry) (list_all (is_fit version) later) fit in
       omega (arith, records_small later (parts.1), length-record entry, body_short version entry (parts.0))
 
   pub next_gate_small : (text : List ℕ) (history : List NamedEntry) → length text ≤ 1048576 → IsTrue (list_all (is_fit version) history) → length history ≤ 100000

@@ -135,9 +135,9 @@ module _ (bytes text_a text_b : List ℕ) (a b : List Entry) (a_stands : Stands 
   pub one_meaning_history : a ≡ b
   one_meaning_history =
       let same = (one_meaning a_stands.version b_stands.version bytes text_a text_b a_stands.named b_stands.named a_stands.stands b_stands.stands).2 in
-      sym a_stands.history ∙ ap entries same ∙ b_stands.history
+      sym a_stands.entries_are ∙ ap entries same ∙ b_stands.entries_are
 
 pub one_list_of_names : (bytes : List ℕ) (a b : List (Option (List ℕ))) → AreNamesOf bytes a → AreNamesOf bytes b → a ≡ b
 one_list_of_names bytes a b first second =
     let same = (one_meaning first.version second.version bytes first.text second.text first.named second.named first.stands second.stands).2 in
-    sym first.names ∙ ap interfaces same ∙ second.names
+    sym first.names_are ∙ ap interfaces same ∙ second.names_are

@@ -114,7 +114,7 @@ module _ (told heading : List ℕ) (is : heading ≡ take 13 told) (long : lengt
   heading_same : take 13 heading ≡ take 13 told
   heading_same = ap (λ (l : List ℕ). take 13 l) is ∙ take-take 13 13 told (omega arith)
 
-  heading_magic : take 7 (drop 1 heading) ≡ take 7 (drop 1 told)
+  pub heading_magic : take 7 (drop 1 heading) ≡ take 7 (drop 1 told)
   heading_magic = same_part 13 1 7 heading told heading_same (omega arith)
 
   pub heading_number : take 4 (drop 9 heading) ≡ take 4 (drop 9 told)

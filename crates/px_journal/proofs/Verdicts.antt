@@ -126,7 +126,7 @@ module _ (version : Version) where
 
   -- a text and a history stand there
   whole : {bytes : List ℕ} (text : List ℕ) (named : List NamedEntry) → StandsAs version bytes text named → Verdict bytes
-  whole text named stands = inl (text, entries named, record { version = version; named = named; stands = stands; history = refl })
+  whole text named stands = inl (text, entries named, record { version = version; named = named; stands = stands; entries_are = refl })
 
   module _ (bytes : List ℕ) (fits : IsBytes bytes) (text : List ℕ) where
     -- from one open gate to the next

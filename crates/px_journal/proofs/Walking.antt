@@ -30,7 +30,7 @@ pub record HasRead {D : Type 0} (members : Disk.Ghosts D) (old now : D) (version
 pub record HasReadBoth {D : Type 0} (members : Disk.Ghosts D) (old now : D) (version : Version) (plan : List ℕ) (size : ℕ) (history : List Entry)
     (names : List (Option (List ℕ))) (gate : ℕ) : Type 0 where
   pub named : List NamedEntry
-  pub history_is : entries named ≡ history
+  pub entries_are : entries named ≡ history
   pub names_are : interfaces named ≡ names
   pub read : HasRead members old now version plan size named gate
 

@@ -44,14 +44,14 @@ pub record IsReady {D : Type 0} (members : Disk.Ghosts D) (journal : Journal D) 
     (history : List Entry) : Type 0 where
   pub named : List NamedEntry
   pub ready : IsReadyAs members journal text named
-  pub history : entries named ≡ history
+  pub entries_are : entries named ≡ history
 
 -- the text and what stands behind it, up to the closed gate at this place, were read: entries and their names
 pub record WereRead (content : Told) (version : Version) (text : List ℕ) (history : List Entry)
     (names : List (Option (List ℕ))) (place : ℕ) : Type 0 where
   pub named : List NamedEntry
-  pub history : entries named ≡ history
-  pub names : interfaces named ≡ names
+  pub entries_are : entries named ≡ history
+  pub names_are : interfaces named ≡ names
   pub gate : place ≡ next_gate version text named
   pub fit : IsTrue (list_all (is_fit version) named)
   pub few : length named ≤ 100000

@@ -97,7 +97,7 @@ pub record Stands (bytes text : List ℕ) (history : List Entry) : Type 0 where
   pub version : Version
   pub named : List NamedEntry
   pub stands : StandsAs version bytes text named
-  pub history : entries named ≡ history
+  pub entries_are : entries named ≡ history
 
 -- THE NAMES OF BYTES that stand for a history, one for each of its entries; in the first version none has one
 pub record AreNamesOf (bytes : List ℕ) (names : List (Option (List ℕ))) : Type 0 where
@@ -105,4 +105,4 @@ pub record AreNamesOf (bytes : List ℕ) (names : List (Option (List ℕ))) : Ty
   pub text : List ℕ
   pub named : List NamedEntry
   pub stands : StandsAs version bytes text named
-  pub names : interfaces named ≡ names
+  pub names_are : interfaces named ≡ names

@@ -1,7 +1,8 @@
 // An open journal over a disk.
 ghost use Rattle.std.specs.Prelude.{◌≡◌, ℕ, List};
+ghost use Rattle.px_event.specs.declared.entry.Entry.{Entry as AnyEntry};
 ghost use Rattle.px_event.specs.declared.named.NamedEntry.{NamedEntry as AnyNamed};
-ghost use Rattle.px_journal.specs.Journal.{IsReadyAs};
+ghost use Rattle.px_journal.specs.Journal.{IsReady, IsReadyAs};
 
 use crate::version::Version;
 use px_event::{Entry, NAMED_LIMIT, Names};
@@ -57,7 +58,9 @@ impl<D: Disk> Journal<D> {
     /// Sets the names that entries are kept with from now on. It takes no memory. In the first version, which keeps no
     /// names, it has no effect.
     pub fn rename(&mut self, names: Names)
-        ensures ready { (text : List ℕ) (named : List AnyNamed) → IsReadyAs D.Disk self.old text named
+        ensures kept { (text : List ℕ) (history : List AnyEntry) → IsReady D.Disk self.old text history
+            → IsReady D.Disk self.new text history }
+        ensures kept_names { (text : List ℕ) (named : List AnyNamed) → IsReadyAs D.Disk self.old text named
             → IsReadyAs D.Disk self.new text named }
         ensures disk { self.new.disk ≡ self.old.disk }
         ensures version { self.new.version ≡ self.old.version }

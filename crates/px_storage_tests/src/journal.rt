@@ -9,11 +9,11 @@ use std::alloc::Global;
 use std::process::Abort;
 use std::test::Fail;
 
-const PLAN: &[u8] = b"A: { Drive(3); }";
+pub(super) const PLAN: &[u8] = b"A: { Drive(3); }";
 
 /// The plan, and `handle A COMMAND_SUCCESS` from line 1 of thread 1.
-const WHOLE: [u8; 43] = [
-    1, 80, 76, 88, 74, 82, 78, 76, 49, 0, 0, 0, 16, // the master gate, the magic and the length
+pub(super) const WHOLE: [u8; 43] = [
+    1, 80, 76, 88, 74, 82, 78, 76, 49, 0, 0, 0, 16, // the master gate, the magic, the version and the length
     65, 58, 32, 123, 32, 68, 114, 105, 118, 101, 40, 51, 41, 59, 32, 125, // the text
     1, 0, 10, 1, 0, 0, 0, 1, 2, 0, 1, 65, 6, // from place 29 on a gate, a length and an entry
     0, // the next gate, at place 42
@@ -22,7 +22,7 @@ const WHOLE: [u8; 43] = [
 /// The bytes of its record, with the gate.
 const RECORD: [u8; 13] = [1, 0, 10, 1, 0, 0, 0, 1, 2, 0, 1, 65, 6];
 
-fn disk_of(alloc: Global, bytes: &[u8], stop_after: Option<u32>) -> Result<MemDisk, Fail>
+pub(super) fn disk_of(alloc: Global, bytes: &[u8], stop_after: Option<u32>) -> Result<MemDisk, Fail>
     ensures { IfOk result (λ disk. IsTrue disk.attached) }
 {
     let mut disk = MemDisk::new(alloc, bytes.to_vec(alloc)?, Vec::new(alloc), stop_after)?;
@@ -127,7 +127,7 @@ const ALL: Result<usize, RecoverWhy> = Ok(3);
 /// What the three records are read as with the byte 0, 1 or 255 at a place.
 fn changed(place: u64, byte: u8) -> Result<usize, RecoverWhy> {
     match (place, byte) {
-        // the master gate, the magic, of which no byte is 0, 1 or 255, and the length, 0, 0, 0, 16
+        // the master gate, the magic and the version, of which no byte is 0, 1 or 255, and the length, 0, 0, 0, 16
         (0, 0) => NONE,
         (0, _) => ALL,
         (1..=8, _) => damaged(place),

@@ -7,3 +7,5 @@
 mod entries;
 #[cfg(test)]
 mod journal;
+#[cfg(test)]
+mod named;

@@ -1,6 +1,6 @@
 use Rattle.std.proofs.Common.{◌≤◌, ◌-◌, inl, inr, length, drop, ap, Err, arith}
 use Rattle.std.proofs.lemmas.List.{length-drop}
-use Rattle.px_journal.proofs.Reading.{front_open, front_opens, front_closed, front_cut, front_no_entry, damaged_at}
+use Rattle.px_journal.proofs.Reading.{front_open, front_opens, front_closed, front_cut, front_no_body, damaged_at}
 use Rattle.px_journal.proofs.Windows.{front_shown}
 use Rattle.px_journal.proofs.record.next_record.Goals as goal
 
@@ -8,7 +8,7 @@ pub returns-in-Ok-clause-opens : goal.returns-in-Ok-clause-opens
 returns-in-Ok-clause-opens g c = λ told is.
     let reached = c.in_ok-reach.ensures in
     let front_is = front_shown told _ _ _ c.args.gate reached.reaches (omega (arith, reached.covers)) (reached.shows told is) c.from-front.ensures in
-    front_opens (drop c.args.gate told) _ _ front_is c.in-Ok.entry c.if-front-eq-CLOSED.false c.in-Ok.ensures.content
+    front_opens (drop c.args.gate told) _ _ front_is c.args.version c.in-Ok.named c.if-front-eq-CLOSED.false c.in-Ok.ensures.content
 
 pub returns-in-Err-NoEntry-clause-damaged : goal.returns-in-Err-NoEntry-clause-damaged
 returns-in-Err-NoEntry-clause-damaged g c = λ at refused told is.
@@ -16,7 +16,7 @@ returns-in-Err-NoEntry-clause-damaged g c = λ at refused told is.
     let front_is = front_shown told _ _ _ c.args.gate reached.reaches (omega (arith, reached.covers)) (reached.shows told is) c.from-front.ensures in
     let reason = c.in-Err-NoEntry.ensures.no_entry (ap Err c.in-Err-NoEntry.field-0-is) in
     let size = c.requires.size told is in
-    let broken = front_no_entry (drop c.args.gate told) _ _ front_is (c.args.size - c.args.gate) (omega (arith, size, length-drop c.args.gate told)) reason in (
+    let broken = front_no_body (drop c.args.gate told) _ _ front_is c.args.version (c.args.size - c.args.gate) (omega (arith, size, length-drop c.args.gate told)) reason in (
       front_open (drop c.args.gate told) _ _ front_is (omega (arith, reason.1)) c.if-front-eq-CLOSED.false,
       inr (c.if-is_full.false, inr (damaged_at _ _ refused, omega (arith, broken.0, length-drop c.args.gate told, size, c.requires.within), broken.1)),
     )

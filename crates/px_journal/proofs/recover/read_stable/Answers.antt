@@ -6,37 +6,37 @@ use Rattle.px_journal.proofs.Undamaged.{open_not_closed}
 use Rattle.px_journal.proofs.Walking.{err_is}
 use Rattle.px_journal.proofs.recover.read_stable.Goals as goal
 
-pub returns-in_err-count-clause-damaged : goal.returns-in_err-count-clause-damaged
-returns-in_err-count-clause-damaged g c = λ at refused told is.
-    let why = err_is c.from_residual-in_err-count.result (whys.Damaged at) c.in_err-count.field-0.0 c.from_residual-in_err-count.ensures.1 refused in
-    let found = c.in_err-count.ensures.damaged at (ap Err why) told (c.len.ensures.reads.bytes ∙ is) in
+pub returns-in_err-version-clause-damaged : goal.returns-in_err-version-clause-damaged
+returns-in_err-version-clause-damaged g c = λ at refused told is.
+    let why = err_is c.from_residual-in_err-version.result (whys.Damaged at) c.in_err-version.field-0.0 c.from_residual-in_err-version.ensures.1 refused in
+    let found = c.in_err-version.ensures.damaged at (ap Err why) told (c.len.ensures.reads.bytes ∙ is) in
     (not_nothing told (omega (arith, c.in_ok-size.ensures.length told is, c.if-size-lt-TEXT_PLACE.false)) (open_not_closed told (found.0)), found.1)
 
 pub returns-in_err-history-clause-damaged : goal.returns-in_err-history-clause-damaged
 returns-in_err-history-clause-damaged g c = λ at refused told is.
     let why = err_is c.from_residual-in_err-history.result (whys.Damaged at) c.in_err-history.field-0.0 c.from_residual-in_err-history.ensures.1 refused in
-    let opened = c.in_ok-count.ensures.opens told (c.len.ensures.reads.bytes ∙ is) in (
+    let opened = c.in_ok-version.ensures.opens told (c.len.ensures.reads.bytes ∙ is) in (
       not_nothing told (omega (arith, c.in_ok-size.ensures.length told is, c.if-size-lt-TEXT_PLACE.false)) (open_not_closed told (opened.0)),
-      c.in_err-history.ensures.damaged at (ap Err why) told (c.read_text.ensures.reads.only.bytes ∙ c.read_length.ensures.reads.only.bytes ∙ c.len.ensures.reads.bytes ∙ is),
+      c.in_err-history.ensures.damaged at (ap Err why) told (c.read_text.ensures.reads.only.bytes ∙ c.read_heading.ensures.reads.only.bytes ∙ c.len.ensures.reads.bytes ∙ is),
     )
 
-pub returns-in_err-count-clause-reads : goal.returns-in_err-count-clause-reads
-returns-in_err-count-clause-reads g c =
+pub returns-in_err-version-clause-reads : goal.returns-in_err-version-clause-reads
+returns-in_err-version-clause-reads g c =
     let size = c.in_ok-size.ensures in
-    reads_told g.D.Disk (reads_then g.D.Disk (reads_by_call g.D.Disk _ size.reads size.unwritten size.stays size.cause) (λ failed. failed) c.in_err-count.ensures.reads)
-    (handed_to c.from_residual-in_err-count.ensures.1) (handed_from c.from_residual-in_err-count.ensures.1)
+    reads_told g.D.Disk (reads_then g.D.Disk (reads_by_call g.D.Disk _ size.reads size.unwritten size.stays size.cause) (λ failed. failed) c.in_err-version.ensures.reads)
+    (handed_to c.from_residual-in_err-version.ensures.1) (handed_from c.from_residual-in_err-version.ensures.1)
 
 pub returns-in_err-plan-clause-reads : goal.returns-in_err-plan-clause-reads
 returns-in_err-plan-clause-reads g c =
     let size = c.in_ok-size.ensures in
-    let counted = reads_then g.D.Disk (reads_by_call g.D.Disk _ size.reads size.unwritten size.stays size.cause) (λ failed. failed) c.in_ok-count.ensures.reads in
+    let counted = reads_then g.D.Disk (reads_by_call g.D.Disk _ size.reads size.unwritten size.stays size.cause) (λ failed. failed) c.in_ok-version.ensures.reads in
     reads_told g.D.Disk (reads_then g.D.Disk counted (λ failed. absurd (cc)) c.in_err-plan.ensures.reads)
     (handed_to c.from_residual-in_err-plan.ensures.1) (handed_from c.from_residual-in_err-plan.ensures.1)
 
 pub returns-in_err-history-clause-reads : goal.returns-in_err-history-clause-reads
 returns-in_err-history-clause-reads g c =
     let size = c.in_ok-size.ensures in
-    let counted = reads_then g.D.Disk (reads_by_call g.D.Disk _ size.reads size.unwritten size.stays size.cause) (λ failed. failed) c.in_ok-count.ensures.reads in
+    let counted = reads_then g.D.Disk (reads_by_call g.D.Disk _ size.reads size.unwritten size.stays size.cause) (λ failed. failed) c.in_ok-version.ensures.reads in
     let read = reads_then g.D.Disk counted (λ failed. absurd (cc)) c.in_ok-plan.ensures.reads in
     reads_told g.D.Disk (reads_then g.D.Disk read (λ failed. absurd (cc)) c.in_err-history.ensures.reads)
     (handed_to c.from_residual-in_err-history.ensures.1) (handed_from c.from_residual-in_err-history.ensures.1)
@@ -44,6 +44,6 @@ returns-in_err-history-clause-reads g c =
 pub returns-clause-reads : goal.returns-clause-reads
 returns-clause-reads g c =
     let size = c.in_ok-size.ensures in
-    let counted = reads_then g.D.Disk (reads_by_call g.D.Disk _ size.reads size.unwritten size.stays size.cause) (λ failed. failed) c.in_ok-count.ensures.reads in
+    let counted = reads_then g.D.Disk (reads_by_call g.D.Disk _ size.reads size.unwritten size.stays size.cause) (λ failed. failed) c.in_ok-version.ensures.reads in
     let read = reads_then g.D.Disk counted (λ failed. absurd (cc)) c.in_ok-plan.ensures.reads in
     reads_told g.D.Disk (reads_then g.D.Disk read (λ failed. absurd (cc)) c.in_ok-history.ensures.reads) (λ failed. absurd (cc)) (λ failed. absurd (cc))

@@ -31,7 +31,7 @@ returns-in_err-put-clause-named_or_not g c = λ text named ready told is.
 pub returns-in_err-put-clause-whole_or_not : goal.returns-in_err-put-clause-whole_or_not
 returns-in_err-put-clause-whole_or_not g c = λ text history found told is.
     leaves_more g.D.Disk.images _ _ _ _
-    (λ image left. without_names c.args.self.now.version text found.named (with_name c.args.self.now c.args.entry.now) history image found.history left)
+    (λ image left. without_names c.args.self.now.version text found.named (with_name c.args.self.now c.args.entry.now) history image found.entries_are left)
     (returns-in_err-put-clause-named_or_not g c text found.named found.ready told is)
 
 pub returns-in_err-put-clause-keeps_names : goal.returns-in_err-put-clause-keeps_names
@@ -74,7 +74,7 @@ returns-in_err-put-2-clause-named_or_not g c = λ text named ready told is.
 pub returns-in_err-put-2-clause-whole_or_not : goal.returns-in_err-put-2-clause-whole_or_not
 returns-in_err-put-2-clause-whole_or_not g c = λ text history found told is.
     leaves_more g.D.Disk.images _ _ _ _
-    (λ image left. without_names c.args.self.now.version text found.named (with_name c.args.self.now c.args.entry.now) history image found.history left)
+    (λ image left. without_names c.args.self.now.version text found.named (with_name c.args.self.now c.args.entry.now) history image found.entries_are left)
     (returns-in_err-put-2-clause-named_or_not g c text found.named found.ready told is)
 
 pub returns-in_err-put-2-clause-keeps_names : goal.returns-in_err-put-2-clause-keeps_names
@@ -105,7 +105,7 @@ returns-clause-named_or_not g c = λ text named ready told is.
 pub returns-clause-whole_or_not : goal.returns-clause-whole_or_not
 returns-clause-whole_or_not g c = λ text history found told is.
     leaves_more g.D.Disk.images _ _ _ _
-    (λ image left. without_names c.args.self.now.version text found.named (with_name c.args.self.now c.args.entry.now) history image found.history left)
+    (λ image left. without_names c.args.self.now.version text found.named (with_name c.args.self.now c.args.entry.now) history image found.entries_are left)
     (returns-clause-named_or_not g c text found.named found.ready told is)
 
 pub returns-clause-keeps_names : goal.returns-clause-keeps_names
@@ -165,5 +165,5 @@ pub returns-clause-kept : goal.returns-clause-kept
 returns-clause-kept g c = λ text history found. record {
   named = found.named ++ with_name c.args.self.now c.args.entry.now ∷ [];
   ready = returns-clause-named g c text found.named found.ready;
-  history = map-push (λ n. n.entry) found.named (with_name c.args.self.now c.args.entry.now) history found.history;
+  entries_are = map-push (λ n. n.entry) found.named (with_name c.args.self.now c.args.entry.now) history found.entries_are;
 }
