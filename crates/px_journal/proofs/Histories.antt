@@ -1,6 +1,6 @@
 -- What each image since some moment begins with, an append doesn't take away; and how far the gates can stand.
 use Rattle.std.proofs.Common.{◌≡◌, ◌≤◌, ◌+◌, ◌*◌, ◌⊎◌, inl, inr, ⊎_elim, ℕ, List, [], ◌∷◌, ◌++◌, length, sym, ◌∙◌, ap, subst, arith, append_assoc, length-append, map, IsTrue}
-use Rattle.std.proofs.lemmas.List.{take_all, map-append}
+use Rattle.std.proofs.lemmas.List.{take_all, length-map, map-append}
 use Rattle.std.proofs.lemmas.Bool.{and_parts}
 use Rattle.std.specs.List.{list_all}
 use Rattle.byteorder.specs.Endian.{big_bytes}
@@ -59,6 +59,10 @@ keeps_names version images old new told text named next left stands leaves t ear
     subst (λ (v : Version). KeepsSinceAs v images t text' front old → KeepsSinceAs v images t text' front new) versions
     (keeps (StandsAs version) (λ bytes text other list others first second. let same = one_meaning version version bytes text other list others first second in (same.1, same.2))
     images old new told text named next left stands leaves t early text' front) before
+
+-- as many entries as records
+pub entries_count : (named : List NamedEntry) (history : List Entry) → entries named ≡ history → length named ≡ length history
+entries_count named history are = sym (length-map named (λ (n : NamedEntry). n.entry)) ∙ ap length are
 
 -- one thing more of each entry
 pub map-push : {X : Type 0} (part : NamedEntry → X) (named : List NamedEntry) (next : NamedEntry) (parts : List X) → map part named ≡ parts

@@ -1,7 +1,6 @@
 -- What a ready journal says in whatever version, for the crates above.
 use Rattle.std.proofs.Common.{◌≡◌, ◌≤◌, List, [], ◌∷◌, ℕ, length, ◌∙◌, ap, refl, subst, sym, arith, IsTrue}
 use Rattle.std.proofs.lemmas.Bool.{and_parts, and_from}
-use Rattle.std.proofs.lemmas.List.{length-map}
 use Rattle.std.specs.Prelude.{IsFalse}
 use Rattle.std.specs.List.{list_all}
 use Rattle.std.specs.Option.{ForSome}
@@ -16,12 +15,8 @@ use Rattle.px_journal.specs.declared.version.Version.{Version}
 use Rattle.px_journal.proofs.Appending.{closed_within}
 use Rattle.px_journal.proofs.Bodies.{entry_fits}
 use Rattle.px_journal.proofs.Creating.{not_nothing}
-use Rattle.px_journal.proofs.Histories.{length-heading}
+use Rattle.px_journal.proofs.Histories.{entries_count, length-heading}
 use Rattle.px_journal.proofs.Undamaged.{open_not_closed}
-
--- as many entries as records
-pub entries_count : (named : List NamedEntry) (history : List Entry) → entries named ≡ history → length named ≡ length history
-entries_count named history are = sym (length-map named (λ (n : NamedEntry). n.entry)) ∙ ap length are
 
 entries_fit : (version : Version) (named : List NamedEntry) → IsTrue (list_all (is_fit version) named) → IsTrue (list_all is_fit_entry (entries named))
 entries_fit version [] fit = refl

@@ -13,7 +13,7 @@ use Rattle.px_journal.specs.Goes.{Reads}
 use Rattle.px_journal.specs.Layout.{entries, interfaces, is_closed, is_fit, is_open, next_gate, record_bytes, Front, Opens, StandsAs}
 use Rattle.px_journal.specs.declared.version.Version.{Version}
 use Rattle.px_journal.proofs.Fronts.{Front-push, fits-push, next_gate-push}
-use Rattle.px_journal.proofs.Histories.{length-heading}
+use Rattle.px_journal.proofs.Histories.{length-heading, map-push}
 use Rattle.px_journal.proofs.Going.{rises_none, reads_then}
 use Rattle.px_journal.proofs.Moments.{reads_none}
 
@@ -69,6 +69,18 @@ module _ {D : Type 0} (members : Disk.Ghosts D) (old now : D) (version : Version
       ⊎_elim (λ much. inl (much.0, full (much.1))) (λ broken. inr (not_full (broken.0), broken.1)) (found.1) in
       record_is version plan history at (read.front told is)
       (subst (λ (n : ℕ). DamagedRecord version told history n at) read.place (record { open_gate = found.0; row = row }))
+
+-- one entry more, with its name
+pub read_both : {D : Type 0} (members : Disk.Ghosts D) (old now new : D) (version : Version) (plan : List ℕ) (size : ℕ) (history : List Entry)
+    (names : List (Option (List ℕ))) (gate next : ℕ) (named : NamedEntry) (both : HasReadBoth members old now version plan size history names gate)
+    → HasRead members old new version plan size (both.named ++ named ∷ []) next
+    → HasReadBoth members old new version plan size (history ++ named.entry ∷ []) (names ++ named.name ∷ []) next
+read_both members old now new version plan size history names gate next named both read = record {
+  named = both.named ++ named ∷ [];
+  entries_are = map-push (λ n. n.entry) both.named named history both.entries_are;
+  names_are = map-push (λ n. n.name) both.named named names both.names_are;
+  read = read;
+}
 
 -- before the first record
 pub read_nothing : {D : Type 0} (members : Disk.Ghosts D) (disk : D) (version : Version) (plan : List ℕ) (size : ℕ) → next_gate version plan [] < size
