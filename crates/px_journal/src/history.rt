@@ -12,7 +12,7 @@ use crate::layout::{RECORD_LIMIT, TEXT_PLACE};
 use crate::record::next_record;
 use crate::version::Version;
 use crate::window::Window;
-use px_event::{Entry, NamedEntry};
+use px_event::Entry;
 use px_ports::Disk;
 use px_value::Name;
 use std::alloc::Global;
@@ -56,9 +56,9 @@ pub(crate) fn read_history<D: Disk>(
     loop {
         let is_full = entries.len() == RECORD_LIMIT as usize;
         match next_record(alloc, disk, version, gate, size, is_full, &mut window)? {
-            Some((NamedEntry { name, entry }, next)) => {
-                entries.push(entry)?;
-                names.push(name)?;
+            Some((named, next)) => {
+                entries.push(named.entry)?;
+                names.push(named.name)?;
                 gate = next;
             }
             None => {

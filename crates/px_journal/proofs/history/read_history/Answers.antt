@@ -1,5 +1,4 @@
 use Rattle.std.proofs.Common.{◌≡◌, [], ◌∷◌, ◌++◌, Err, length, sym, ◌∙◌, ap, arith, length-append}
-use Rattle.px_event.specs.declared.named.NamedEntry.{NamedEntry}
 use Rattle.px_journal.specs.declared.fault.RecoverWhy.TheVariants as whys
 use Rattle.px_journal.proofs.Going.{handed_to, handed_from, other_fault, reads_then, reads_told}
 use Rattle.px_journal.proofs.Histories.{entries_count}
@@ -19,57 +18,57 @@ loop-window-init g c = (
   omega (arith, c.in_ok-window.ensures.0, ap length c.in_ok-window.ensures.1),
 )
 
-pub returns-in_err-name-clause-reads : goal.returns-in_err-name-clause-reads
-returns-in_err-name-clause-reads g c =
-    reads_told g.D.Disk (reads_then g.D.Disk (c.loop-window.invariant.0).read.reads (λ failed. failed) c.in_err-name.ensures.reads)
-    (handed_to c.from_residual-in_err-name.ensures.1) (handed_from c.from_residual-in_err-name.ensures.1)
+pub returns-in_err-named-clause-reads : goal.returns-in_err-named-clause-reads
+returns-in_err-named-clause-reads g c =
+    reads_told g.D.Disk (reads_then g.D.Disk (c.loop-window.invariant.0).read.reads (λ failed. failed) c.in_err-named.ensures.reads)
+    (handed_to c.from_residual-in_err-named.ensures.1) (handed_from c.from_residual-in_err-named.ensures.1)
 
 pub returns-in_err-push-in-Some-clause-reads : goal.returns-in_err-push-in-Some-clause-reads
 returns-in_err-push-in-Some-clause-reads g c =
-    reads_told g.D.Disk (reads_then g.D.Disk (c.loop-window.invariant.0).read.reads (λ failed. failed) c.in_ok-name.ensures.reads)
+    reads_told g.D.Disk (reads_then g.D.Disk (c.loop-window.invariant.0).read.reads (λ failed. failed) c.in_ok-named.ensures.reads)
     (λ failed. absurd (cc)) (λ failed. absurd (other_fault c.from_residual-in_err-push-in-Some.ensures.1 (λ same. absurd (cc)) failed))
 
 pub returns-in_err-push-in-Some-2-clause-reads : goal.returns-in_err-push-in-Some-2-clause-reads
 returns-in_err-push-in-Some-2-clause-reads g c =
-    reads_told g.D.Disk (reads_then g.D.Disk (c.loop-window.invariant.0).read.reads (λ failed. failed) c.in_ok-name.ensures.reads)
+    reads_told g.D.Disk (reads_then g.D.Disk (c.loop-window.invariant.0).read.reads (λ failed. failed) c.in_ok-named.ensures.reads)
     (λ failed. absurd (cc)) (λ failed. absurd (other_fault c.from_residual-in_err-push-in-Some-2.ensures.1 (λ same. absurd (cc)) failed))
 
 pub returns-in-None-clause-reads : goal.returns-in-None-clause-reads
 returns-in-None-clause-reads g c =
-    reads_told g.D.Disk (reads_then g.D.Disk (c.loop-window.invariant.0).read.reads (λ failed. failed) c.in_ok-name.ensures.reads)
+    reads_told g.D.Disk (reads_then g.D.Disk (c.loop-window.invariant.0).read.reads (λ failed. failed) c.in_ok-named.ensures.reads)
     (λ failed. absurd (cc)) (λ failed. absurd (cc))
 
-pub returns-in_err-name-clause-damaged : goal.returns-in_err-name-clause-damaged
-returns-in_err-name-clause-damaged g c = λ at refused.
+pub returns-in_err-named-clause-damaged : goal.returns-in_err-named-clause-damaged
+returns-in_err-named-clause-damaged g c = λ at refused.
     let both = c.loop-window.invariant.0 in
     let count : c.len.result ≡ length both.named = omega (arith, c.len.ensures, c.loop-window.entries.ok.0, entries_count both.named _ both.entries_are) in
-    let why = err_is c.from_residual-in_err-name.result (whys.Damaged at) c.in_err-name.field-0.0 c.from_residual-in_err-name.ensures.1 refused in
+    let why = err_is c.from_residual-in_err-named.result (whys.Damaged at) c.in_err-named.field-0.0 c.from_residual-in_err-named.ensures.1 refused in
     read_damaged g.D.Disk c.args.disk.now _ c.args.version c.args.plan.now c.args.size both.named c.loop-window.gate both.read at _
     (λ full. sym count ∙ full_history _ full) (λ room. omega (arith, count, room_in_history _ (omega (arith, count, both.read.few)) room))
-    (c.in_err-name.ensures.damaged at (ap Err why))
+    (c.in_err-named.ensures.damaged at (ap Err why))
 
 pub loop-window-smaller : goal.loop-window-smaller
 loop-window-smaller g c =
     let both = c.loop-window.invariant.0 in
     let entries = entries_count both.named _ both.entries_are in
     let count : c.len.result ≡ length both.named = omega (arith, c.len.ensures, c.loop-window.entries.ok.0, entries) in
-    let found = rw c.in-Some.is at c.in_ok-name.ensures.found in
+    let found = rw c.in-Some.is at c.in_ok-named.ensures.found in
     omega (arith, count, entries, room_in_history _ (omega (arith, count, both.read.few)) (found.1), ap length c.in_ok-push-in-Some.ensures.items,
-    length-append c.loop-window.entries.items (c.in-Some.entry ∷ []))
+    length-append c.loop-window.entries.items (c.in-Some.named.entry ∷ []))
 
 pub loop-window-preserved : goal.loop-window-preserved
 loop-window-preserved g c =
     let both = c.loop-window.invariant.0 in
     let count : c.len.result ≡ length both.named = omega (arith, c.len.ensures, c.loop-window.entries.ok.0, entries_count both.named _ both.entries_are) in
-    let found = rw c.in-Some.is at c.in_ok-name.ensures.found in
-    let opens = rw c.in-Some.is at c.in_ok-name.ensures.opens in
-    let named : NamedEntry = record { name = c.in-Some.name; entry = c.in-Some.entry } in
+    let found = rw c.in-Some.is at c.in_ok-named.ensures.found in
+    let opens = rw c.in-Some.is at c.in_ok-named.ensures.opens in
+    let named = c.in-Some.named in
     let next = read_next g.D.Disk c.args.disk.now _ c.args.version c.args.plan.now c.args.size both.named c.loop-window.gate both.read
     c.next_record.new.disk named c.in-Some.next (found.0) (found.2) (found.3)
     (omega (arith, count, room_in_history _ (omega (arith, count, both.read.few)) (found.1))) opens
-    (reads_told g.D.Disk c.in_ok-name.ensures.reads (λ failed. absurd (cc)) (λ failed. absurd failed)) in (
+    (reads_told g.D.Disk c.in_ok-named.ensures.reads (λ failed. absurd (cc)) (λ failed. absurd failed)) in (
       rw (c.in_ok-push-in-Some.ensures.items, c.in_ok-push-in-Some-2.ensures.items)
           (read_both g.D.Disk c.args.disk.now _ c.next_record.new.disk c.args.version c.args.plan.now c.args.size _ _ c.loop-window.gate c.in-Some.next named both next),
-      λ told is. c.in_ok-name.ensures.shows told (both.read.reads.only.bytes ∙ is),
-      c.in_ok-name.ensures.inside,
+      λ told is. c.in_ok-named.ensures.shows told (both.read.reads.only.bytes ∙ is),
+      c.in_ok-named.ensures.inside,
     )
