@@ -1,9 +1,8 @@
 -- The bodies of records, in either version: what is read of them, and how long they are.
-use Rattle.std.proofs.Common.{◌≡◌, ◌≢◌, ◌≤◌, inl, inr, ℕ, true, List, [], ◌∷◌, length, Option, Some, None, refl, ◌∙◌, ap, subst, arith, IsTrue}
+use Rattle.std.proofs.Common.{◌≡◌, ◌≤◌, inl, inr, ℕ, true, List, [], ◌∷◌, length, Option, Some, None, refl, ◌∙◌, ap, subst, arith}
 use Rattle.std.specs.Prelude.{◌&&◌, ◌==◌, is_none}
 use Rattle.std.specs.Option.{option_map}
 use Rattle.std.proofs.lemmas.Bool.{and_parts, and_from, cases_Bool}
-use Rattle.px_event.specs.Bytes.{entry_bytes}
 use Rattle.px_event.specs.Fit.{is_fit_entry, is_interface, is_report_name}
 use Rattle.px_event.specs.Names.{name_of, are_names}
 use Rattle.px_event.specs.Reading.{decoded, decoded_named}
@@ -14,7 +13,6 @@ use Rattle.px_event.proofs.Entries.{decoded_takes, decoded_again, entry_short}
 use Rattle.px_event.proofs.Fields.{IsBytes, some_is}
 use Rattle.px_event.proofs.Interfaces.{named_decoded_takes, named_decoded_again, named_short}
 use Rattle.px_event.proofs.Wholes.{one_spelled}
-use Rattle.px_journal.specs.Damage.{IsNoBody}
 use Rattle.px_journal.specs.Journal.{name_given}
 use Rattle.px_journal.specs.Layout.{body_bytes, is_fit}
 use Rattle.px_journal.specs.declared.version.Version.{Version}
@@ -37,9 +35,6 @@ some_unnamed (Some entry) named e = (entry, refl, some_is (unnamed entry) named 
 pub entry_fits : (version : Version) (named : NamedEntry) → is_fit version named ≡ true → is_fit_entry named.entry ≡ true
 entry_fits versions.One named fit = (and_parts (is_none named.name) (is_fit_entry named.entry) fit).1
 entry_fits versions.Two named fit = (and_parts (is_interface named.name) (is_fit_entry named.entry) fit).1
-
-pub no_entry_no_body : (bytes : List ℕ) → ((entry : Entry) → IsTrue (is_fit_entry entry) → bytes ≢ entry_bytes entry) → IsNoBody versions.One bytes
-no_entry_no_body bytes none named fit = none named.entry (entry_fits versions.One named fit)
 
 -- ---- what is read
 

@@ -15,7 +15,7 @@ use Rattle.px_journal.specs.declared.version.Version.{Version}
 use Rattle.px_journal.proofs.Bodies.{body_short}
 use Rattle.px_journal.proofs.Fronts.{next_gate-push}
 use Rattle.px_journal.proofs.Meaning.{one_meaning, one_meaning_text, one_meaning_history}
-use Rattle.px_journal.proofs.Moments.{left_before_or_after, leaves_more}
+use Rattle.px_journal.proofs.Moments.{left_before_or_after}
 
 -- what a crash now may leave is among what one since an earlier moment may leave
 told_since : (images : Images) (old : List Moment) (told : List ℕ) (t : ℕ) → t ≤ length old → images old told → LeftSince images old t told

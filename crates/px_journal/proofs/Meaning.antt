@@ -1,5 +1,5 @@
 -- Bytes are of at most one version, and stand for at most one text and one history.
-use Rattle.std.proofs.Common.{◌≡◌, ◌≤◌, ◌<◌, ◌+◌, ◌^◌, ℕ, suc, List, [], ◌∷◌, ◌++◌, Option, length, take, drop, refl, sym, ◌∙◌, ap, subst, arith, length-append, IsTrue}
+use Rattle.std.proofs.Common.{◌≡◌, ◌≤◌, ◌<◌, ◌+◌, ◌^◌, ℕ, List, [], ◌∷◌, ◌++◌, Option, length, take, drop, refl, sym, ◌∙◌, ap, subst, arith, length-append, IsTrue}
 use Rattle.std.proofs.lemmas.List.{take_at, drop_at, drop-drop, take-take, drop-take, get_or-drop}
 use Rattle.std.proofs.lemmas.Bool.{and_parts}
 use Rattle.std.specs.Prelude.{slice_index}
@@ -9,7 +9,7 @@ use Rattle.byteorder.specs.Numbers.{length-bytes_high_first, big_number-reads_ba
 use Rattle.px_event.specs.declared.entry.Entry.{Entry}
 use Rattle.px_event.specs.declared.named.NamedEntry.{NamedEntry}
 use Rattle.px_journal.specs.Damage.{HasVersion}
-use Rattle.px_journal.specs.Layout.{magic, digit, heading, body_bytes, record_bytes, entries, interfaces, is_fit, is_open, is_closed, Opens, Records, records_size, Front, StandsAs, Stands, AreNamesOf}
+use Rattle.px_journal.specs.Layout.{magic, digit, heading, body_bytes, record_bytes, entries, interfaces, is_fit, is_open, is_closed, Opens, Records, records_size, StandsAs, Stands, AreNamesOf}
 use Rattle.px_journal.specs.declared.version.Version.{Version}
 use Rattle.px_journal.proofs.Bodies.{one_body, body_short}
 use Rattle.px_journal.proofs.Digits.{one_digit}

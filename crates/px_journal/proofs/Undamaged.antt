@@ -1,5 +1,5 @@
 -- Bytes that stand for a text and a history are not damaged, and others are damaged at one place.
-use Rattle.std.proofs.Common.{◌≡◌, ◌≢◌, ◌≤◌, ◌<◌, ◌+◌, ◌^◌, ◌⊎◌, inl, inr, ⊎_elim, ℕ, true, false, List, [], ◌∷◌, ◌++◌, length, take, drop, refl, sym, ◌∙◌, ap, subst, arith, IsTrue}
+use Rattle.std.proofs.Common.{◌≡◌, ◌≢◌, ◌≤◌, ◌<◌, ◌+◌, ◌^◌, ◌⊎◌, inl, inr, ⊎_elim, ℕ, true, false, List, [], ◌∷◌, length, take, drop, refl, sym, ◌∙◌, ap, subst, arith, IsTrue}
 use Rattle.std.specs.Prelude.{slice_index}
 use Rattle.std.specs.List.{list_all}
 use Rattle.std.proofs.lemmas.Bool.{and_parts, cases_lt}
@@ -12,7 +12,7 @@ use Rattle.px_event.specs.declared.named.NamedEntry.{NamedEntry}
 use Rattle.px_journal.specs.Damage.{body, body_length, text_length, HasVersion, DamagedRecord, IsBroken}
 use Rattle.px_journal.specs.Damage as Damage
 use Rattle.px_journal.specs.Damage.Damaged.{magic_differs, version_differs, text_is_cut, record_is}
-use Rattle.px_journal.specs.Layout.{magic, digit, body_bytes, heading, is_fit, is_open, is_closed, record_bytes, records_size, next_gate, Opens, Records, Front, Stands, StandsAs}
+use Rattle.px_journal.specs.Layout.{magic, body_bytes, heading, is_fit, is_open, is_closed, record_bytes, records_size, next_gate, Opens, Records, Front, Stands, StandsAs}
 use Rattle.px_journal.specs.declared.version.Version.{Version}
 use Rattle.px_journal.proofs.Appending.{closed_within}
 use Rattle.px_journal.proofs.Bodies.{body_short}

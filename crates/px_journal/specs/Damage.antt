@@ -1,5 +1,5 @@
 -- Where the bytes of a journal are damaged: the first place of a list of places, in its order.
-use Rattle.std.specs.Prelude.{◌≡◌, ◌≢◌, ◌<◌, ◌≤◌, ◌⊎◌, ℕ, ◌+◌, ◌∷◌, List, length, take, drop, slice_index, IsTrue}
+use Rattle.std.specs.Prelude.{◌≡◌, ◌≢◌, ◌<◌, ◌≤◌, ◌⊎◌, ℕ, ◌+◌, List, length, take, drop, slice_index, IsTrue}
 use Rattle.byteorder.specs.Endian.{big_number}
 use Rattle.px_event.specs.declared.named.NamedEntry.{NamedEntry}
 use Rattle.px_journal.specs.Layout.{magic, digit, body_bytes, is_fit, is_open, next_gate, Front}

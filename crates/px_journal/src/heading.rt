@@ -15,10 +15,7 @@ use px_ports::Disk;
 use std::alloc::Global;
 
 /// The version, and the length of the plan's text, of a file of `size` bytes that is an open journal.
-pub(crate) fn read_heading<D: Disk>(
-    disk: &mut D,
-    size: u64,
-) -> Result<(Version, u32), RecoverWhy>
+pub(crate) fn read_heading<D: Disk>(disk: &mut D, size: u64) -> Result<(Version, u32), RecoverWhy>
     requires attached { IsTrue (D.is_attached disk.old) }
     requires least { 13 ≤ size }
     requires size { ForSome (D.content disk.old) (λ told. size ≡ length told) }

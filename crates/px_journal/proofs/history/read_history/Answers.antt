@@ -1,8 +1,8 @@
-use Rattle.std.proofs.Common.{◌≡◌, [], ◌∷◌, ◌++◌, Err, length, sym, ◌∙◌, ap, arith, length-append}
+use Rattle.std.proofs.Common.{◌≡◌, [], ◌∷◌, Err, length, sym, ◌∙◌, ap, arith, length-append}
 use Rattle.px_journal.specs.declared.fault.RecoverWhy.TheVariants as whys
 use Rattle.px_journal.proofs.Going.{handed_to, handed_from, other_fault, reads_then, reads_told}
 use Rattle.px_journal.proofs.Histories.{entries_count}
-use Rattle.px_journal.proofs.Walking.{read_next, read_both, read_damaged, read_nothing, read_stands, err_is, full_history, room_in_history}
+use Rattle.px_journal.proofs.Walking.{read_next, read_both, read_damaged, read_nothing, err_is, full_history, room_in_history}
 use Rattle.px_journal.proofs.Windows.{shows_nothing}
 use Rattle.px_journal.proofs.history.read_history.Goals as goal
 
@@ -53,8 +53,14 @@ loop-window-smaller g c =
     let entries = entries_count both.named _ both.entries_are in
     let count : c.len.result ≡ length both.named = omega (arith, c.len.ensures, c.loop-window.entries.ok.0, entries) in
     let found = rw c.in-Some.is at c.in_ok-named.ensures.found in
-    omega (arith, count, entries, room_in_history _ (omega (arith, count, both.read.few)) (found.1), ap length c.in_ok-push-in-Some.ensures.items,
-    length-append c.loop-window.entries.items (c.in-Some.named.entry ∷ []))
+    omega (
+      arith,
+      count,
+      entries,
+      room_in_history _ (omega (arith, count, both.read.few)) (found.1),
+      ap length c.in_ok-push-in-Some.ensures.items,
+      length-append c.loop-window.entries.items (c.in-Some.named.entry ∷ []),
+    )
 
 pub loop-window-preserved : goal.loop-window-preserved
 loop-window-preserved g c =
