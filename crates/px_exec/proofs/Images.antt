@@ -8,6 +8,7 @@ use Rattle.px_journal.specs.Layout.{Stands}
 use Rattle.px_journal.specs.declared.journal.Journal.{Journal}
 use Rattle.px_journal.proofs.Going.{goes_none, goes_told}
 use Rattle.px_journal.proofs.Moments.{grows_on, left_before_or_after}
+use Rattle.px_journal.proofs.Ready.{ready_stands, ready_synced}
 use Rattle.px_ports.specs.Moment.{Images, LeftSince}
 use Rattle.px_ports.specs.declared.disk.Disk
 use Rattle.px_ports.specs.declared.moment.Moment.{Moment}
@@ -28,8 +29,8 @@ pub ready_leaves : {D : Type 0} (members : Disk.Ghosts D) (journal : Journal D) 
 ready_leaves members journal text told history left ready is to = record {
   grows = nothing_passes (members.moments journal.disk);
   each = λ image since.
-      let same : image ≡ told = ready.synced told is image (left_now members.images (members.moments journal.disk) image since) in
-      to image (subst (λ (bytes : List ℕ). Stands bytes text history) (sym same) (ready.stands told is));
+      let same : image ≡ told = ready_synced _ _ _ _ ready told is image (left_now members.images (members.moments journal.disk) image since) in
+      to image (subst (λ (bytes : List ℕ). Stands bytes text history) (sym same) (ready_stands _ _ _ _ ready told is));
 }
 
 -- a call that doesn't reach the journal

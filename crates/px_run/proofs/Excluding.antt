@@ -1,6 +1,6 @@
 -- What the bytes of a journal exclude of one another: what stands for a text and a history is refused only where that runs
 -- away.
-use Rattle.std.proofs.Common.{◌≡◌, inl, inr, ℕ, ◌<◌, List, [], ◌∷◌, ◌++◌, length, Option, Some, None, IsSome, IsTrue, refl, arith, ap, subst, sym, ◌∙◌, append_assoc}
+use Rattle.std.proofs.Common.{◌≡◌, inl, inr, ℕ, List, [], ◌∷◌, ◌++◌, Option, Some, None, IsSome, IsTrue, refl, ap, subst, sym, ◌∙◌, append_assoc}
 use Rattle.std.specs.Option.{ForSome}
 use Rattle.std.proofs.lemmas.List.{map-append}
 use Rattle.px_core.specs.Plan.{Site, Tree, sites}
@@ -9,12 +9,11 @@ use Rattle.px_event.specs.declared.event.Event.{Event}
 use Rattle.px_compile.specs.Compiled.{IsCompiled}
 use Rattle.px_compile.proofs.Refusals.{one_plan}
 use Rattle.px_exec.specs.Opening.{RunsAwayAt}
-use Rattle.px_journal.specs.Layout.{is_nothing, next_gate, Stands}
-use Rattle.px_journal.proofs.Appending.{closed_within}
-use Rattle.px_journal.proofs.Creating.{not_nothing, nothing_or_not}
-use Rattle.px_journal.proofs.Histories.{length-heading}
+use Rattle.px_journal.specs.Layout.{is_nothing, Stands}
+use Rattle.px_journal.proofs.Creating.{nothing_or_not}
 use Rattle.px_journal.proofs.Meaning.{one_meaning_text, one_meaning_history}
-use Rattle.px_journal.proofs.Undamaged.{open_not_closed, undamaged}
+use Rattle.px_journal.proofs.Ready.{stands_not_nothing}
+use Rattle.px_journal.proofs.Undamaged.{undamaged}
 use Rattle.px_ports.specs.declared.disk.Disk
 use Rattle.px_sem.specs.Log.{events_of}
 use Rattle.px_sem.specs.Run.{posted, started, settled_world, run_on, run}
@@ -58,10 +57,7 @@ runs_to_its_end plan history at away some =
 
 -- what stands for a text and a history is a journal
 pub stands_something : (bytes text : List ℕ) (history : List Entry) → Stands bytes text history → IsTrue (is_nothing bytes) → ⊥
-stands_something bytes text history stands nothing =
-    let long : next_gate text history < length bytes = closed_within (next_gate text history) bytes stands.closed in
-    nothing_or_not (is_nothing bytes) nothing
-    (not_nothing bytes (omega (arith, long, length-heading text)) (open_not_closed bytes (stands.front).opens.gate))
+stands_something bytes text history stands nothing = nothing_or_not (is_nothing bytes) nothing (stands_not_nothing bytes text history stands)
 
 -- ---- refusals of a disk
 

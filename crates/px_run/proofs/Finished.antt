@@ -9,6 +9,7 @@ use Rattle.px_exec.specs.Executive.{Executive, plan_of, IsTextOf, TellsBytes}
 use Rattle.px_journal.specs.Goes.{Goes}
 use Rattle.px_journal.specs.Layout.{Stands}
 use Rattle.px_journal.proofs.Going.{goes_told}
+use Rattle.px_journal.proofs.Ready.{ready_stands, ready_synced}
 use Rattle.px_output.specs.Printing.{Prints}
 use Rattle.px_output.specs.View.{View}
 use Rattle.px_output.specs.declared.printer.PrintFault.{PrintFault}
@@ -45,7 +46,7 @@ opening_stands members exec text session same_text same_first tells ready image 
     let told = told_of (members.content exec.opening.journal.disk) tells in
     subst (λ (t : List ℕ). Stands image t session.first) (sym same_text)
     (subst (λ (h : List Entry). Stands image text h) (sym same_first)
-    (subst (λ (bytes : List ℕ). Stands bytes text exec.opening.history) (sym (ready.synced told.0 told.1 image left)) (ready.stands told.0 told.1)))
+    (subst (λ (bytes : List ℕ). Stands bytes text exec.opening.history) (sym (ready_synced _ _ _ _ ready told.0 told.1 image left)) (ready_stands _ _ _ _ ready told.0 told.1)))
 
 -- the text that is printed of a log that goes on from a history, by the history and the log that are shown
 pub prints_session : (Text : List Entry → Log → List ℕ) (mid new : View) (shown history first : List Entry) (shown_log log : Log) (r : Result Unit PrintFault)

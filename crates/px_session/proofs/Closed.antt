@@ -8,6 +8,7 @@ use Rattle.px_event.specs.declared.entry.Entry.{Entry}
 use Rattle.px_exec.specs.Executive.{Opening, Executive, Keeps, KeepsDisk, IsOpen, IsClosed, IsTextOf, TellsBytes, StandsWithin, plan_of}
 use Rattle.px_exec.specs.declared.closing.Failed.{Failed}
 use Rattle.px_journal.proofs.Going.{goes_told}
+use Rattle.px_journal.proofs.Ready.{ready_few, ready_fit, ready_stands, ready_synced}
 use Rattle.px_journal.specs.Crash.{LeavesOnly}
 use Rattle.px_journal.specs.Goes.{Goes}
 use Rattle.px_journal.specs.Journal.{IsReady}
@@ -50,11 +51,11 @@ module _ {S D : Type 0} (runs : Stepper.Ghosts S) (members : Disk.Ghosts D) (exe
     leaves_open tells text is =
         let ready = open_now.stands text is in
         let stands : (told : List ℕ) → members.content exec.journal.disk ≡ Some told → IsEnd (session_of text exec) told =
-        λ told here. inl (subst (Stands told text) keeps.grown (ready.stands told here)) in
+        λ told here. inl (subst (Stands told text) keeps.grown (ready_stands _ _ _ _ ready told here)) in
         record {
           now = record {
             read = stands;
-            left = λ told here image left. subst (IsEnd (session_of text exec)) (sym (ready.synced told here image left)) (stands told here);
+            left = λ told here image left. subst (IsEnd (session_of text exec)) (sym (ready_synced _ _ _ _ ready told here image left)) (stands told here);
           };
           since = subst (λ (h : List Entry). LeavesOnly members.images (StandsWithin text exec.opening.history h) (members.moments exec.opening.journal.disk) (members.moments exec.journal.disk))
               (whole text) (open_now.since tells text is);
@@ -142,8 +143,8 @@ closes {S} {D} runs members was after law keeps same threads posted ends disk_is
   has_run = subst (λ (o : Opening S D). HasRun (runs.state o.stepper).nodes posted.history.items (runs.state posted.stepper)) same
       (subst (λ (h : List Entry). HasRun (plan_of runs after) h (runs.state posted.stepper)) (sym history_is)
       (subst (λ (s : S). HasRun (plan_of runs after) after.history (runs.state s)) (sym stepper_is) (keeps.runs_to, keeps.settled)));
-  fit = λ none. subst (λ (h : List Entry). IsTrue (list_all is_fit_entry h)) (sym history_is) (ready none).fit;
-  few = λ none. let few = (ready none).few in omega (arith, few, ap length history_is);
+  fit = λ none. subst (λ (h : List Entry). IsTrue (list_all is_fit_entry h)) (sym history_is) (ready_fit _ _ _ _ (ready none));
+  few = λ none. let few = ready_few _ _ _ _ (ready none) in omega (arith, few, ap length history_is);
   disk = λ tells text is.
       let told = subst (λ (o : Opening S D). TellsBytes members o.journal.disk) (sym same) tells in
       let left = leaves_session runs members after keeps law told text (subst (λ (o : Opening S D). IsReady members o.journal text o.history) (sym same) is) in

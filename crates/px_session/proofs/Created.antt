@@ -20,6 +20,7 @@ use Rattle.px_session.specs.Attaching.{IsAttached, IsNotAttached}
 use Rattle.px_session.specs.Creating.{LeavesNew, Creates, IsCreateWhy, IsNotCreated}
 use Rattle.px_journal.proofs.Creating.{nothing_or_not}
 use Rattle.px_journal.proofs.Going.{rises_told}
+use Rattle.px_journal.proofs.Ready.{ready_stands, ready_synced}
 use Rattle.px_session.specs.Session.{unposted, HasOneHistory}
 use Rattle.px_session.proofs.Sessions.{untouched_at_once, untouched_on, new_read, new_on, one_history}
 
@@ -115,7 +116,7 @@ module _ {D : Type 0} (members : Disk.Ghosts D) (name text : List ℕ) (old mid 
     made_in_vain journal right here ready nothing = record {
       why = inr (
         λ told is. nothing told ((was.untouched).content ∙ is),
-        subst (HasOneHistory members (unposted text [])) here (one_history members journal.disk text [] ready.synced ready.stands),
+        subst (HasOneHistory members (unposted text [])) here (one_history members journal.disk text [] (ready_synced _ _ _ _ ready) (ready_stands _ _ _ _ ready)),
       );
       leaves = leaves;
       tells = tells;

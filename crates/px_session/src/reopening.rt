@@ -90,6 +90,7 @@ fn run_recovered<S: Stepper, D: Disk>(
         journal,
         plan: text,
         history,
+        ..
     } = recovered;
     let (plan, stepper) = match start_text(alloc, &text) {
         Ok(started) => started,

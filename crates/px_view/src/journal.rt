@@ -51,6 +51,7 @@ fn text_and_history(read: Recovered<MemDisk>) -> Held {
         journal,
         plan,
         history,
+        ..
     } = read;
     drop(journal);
     Held {

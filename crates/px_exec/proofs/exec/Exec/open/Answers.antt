@@ -5,6 +5,7 @@ use Rattle.px_event.specs.declared.entry.Entry.{Entry}
 use Rattle.px_sem.specs.Log.{events_of}
 use Rattle.px_sem.specs.Run.{run}
 use Rattle.px_sem.specs.Stepper.{settled_state}
+use Rattle.px_journal.proofs.Ready.{ready_few, ready_fit}
 use Rattle.px_exec.specs.Opening.{IsWhy}
 use Rattle.px_exec.proofs.Keeping.{keeps_at_once, opening_of}
 use Rattle.px_exec.proofs.exec.Exec.open.Goals as goal
@@ -17,11 +18,11 @@ run_history-requires-clause-started g c = c.requires.started
 
 pub run_history-requires-clause-fit : goal.run_history-requires-clause-fit
 run_history-requires-clause-fit g c =
-    subst (λ (h : List Entry). IsTrue (list_all is_fit_entry h)) (sym c.deref.ensures.value) (c.requires.ready.1).fit
+    subst (λ (h : List Entry). IsTrue (list_all is_fit_entry h)) (sym c.deref.ensures.value) (ready_fit _ _ _ _ (c.requires.ready.1))
 
 pub run_history-requires-clause-few : goal.run_history-requires-clause-few
 run_history-requires-clause-few g c =
-    subst (λ (h : List Entry). length h ≤ 100000) (sym c.deref.ensures.value) (c.requires.ready.1).few
+    subst (λ (h : List Entry). length h ≤ 100000) (sym c.deref.ensures.value) (ready_few _ _ _ _ (c.requires.ready.1))
 
 pub invariant_of-result : goal.invariant_of-result
 invariant_of-result g c = keeps_at_once g.S.Stepper g.D.Disk c.run_history.new.stepper c.args.stepper c.args.journal c.args.history.items c.args.limit

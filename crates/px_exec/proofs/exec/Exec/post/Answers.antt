@@ -3,6 +3,7 @@ use Rattle.std.proofs.lemmas.Result.{err_from_is_err_and}
 use Rattle.px_event.specs.Fit.{is_fit_entry}
 use Rattle.px_event.specs.declared.entry.Entry.{Entry}
 use Rattle.px_event.specs.declared.reply.Reply.{Reply}
+use Rattle.px_journal.proofs.Ready.{ready_count, ready_few}
 use Rattle.px_exec.specs.declared.answering.Unanswered.{Unanswered}
 use Rattle.px_exec.proofs.Images.{adds_nothing, adds_told}
 use Rattle.px_exec.proofs.Tellings.{none_of, unfailed_of, failed_of, closes_with, grows_from, length_more, at_rest, ready_now, keeps_reply, posts_reply, keeps_fault, posts_fault, keeps_out, posts_out, answered_otherwise}
@@ -39,7 +40,7 @@ returns-in_err-copies-clause-crash g c =
 pub overflow_cast-len : goal.overflow_cast-len
 overflow_cast-len g c =
     let ready = ready_now g.S.Stepper g.D.Disk _ c.self.invariant (unfailed_of _ _ c.closed_after.ensures (none_of _ c.in_default.not-Some)) in
-    omega (arith, c.len.ensures, ap length c.in_ok-copies.ensures.history, ready.few)
+    omega (arith, c.len.ensures, ap length c.in_ok-copies.ensures.history, ready_few _ _ _ _ ready)
 
 pub answer-requires-clause-nothing : goal.answer-requires-clause-nothing
 answer-requires-clause-nothing g c = at_rest g.S.Stepper g.D.Disk _ c.self.invariant
@@ -57,7 +58,7 @@ answer-requires-clause-ready g c =
 pub answer-requires-clause-count : goal.answer-requires-clause-count
 answer-requires-clause-count g c =
     let ready = ready_now g.S.Stepper g.D.Disk _ c.self.invariant (unfailed_of _ _ c.closed_after.ensures (none_of _ c.in_default.not-Some)) in
-    omega (arith, c.len.ensures, c.prepare.new.history.ok.0, ap length c.in_ok-copies.ensures.history, ready.count)
+    omega (arith, c.len.ensures, c.prepare.new.history.ok.0, ap length c.in_ok-copies.ensures.history, ready_count _ _ _ _ ready)
 
 -- ---- a reply
 
