@@ -13,7 +13,7 @@ use std::alloc::Global;
 use std::str::from_utf8;
 
 /// The most bytes of a journal's file that is read.
-const JOURNAL_LIMIT: usize = 1_000_000_000;
+pub const JOURNAL_LIMIT: usize = 1_000_000_000;
 
 /// Says what the journal in a file holds.
 pub fn journal_file<H: Host>(alloc: Global, name: &str, host: &mut H) -> Result<Answer, Stop> {
@@ -21,8 +21,8 @@ pub fn journal_file<H: Host>(alloc: Global, name: &str, host: &mut H) -> Result<
     journal_answer(alloc, name, bytes)
 }
 
-// Says what the bytes of a journal's file hold.
-fn journal_answer(alloc: Global, name: &str, bytes: Vec<u8>) -> Result<Answer, Stop> {
+/// Says what the bytes of a journal's file hold.
+pub fn journal_answer(alloc: Global, name: &str, bytes: Vec<u8>) -> Result<Answer, Stop> {
     match recovered(alloc, &bytes) {
         Ok(read) => whole(alloc, name, &bytes, read),
         Err(RecoverWhy::NoJournal) => nothing(alloc, name, bytes.len()),
@@ -31,15 +31,15 @@ fn journal_answer(alloc: Global, name: &str, bytes: Vec<u8>) -> Result<Answer, S
     }
 }
 
-// The text and the history of a journal.
+/// The text and the history of a journal.
 #[derive(Drop)]
-struct Held {
-    text: Vec<u8>,
-    history: Vec<Entry>,
+pub struct Held {
+    pub text: Vec<u8>,
+    pub history: Vec<Entry>,
 }
 
-// What the bytes of a journal stand for.
-fn recovered(alloc: Global, bytes: &[u8]) -> Result<Held, RecoverWhy> {
+/// What the bytes of a journal stand for.
+pub fn recovered(alloc: Global, bytes: &[u8]) -> Result<Held, RecoverWhy> {
     match Journal::recover(alloc, disk_of(alloc, bytes)?) {
         Ok(read) => Ok(text_and_history(read)),
         Err(fault) => Err(fault.why),

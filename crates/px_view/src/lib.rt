@@ -1,12 +1,13 @@
-//! What the second program does: it explains what is refused, and lists nodes and entries.
+//! What the second program does: it explains what is refused, lists nodes and entries, and draws runs.
 //!
 //! `words` has what the command words ask for, and `answer` what is answered to them; `reading` reads files over a host.
-//! `why`, with `lines` for scripts, `nodes`, with `terms`, and `journal`, with `gates`, are the commands, and `top` calls
-//! the one that was asked for. Nothing is written but the answer, and nothing is judged here that the crates below don't
-//! judge.
+//! `why`, with `lines` for scripts, `nodes`, with `terms`, `journal`, with `gates`, and `chart` are the commands, and `top`
+//! calls the one that was asked for. Nothing is written but the answer, and nothing is judged here that the crates below
+//! don't judge.
 #![tactic(auto)]
 
 mod answer;
+mod chart;
 mod gates;
 mod journal;
 mod lines;

@@ -3,6 +3,7 @@ ghost use Rattle.px_core.specs.Fit.{IsFit};
 ghost use Rattle.px_core.specs.Plan.{tree_of};
 
 use px_core::Plan;
+use px_event::Entry;
 use px_script::{SCRIPT_LIMIT, ScriptFault, read_script};
 use px_value::NoMemory;
 use px_why::{Nearest, NodePath, Place, Words, paths_of, push_fault, push_whole};
@@ -59,6 +60,16 @@ pub fn why_script(
         }
         Err(ScriptFault::NoMemory) => Err(AllocError),
     }
+}
+
+/// What the lines of a script for a plan post, by rising numbers.
+pub fn entries_in(alloc: Global, bytes: &[u8], plan: &Plan) -> Result<Vec<Entry>, ScriptFault>
+    requires fit { IsFit (tree_of plan.now) }
+{
+    if bytes.len() > SCRIPT_LIMIT {
+        return Err(ScriptFault::Fault { line: 1, kind: 1 });
+    }
+    Ok(read_script(alloc, bytes, plan)?.into_entries(alloc)?)
 }
 
 // The bytes of a line, by its number from 1.

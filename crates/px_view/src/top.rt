@@ -1,5 +1,6 @@
 // The program over a host.
-use crate::answer::{Answer, Stop, WANT_OF_MEMORY};
+use crate::answer::{Answer, DONE, Stop, WANT_OF_MEMORY};
+use crate::chart::{chart_journal, chart_script};
 use crate::journal::journal_file;
 use crate::nodes::nodes_file;
 use crate::why::{why_plan_file, why_script_file};
@@ -27,5 +28,21 @@ fn answer<H: Host, S: Stepper>(
         Task::WhyScript { script, plan } => why_script_file(alloc, script, plan, host),
         Task::Nodes { plan, like } => nodes_file(alloc, plan, like, host),
         Task::Journal { journal } => journal_file(alloc, journal, host),
+        Task::ChartScript { plan, script, to } => {
+            sent_to(alloc, to, chart_script::<H, S>(alloc, plan, script, host)?)
+        }
+        Task::ChartJournal { journal, to } => {
+            sent_to(alloc, to, chart_journal::<H, S>(alloc, journal, host)?)
+        }
     }
+}
+
+// The answer, whose text goes to a file where it is a picture and one is named.
+fn sent_to(alloc: Global, to: Option<&str>, answer: Answer) -> Result<Answer, Stop> {
+    let Answer { status, text, .. } = answer;
+    let file = match to {
+        Some(name) if status == DONE => Some(String::from_str(alloc, name)?),
+        _ => None,
+    };
+    Ok(Answer { status, text, file })
 }

@@ -9,13 +9,34 @@ use std::alloc::Global;
 #[derive(Clone, Copy)]
 pub enum Task<'a> {
     /// Says in words what a plan is refused for.
-    WhyPlan { plan: &'a str },
+    WhyPlan {
+        plan: &'a str,
+    },
     /// Says in words what a script is refused for.
-    WhyScript { script: &'a str, plan: &'a str },
+    WhyScript {
+        script: &'a str,
+        plan: &'a str,
+    },
     /// Lists the nodes of a plan whose paths have a word in them.
-    Nodes { plan: &'a str, like: &'a str },
+    Nodes {
+        plan: &'a str,
+        like: &'a str,
+    },
     /// Says what a journal holds.
-    Journal { journal: &'a str },
+    Journal {
+        journal: &'a str,
+    },
+    /// Draws the run of a plan to which a script is posted.
+    ChartScript {
+        plan: &'a str,
+        script: &'a str,
+        to: Option<&'a str>,
+    },
+    /// Draws the run that a journal holds.
+    ChartJournal {
+        journal: &'a str,
+        to: Option<&'a str>,
+    },
 }
 
 /// The task that the words ask for, which are those behind the program's own name; else what is told to who wrote them.
@@ -51,20 +72,34 @@ fn task_of<'a>(found: &ArgMatches<'a>) -> Option<Task<'a>> {
             like: rest.get_str("like").unwrap_or(""),
         }),
         "journal" => Some(Task::Journal { journal: file }),
+        "chart" => Some(chart_of(file, rest)),
         _ => None,
+    }
+}
+
+fn chart_of<'a>(file: &'a str, found: &ArgMatches<'a>) -> Task<'a> {
+    let to = found.get_str("output");
+    match found.get_str("SCRIPT") {
+        Some(script) => Task::ChartScript {
+            plan: file,
+            script,
+            to,
+        },
+        None => Task::ChartJournal { journal: file, to },
     }
 }
 
 fn syntax<'a>(alloc: Global) -> Result<Command<'a>, NoMemory> {
     Command::new(alloc, "plexil-view")
         .no_binary_name(true)
-        .about("Explains plans, scripts and journals of plexil")
+        .about("Explains plans, scripts and journals of plexil, and draws their runs")
         .version("1.0")
         .subcommand_required(true)
         .arg_required_else_help(true)
         .subcommand(why(alloc)?)?
         .subcommand(nodes(alloc)?)?
-        .subcommand(journal(alloc)?)
+        .subcommand(journal(alloc)?)?
+        .subcommand(chart(alloc)?)
 }
 
 fn file<'a>(alloc: Global, name: &'a str, help: &'a str) -> Arg<'a> {
@@ -102,4 +137,18 @@ fn journal<'a>(alloc: Global) -> Result<Command<'a>, NoMemory> {
     Command::new(alloc, "journal")
         .about("Says what a journal holds, entry by entry, and where it is damaged")
         .arg(file(alloc, "JOURNAL", "A journal"))
+}
+
+fn chart<'a>(alloc: Global) -> Result<Command<'a>, NoMemory> {
+    let script = Arg::new(alloc, "SCRIPT").help("A script for the plan");
+    let output = Arg::new(alloc, "output")
+        .short('o')
+        .long("output")
+        .value_name("FILE")
+        .help("Where the picture goes, in place of standard output");
+    Command::new(alloc, "chart")
+        .about("Draws a run as SVG: that of a plan and a script, or that of a journal")
+        .arg(file(alloc, "FILE", "A plan, or without a script a journal"))?
+        .arg(script)?
+        .arg(output)
 }
