@@ -1,21 +1,30 @@
 // The picture.
-use crate::bars::{push_bands, push_rows};
-use crate::frame::push_frame;
-use crate::heads::push_columns;
 use crate::layout::Layout;
 use crate::recording::Recording;
 use px_value::NoMemory;
 use std::alloc::Global;
 
+/// A picture that is being made.
+#[derive(Drop)]
+pub struct Drawing {
+    pub layout: Layout,
+    /// What is drawn so far.
+    pub text: String,
+}
+
 /// The picture of a run, as SVG under a title: a row for each node and a column for each event, light or dark as its
 /// reader has it.
 pub fn picture_of(alloc: Global, title: &str, recording: &Recording) -> Result<String, NoMemory> {
-    let layout = Layout::of(recording);
-    let mut out = String::new(alloc);
-    push_frame(title, &layout, &mut out)?;
-    push_bands(&recording.rows, &layout, &mut out)?;
-    push_columns(&recording.columns, &layout, &mut out)?;
-    push_rows(&recording.rows, recording.slot, &layout, &mut out)?;
-    out.push_str("</svg>\n")?;
-    Ok(out)
+    let mut drawing = Drawing {
+        layout: Layout::of(title, recording),
+        text: String::new(alloc),
+    };
+    drawing.frame(title)?;
+    drawing.bands(recording.rows.len())?;
+    drawing.columns(&recording.columns)?;
+    drawing.rows(&recording.rows, &recording.again)?;
+    drawing.numbers_again(&recording.columns, recording.rows.len())?;
+    drawing.text.push_str("</svg>\n")?;
+    let Drawing { text, .. } = drawing;
+    Ok(text)
 }

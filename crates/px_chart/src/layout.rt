@@ -1,28 +1,37 @@
 // The measures of a picture, in its units.
+use crate::columns::Column;
+use crate::paths::last_name;
 use crate::recording::Recording;
+use crate::rows::Row;
+use indexmap::IndexMap;
+use px_value::Path;
 
-/// The width of a slot.
-pub const SLOT: u32 = 12;
+/// Room round everything.
+pub const MARGIN: u32 = 16;
 /// The height of a row.
 pub const ROW: u32 = 22;
 /// The height of a bar.
 pub const BAR: u32 = 14;
-/// The height above the heads of the columns: the title and the legend.
-pub const TOP: u32 = 86;
-/// The height of the heads.
-pub const HEADS: u32 = 190;
-/// The most characters of a head's label.
-pub const LABEL: usize = 28;
+/// How far below its row's top a text stands.
+pub const BASELINE: u32 = 15;
+/// The height of the title and the legend.
+pub const TOP: u32 = 80;
+/// The height of the events' numbers.
+pub const NUMBERS: u32 = 24;
+/// The width of a slot.
+const SLOT: u32 = 12;
 /// How much further in a node stands than the one round it.
 const INDENT: u32 = 12;
-/// The width of a letter, somewhat more than it takes.
+/// The width of a letter, somewhat more than it takes, and that of one of another script.
 const LETTER: u32 = 8;
-/// Room round everything.
-pub const MARGIN: u32 = 16;
+
+const WIDE_LETTER: u32 = 14;
 /// The longest outcome and failure, at the right: `INTERRUPTED INVARIANT_CONDITION_FAILED`.
 const ENDS: u32 = 330;
 /// The width that the legend needs.
 const LEGEND: u32 = 1_150;
+/// After how many rows the events' numbers stand again, in a row of their own.
+pub const AGAIN: usize = 40;
 
 /// Where things stand.
 #[derive(Clone, Copy)]
@@ -31,50 +40,94 @@ pub struct Layout {
     pub left: u32,
     /// Where they end.
     pub right: u32,
+    /// Where the rows begin.
+    pub top: u32,
     pub width: u32,
     pub height: u32,
 }
 
-/// The width of a text of so many letters.
-pub fn text_width(letters: usize) -> u32 {
-    let letters = u32::try_from(letters).unwrap_or(u32::MAX);
-    letters.saturating_mul(LETTER)
+/// The width of a text.
+pub fn text_width(text: &str) -> u32 {
+    let mut width: u32 = 0;
+    for c in text.chars() {
+        let letter = if c.is_ascii() { LETTER } else { WIDE_LETTER };
+        width = width.saturating_add(letter);
+    }
+    width
 }
 
 /// How far in a node's name stands.
-pub fn indent(depth: u32) -> u32 {
-    depth.saturating_mul(INDENT).saturating_add(MARGIN)
+pub fn indent(depth: usize) -> u32 {
+    as_units(depth)
+        .saturating_mul(INDENT)
+        .saturating_add(MARGIN)
 }
 
-/// The height at which a row begins.
-pub fn row_top(number: u32) -> u32 {
-    number
-        .saturating_mul(ROW)
-        .saturating_add(TOP)
-        .saturating_add(HEADS)
+fn as_units(count: usize) -> u32 {
+    u32::try_from(count).unwrap_or(u32::MAX)
+}
+
+// The width of the widest name with what stands before it.
+fn names_width(rows: &IndexMap<Path, Row>) -> u32 {
+    let mut width: u32 = 0;
+    for (path, row) in rows.iter() {
+        let name = text_width(last_name(path.as_str()));
+        width = width.max(indent(row.depth).saturating_add(name));
+    }
+    width
+}
+
+/// How many slots the widest name takes.
+pub fn name_slots(rows: &IndexMap<Path, Row>) -> u32 {
+    let mut width: u32 = 0;
+    for path in rows.keys() {
+        width = width.max(text_width(last_name(path.as_str())));
+    }
+    (width / SLOT).saturating_add(1)
+}
+
+// The width of the longest label, which is its height at the head of a column.
+fn labels_width(columns: &[Column]) -> u32 {
+    let mut width: u32 = 0;
+    for column in columns {
+        width = width.max(text_width(column.label.as_str()));
+    }
+    width
 }
 
 impl Layout {
-    /// The layout of a recording.
-    pub fn of(recording: &Recording) -> Layout {
-        let mut left: u32 = 0;
-        for row in &recording.rows {
-            let end = indent(row.depth).saturating_add(text_width(row.name.len()));
-            left = left.max(end);
-        }
-        let left = left.saturating_add(MARGIN);
+    /// The layout of a recording under a title.
+    pub fn of(title: &str, recording: &Recording) -> Layout {
+        let left = names_width(&recording.rows).saturating_add(MARGIN);
         let right = left.saturating_add(recording.slot.saturating_mul(SLOT));
-        let rows = u32::try_from(recording.rows.len()).unwrap_or(u32::MAX);
-        Layout {
+        let heads = labels_width(&recording.columns).saturating_add(NUMBERS);
+        let top = heads.saturating_add(TOP);
+        // The title has larger letters.
+        let title = text_width(title).saturating_mul(2);
+        let layout = Layout {
             left,
             right,
-            width: right.saturating_add(ENDS).max(LEGEND),
-            height: row_top(rows).saturating_add(ROW.saturating_add(MARGIN)),
+            top,
+            width: right.saturating_add(ENDS).max(LEGEND).max(title),
+            height: 0,
+        };
+        let rows = recording.rows.len();
+        Layout {
+            height: layout.row(rows).saturating_add(MARGIN),
+            ..layout
         }
     }
 
     /// Where a slot begins.
     pub fn x(&self, slot: u32) -> u32 {
         self.left.saturating_add(slot.saturating_mul(SLOT))
+    }
+
+    /// Where a row begins.
+    pub fn row(&self, number: usize) -> u32 {
+        let before = number.saturating_add(number / AGAIN);
+        as_units(before)
+            .saturating_mul(ROW)
+            .saturating_add(self.top)
     }
 }

@@ -1,8 +1,9 @@
-//! The picture of a run, as SVG.
+//! The nodes of a plan, and the picture of a run as SVG.
 //!
-//! `record` posts events to a stepper and keeps what its nodes do, as a `Recording` of `rows` and `columns`; `labels` names
-//! events and effects. `draw` makes the picture: `layout` has its measures, `frame` the style and the legend, `heads` the
-//! columns with their events, and `bars` the rows with their states and marks. `text` spells what SVG wants spelled.
+//! `paths` lists the nodes of a plan by their paths. `record` posts events to a stepper and keeps what its nodes do, as a
+//! `Recording` of `rows` and `columns`; `labels` names events and effects, and `values` spells values. `draw` makes the
+//! picture: `layout` has its measures, `style` its colours, `frame` its title and its legend, `heads` the columns with
+//! their events, and `bars` the rows with their states and marks. `text` spells what SVG wants spelled.
 #![tactic(auto)]
 
 mod bars;
@@ -12,11 +13,16 @@ mod frame;
 mod heads;
 mod labels;
 mod layout;
+mod paths;
 mod record;
 mod recording;
 mod rows;
+mod style;
 mod text;
+mod values;
 
 pub use draw::picture_of;
+pub use paths::{NodePath, last_name, paths_of};
 pub use record::{RecordFault, run_of};
 pub use recording::Recording;
+pub use values::push_value;

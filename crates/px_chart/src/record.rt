@@ -1,7 +1,8 @@
 // Events that are posted to a plan, and what its nodes do at each.
-ghost use Rattle.std.specs.Prelude.{◌≡◌, ◌→◌, IsTrue, OnOk, IfOk};
+ghost use Rattle.std.specs.Prelude.{◌≡◌, ◌→◌, false, IsTrue, IfOk, OnOk};
 ghost use Rattle.px_core.specs.Fit.{IsFit};
 ghost use Rattle.px_core.specs.Plan.{tree_of};
+ghost use Rattle.px_event.specs.Fit.{is_fit_event};
 ghost use Rattle.px_sem.specs.Conflicts.{is_quiet};
 ghost use Rattle.px_sem.specs.Stepper.{Pending, is_pending};
 
@@ -40,13 +41,40 @@ pub fn run_of<S: Stepper>(
     requires fit { IsFit (tree_of plan.now) }
 {
     let mut recording = Recording::new(alloc, plan)?;
+    match run::<S>(alloc, plan, entries, &mut recording) {
+        Ok(()) => Ok(recording),
+        Err(fault) => Err(fault),
+    }
+}
+
+fn run<S: Stepper>(
+    alloc: Global,
+    plan: &Plan,
+    entries: &[Entry],
+    recording: &mut Recording,
+) -> Result<(), RecordFault>
+    requires fit { IsFit (tree_of plan.now) }
+{
     let mut stepper = S::fresh(alloc, plan)?;
-    if !settles(alloc, &mut stepper, &mut recording)? {
+    let ran = start_and_post(alloc, &mut stepper, entries, recording);
+    drop(stepper);
+    ran
+}
+
+fn start_and_post<S: Stepper>(
+    alloc: Global,
+    stepper: &mut S,
+    entries: &[Entry],
+    recording: &mut Recording,
+) -> Result<(), RecordFault>
+    requires pending { IsTrue (is_pending (S.state stepper.old).pending) }
+{
+    if !settles(alloc, stepper, recording)? {
         return Err(RecordFault::Runaway);
     }
     recording.end_start()?;
-    post_each(alloc, &mut stepper, entries, &mut recording)?;
-    Ok(recording)
+    post_each(alloc, stepper, entries, recording)?;
+    Ok(())
 }
 
 // Steps until the world is quiet and settles it, and answers whether it does so; each step is kept.
@@ -80,31 +108,34 @@ fn post_each<S: Stepper>(
 {
     let mut count: u32 = 0;
     for entry in entries {
-        if post(alloc, stepper, count, entry, recording)? {
+        let fate = post(alloc, stepper, count, &entry.event, recording)?;
+        if fate == Fate::Accepted {
             count = count.saturating_add(1);
         }
+        recording.end_entry(entry, fate)?;
     }
     Ok(())
 }
 
-// Posts an entry, and answers whether it is accepted.
+// Posts an event, and answers what becomes of it.
 fn post<S: Stepper>(
     alloc: Global,
     stepper: &mut S,
     count: u32,
-    entry: &Entry,
+    event: &Event,
     recording: &mut Recording,
-) -> Result<bool, NoMemory>
+) -> Result<Fate, NoMemory>
     requires nothing { (S.state stepper.old).pending ≡ Pending.Nothing }
     ensures rest { OnOk result ((S.state stepper.new).pending ≡ Pending.Nothing) }
 {
-    let fate = fate_of(alloc, stepper, count, &entry.event)?;
-    let is_accepted = fate == Fate::Accepted;
-    if is_accepted {
-        take(alloc, stepper, &entry.event, recording)?;
+    if !event.is_fit() {
+        return Ok(Fate::Refused("no event"));
     }
-    recording.end_entry(entry, fate)?;
-    Ok(is_accepted)
+    let fate = fate_of(alloc, stepper, count, event)?;
+    if fate == Fate::Accepted {
+        take(alloc, stepper, event, recording)?;
+    }
+    Ok(fate)
 }
 
 // What becomes of an event, which isn't taken yet.
@@ -115,13 +146,11 @@ fn fate_of<S: Stepper>(
     event: &Event,
 ) -> Result<Fate, NoMemory>
     requires nothing { (S.state stepper.old).pending ≡ Pending.Nothing }
+    requires fit { IsTrue (is_fit_event event.now) }
     ensures rest { OnOk result ((S.state stepper.new).pending ≡ Pending.Nothing) }
 {
-    if !event.is_fit() {
-        return Ok(Fate::Refused("no event"));
-    }
     match offer(stepper, alloc, EVENT_LIMIT, count, event)? {
-        Offered::Refused(reply) => Ok(Fate::Refused(reason(reply))),
+        Offered::Refused(reply) => Ok(fate_by(reply)),
         Offered::Pending { .. } => {
             stepper.give_up();
             Ok(Fate::Accepted)
@@ -129,12 +158,12 @@ fn fate_of<S: Stepper>(
     }
 }
 
-fn reason(reply: Reply) -> &'static str {
+fn fate_by(reply: Reply) -> Fate {
     match reply {
-        Reply::Accepted { .. } => "accepted",
-        Reply::PlanFinished => "the plan has finished",
-        Reply::Full => "the history is full",
-        Reply::Runaway => "it doesn't settle",
+        Reply::Accepted { .. } => Fate::Accepted,
+        Reply::PlanFinished => Fate::Refused("the plan has finished"),
+        Reply::Full => Fate::Refused("the history is full"),
+        Reply::Runaway => Fate::Refused("it doesn't settle"),
     }
 }
 
@@ -146,11 +175,9 @@ fn take<S: Stepper>(
     recording: &mut Recording,
 ) -> Result<(), NoMemory>
     requires nothing { (S.state stepper.old).pending ≡ Pending.Nothing }
+    requires fit { IsTrue (is_fit_event event.now) }
     ensures rest { OnOk result ((S.state stepper.new).pending ≡ Pending.Nothing) }
 {
-    if !event.is_fit() {
-        return Ok(());
-    }
     stepper.begin(alloc, event)?;
     if !settles(alloc, stepper, recording)? {
         stepper.give_up();

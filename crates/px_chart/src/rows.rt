@@ -1,7 +1,11 @@
 // The rows of a picture: nodes with what they did.
-use px_core::{CoreNode, Plan};
-use px_value::{Failure, NoMemory, NodeState, Outcome};
-use std::alloc::Global;
+use crate::labels::effect_label;
+use crate::paths::paths_of;
+use indexmap::IndexMap;
+use px_core::Plan;
+use px_sem::{Effect, Move};
+use px_value::{Failure, NoMemory, NodeState, Outcome, Path, PathFault};
+use std::alloc::{AllocError, Global};
 
 /// A state that a node comes to, and how it stands then.
 #[derive(Clone, Copy)]
@@ -14,62 +18,96 @@ pub struct Change {
 }
 
 /// What a node does besides.
-#[derive(Clone, Copy, PartialEq, Eq)]
-pub enum Sort {
-    Write,
+#[derive(Clone, Copy)]
+pub enum Deed {
     Command,
     Abort,
     Update,
+    Write,
+}
+
+impl Deed {
+    /// What an effect does; None where it writes nothing.
+    fn of(effect: &Effect) -> Option<Deed> {
+        match effect {
+            Effect::Sent { .. } => Some(Deed::Command),
+            Effect::Aborted { .. } => Some(Deed::Abort),
+            Effect::Updated { .. } => Some(Deed::Update),
+            Effect::Wrote { .. } => Some(Deed::Write),
+            Effect::NoWrite => None,
+        }
+    }
 }
 
 /// A thing that a node does in one slot.
 #[derive(Drop)]
 pub struct Mark {
     pub slot: u32,
-    pub sort: Sort,
+    pub deed: Deed,
     /// In words.
     pub says: String,
 }
 
-/// A node.
+/// What a node did.
 #[derive(Drop)]
 pub struct Row {
-    pub path: String,
-    /// The last name of the path.
-    pub name: String,
     /// How many nodes are round it.
-    pub depth: u32,
+    pub depth: usize,
     pub changes: Vec<Change>,
     pub marks: Vec<Mark>,
 }
 
-/// The nodes of a plan, each before those below it, without anything that they did.
-pub fn rows_of(alloc: Global, plan: &Plan) -> Result<Vec<Row>, NoMemory> {
-    let mut rows = Vec::new(alloc);
-    let path = String::from_str(alloc, plan.root.name.as_str())?;
-    push_rows(alloc, &plan.root, path, 0, &mut rows)?;
+impl Row {
+    /// Keeps what the node does in a slot.
+    pub fn keep(&mut self, alloc: Global, slot: u32, moved: &Move) -> Result<(), NoMemory> {
+        self.changes.push(Change {
+            slot,
+            state: moved.to,
+            outcome: moved.outcome,
+            failure: moved.failure,
+        })?;
+        match &moved.effect {
+            Some(effect) => self.keep_effect(alloc, slot, effect),
+            None => Ok(()),
+        }
+    }
+
+    fn keep_effect(&mut self, alloc: Global, slot: u32, effect: &Effect) -> Result<(), NoMemory> {
+        let Some(deed) = Deed::of(effect) else {
+            return Ok(());
+        };
+        let says = effect_label(alloc, effect)?;
+        self.marks.push(Mark { slot, deed, says })?;
+        Ok(())
+    }
+}
+
+/// A row for each node of a plan, each before those below it, without anything that they did.
+pub fn rows_of(alloc: Global, plan: &Plan) -> Result<IndexMap<Path, Row>, NoMemory> {
+    let nodes = paths_of(alloc, plan)?;
+    let mut rows = IndexMap::with_capacity(alloc, nodes.len())?;
+    for node in &nodes {
+        add_row(alloc, node.path.as_str(), node.depth, &mut rows)?;
+    }
     Ok(rows)
 }
 
-// Appends a node and all below it.
-fn push_rows(
+fn add_row(
     alloc: Global,
-    node: &CoreNode,
-    path: String,
-    depth: u32,
-    rows: &mut Vec<Row>,
+    path: &str,
+    depth: usize,
+    rows: &mut IndexMap<Path, Row>,
 ) -> Result<(), NoMemory> {
-    let below = format!(in alloc; "{}.", path.as_str())?;
-    rows.push(Row {
-        path,
-        name: String::from_str(alloc, node.name.as_str())?,
+    let path = match Path::new(alloc, path) {
+        Ok(path) => path,
+        Err(PathFault::NotAPath) => return Ok(()),
+        Err(PathFault::NoMemory) => return Err(AllocError),
+    };
+    let row = Row {
         depth,
         changes: Vec::new(alloc),
         marks: Vec::new(alloc),
-    })?;
-    for child in &node.children {
-        let path = format!(in alloc; "{}{}", below.as_str(), child.name.as_str())?;
-        push_rows(alloc, child, path, depth.saturating_add(1), rows)?;
-    }
+    };
+    rows.insert(path, row)?;
     Ok(())
 }

@@ -2,11 +2,12 @@
 ghost use Rattle.px_core.specs.Fit.{IsFit};
 ghost use Rattle.px_core.specs.Plan.{tree_of};
 
+use px_chart::{NodePath, last_name, paths_of};
 use px_core::Plan;
 use px_event::Entry;
 use px_script::{SCRIPT_LIMIT, ScriptFault, read_script};
 use px_value::NoMemory;
-use px_why::{Nearest, NodePath, Place, Words, paths_of, push_fault, push_whole};
+use px_why::{Nearest, Place, Words, push_fault, push_whole};
 use std::alloc::{AllocError, Global};
 use std::str::from_utf8;
 
@@ -95,9 +96,11 @@ fn push_line(
     };
     let content = content.strip_suffix('\r').unwrap_or(content);
     let words = words_for(alloc, content, kind, plan)?;
+    let number = word_meant(content, kind);
     let place = Place {
         line: line as usize,
-        before: before_word(content, word_meant(content, kind)),
+        before: before_word(content, number),
+        width: word(content, number).chars().count().max(1),
         content,
     };
     push_fault(out, name, &place, &words)
@@ -221,24 +224,21 @@ fn kin(
     one_of(alloc, &told)
 }
 
-// The nodes whose last name is that of the path, or else the path that is nearest to it.
+// The path that is nearest to this one, or else the nodes with the nearest last name.
 fn alike(alloc: Global, nodes: &[NodePath<'_>], path: &str) -> Result<Option<String>, NoMemory> {
-    let last = last_name(path);
-    let mut told = Vec::new(alloc);
-    for node in nodes {
-        if last_name(node.path.as_str()) == last {
-            told.push(node.path.as_str())?;
-        }
-    }
-    if !told.is_empty() {
-        return one_of(alloc, &told);
-    }
     let mut nearest = Nearest::to(path);
     for node in nodes {
         nearest.look_at(alloc, node.path.as_str())?;
     }
+    if let Some(near) = nearest.found() {
+        return Ok(Some(format!(in alloc; "is `{near}` meant?")?));
+    }
+    let mut nearest = Nearest::to(last_name(path));
+    for node in nodes {
+        nearest.look_at(alloc, last_name(node.path.as_str()))?;
+    }
     match nearest.found() {
-        Some(near) => Ok(Some(format!(in alloc; "is `{near}` meant?")?)),
+        Some(last) => named(alloc, nodes, last),
         None => Ok(Some(String::from_str(
             alloc,
             "`plexil-view nodes PLAN` prints the paths of a plan",
@@ -246,11 +246,15 @@ fn alike(alloc: Global, nodes: &[NodePath<'_>], path: &str) -> Result<Option<Str
     }
 }
 
-fn last_name(path: &str) -> &str {
-    match path.rsplit_once('.') {
-        Some((_, last)) => last,
-        None => path,
+// The nodes with this last name.
+fn named(alloc: Global, nodes: &[NodePath<'_>], last: &str) -> Result<Option<String>, NoMemory> {
+    let mut told = Vec::new(alloc);
+    for node in nodes {
+        if last_name(node.path.as_str()) == last {
+            told.push(node.path.as_str())?;
+        }
     }
+    one_of(alloc, &told)
 }
 
 fn one_of(alloc: Global, paths: &[&str]) -> Result<Option<String>, NoMemory> {

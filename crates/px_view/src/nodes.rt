@@ -2,11 +2,11 @@
 use crate::answer::{Answer, DONE, Stop};
 use crate::reading::{fetch, plan_in};
 use crate::terms::{push_args, push_expr};
+use px_chart::{NodePath, paths_of};
 use px_compile::TEXT_LIMIT;
 use px_core::{BinaryOp, Body, Expr, Plan, Target, UnaryOp};
 use px_ports::Host;
 use px_value::{CompareOp, NoMemory, Value};
-use px_why::{NodePath, paths_of};
 use std::alloc::Global;
 
 /// How many characters of a condition are shown.

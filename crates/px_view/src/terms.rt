@@ -1,6 +1,7 @@
 // Expressions of a plan in words of the language, with the paths of the nodes that they read.
+use px_chart::push_value;
 use px_core::{BinaryOp, Expr, LookWord, UnaryOp};
-use px_value::{ArithOp, CompareOp, NoMemory, Value};
+use px_value::{ArithOp, CompareOp, NoMemory};
 
 /// Appends an expression.
 #[cycle(terms)]
@@ -145,31 +146,4 @@ fn look_word(word: LookWord) -> &'static str {
         LookWord::LookupNow => "LookupNow",
         LookWord::LookupOnChange => "LookupOnChange",
     }
-}
-
-fn push_value(value: &Value, out: &mut String) -> Result<(), NoMemory> {
-    match value {
-        Value::Unknown => out.push_str("UNKNOWN"),
-        Value::Boolean(truth) => write!(out, "{truth}"),
-        Value::Integer(number) => write!(out, "{number}"),
-        Value::Text(text) => push_text(text.as_str(), out),
-        Value::State(state) => out.push_str(state.word()),
-        Value::Outcome(outcome) => out.push_str(outcome.word()),
-        Value::Failure(failure) => out.push_str(failure.word()),
-        Value::Handle(handle) => out.push_str(handle.word()),
-    }
-}
-
-fn push_text(text: &str, out: &mut String) -> Result<(), NoMemory> {
-    out.push_str("\"")?;
-    for c in text.chars() {
-        match c {
-            '"' => out.push_str("\\\"")?,
-            '\\' => out.push_str("\\\\")?,
-            '\n' => out.push_str("\\n")?,
-            '\t' => out.push_str("\\t")?,
-            _ => out.push(c)?,
-        }
-    }
-    out.push_str("\"")
 }

@@ -5,13 +5,14 @@ ghost use Rattle.px_core.specs.Plan.{tree_of};
 use crate::answer::{Answer, DONE, PLAN_REFUSED, RUNAWAY, SCRIPT_REFUSED, Stop};
 use crate::lines::why_script;
 use crate::reading::{fetch, plan_in};
+use px_chart::paths_of;
 use px_compile::TEXT_LIMIT;
 use px_core::Plan;
 use px_ports::Host;
 use px_script::SCRIPT_LIMIT;
 use px_sem::Stepper;
 use px_value::NoMemory;
-use px_why::{paths_of, why_plan, why_start};
+use px_why::{why_plan, why_start};
 use std::alloc::Global;
 
 /// Says what the plan in a file is refused for, or that it has no fault and its start settles.

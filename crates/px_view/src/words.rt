@@ -46,35 +46,44 @@ pub fn task_in<'a>(alloc: Global, words: &'a [String]) -> Result<Task<'a>, Stop>
             Some(task) => Ok(task),
             None => Err(Stop::NoMemory),
         },
-        Err(error) => Err(told(alloc, &error)?),
+        Err(error) => Err(told(alloc, &error)),
     }
 }
 
-fn told(alloc: Global, error: &Error) -> Result<Stop, NoMemory> {
+fn told(alloc: Global, error: &Error) -> Stop {
     let status = match error.kind() {
-        ErrorKind::OutOfMemory => return Ok(Stop::NoMemory),
+        ErrorKind::OutOfMemory => return Stop::NoMemory,
         ErrorKind::DisplayHelp | ErrorKind::DisplayVersion => DONE,
         _ => USAGE,
     };
-    Ok(Stop::Refused(Answer::new(status, error.to_string(alloc)?)))
+    match error.to_string(alloc) {
+        Ok(text) => Stop::Refused(Answer::new(status, text)),
+        Err(_) => Stop::NoMemory,
+    }
 }
 
 fn task_of<'a>(found: &ArgMatches<'a>) -> Option<Task<'a>> {
     let (name, rest) = found.subcommand()?;
     let file = rest.get_str("FILE")?;
     match name {
-        "why" => Some(match rest.get_str("plan") {
-            Some(plan) => Task::WhyScript { script: file, plan },
-            None => Task::WhyPlan { plan: file },
-        }),
-        "nodes" => Some(Task::Nodes {
-            plan: file,
-            like: rest.get_str("like").unwrap_or(""),
-        }),
+        "why" => Some(why_of(file, rest)),
+        "nodes" => Some(nodes_of(file, rest)),
         "journal" => Some(Task::Journal { journal: file }),
         "chart" => Some(chart_of(file, rest)),
         _ => None,
     }
+}
+
+fn why_of<'a>(file: &'a str, found: &ArgMatches<'a>) -> Task<'a> {
+    match found.get_str("plan") {
+        Some(plan) => Task::WhyScript { script: file, plan },
+        None => Task::WhyPlan { plan: file },
+    }
+}
+
+fn nodes_of<'a>(file: &'a str, found: &ArgMatches<'a>) -> Task<'a> {
+    let like = found.get_str("like").unwrap_or("");
+    Task::Nodes { plan: file, like }
 }
 
 fn chart_of<'a>(file: &'a str, found: &ArgMatches<'a>) -> Task<'a> {
@@ -90,16 +99,26 @@ fn chart_of<'a>(file: &'a str, found: &ArgMatches<'a>) -> Task<'a> {
 }
 
 fn syntax<'a>(alloc: Global) -> Result<Command<'a>, NoMemory> {
-    Command::new(alloc, "plexil-view")
+    let program = Command::new(alloc, "plexil-view")
         .no_binary_name(true)
         .about("Explains plans, scripts and journals of plexil, and draws their runs")
         .version("1.0")
         .subcommand_required(true)
-        .arg_required_else_help(true)
-        .subcommand(why(alloc)?)?
-        .subcommand(nodes(alloc)?)?
-        .subcommand(journal(alloc)?)?
-        .subcommand(chart(alloc)?)
+        .arg_required_else_help(true);
+    let program = with(program, why(alloc))?;
+    let program = with(program, nodes(alloc))?;
+    let program = with(program, journal(alloc))?;
+    with(program, chart(alloc))
+}
+
+fn with<'a>(
+    program: Command<'a>,
+    command: Result<Command<'a>, NoMemory>,
+) -> Result<Command<'a>, NoMemory> {
+    match command {
+        Ok(command) => program.subcommand(command),
+        Err(fault) => Err(fault),
+    }
 }
 
 fn file<'a>(alloc: Global, name: &'a str, help: &'a str) -> Arg<'a> {
@@ -110,27 +129,33 @@ fn file<'a>(alloc: Global, name: &'a str, help: &'a str) -> Arg<'a> {
 }
 
 fn why<'a>(alloc: Global) -> Result<Command<'a>, NoMemory> {
-    let plan = Arg::new(alloc, "plan")
-        .long("plan")
-        .value_name("PLAN")
-        .help("The file is a script for this plan");
     Command::new(alloc, "why")
         .about("Says what a plan or a script is refused for, and where")
         .arg(file(alloc, "FILE", "A plan, or with --plan a script"))?
-        .arg(plan)
+        .arg(plan(alloc))
+}
+
+fn plan<'a>(alloc: Global) -> Arg<'a> {
+    Arg::new(alloc, "plan")
+        .long("plan")
+        .value_name("PLAN")
+        .help("The file is a script for this plan")
 }
 
 fn nodes<'a>(alloc: Global) -> Result<Command<'a>, NoMemory> {
-    let like = Arg::new(alloc, "like")
-        .long("like")
-        .value_name("WORD")
-        .help("Only nodes whose paths have this in them");
     Command::new(alloc, "nodes")
         .about(
             "Lists the nodes of a plan, what each waits for, and which lines a script may have for it",
         )
         .arg(file(alloc, "PLAN", "A plan"))?
-        .arg(like)
+        .arg(like(alloc))
+}
+
+fn like<'a>(alloc: Global) -> Arg<'a> {
+    Arg::new(alloc, "like")
+        .long("like")
+        .value_name("WORD")
+        .help("Only nodes whose paths have this in them")
 }
 
 fn journal<'a>(alloc: Global) -> Result<Command<'a>, NoMemory> {
@@ -140,15 +165,21 @@ fn journal<'a>(alloc: Global) -> Result<Command<'a>, NoMemory> {
 }
 
 fn chart<'a>(alloc: Global) -> Result<Command<'a>, NoMemory> {
-    let script = Arg::new(alloc, "SCRIPT").help("A script for the plan");
-    let output = Arg::new(alloc, "output")
-        .short('o')
-        .long("output")
-        .value_name("FILE")
-        .help("Where the picture goes, in place of standard output");
     Command::new(alloc, "chart")
         .about("Draws a run as SVG: that of a plan and a script, or that of a journal")
         .arg(file(alloc, "FILE", "A plan, or without a script a journal"))?
-        .arg(script)?
-        .arg(output)
+        .arg(script(alloc))?
+        .arg(output(alloc))
+}
+
+fn script<'a>(alloc: Global) -> Arg<'a> {
+    Arg::new(alloc, "SCRIPT").help("A script for the plan")
+}
+
+fn output<'a>(alloc: Global) -> Arg<'a> {
+    Arg::new(alloc, "output")
+        .short('o')
+        .long("output")
+        .value_name("FILE")
+        .help("Where the picture goes, in place of standard output")
 }

@@ -1,5 +1,5 @@
 // Tokens that are tried in place of one that can't stand where it does.
-use px_lex::{Keyword, Sign, Token, TokenKind};
+use px_lex::{Keyword, LexFault, Sign, Token, TokenKind, lex};
 use px_plan_parse::parse;
 use px_syntax::ParseFault;
 use px_value::{Name, NameFault, NoMemory, Text, TextFault};
@@ -18,6 +18,23 @@ impl Front {
         Front { tokens }
     }
 
+    /// Leaves the last token away.
+    pub fn leave_last(&mut self) {
+        self.tokens.truncate(self.tokens.len().saturating_sub(1));
+    }
+
+    /// Whether the tokens are a plan.
+    pub fn is_plan(&self, alloc: Global) -> Result<bool, NoMemory> {
+        match parse(alloc, &self.tokens) {
+            Ok(tree) => {
+                drop(tree);
+                Ok(true)
+            }
+            Err(ParseFault::NoMemory) => Err(AllocError),
+            Err(_) => Ok(false),
+        }
+    }
+
     /// Whether a plan goes on with the sign.
     pub fn takes_sign(&mut self, alloc: Global, sign: Sign) -> Result<bool, NoMemory> {
         self.takes(alloc, TokenKind::Sign(sign))
@@ -26,6 +43,15 @@ impl Front {
     /// Whether a plan goes on with the keyword.
     pub fn takes_keyword(&mut self, alloc: Global, keyword: Keyword) -> Result<bool, NoMemory> {
         self.takes(alloc, TokenKind::Keyword(keyword))
+    }
+
+    /// Whether a plan goes on with the keyword that is spelled so.
+    pub fn takes_word(&mut self, alloc: Global, word: &str) -> Result<bool, NoMemory> {
+        match lex(alloc, word) {
+            Ok(tokens) => self.takes_one(alloc, tokens),
+            Err(LexFault::NoMemory) => Err(AllocError),
+            Err(_) => Ok(false),
+        }
     }
 
     /// Whether a plan goes on with a number.
@@ -48,6 +74,14 @@ impl Front {
             Ok(text) => self.takes(alloc, TokenKind::Text(text)),
             Err(TextFault::TooLong) => Ok(false),
             Err(TextFault::NoMemory) => Err(AllocError),
+        }
+    }
+
+    // Whether a plan goes on with the last of these tokens.
+    fn takes_one(&mut self, alloc: Global, mut tokens: Vec<Token>) -> Result<bool, NoMemory> {
+        match tokens.pop() {
+            Some(Token { kind, .. }) => self.takes(alloc, kind),
+            None => Ok(false),
         }
     }
 

@@ -2,6 +2,7 @@
 use crate::declared::{Declared, What};
 use crate::report::Words;
 use crate::seen::Seen;
+use crate::spellings::value_meant;
 use px_check::Spot;
 use px_lex::{Keyword, Sign};
 use px_syntax::{FaultKind, TypeName};
@@ -19,6 +20,18 @@ const A_COMMAND: What = What::Command {
 };
 
 const A_LOOKUP: What = What::Lookup { parameters: 0 };
+
+fn seen_elsewhere(alloc: Global, name: &str, line: usize) -> Result<String, NoMemory> {
+    format!(in alloc;
+        "the `{name}` of line {line} is seen in its own block alone: declare it in a block round both places"
+    )
+}
+
+fn to_declare(alloc: Global, name: &str) -> Result<String, NoMemory> {
+    format!(in alloc;
+        "declare it in this block or in one round it, as in `Integer {name};`; a state of the outside is read by `Lookup({name})`"
+    )
+}
 
 impl<'a> Seen<'a> {
     /// What is said of a fault.
@@ -42,23 +55,29 @@ impl<'a> Seen<'a> {
     fn undeclared(&self, alloc: Global, token: usize) -> Result<Words, NoMemory> {
         let name = self.name(token);
         let message = format!(in alloc; "no variable `{name}` is declared here")?;
-        let help = if let Some(other) = self.first_of(A_VARIABLE, name) {
-            let line = self.line(other.token);
-            format!(in alloc;
-                "the `{name}` of line {line} is seen in its own block alone: declare it in a block round both places"
-            )?
-        } else if self.first_of(A_LOOKUP, name).is_some() {
-            format!(in alloc; "`{name}` is a state of the outside: write `Lookup({name})`")?
-        } else if let Some(near) = self.nearest(alloc, A_VARIABLE, name)? {
-            format!(in alloc; "is `{near}` meant?")?
-        } else if self.first_of(What::Node, name).is_some() {
-            format!(in alloc; "`{name}` is a node: write `{name}.state` or `{name}.outcome`")?
-        } else {
-            format!(in alloc;
-                "declare it in this block or in one round it, as in `Integer {name};`; a state of the outside is read by `Lookup({name})`"
-            )?
+        let help = match self.first_of(A_VARIABLE, name) {
+            Some(other) => seen_elsewhere(alloc, name, self.line(other.token)),
+            None => self.variable_meant(alloc, name),
         };
-        Ok(Words::with_help(message, help))
+        Ok(Words::with_help(message, help?))
+    }
+
+    fn variable_meant(&self, alloc: Global, name: &'a str) -> Result<String, NoMemory> {
+        if self.first_of(A_LOOKUP, name).is_some() {
+            return format!(in alloc; "`{name}` is a state of the outside: write `Lookup({name})`");
+        }
+        if let Some(near) = self.nearest(alloc, A_VARIABLE, name)? {
+            return format!(in alloc; "is `{near}` meant?");
+        }
+        if let Some(value) = value_meant(alloc, name)? {
+            return format!(in alloc; "is `{value}` meant?");
+        }
+        if self.first_of(What::Node, name).is_some() {
+            return format!(in alloc;
+                "`{name}` is a node: write `{name}.state` or `{name}.outcome`"
+            );
+        }
+        to_declare(alloc, name)
     }
 
     fn redeclared(&self, alloc: Global, token: usize) -> Result<Words, NoMemory> {

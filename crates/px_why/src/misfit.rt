@@ -15,12 +15,13 @@ impl<'a> Seen<'a> {
         let given = a_value(misfit.given);
         let wanted = an_allowed(misfit.wanted);
         let name = self.name(token);
-        let message = if !name.is_empty() && self.is_alone(token, misfit.given) {
+        let is_named = !name.is_empty() && self.is_alone(token, misfit.given);
+        let message = if is_named {
             format!(in alloc; "`{name}` is {given}; {wanted} is wanted here")?
         } else {
             format!(in alloc; "what begins here is {given}; {wanted} is wanted here")?
         };
-        match help_for(misfit) {
+        match help_for(misfit, is_named) {
             Some(help) => Ok(Words::with_help(message, String::from_str(alloc, help)?)),
             None => Ok(Words::plain(message)),
         }
@@ -115,25 +116,55 @@ impl<'a> Seen<'a> {
     }
 }
 
-fn help_for(misfit: Misfit) -> Option<&'static str> {
-    match (misfit.wanted, misfit.given) {
-        (Allowed::Only(ValueType::Boolean), ValueType::Integer) => {
-            Some("make a comparison of it, as `x > 0`")
+fn help_for(misfit: Misfit, is_named: bool) -> Option<&'static str> {
+    match misfit.wanted {
+        Allowed::Only(ValueType::Boolean) => help_for_test(misfit.given),
+        Allowed::Only(ValueType::Integer) if misfit.given == ValueType::String => Some(
+            "Strings stand between quotes and Integers don't; `strlen(x)` is the length of a String",
+        ),
+        Allowed::Only(ValueType::String) if is_named => {
+            Some("nothing makes a String of another value: write the String itself")
         }
-        (Allowed::Only(ValueType::Boolean), ValueType::State) => {
-            Some("compare it with a state, as `A.state == FINISHED`")
-        }
-        (Allowed::Only(ValueType::Boolean), ValueType::Outcome) => {
-            Some("compare it with an outcome, as `A.outcome == SUCCESS`")
-        }
-        (Allowed::Only(ValueType::Integer), ValueType::String) => {
-            Some(
-                "Strings stand between quotes and Integers don't; `strlen(x)` is the length of a String",
-            )
-        }
-        (Allowed::Only(ValueType::String), ValueType::Integer | ValueType::Boolean) => {
+        Allowed::Only(ValueType::String) => {
             Some("a String stands between double quotes, as `\"x\"`")
         }
+        Allowed::Only(wanted) => help_for_word(wanted, misfit.given),
+        _ => None,
+    }
+}
+
+// What stands beside the attribute of a node.
+fn help_for_word(wanted: ValueType, given: ValueType) -> Option<&'static str> {
+    match (wanted, given) {
+        (_, ValueType::State) => Some("it is compared with `.state`, as in `A.state == FINISHED`"),
+        (_, ValueType::Outcome) => {
+            Some("it is compared with `.outcome`, as in `A.outcome == SUCCESS`")
+        }
+        (_, ValueType::Failure) => {
+            Some("it is compared with `.failure`, as in `A.failure == PARENT_FAILED`")
+        }
+        (_, ValueType::Handle) => Some(
+            "it is compared with `.command_handle`, as in `A.command_handle == COMMAND_SUCCESS`",
+        ),
+        (ValueType::State, _) => Some("write it without quotes, as in `A.state == FINISHED`"),
+        (ValueType::Outcome, _) => Some("write it without quotes, as in `A.outcome == SUCCESS`"),
+        (ValueType::Failure, _) => {
+            Some("write it without quotes, as in `A.failure == PARENT_FAILED`")
+        }
+        (ValueType::Handle, _) => {
+            Some("write it without quotes, as in `A.command_handle == COMMAND_SUCCESS`")
+        }
+        _ => None,
+    }
+}
+
+// What makes a test of a value.
+fn help_for_test(given: ValueType) -> Option<&'static str> {
+    match given {
+        ValueType::Integer => Some("make a comparison of it, as `x > 0`"),
+        ValueType::String => Some("make a comparison of it, as `x == \"a\"`"),
+        ValueType::State => Some("compare it with a state, as `A.state == FINISHED`"),
+        ValueType::Outcome => Some("compare it with an outcome, as `A.outcome == SUCCESS`"),
         _ => None,
     }
 }

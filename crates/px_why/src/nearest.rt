@@ -24,6 +24,10 @@ impl<'a> Nearest<'a> {
 
     /// Looks at a name.
     pub fn look_at(&mut self, alloc: Global, name: &'a str) -> Result<(), NoMemory> {
+        // Each letter more or less is an edit.
+        if name.len().abs_diff(self.meant.len()) >= self.edits {
+            return Ok(());
+        }
         let edits = levenshtein(alloc, self.meant, name)?;
         if edits < self.edits {
             self.edits = edits;

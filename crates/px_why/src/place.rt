@@ -8,6 +8,9 @@ const SHOWN: usize = 160;
 /// How many characters are shown before a place in a longer line.
 const SHOWN_BEFORE: usize = 80;
 
+/// The most characters of what stands at a place that are named.
+const SPELLED: usize = 40;
+
 /// A line of a text, and a place in it.
 #[derive(Clone, Copy, Debug)]
 pub struct Place<'a> {
@@ -15,30 +18,38 @@ pub struct Place<'a> {
     pub line: usize,
     /// How many characters of the line stand before the place.
     pub before: usize,
+    /// How many characters what stands at the place has.
+    pub width: usize,
     /// The whole line.
     pub content: &'a str,
 }
 
-/// The place of a byte of a text, and behind its end that of its last line's end.
+/// The place of what a plan has at a byte of its text, and behind its end that of its last line's end.
 pub fn place_of(text: &str, at: usize) -> Place<'_> {
+    let mut line: usize = 0;
+    let mut content = "";
     let mut begin: usize = 0;
-    let mut place = Place {
-        line: 1,
-        before: 0,
-        content: "",
-    };
-    for (number, content) in text.split('\n').enumerate() {
-        place = Place {
-            line: number.saturating_add(1),
-            before: characters_before(content, at.saturating_sub(begin)),
-            content,
-        };
-        begin = begin.saturating_add(content.len()).saturating_add(1);
-        if at < begin {
-            return place;
+    let mut behind: usize = 0;
+    for piece in text.split('\n') {
+        line = line.saturating_add(1);
+        content = piece;
+        begin = behind;
+        behind = begin.saturating_add(piece.len()).saturating_add(1);
+        if at < behind {
+            break;
         }
     }
-    place
+    let before = characters_before(content, at.saturating_sub(begin));
+    place_in(content, line, before)
+}
+
+fn place_in(content: &str, line: usize, before: usize) -> Place<'_> {
+    Place {
+        line,
+        before,
+        width: width_behind(content, before),
+        content,
+    }
 }
 
 fn characters_before(content: &str, at: usize) -> usize {
@@ -59,35 +70,19 @@ impl<'a> Place<'a> {
         self.before.saturating_add(1)
     }
 
-    /// How many characters what stands at the place has: a word, a string, or a sign.
-    pub fn width(&self) -> usize {
-        let mut behind = self.content.chars().skip(self.before);
-        let Some(first) = behind.next() else {
-            return 1;
-        };
-        if is_of_word(first) {
-            behind
-                .take_while(|c| is_of_word(*c))
-                .count()
-                .saturating_add(1)
-        } else if first == '"' {
-            self.string_width()
-        } else {
-            sign_width(first, behind.next())
-        }
+    /// The place behind what stands here.
+    pub fn behind(self) -> Place<'a> {
+        let before = self.before.saturating_add(self.width);
+        place_in(self.content, self.line, before)
     }
 
-    fn string_width(&self) -> usize {
-        let mut width: usize = 1;
-        let mut is_escaped = false;
-        for c in self.content.chars().skip(self.column()) {
-            width = width.saturating_add(1);
-            if c == '"' && !is_escaped {
-                return width;
-            }
-            is_escaped = c == '\\' && !is_escaped;
+    /// What stands here, of a long string the front; empty at the end of the line.
+    pub fn spelled(&self) -> &'a str {
+        let rest = skipped(self.content, self.before);
+        match rest.char_indices().nth(self.width.min(SPELLED)) {
+            Some((end, _)) => rest.get(..end).unwrap_or(rest),
+            None => rest,
         }
-        width
     }
 
     /// The character at the place; None at the end of the line.
@@ -110,13 +105,51 @@ impl<'a> Place<'a> {
     }
 }
 
-fn sign_width(first: char, second: Option<char>) -> usize {
+// The text without so many characters at its front.
+fn skipped(text: &str, characters: usize) -> &str {
+    match text.char_indices().nth(characters) {
+        Some((begin, _)) => text.get(begin..).unwrap_or(""),
+        None => "",
+    }
+}
+
+// How many characters what a plan has at a place of a line has: a word, a number, a string, or a sign.
+fn width_behind(content: &str, before: usize) -> usize {
+    let mut behind = content.chars().skip(before);
+    let Some(first) = behind.next() else {
+        return 1;
+    };
+    let others = match first {
+        '"' => string_behind(content, before),
+        '0'..='9' => behind.take_while(|c| is_of_word(*c) || *c == '.').count(),
+        _ if is_of_word(first) => behind.take_while(|c| is_of_word(*c)).count(),
+        _ => sign_behind(first, behind.next()),
+    };
+    others.saturating_add(1)
+}
+
+// How many characters a string has behind its first quote.
+fn string_behind(content: &str, before: usize) -> usize {
+    let mut width: usize = 0;
+    let mut is_escaped = false;
+    for c in content.chars().skip(before.saturating_add(1)) {
+        width = width.saturating_add(1);
+        if c == '"' && !is_escaped {
+            return width;
+        }
+        is_escaped = c == '\\' && !is_escaped;
+    }
+    width
+}
+
+// How many characters a sign has behind its first.
+fn sign_behind(first: char, second: Option<char>) -> usize {
     match (first, second) {
         ('|', Some('|'))
         | ('&', Some('&'))
         | ('=' | '!' | '<' | '>', Some('='))
         | ('#', Some('('))
-        | ('/', Some('*')) => 2,
-        _ => 1,
+        | ('/', Some('*')) => 1,
+        _ => 0,
     }
 }

@@ -73,7 +73,7 @@ fn push_marks(out: &mut String, place: &Place<'_>) -> Result<(), NoMemory> {
         out.push(if c == '\t' { '\t' } else { ' ' })?;
     }
     let left = place.shown().skip(before).count();
-    for _ in 0..place.width().min(left.max(1)) {
+    for _ in 0..place.width.min(left.max(1)) {
         out.push('^')?;
     }
     Ok(())

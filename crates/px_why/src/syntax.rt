@@ -1,5 +1,7 @@
 // Tokens that are no plan, in words.
 use crate::candidates::Front;
+use crate::cut::Cut;
+use crate::hints::hint_for;
 use crate::place::{Place, place_of};
 use crate::report::Words;
 use crate::wanted::Wanted;
@@ -22,42 +24,52 @@ pub fn cut_short<'a>(
     tokens: Vec<Token>,
     token: usize,
 ) -> Result<Unexpected<'a>, NoMemory> {
-    let place = place_at(text, &tokens, token);
-    let before = end_before(text, &tokens, token);
-    let is_end = token >= tokens.len();
+    let cut = Cut::at(alloc, text, &tokens, token)?;
     let mut front = Front::of(tokens, token);
-    let wanted = Wanted::behind(alloc, &mut front)?;
+    let help = help_for(alloc, &cut, &mut front);
     drop(front);
-    let words = words_for(alloc, is_end, &place, &before, &wanted)?;
-    drop(wanted);
-    Ok(Unexpected { place, words })
+    let words = Words::with_help(message_for(alloc, &cut)?, help?);
+    Ok(Unexpected {
+        place: cut.place,
+        words,
+    })
 }
 
-fn words_for(
-    alloc: Global,
-    is_end: bool,
-    place: &Place<'_>,
-    before: &Place<'_>,
-    wanted: &Wanted,
-) -> Result<Words, NoMemory> {
-    let message = if is_end {
-        String::from_str(alloc, "the plan ends here, and something is missing")?
-    } else {
-        let found = spelled(alloc, place)?;
-        format!(in alloc; "`{found}` can't stand here")?
-    };
-    let phrase = wanted.phrase(alloc)?;
-    let help = if phrase.is_empty() {
-        String::from_str(alloc, "the plan is complete before it: leave the rest away")?
-    } else if wanted.semicolon && before.line < place.line {
-        let line = before.line;
-        format!(in alloc;
-            "a `;` may be missing at the end of line {line}; what may stand here is {phrase}"
-        )?
-    } else {
-        format!(in alloc; "what may stand here is {phrase}")?
-    };
-    Ok(Words::with_help(message, help))
+fn message_for(alloc: Global, cut: &Cut<'_>) -> Result<String, NoMemory> {
+    match cut.place.spelled() {
+        "" => String::from_str(alloc, "the plan ends here, and something is missing"),
+        found => format!(in alloc; "`{found}` can't stand here"),
+    }
+}
+
+fn help_for(alloc: Global, cut: &Cut<'_>, front: &mut Front) -> Result<String, NoMemory> {
+    let wanted = Wanted::behind(alloc, front)?;
+    let mut help = String::new(alloc);
+    match hint_for(alloc, cut, &wanted, front)? {
+        Some(hint) => hint.push(&mut help)?,
+        None => push_wanted(cut, &wanted, &mut help)?,
+    }
+    Ok(help)
+}
+
+fn push_wanted(cut: &Cut<'_>, wanted: &Wanted, out: &mut String) -> Result<(), NoMemory> {
+    if wanted.is_complete {
+        return out.push_str("the plan is complete before it: leave the rest away");
+    }
+    if let Some(open) = cut.open {
+        write!(
+            out,
+            "the `{}` of line {} isn't closed; ",
+            open.spelled(),
+            open.line
+        )?;
+    }
+    if wanted.semicolon && cut.before.line < cut.place.line {
+        let line = cut.before.line;
+        write!(out, "a `;` may be missing at the end of line {line}; ")?;
+    }
+    out.push_str("what may stand here is ")?;
+    wanted.push_phrase(out)
 }
 
 /// What is said of a bracket or an operator that is too deep.
@@ -90,30 +102,9 @@ pub fn too_deep(alloc: Global, tokens: &[Token], token: usize) -> Result<Words, 
 pub fn place_at<'a>(text: &'a str, tokens: &[Token], token: usize) -> Place<'a> {
     match tokens.get(token) {
         Some(token) => place_of(text, token.at),
-        None => end_before(text, tokens, token),
+        None => match tokens.last() {
+            Some(last) => place_of(text, last.at).behind(),
+            None => place_of(text, 0),
+        },
     }
-}
-
-// The place behind the token before this one.
-fn end_before<'a>(text: &'a str, tokens: &[Token], token: usize) -> Place<'a> {
-    match tokens.get(token.saturating_sub(1)) {
-        Some(last) => {
-            let place = place_of(text, last.at);
-            Place {
-                before: place.before.saturating_add(place.width()),
-                ..place
-            }
-        }
-        None => place_of(text, 0),
-    }
-}
-
-// What stands at a place.
-fn spelled(alloc: Global, place: &Place<'_>) -> Result<String, NoMemory> {
-    place
-        .content
-        .chars()
-        .skip(place.before)
-        .take(place.width().min(40))
-        .collect(alloc)
 }

@@ -37,9 +37,13 @@ const KEYWORDS: [(Keyword, &str); 6] = [
 #[derive(Drop)]
 pub struct Wanted {
     /// In words.
-    pub sorts: Vec<&'static str>,
+    sorts: Vec<&'static str>,
     /// Whether a semicolon is among them.
     pub semicolon: bool,
+    /// Whether an action is among them.
+    pub action: bool,
+    /// Whether nothing is wanted any more.
+    pub is_complete: bool,
 }
 
 impl Wanted {
@@ -48,6 +52,8 @@ impl Wanted {
         let mut wanted = Wanted {
             sorts: Vec::new(alloc),
             semicolon: front.takes_sign(alloc, Sign::Semicolon)?,
+            action: front.takes_keyword(alloc, Keyword::If)?,
+            is_complete: front.is_plan(alloc)?,
         };
         wanted.add_signs(alloc, front)?;
         let has_larger = wanted.add_larger(alloc, front)?;
@@ -80,7 +86,7 @@ impl Wanted {
         self.add(expression, "an expression")?;
         let literal = !expression && front.takes_keyword(alloc, Keyword::True)?;
         self.add(literal, "a number, a String, `true` or `false`")?;
-        let action = front.takes_keyword(alloc, Keyword::If)?;
+        let action = self.action;
         self.add(action, "an action")?;
         let condition = front.takes_keyword(alloc, Keyword::Start)?;
         self.add(condition, "a condition")?;
@@ -88,6 +94,8 @@ impl Wanted {
         self.add(block, "a block in `{ }`")?;
         let of_type = front.takes_keyword(alloc, Keyword::Boolean)?;
         self.add(of_type, "a type (`Integer`, `Boolean` or `String`)")?;
+        let number_type = !of_type && front.takes_keyword(alloc, Keyword::Integer)?;
+        self.add(number_type, "`Integer`")?;
         Ok(expression || literal || action || block)
     }
 
@@ -114,18 +122,17 @@ impl Wanted {
         Ok(())
     }
 
-    /// The sorts as one phrase.
-    pub fn phrase(&self, alloc: Global) -> Result<String, NoMemory> {
-        let mut phrase = String::new(alloc);
+    /// Appends the sorts as one phrase.
+    pub fn push_phrase(&self, out: &mut String) -> Result<(), NoMemory> {
         for (place, sort) in self.sorts.iter().enumerate() {
             let left = self.sorts.len().saturating_sub(place);
             match (place, left) {
                 (0, _) => {}
-                (_, 1) => phrase.push_str(" or ")?,
-                _ => phrase.push_str(", ")?,
+                (_, 1) => out.push_str(" or ")?,
+                _ => out.push_str(", ")?,
             }
-            phrase.push_str(sort)?;
+            out.push_str(sort)?;
         }
-        Ok(phrase)
+        Ok(())
     }
 }

@@ -49,3 +49,11 @@ impl<'a> NodePath<'a> {
         }
     }
 }
+
+/// The last name of a path.
+pub fn last_name(path: &str) -> &str {
+    match path.rsplit_once('.') {
+        Some((_, last)) => last,
+        None => path,
+    }
+}

@@ -1,0 +1,112 @@
+// The words of the language that are meant where another one is written.
+use crate::nearest::Nearest;
+use px_value::NoMemory;
+use std::alloc::Global;
+
+/// The values that have names.
+const VALUES: [&str; 25] = [
+    "true",
+    "false",
+    "INACTIVE",
+    "WAITING",
+    "EXECUTING",
+    "FINISHING",
+    "ITERATION_ENDED",
+    "FAILING",
+    "FINISHED",
+    "SUCCESS",
+    "FAILURE",
+    "SKIPPED",
+    "INTERRUPTED",
+    "PRE_CONDITION_FAILED",
+    "POST_CONDITION_FAILED",
+    "INVARIANT_CONDITION_FAILED",
+    "PARENT_FAILED",
+    "EXITED",
+    "PARENT_EXITED",
+    "COMMAND_SENT_TO_SYSTEM",
+    "COMMAND_ACCEPTED",
+    "COMMAND_RCVD_BY_SYSTEM",
+    "COMMAND_FAILED",
+    "COMMAND_DENIED",
+    "COMMAND_SUCCESS",
+];
+
+/// Keywords of conditions, of forms of nodes, of types and of operators.
+const KEYWORDS: [&str; 36] = [
+    "Integer",
+    "Boolean",
+    "String",
+    "Command",
+    "Lookup",
+    "LookupNow",
+    "LookupOnChange",
+    "Update",
+    "Sequence",
+    "UncheckedSequence",
+    "Concurrence",
+    "Try",
+    "if",
+    "elseif",
+    "else",
+    "endif",
+    "while",
+    "for",
+    "AND",
+    "OR",
+    "XOR",
+    "NOT",
+    "isKnown",
+    "abs",
+    "min",
+    "max",
+    "strlen",
+    "Priority",
+    "Start",
+    "End",
+    "Exit",
+    "Skip",
+    "Repeat",
+    "Pre",
+    "Post",
+    "Invariant",
+];
+
+/// The least length of a word for which a near one is looked for.
+const LEAST: usize = 3;
+
+/// Words of other languages, and what is written for them here.
+const FOREIGN: [(&str, &str); 2] = [("int", "Integer"), ("bool", "Boolean")];
+
+/// The value that is meant by a word, if one is near.
+pub fn value_meant<'a>(alloc: Global, word: &'a str) -> Result<Option<&'a str>, NoMemory> {
+    nearest_of(alloc, &VALUES, word)
+}
+
+/// The keyword that is meant by a word, if one is near.
+pub fn keyword_meant<'a>(alloc: Global, word: &'a str) -> Result<Option<&'a str>, NoMemory> {
+    if let Some((_, keyword)) = FOREIGN.iter().find(|row| row.0 == word) {
+        return Ok(Some(*keyword));
+    }
+    match value_meant(alloc, word)? {
+        Some(value) => Ok(Some(value)),
+        None => nearest_of(alloc, &KEYWORDS, word),
+    }
+}
+
+fn nearest_of<'a>(
+    alloc: Global,
+    spellings: &[&'a str],
+    word: &'a str,
+) -> Result<Option<&'a str>, NoMemory> {
+    let mut nearest = Nearest::to(word);
+    for spelling in spellings {
+        if spelling.eq_ignore_ascii_case(word) {
+            return Ok(Some(*spelling));
+        }
+        if word.len() >= LEAST {
+            nearest.look_at(alloc, *spelling)?;
+        }
+    }
+    Ok(nearest.found())
+}
