@@ -11,31 +11,53 @@ impl Drawing {
     pub fn bands(&mut self, rows: usize) -> Result<(), NoMemory> {
         for number in 0..rows {
             if number % 2 == 0 {
-                self.band(number)?;
+                let top = self.layout.row(number);
+                self.band(top)?;
             }
         }
         Ok(())
     }
 
-    fn band(&mut self, number: usize) -> Result<(), NoMemory> {
-        let y = self.layout.row(number);
+    fn band(&mut self, top: u32) -> Result<(), NoMemory> {
         let width = self.layout.width;
-        write!(self.text, "<rect class=\"band\" y=\"{y}\" ")?;
-        write!(self.text, "width=\"{width}\" height=\"{ROW}\"/>\n")
+        self.begin("rect", "band")?;
+        self.measure("y", top)?;
+        self.measure("width", width)?;
+        self.measure("height", ROW)?;
+        self.text.push_str("/>\n")
     }
 
     /// Draws the rows, with their names again at these slots.
     pub fn rows(&mut self, rows: &IndexMap<Path, Row>, again: &[u32]) -> Result<(), NoMemory> {
         for (number, (path, row)) in rows.iter().enumerate() {
             let top = self.layout.row(number);
+            self.name(path.as_str(), row.depth, top)?;
             self.row(path.as_str(), row, top)?;
             self.names_again(path.as_str(), again, top)?;
         }
         Ok(())
     }
 
+    fn name(&mut self, path: &str, depth: usize, top: u32) -> Result<(), NoMemory> {
+        let y = top.saturating_add(BASELINE);
+        self.text.push_str("<g><title>")?;
+        self.spell(path)?;
+        self.text.push_str("</title>")?;
+        self.words("name", indent(depth), y, last_name(path))?;
+        self.text.push_str("</g>\n")
+    }
+
+    // In a wide picture the name stands again and again, so that one is always in sight.
+    fn names_again(&mut self, path: &str, again: &[u32], top: u32) -> Result<(), NoMemory> {
+        let y = top.saturating_add(BASELINE);
+        for slot in again {
+            let x = self.layout.x(*slot).saturating_add(4);
+            self.words("again", x, y, last_name(path))?;
+        }
+        Ok(())
+    }
+
     fn row(&mut self, path: &str, row: &Row, top: u32) -> Result<(), NoMemory> {
-        self.name(path, row.depth, top)?;
         self.bars(path, &row.changes, top)?;
         for mark in &row.marks {
             self.mark(path, mark, top)?;
@@ -46,28 +68,6 @@ impl Drawing {
         }
     }
 
-    fn name(&mut self, path: &str, depth: usize, top: u32) -> Result<(), NoMemory> {
-        let x = indent(depth);
-        let y = top.saturating_add(BASELINE);
-        self.text.push_str("<g><title>")?;
-        self.spell(path)?;
-        write!(self.text, "</title><text x=\"{x}\" y=\"{y}\">")?;
-        self.spell(last_name(path))?;
-        self.text.push_str("</text></g>\n")
-    }
-
-    // In a wide picture the name stands again and again, so that one is always in sight.
-    fn names_again(&mut self, path: &str, again: &[u32], top: u32) -> Result<(), NoMemory> {
-        let y = top.saturating_add(BASELINE);
-        for slot in again {
-            let x = self.layout.x(*slot).saturating_add(4);
-            write!(self.text, "<text class=\"again\" x=\"{x}\" y=\"{y}\">")?;
-            self.spell(last_name(path))?;
-            self.text.push_str("</text>\n")?;
-        }
-        Ok(())
-    }
-
     fn bars(&mut self, path: &str, changes: &[Change], top: u32) -> Result<(), NoMemory> {
         for (place, change) in changes.iter().enumerate() {
             let end = match changes.get(place.saturating_add(1)) {
@@ -75,74 +75,70 @@ impl Drawing {
                 None => self.layout.right,
             };
             if change.state != NodeState::Inactive {
-                self.bar(path, change, end, top)?;
+                self.bar(change, end, top)?;
+                self.begin_title(path)?;
+                self.standing(change)?;
+                self.text.push_str("</title></rect>\n")?;
             }
         }
         Ok(())
     }
 
-    fn bar(&mut self, path: &str, change: &Change, end: u32, top: u32) -> Result<(), NoMemory> {
+    fn bar(&mut self, change: &Change, end: u32, top: u32) -> Result<(), NoMemory> {
         let x = self.layout.x(change.slot);
-        let y = top.saturating_add(4);
-        let width = end.saturating_sub(x);
-        let state = change.state.word();
-        write!(self.text, "<rect class=\"{state}\" x=\"{x}\" y=\"{y}\" ")?;
-        write!(self.text, "width=\"{width}\" height=\"{BAR}\"><title>")?;
-        self.spell(path)?;
-        write!(self.text, ": {state}")?;
-        self.outcome(change)?;
-        self.text.push_str("</title></rect>\n")
-    }
-
-    fn outcome(&mut self, change: &Change) -> Result<(), NoMemory> {
-        if let Some(outcome) = change.outcome {
-            write!(self.text, " {}", outcome.word())?;
-        }
-        self.failure(change)
-    }
-
-    fn failure(&mut self, change: &Change) -> Result<(), NoMemory> {
-        match change.failure {
-            Some(failure) => write!(self.text, " {}", failure.word()),
-            None => Ok(()),
-        }
+        self.begin("rect", change.state.word())?;
+        self.measure("x", x)?;
+        self.measure("y", top.saturating_add(4))?;
+        self.measure("width", end.saturating_sub(x))?;
+        self.measure("height", BAR)?;
+        self.text.push_str(">")
     }
 
     fn mark(&mut self, path: &str, mark: &Mark, top: u32) -> Result<(), NoMemory> {
         let x = self.layout.x(mark.slot).saturating_add(2);
         let y = top.saturating_add(11);
-        let form = mark.deed.form();
-        write!(
-            self.text,
-            "<path class=\"mark\" transform=\"translate({x} {y})\" "
-        )?;
-        write!(self.text, "d=\"{form}\"><title>")?;
-        self.spell(path)?;
-        self.text.push_str(": ")?;
+        self.begin_shape("mark", mark.deed.form(), x, y)?;
+        self.begin_title(path)?;
         self.spell(mark.says.as_str())?;
         self.text.push_str("</title></path>\n")
     }
 
     // How the node has ended, or where it stands, at the right.
     fn end(&mut self, last: &Change, top: u32) -> Result<(), NoMemory> {
-        match (last.state, last.outcome) {
-            (NodeState::Finished, Some(outcome)) => self.end_text(
-                outcome.word(),
-                outcome.word(),
-                top,
-            )?,
-            (state, _) => self.end_text("faint", state.word(), top)?,
-        }
-        self.failure(last)?;
+        let x = self.layout.right.saturating_add(MARGIN);
+        self.begin("text", last.class())?;
+        self.measure("x", x)?;
+        self.measure("y", top.saturating_add(BASELINE))?;
+        self.text.push_str(">")?;
+        self.standing(last)?;
         self.text.push_str("</text>\n")
     }
 
-    fn end_text(&mut self, class: &str, word: &str, top: u32) -> Result<(), NoMemory> {
-        let x = self.layout.right.saturating_add(MARGIN);
-        let y = top.saturating_add(BASELINE);
-        write!(
-            self.text,
-            "<text class=\"{class}\" x=\"{x}\" y=\"{y}\">{word}"
-        )
+    // Appends the state, the outcome and the failure; of a node that has finished, no state.
+    fn standing(&mut self, change: &Change) -> Result<(), NoMemory> {
+        match change.outcome {
+            Some(outcome) if change.state == NodeState::Finished => {
+                self.text.push_str(outcome.word())?;
+            }
+            Some(outcome) => {
+                self.text.push_str(change.state.word())?;
+                write!(self.text, " {}", outcome.word())?;
+            }
+            None => self.text.push_str(change.state.word())?,
+        }
+        match change.failure {
+            Some(failure) => write!(self.text, " {}", failure.word()),
+            None => Ok(()),
+        }
+    }
+}
+
+impl Change {
+    // The class of how a node stands.
+    fn class(&self) -> &'static str {
+        match self.outcome {
+            Some(outcome) if self.state == NodeState::Finished => outcome.word(),
+            _ => "faint",
+        }
     }
 }

@@ -5,11 +5,18 @@ use px_value::NoMemory;
 use std::alloc::Global;
 
 /// What became of a post.
-#[derive(Clone, Copy, PartialEq, Eq)]
+#[derive(Clone, Copy)]
 pub enum Fate {
     Accepted,
     /// It was refused, and why.
     Refused(&'static str),
+}
+
+impl Fate {
+    /// Whether it was accepted.
+    pub fn is_accepted(self) -> bool {
+        matches!(self, Fate::Accepted)
+    }
 }
 
 /// The start, or a post.

@@ -23,6 +23,9 @@ pub const CROSS: &str = "M0 -4 L8 4 M8 -4 L0 4";
 /// The room between a sign of the legend and its word, the sign with it.
 const SIGN: u32 = 20;
 
+/// Where the words of the legend stand.
+const LEGEND: u32 = 57;
+
 impl Deed {
     /// The outline of its mark, from the middle of the mark's left edge.
     pub fn form(self) -> &'static str {
@@ -51,56 +54,51 @@ impl Drawing {
         self.text.push_str(STYLE)?;
         self.text
             .push_str("<rect class=\"paper\" width=\"100%\" height=\"100%\"/>\n")?;
-        write!(self.text, "<text class=\"title\" x=\"{MARGIN}\" y=\"28\">")?;
-        self.spell(title)?;
-        self.text.push_str("</text>\n")?;
+        self.words("title", MARGIN, 28, title)?;
         self.legend()
     }
 
     fn size(&mut self) -> Result<(), NoMemory> {
-        let Drawing { layout, text } = self;
-        let width = layout.width;
-        let height = layout.height;
-        text.push_str("<svg xmlns=\"http://www.w3.org/2000/svg\" ")?;
-        write!(text, "width=\"{width}\" height=\"{height}\" ")?;
-        write!(text, "viewBox=\"0 0 {width} {height}\">\n")
+        let width = self.layout.width;
+        let height = self.layout.height;
+        self.text
+            .push_str("<svg xmlns=\"http://www.w3.org/2000/svg\"")?;
+        self.measure("width", width)?;
+        self.measure("height", height)?;
+        write!(self.text, " viewBox=\"0 0 {width} {height}\">\n")
     }
 
     fn legend(&mut self) -> Result<(), NoMemory> {
         let mut x = MARGIN;
         for state in STATES {
-            x = self.legend_state(state.word(), x)?;
+            self.sample(state.word(), x)?;
+            x = self.legend_word(state.word(), x)?;
         }
         for deed in DEEDS {
-            x = self.legend_sign("mark", deed.form(), deed.word(), x)?;
+            self.sign("mark", deed.form(), x)?;
+            x = self.legend_word(deed.word(), x)?;
         }
-        self.legend_sign("cross", CROSS, "refused", x)?;
+        self.sign("cross", CROSS, x)?;
+        self.legend_word("refused", x)?;
         Ok(())
     }
 
-    // Draws a state of the legend, and answers where the next one begins.
-    fn legend_state(&mut self, state: &str, x: u32) -> Result<u32, NoMemory> {
-        write!(self.text, "<rect class=\"{state}\" x=\"{x}\" ")?;
-        self.text
-            .push_str("y=\"46\" width=\"14\" height=\"14\" rx=\"3\"/>")?;
-        self.legend_word(state, x)
+    // Draws the colour of a state.
+    fn sample(&mut self, state: &str, x: u32) -> Result<(), NoMemory> {
+        self.begin("rect", state)?;
+        self.measure("x", x)?;
+        self.text.push_str(" y=\"46\" width=\"14\" height=\"14\"/>")
     }
 
-    fn legend_sign(
-        &mut self,
-        class: &str,
-        form: &str,
-        word: &str,
-        x: u32,
-    ) -> Result<u32, NoMemory> {
-        write!(self.text, "<path class=\"{class}\" ")?;
-        write!(self.text, "transform=\"translate({x} 53)\" d=\"{form}\"/>")?;
-        self.legend_word(word, x)
+    fn sign(&mut self, class: &str, form: &str, x: u32) -> Result<(), NoMemory> {
+        self.begin_shape(class, form, x, LEGEND.saturating_sub(4))?;
+        self.text.push_str("</path>")
     }
 
+    // Draws a word behind its sign, and answers where the next sign stands.
     fn legend_word(&mut self, word: &str, x: u32) -> Result<u32, NoMemory> {
         let x = x.saturating_add(SIGN);
-        write!(self.text, "<text x=\"{x}\" y=\"57\">{word}</text>\n")?;
+        self.words("word", x, LEGEND, word)?;
         Ok(x.saturating_add(text_width(word)).saturating_add(MARGIN))
     }
 }

@@ -11,100 +11,75 @@ const FOOT: u32 = 6;
 impl Drawing {
     /// Draws the columns.
     pub fn columns(&mut self, columns: &[Column]) -> Result<(), NoMemory> {
-        let mut number: u32 = 0;
+        let top = self.layout.top;
         for column in columns {
             self.line(column.begin)?;
-            self.head(column, number)?;
-            number = behind(column, number);
+            self.head(column)?;
         }
-        Ok(())
+        self.numbers(columns, top)
     }
 
     fn line(&mut self, slot: u32) -> Result<(), NoMemory> {
         let x = self.layout.x(slot);
         let top = self.layout.top.saturating_sub(NUMBERS);
         let bottom = self.layout.height;
-        write!(
-            self.text,
-            "<path class=\"line\" d=\"M{x} {top} V{bottom}\"/>\n"
-        )
+        self.begin("path", "line")?;
+        write!(self.text, " d=\"M{x} {top} V{bottom}\"/>\n")
     }
 
-    // The number of an event stands at the foot of its head, and the label rises above it.
-    fn head(&mut self, column: &Column, number: u32) -> Result<(), NoMemory> {
-        let x = self.layout.x(column.begin).saturating_add(4);
+    // The label rises from the foot of the head.
+    fn head(&mut self, column: &Column) -> Result<(), NoMemory> {
+        let x = self.layout.x(column.begin).saturating_add(14);
+        let y = self.layout.top.saturating_sub(NUMBERS);
+        let class = match column.fate {
+            Fate::Accepted => "label",
+            Fate::Refused(_) => "refused",
+        };
         self.text.push_str("<g><title>")?;
         self.spell(column.title.as_str())?;
         self.text.push_str("</title>")?;
-        let foot = self.layout.top.saturating_sub(FOOT);
-        match column.fate {
-            Fate::Accepted => {
-                self.number(number, x, foot)?;
-                self.label("", column.label.as_str(), x)?;
-            }
-            Fate::Refused(_) => {
-                self.cross(x)?;
-                self.label(" class=\"refused\"", column.label.as_str(), x)?;
-            }
-        }
-        self.text.push_str("</g>\n")
-    }
-
-    fn number(&mut self, number: u32, x: u32, y: u32) -> Result<(), NoMemory> {
-        write!(
-            self.text,
-            "<text class=\"faint\" x=\"{x}\" y=\"{y}\">{number}</text>"
-        )
-    }
-
-    fn cross(&mut self, x: u32) -> Result<(), NoMemory> {
-        let y = self.layout.top.saturating_sub(10);
-        write!(
-            self.text,
-            "<path class=\"cross\" transform=\"translate({x} {y})\" "
-        )?;
-        write!(self.text, "d=\"{CROSS}\"/>")
-    }
-
-    fn label(&mut self, class: &str, label: &str, x: u32) -> Result<(), NoMemory> {
-        let x = x.saturating_add(10);
-        let y = self.layout.top.saturating_sub(NUMBERS);
-        write!(
-            self.text,
-            "<text{class} transform=\"translate({x} {y}) rotate(-90)\">"
-        )?;
-        self.spell(label)?;
-        self.text.push_str("</text>")
+        self.begin("text", class)?;
+        write!(self.text, " transform=\"translate({x} {y}) rotate(-90)\">")?;
+        self.spell(column.label.as_str())?;
+        self.text.push_str("</text></g>\n")
     }
 
     /// Draws the events' numbers again and again where the picture is high, so that they are always in sight.
     pub fn numbers_again(&mut self, columns: &[Column], rows: usize) -> Result<(), NoMemory> {
         for row in 1..rows {
             if row % AGAIN == 0 {
-                self.numbers(columns, row)?;
+                let y = self.layout.row(row);
+                self.numbers(columns, y)?;
             }
         }
         Ok(())
     }
 
-    fn numbers(&mut self, columns: &[Column], row: usize) -> Result<(), NoMemory> {
-        let y = self.layout.row(row).saturating_sub(FOOT);
+    // Draws the number of each event above this height, and a cross where one was refused.
+    fn numbers(&mut self, columns: &[Column], y: u32) -> Result<(), NoMemory> {
         let mut number: u32 = 0;
         for column in columns {
-            if column.fate == Fate::Accepted {
-                let x = self.layout.x(column.begin).saturating_add(4);
-                self.number(number, x, y)?;
+            let x = self.layout.x(column.begin).saturating_add(4);
+            match column.fate {
+                Fate::Accepted => {
+                    self.number(number, x, y.saturating_sub(FOOT))?;
+                    number = number.saturating_add(1);
+                }
+                Fate::Refused(_) => self.cross(x, y.saturating_sub(10))?,
             }
-            number = behind(column, number);
         }
-        self.text.push_str("\n")
+        Ok(())
     }
-}
 
-// The number of the event behind this column.
-fn behind(column: &Column, number: u32) -> u32 {
-    match column.fate {
-        Fate::Accepted => number.saturating_add(1),
-        Fate::Refused(_) => number,
+    fn number(&mut self, number: u32, x: u32, y: u32) -> Result<(), NoMemory> {
+        self.begin("text", "faint")?;
+        self.measure("x", x)?;
+        self.measure("y", y)?;
+        write!(self.text, ">{number}</text>\n")
+    }
+
+    fn cross(&mut self, x: u32, y: u32) -> Result<(), NoMemory> {
+        self.begin_shape("cross", CROSS, x, y)?;
+        self.text.push_str("</path>\n")
     }
 }

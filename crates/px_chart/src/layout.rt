@@ -22,9 +22,9 @@ pub const NUMBERS: u32 = 24;
 const SLOT: u32 = 12;
 /// How much further in a node stands than the one round it.
 const INDENT: u32 = 12;
-/// The width of a letter, somewhat more than it takes, and that of one of another script.
+/// The width of a letter, somewhat more than it takes.
 const LETTER: u32 = 8;
-
+/// The width of a letter of another script.
 const WIDE_LETTER: u32 = 14;
 /// The longest outcome and failure, at the right: `INTERRUPTED INVARIANT_CONDITION_FAILED`.
 const ENDS: u32 = 330;

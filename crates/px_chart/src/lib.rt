@@ -3,12 +3,13 @@
 //! `paths` lists the nodes of a plan by their paths. `record` posts events to a stepper and keeps what its nodes do, as a
 //! `Recording` of `rows` and `columns`; `labels` names events and effects, and `values` spells values. `draw` makes the
 //! picture: `layout` has its measures, `style` its colours, `frame` its title and its legend, `heads` the columns with
-//! their events, and `bars` the rows with their states and marks. `text` spells what SVG wants spelled.
+//! their events, and `bars` the rows with their states and marks, all made of `elements`.
 #![tactic(auto)]
 
 mod bars;
 mod columns;
 mod draw;
+mod elements;
 mod frame;
 mod heads;
 mod labels;
@@ -18,7 +19,6 @@ mod record;
 mod recording;
 mod rows;
 mod style;
-mod text;
 mod values;
 
 pub use draw::picture_of;

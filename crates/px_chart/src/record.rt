@@ -18,7 +18,7 @@ use std::alloc::Global;
 const EVENT_LIMIT: u32 = 100_000;
 
 /// Why a run was not recorded.
-#[derive(Clone, Copy, PartialEq, Eq)]
+#[derive(Clone, Copy)]
 pub enum RecordFault {
     /// The start doesn't settle.
     Runaway,
@@ -109,7 +109,7 @@ fn post_each<S: Stepper>(
     let mut count: u32 = 0;
     for entry in entries {
         let fate = post(alloc, stepper, count, &entry.event, recording)?;
-        if fate == Fate::Accepted {
+        if fate.is_accepted() {
             count = count.saturating_add(1);
         }
         recording.end_entry(entry, fate)?;
@@ -132,7 +132,7 @@ fn post<S: Stepper>(
         return Ok(Fate::Refused("no event"));
     }
     let fate = fate_of(alloc, stepper, count, event)?;
-    if fate == Fate::Accepted {
+    if fate.is_accepted() {
         take(alloc, stepper, event, recording)?;
     }
     Ok(fate)

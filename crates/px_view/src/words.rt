@@ -99,26 +99,40 @@ fn chart_of<'a>(file: &'a str, found: &ArgMatches<'a>) -> Task<'a> {
 }
 
 fn syntax<'a>(alloc: Global) -> Result<Command<'a>, NoMemory> {
-    let program = Command::new(alloc, "plexil-view")
+    let commands = commands(alloc)?;
+    Command::new(alloc, "plexil-view")
         .no_binary_name(true)
         .about("Explains plans, scripts and journals of plexil, and draws their runs")
         .version("1.0")
         .subcommand_required(true)
-        .arg_required_else_help(true);
-    let program = with(program, why(alloc))?;
-    let program = with(program, nodes(alloc))?;
-    let program = with(program, journal(alloc))?;
-    with(program, chart(alloc))
+        .arg_required_else_help(true)
+        .subcommands(commands)
 }
 
-fn with<'a>(
-    program: Command<'a>,
+fn commands<'a>(alloc: Global) -> Result<Vec<Command<'a>>, NoMemory> {
+    let mut commands = Vec::new(alloc);
+    add(why(alloc), &mut commands)?;
+    add(nodes(alloc), &mut commands)?;
+    add(journal(alloc), &mut commands)?;
+    add(chart(alloc), &mut commands)?;
+    Ok(commands)
+}
+
+fn add<'a>(
     command: Result<Command<'a>, NoMemory>,
+    commands: &mut Vec<Command<'a>>,
+) -> Result<(), NoMemory> {
+    commands.push(command?)?;
+    Ok(())
+}
+
+fn command<'a>(
+    alloc: Global,
+    name: &'a str,
+    about: &'a str,
+    args: Vec<Arg<'a>>,
 ) -> Result<Command<'a>, NoMemory> {
-    match command {
-        Ok(command) => program.subcommand(command),
-        Err(fault) => Err(fault),
-    }
+    Command::new(alloc, name).about(about).args(args)
 }
 
 fn file<'a>(alloc: Global, name: &'a str, help: &'a str) -> Arg<'a> {
@@ -129,57 +143,40 @@ fn file<'a>(alloc: Global, name: &'a str, help: &'a str) -> Arg<'a> {
 }
 
 fn why<'a>(alloc: Global) -> Result<Command<'a>, NoMemory> {
-    Command::new(alloc, "why")
-        .about("Says what a plan or a script is refused for, and where")
-        .arg(file(alloc, "FILE", "A plan, or with --plan a script"))?
-        .arg(plan(alloc))
-}
-
-fn plan<'a>(alloc: Global) -> Arg<'a> {
-    Arg::new(alloc, "plan")
+    let file = file(alloc, "FILE", "A plan, or with --plan a script");
+    let plan = Arg::new(alloc, "plan")
         .long("plan")
         .value_name("PLAN")
-        .help("The file is a script for this plan")
+        .help("The file is a script for this plan");
+    let about = "Says what a plan or a script is refused for, and where";
+    command(alloc, "why", about, vec![in alloc; file, plan]?)
 }
 
 fn nodes<'a>(alloc: Global) -> Result<Command<'a>, NoMemory> {
-    Command::new(alloc, "nodes")
-        .about(
-            "Lists the nodes of a plan, what each waits for, and which lines a script may have for it",
-        )
-        .arg(file(alloc, "PLAN", "A plan"))?
-        .arg(like(alloc))
-}
-
-fn like<'a>(alloc: Global) -> Arg<'a> {
-    Arg::new(alloc, "like")
+    let file = file(alloc, "PLAN", "A plan");
+    let like = Arg::new(alloc, "like")
         .long("like")
         .value_name("WORD")
-        .help("Only nodes whose paths have this in them")
+        .help("Only nodes whose paths have this in them");
+    let about =
+        "Lists the nodes of a plan, what each waits for, and which lines a script may have for it";
+    command(alloc, "nodes", about, vec![in alloc; file, like]?)
 }
 
 fn journal<'a>(alloc: Global) -> Result<Command<'a>, NoMemory> {
-    Command::new(alloc, "journal")
-        .about("Says what a journal holds, entry by entry, and where it is damaged")
-        .arg(file(alloc, "JOURNAL", "A journal"))
+    let file = file(alloc, "JOURNAL", "A journal");
+    let about = "Says what a journal holds, entry by entry, and where it is damaged";
+    command(alloc, "journal", about, vec![in alloc; file]?)
 }
 
 fn chart<'a>(alloc: Global) -> Result<Command<'a>, NoMemory> {
-    Command::new(alloc, "chart")
-        .about("Draws a run as SVG: that of a plan and a script, or that of a journal")
-        .arg(file(alloc, "FILE", "A plan, or without a script a journal"))?
-        .arg(script(alloc))?
-        .arg(output(alloc))
-}
-
-fn script<'a>(alloc: Global) -> Arg<'a> {
-    Arg::new(alloc, "SCRIPT").help("A script for the plan")
-}
-
-fn output<'a>(alloc: Global) -> Arg<'a> {
-    Arg::new(alloc, "output")
+    let file = file(alloc, "FILE", "A plan, or without a script a journal");
+    let script = Arg::new(alloc, "SCRIPT").help("A script for the plan");
+    let output = Arg::new(alloc, "output")
         .short('o')
         .long("output")
         .value_name("FILE")
-        .help("Where the picture goes, in place of standard output")
+        .help("Where the picture goes, in place of standard output");
+    let about = "Draws a run as SVG: that of a plan and a script, or that of a journal";
+    command(alloc, "chart", about, vec![in alloc; file, script, output]?)
 }

@@ -6,7 +6,7 @@ use px_value::NoMemory;
 use std::alloc::Global;
 
 /// What a name is declared as.
-#[derive(Clone, Copy, Debug)]
+#[derive(Clone, Copy)]
 pub enum What {
     Variable {
         of_type: TypeName,
@@ -36,7 +36,7 @@ impl What {
 }
 
 /// A name that is declared.
-#[derive(Clone, Copy, Debug)]
+#[derive(Clone, Copy)]
 pub struct Declared<'a> {
     pub name: &'a str,
     /// The number of its token.

@@ -4,7 +4,7 @@ use std::alloc::Global;
 use strsim::levenshtein;
 
 /// The best of the names that were looked at so far.
-#[derive(Clone, Copy, Debug)]
+#[derive(Clone, Copy)]
 pub struct Nearest<'a> {
     meant: &'a str,
     found: Option<&'a str>,

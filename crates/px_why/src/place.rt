@@ -12,7 +12,7 @@ const SHOWN_BEFORE: usize = 80;
 const SPELLED: usize = 40;
 
 /// A line of a text, and a place in it.
-#[derive(Clone, Copy, Debug)]
+#[derive(Clone, Copy)]
 pub struct Place<'a> {
     /// The number of the line, from 1.
     pub line: usize,

@@ -3,7 +3,7 @@ use crate::place::Place;
 use px_value::NoMemory;
 
 /// What is wrong, and what to do about it.
-#[derive(Debug, Drop)]
+#[derive(Drop)]
 pub struct Words {
     pub message: String,
     pub help: Option<String>,
