@@ -1,5 +1,5 @@
 // Events that are posted to a plan, and what its nodes do at each.
-ghost use Rattle.std.specs.Prelude.{◌≡◌, ◌→◌, false, IsTrue, IfOk, OnOk};
+ghost use Rattle.std.specs.Prelude.{◌≡◌, false, IsTrue, IfOk, OnOk};
 ghost use Rattle.px_core.specs.Fit.{IsFit};
 ghost use Rattle.px_core.specs.Plan.{tree_of};
 ghost use Rattle.px_event.specs.Fit.{is_fit_event};
