@@ -47,7 +47,7 @@ pub fn why_script(
 {
     if bytes.len() > SCRIPT_LIMIT {
         let message = "the file is no script: it has over 16,777,216 bytes";
-        push_whole(out, name, &Words::plain(String::from_str(alloc, message)?))?;
+        push_whole(out, name, &Words::fixed_plain(alloc, message)?)?;
         return Ok(true);
     }
     match read_script(alloc, bytes, plan) {
@@ -141,18 +141,16 @@ fn words_for(alloc: Global, content: &str, kind: u8, plan: &Plan) -> Result<Word
     match kind {
         1 => no_shape(alloc, content),
         2 => no_node(alloc, content, plan),
-        3 => Ok(Words::with_help(
-            String::from_str(alloc, "a VALUE of this line is none")?,
-            String::from_str(
-                alloc,
-                "a VALUE is `true`, `false`, an Integer from -2147483648 to 2147483647, a String in double quotes, or `UNKNOWN`, which is no argument",
-            )?,
-        )),
-        4 => Ok(Words::plain(String::from_str(alloc, "threads are numbered from 1 to 8")?)),
-        _ => Ok(Words::plain(String::from_str(
+        3 => Words::fixed(
+            alloc,
+            "a VALUE of this line is none",
+            "a VALUE is `true`, `false`, an Integer from -2147483648 to 2147483647, a String in double quotes, or `UNKNOWN`, which is no argument",
+        ),
+        4 => Words::fixed_plain(alloc, "threads are numbered from 1 to 8"),
+        _ => Words::fixed_plain(
             alloc,
             "a thread has at most 100,000 lines that post or wait, and this is one more",
-        )?)),
+        ),
     }
 }
 

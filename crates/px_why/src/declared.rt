@@ -22,6 +22,21 @@ pub enum What {
     },
 }
 
+/// A variable, of whatever type.
+pub const A_VARIABLE: What = What::Variable {
+    of_type: TypeName::Integer,
+    is_array: false,
+};
+
+/// A command, whatever it takes and answers.
+pub const A_COMMAND: What = What::Command {
+    answer: None,
+    parameters: 0,
+};
+
+/// A lookup, whatever it takes.
+pub const A_LOOKUP: What = What::Lookup { parameters: 0 };
+
 impl What {
     /// Whether two names are of one sort, so that they may not be the same in one place.
     pub fn is_like(self, other: What) -> bool {

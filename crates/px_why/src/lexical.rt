@@ -30,7 +30,7 @@ pub fn lexical_words(
         Some(message) => String::from_str(alloc, message)?,
         None => format!(in alloc; "nothing in a plan begins with `{first}`")?,
     };
-    Ok(Words::with_help(message, String::from_str(alloc, help)?))
+    Words::with_fixed_help(alloc, message, help)
 }
 
 fn of_bad(first: char) -> (Option<&'static str>, &'static str) {

@@ -2,9 +2,10 @@
 //!
 //! `place` finds the line and the column of a byte, and shows them; `declared` lists the names that a tree declares, and
 //! `nearest` finds the one that is meant, `spellings` the word of the language. `lexical`, `syntax`, with `cut`, `wanted`,
-//! `hints` and `candidates`, and `fault`, with `misfit` and `naming`, say what a stage refuses, and `plan` tells each fault of a plan in turn; `report` is the form of what is
-//! told. `runaway` says which nodes go on where a start doesn't settle. Which faults there are, and where, is what the stages
-//! themselves answer: this crate only puts it into words.
+//! `hints` and `candidates`, and `fault`, with `missing`, `misfit` and `naming`, say what a stage refuses, and `plan` tells
+//! each fault of a plan in turn; `report` is the form of what is told. `runaway` says which nodes go on where a start
+//! doesn't settle. Which faults there are, and where, is what the stages themselves answer: this crate only puts it into
+//! words.
 #![tactic(auto)]
 
 mod candidates;
@@ -14,6 +15,7 @@ mod fault;
 mod hints;
 mod lexical;
 mod misfit;
+mod missing;
 mod naming;
 mod nearest;
 mod place;

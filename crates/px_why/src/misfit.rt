@@ -1,5 +1,5 @@
 // Faults of types: what stands at a place, and what is wanted there.
-use crate::declared::What;
+use crate::declared::{A_COMMAND, What};
 use crate::naming::{a_declared, a_value, an_allowed};
 use crate::report::Words;
 use crate::seen::Seen;
@@ -22,7 +22,7 @@ impl<'a> Seen<'a> {
             format!(in alloc; "what begins here is {given}; {wanted} is wanted here")?
         };
         match help_for(misfit, is_named) {
-            Some(help) => Ok(Words::with_help(message, String::from_str(alloc, help)?)),
+            Some(help) => Words::with_fixed_help(alloc, message, help),
             None => Ok(Words::plain(message)),
         }
     }
@@ -80,19 +80,12 @@ impl<'a> Seen<'a> {
                 "give a list of values, as in `Integer x[2] = #(1 2);`",
             ),
         };
-        Ok(Words::with_help(
-            String::from_str(alloc, message)?,
-            String::from_str(alloc, help)?,
-        ))
+        Words::fixed(alloc, message, help)
     }
 
     // Of a command whose result is put into a variable.
     fn no_result(&self, alloc: Global, name: &str) -> Result<Words, NoMemory> {
-        let like = What::Command {
-            answer: None,
-            parameters: 0,
-        };
-        let message = match self.first_of(like, name) {
+        let message = match self.first_of(A_COMMAND, name) {
             Some(declared) => match declared.what {
                 What::Command {
                     answer: Some(answer),

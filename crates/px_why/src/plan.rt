@@ -27,11 +27,8 @@ pub fn why_plan(
     out: &mut String,
 ) -> Result<u32, NoMemory> {
     if bytes.len() > TEXT_LIMIT {
-        let words = Words::plain(String::from_str(
-            alloc,
-            "the file is no plan: it has over 1,048,576 bytes",
-        )?);
-        push_whole(out, name, &words)?;
+        let message = "the file is no plan: it has over 1,048,576 bytes";
+        push_whole(out, name, &Words::fixed_plain(alloc, message)?)?;
         return Ok(1);
     }
     match from_utf8(bytes) {
@@ -59,8 +56,8 @@ fn not_text(
     let message = format!(in alloc;
         "the byte {at} of the file, in line {line}, is no text (UTF-8)"
     )?;
-    let help = String::from_str(alloc, "save the plan as UTF-8")?;
-    push_whole(out, name, &Words::with_help(message, help))
+    let words = Words::with_fixed_help(alloc, message, "save the plan as UTF-8")?;
+    push_whole(out, name, &words)
 }
 
 fn why_text(alloc: Global, name: &str, text: &str, out: &mut String) -> Result<u32, NoMemory> {
@@ -183,8 +180,8 @@ fn too_large(alloc: Global, name: &str, text: &str, out: &mut String) -> Result<
             let message = format!(in alloc;
                 "the plan has {nodes} nodes, of at most 4,096, or one of them a path of over 5,000 bytes"
             )?;
-            let help = String::from_str(alloc, "make it of fewer nodes, or nest them less deep")?;
-            push_whole(out, name, &Words::with_help(message, help))?;
+            let help = "make it of fewer nodes, or nest them less deep";
+            push_whole(out, name, &Words::with_fixed_help(alloc, message, help)?)?;
             Ok(1)
         }
         Err(_) => Err(AllocError),

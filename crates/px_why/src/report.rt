@@ -1,6 +1,7 @@
 // What is told of a fault: in words, with its line, and with what helps.
 use crate::place::Place;
 use px_value::NoMemory;
+use std::alloc::Global;
 
 /// What is wrong, and what to do about it.
 #[derive(Drop)]
@@ -10,6 +11,24 @@ pub struct Words {
 }
 
 impl Words {
+    /// A message and a hint that are the same for every plan.
+    pub fn fixed(alloc: Global, message: &str, help: &str) -> Result<Words, NoMemory> {
+        let message = String::from_str(alloc, message)?;
+        let help = String::from_str(alloc, help)?;
+        Ok(Words::with_help(message, help))
+    }
+
+    /// A message that is the same for every plan.
+    pub fn fixed_plain(alloc: Global, message: &str) -> Result<Words, NoMemory> {
+        Ok(Words::plain(String::from_str(alloc, message)?))
+    }
+
+    /// With a hint that is the same for every plan.
+    pub fn with_fixed_help(alloc: Global, message: String, help: &str) -> Result<Words, NoMemory> {
+        let help = String::from_str(alloc, help)?;
+        Ok(Words::with_help(message, help))
+    }
+
     /// Without a hint.
     pub fn plain(message: String) -> Words {
         Words {

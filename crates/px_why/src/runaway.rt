@@ -40,9 +40,9 @@ fn runaway_words(alloc: Global, moves: &[Move]) -> Result<Words, NoMemory> {
     for moved in moves.iter().take(TOLD) {
         write!(message, " {}", moved.node.as_str())?;
     }
-    let help = String::from_str(
+    Words::with_fixed_help(
         alloc,
+        message,
         "let a node that repeats wait for the outside, as by `Start Lookup(go);`, or give it a Repeat that becomes false",
-    )?;
-    Ok(Words::with_help(message, help))
+    )
 }

@@ -92,10 +92,7 @@ pub fn too_deep(alloc: Global, tokens: &[Token], token: usize) -> Result<Words, 
             "put a part of it into a variable first",
         )
     };
-    Ok(Words::with_help(
-        String::from_str(alloc, message)?,
-        String::from_str(alloc, help)?,
-    ))
+    Words::fixed(alloc, message, help)
 }
 
 /// The place of a token; behind the last, the end of the last.
