@@ -75,9 +75,6 @@ const KEYWORDS: [&str; 36] = [
 /// The least length of a word for which a near one is looked for.
 const LEAST: usize = 3;
 
-/// Words of other languages, and what is written for them here.
-const FOREIGN: [(&str, &str); 2] = [("int", "Integer"), ("bool", "Boolean")];
-
 /// The value that is meant by a word, if one is near.
 pub fn value_meant<'a>(alloc: Global, word: &'a str) -> Result<Option<&'a str>, NoMemory> {
     nearest_of(alloc, &VALUES, word)
@@ -85,12 +82,21 @@ pub fn value_meant<'a>(alloc: Global, word: &'a str) -> Result<Option<&'a str>, 
 
 /// The keyword that is meant by a word, if one is near.
 pub fn keyword_meant<'a>(alloc: Global, word: &'a str) -> Result<Option<&'a str>, NoMemory> {
-    if let Some((_, keyword)) = FOREIGN.iter().find(|row| row.0 == word) {
-        return Ok(Some(*keyword));
+    if let Some(keyword) = for_foreign(word) {
+        return Ok(Some(keyword));
     }
     match value_meant(alloc, word)? {
         Some(value) => Ok(Some(value)),
         None => nearest_of(alloc, &KEYWORDS, word),
+    }
+}
+
+// What is written here for a word of another language.
+fn for_foreign(word: &str) -> Option<&'static str> {
+    match word {
+        "int" => Some("Integer"),
+        "bool" => Some("Boolean"),
+        _ => None,
     }
 }
 
