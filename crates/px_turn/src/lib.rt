@@ -8,8 +8,6 @@ pub mod laws;
 mod listed;
 mod rule;
 mod steps;
-#[cfg(test)]
-mod tests;
 mod turn;
 mod view;
 

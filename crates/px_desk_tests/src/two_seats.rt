@@ -2,7 +2,7 @@
 use px_compile::compile;
 use px_desk::{Desk, EventDesk};
 use px_event::{Event, Values};
-use px_machine::Machine;
+use px_naive::Naive;
 use px_ports::MemDisk;
 use px_sem::start;
 use px_session::create;
@@ -13,7 +13,7 @@ use std::test::Fail;
 const PLAN: &[u8] = b"A: { Start Lookup(go); }";
 
 // The event of the line `set x = 1`.
-fn report(alloc: Global) -> anyhow::Result<Event> {
+fn report(alloc: Global) -> Result<Event, Fail> {
     Ok(Event::Report {
         name: Name::new(alloc, "x")?,
         args: Values::from(Vec::new(alloc)),
@@ -24,28 +24,28 @@ fn report(alloc: Global) -> anyhow::Result<Event> {
 #[test]
 fn a_seat_counts_what_another_posts(rt: HostRuntime) -> Result<(), Fail> {
     let alloc = rt.alloc();
+    let event = report(alloc)?;
+    let disk = MemDisk::new(alloc, Vec::new(alloc), Vec::new(alloc), None)?;
     let Ok(plan) = compile(alloc, PLAN) else {
         panic!(rt; "the plan is fit");
     };
-    let Ok(stepper) = start::<Machine>(alloc, &plan) else {
+    let Ok(stepper) = start::<Naive>(alloc, &plan) else {
         panic!(rt; "the plan starts");
     };
-    let disk = MemDisk::new(alloc, Vec::new(alloc), Vec::new(alloc), None)?;
     let Ok(exec) = create(alloc, disk, "J", PLAN, stepper, 10) else {
         panic!(rt; "the journal is made");
     };
     let Ok((desk, seats)) = EventDesk::open(alloc, exec, 2) else {
         panic!(rt; "the desk is opened");
     };
-    let event = report(alloc)?;
     assert!(rt; event.is_fit());
 
     let mut seats = seats;
     let receipt = desk.post(&rt, alloc, &mut seats[0], 1, 1, &event);
-    assert_eq!(rt; receipt.map(|receipt| receipt.position), Ok(1));
-    assert_eq!(rt; desk.count(&mut seats[1]), 1);
+    assert!(rt; matches!(receipt, Ok(receipt) if receipt.position == 1));
+    assert!(rt; desk.count(&mut seats[1]) == 1);
 
     let exec = desk.close(seats);
-    assert_eq!(rt; exec.log().len(), 1);
+    assert!(rt; exec.log().len() == 1);
     Ok(())
 }

@@ -1,14 +1,14 @@
 use Rattle.std.proofs.Common.{◌≡◌, map, ap, sym, subst, ◌∙◌, arith}
 use Rattle.std.specs.Prelude.{slice_set}
 use Rattle.px_exec.specs.Answers.{entry_of}
-use Rattle.px_machine.specs.contracts.machine.MachineStepper.TheImpl as machine
+use Rattle.px_naive.specs.contracts.naive.NaiveStepper.TheImpl as naive
 use Rattle.px_turn.specs.Histories.{items}
 use Rattle.px_desk.specs.EventDesk.{seating, opened_with, IsSeatOf}
 use Rattle.px_desk.specs.Listing.{start_of}
 use Rattle.px_desk.specs.Seating.{AreAll}
-use Rattle.px_run.proofs.Starting.{run_started}
-use Rattle.px_program_tests.proofs.Seats.{posted, two, both, all}
-use Rattle.px_program_tests.proofs.two_seats.a_seat_counts_what_another_posts.Goals as goal
+use Rattle.px_desk_tests.proofs.Starting.{run_started}
+use Rattle.px_desk_tests.proofs.Seats.{posted, two, both, all}
+use Rattle.px_desk_tests.proofs.two_seats.a_seat_counts_what_another_posts.Goals as goal
 
 pub create-requires-clause-started : goal.create-requires-clause-started
 create-requires-clause-started g c = run_started _ _ c.in-Ok-start.ensures.settled c.in-Ok-start.ensures.rest
@@ -33,7 +33,7 @@ close-exec-requires-clause-all g c =
     (sym c.in-Ok-open.ensures.desk.1)
     (all seating _ c.in-Ok-open.seats.items c.in-Ok-open.ensures.seats c.post-receipt.new.seat c.count.new.seat
     c.index_mut.result.now c.index_mut-2.result.now
-    (posted (start_of machine.ghosts (opened_with c.in-Ok-open.desk).opening) (seating c.index_mut.result.now) (seating c.post-receipt.new.seat)
+    (posted (start_of naive.ghosts (opened_with c.in-Ok-open.desk).opening) (seating c.index_mut.result.now) (seating c.post-receipt.new.seat)
     (items (seating c.post-receipt.new.seat).seen) (entry_of 1 1 c.in_ok-event.event) c.post-receipt.result c.post-receipt.ensures.answers
     ∙ ap (λ seat. (seating seat).number) c.index_mut.ensures.value)
     (ap (λ s. s.number) c.count.ensures.counts.same ∙ ap (λ seat. (seating seat).number) c.index_mut-2.ensures.value))

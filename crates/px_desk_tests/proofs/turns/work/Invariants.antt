@@ -1,6 +1,6 @@
 use Rattle.std.proofs.Common.{◌≡◌}
 use Rattle.px_turn.specs.Seats.{view, IsSeatOf, IsOut}
-use Rattle.px_turn.proofs.tests.work.Given as goal
+use Rattle.px_desk_tests.proofs.turns.work.Given as goal
 
 abbrev pub invariant-loop-entry : goal.invariant-loop-entry
 invariant-loop-entry g l = record {

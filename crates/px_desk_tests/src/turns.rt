@@ -3,8 +3,7 @@ ghost use Rattle.std.specs.Prelude.{◌≡◌, ◌+◌, ◌-◌, ◌<◌, ◌≤
 ghost use Rattle.std.specs.Thread.{IsSync};
 ghost use Rattle.px_turn.specs.Seats.{view, IsSeatOf, IsOut};
 
-use crate::listed::Listed;
-use crate::turn::{Seat, Turn};
+use px_turn::{Listed, Seat, Turn};
 use std::alloc::{AllocError, Global};
 use std::sync::Wait;
 use std::test::Fail;
