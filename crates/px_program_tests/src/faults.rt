@@ -30,14 +30,18 @@ impl Faults {
     pub(crate) fn spelled_by(spelled: &str) -> Option<Faults> {
         let mut faults = Faults::NONE;
         for word in spelled.split_whitespace() {
-            let (place, number) = word.split_once('=')?;
+            let (place, spelled) = word.split_once('=')?;
+            if place == "image" {
+                faults.image = pick_of(spelled)?;
+                continue;
+            }
+            let number: u32 = spelled.parse().ok()?;
             match place {
-                "fetch" => faults.fetch = Some(number.parse().ok()?),
-                "emit" => faults.emit = Some(number.parse().ok()?),
-                "device" => faults.device = Some(number.parse().ok()?),
-                "stop" => faults.stop = Some(number.parse().ok()?),
-                "image" => faults.image = pick_of(number)?,
-                "piece" => faults.piece = number.parse().ok()?,
+                "fetch" => faults.fetch = Some(number),
+                "emit" => faults.emit = Some(number),
+                "device" => faults.device = Some(number),
+                "stop" => faults.stop = Some(number),
+                "piece" => faults.piece = number as usize,
                 _ => return None,
             }
         }

@@ -1,12 +1,9 @@
 // A call of the program over a host in memory that has two files, and a disk in memory.
 use crate::faults::Faults;
-#[cfg(test)]
+use crate::pacing::Pacing;
 use px_machine::Machine;
 use px_ports::{MemDisk, MemFile, MemHost};
 use px_run::{Done, plexil_over};
-#[cfg(test)]
-use px_script::NoPace;
-use px_script::Pace;
 use px_sem::Stepper;
 use std::alloc::Global;
 use std::sync::Wait;
@@ -64,33 +61,22 @@ fn host_of(alloc: Global, call: Call<'_>) -> anyhow::Result<MemHost> {
     Ok(MemHost::new(alloc, files, fetches, emits, call.faults.piece)?)
 }
 
-/// What the call answers on the stepper that the program runs on.
-#[cfg(test)]
+/// What the call answers on the stepper that the program runs on, where the threads are held up so.
 pub(crate) fn answer_of<R: Threads + Wait + Sync>(
     rt: &R,
     alloc: Global,
     call: Call<'_>,
+    pacing: &Pacing<'_>,
 ) -> anyhow::Result<Answer> {
-    paced_answer_of(rt, alloc, call, &NoPace)
+    answer_over::<Machine, R>(rt, alloc, call, pacing)
 }
 
-/// The same where the threads have this pace.
-#[cfg(test)]
-pub(crate) fn paced_answer_of<P: Pace, R: Threads + Wait + Sync>(
+/// The same on a stepper of this type.
+pub(crate) fn answer_over<S: Stepper + Send, R: Threads + Wait + Sync>(
     rt: &R,
     alloc: Global,
     call: Call<'_>,
-    pace: &P,
-) -> anyhow::Result<Answer> {
-    answer_over::<Machine, P, R>(rt, alloc, call, pace)
-}
-
-/// What the call answers on a stepper of this type, where the threads have this pace.
-pub(crate) fn answer_over<S: Stepper + Send, P: Pace, R: Threads + Wait + Sync>(
-    rt: &R,
-    alloc: Global,
-    call: Call<'_>,
-    pace: &P,
+    pacing: &Pacing<'_>,
 ) -> anyhow::Result<Answer> {
     let words = words_of(alloc, call.words)?;
     let mut host = host_of(alloc, call)?;
@@ -102,8 +88,8 @@ pub(crate) fn answer_over<S: Stepper + Send, P: Pace, R: Threads + Wait + Sync>(
         call.faults.stop,
     )?;
 
-    let Done { status, disk } = plexil_over::<MemHost, MemDisk, S, P, R>(
-        rt, alloc, &words, &mut host, disk, pace,
+    let Done { status, disk } = plexil_over::<MemHost, MemDisk, S, Pacing<'_>, R>(
+        rt, alloc, &words, &mut host, disk, pacing,
     );
     Ok(Answer {
         status,

@@ -1,21 +1,20 @@
 // Two threads of a script that run at once: each is held before its first post until the other is before its own. And the
 // orders in which two threads' posts may come, each of them seen.
 use crate::faults::Faults;
-use crate::running::{Answer, Call, paced_answer_of};
-use px_script::Pace;
+use crate::pacing::Pacing;
+use crate::running::{Call, answer_of};
 use std::alloc::Global;
 use std::sync::Wait;
 use std::sync::atomic::AtomicU64;
 use std::sync::atomic::Ordering::SeqCst;
-use std::test::Fail;
 use std::thread::Threads;
 
 // How often a thread looks whether the other has come.
 const LOOKS: u64 = 1_000_000_000;
 
-// Where two threads meet: each has come there at its first post, and waits for the other.
+/// Where two threads meet: each has come there at its first post, and waits for the other.
 #[derive(Drop)]
-struct Meeting {
+pub(crate) struct Meeting {
     // How often the posts of the lines 1, 2, 4 and 5 came.
     first: AtomicU64,
     second: AtomicU64,
@@ -39,6 +38,16 @@ impl Meeting {
         }
     }
 
+    // Whether each of the four posts came once, no other did, and no thread looked in vain.
+    fn is_kept(&self) -> bool {
+        self.first.load(SeqCst) == 1
+            && self.second.load(SeqCst) == 1
+            && self.fourth.load(SeqCst) == 1
+            && self.fifth.load(SeqCst) == 1
+            && self.others.load(SeqCst) == 0
+            && self.missed.load(SeqCst) == 0
+    }
+
     // Returns once a post has come there, or has not within so many looks.
     fn wait_for(&self, post: &AtomicU64) {
         for _ in 0..LOOKS {
@@ -50,8 +59,9 @@ impl Meeting {
     }
 }
 
-impl Pace for Meeting {
-    fn before(&self, thread: u8, line: u32) {
+impl Meeting {
+    /// Comes before this post, and waits for the other thread at its first one.
+    pub(crate) fn before(&self, thread: u8, line: u32) {
         let (post, other) = match (thread, line) {
             (1, 1) => (&self.first, Some(&self.fourth)),
             (1, 2) => (&self.second, None),
@@ -66,9 +76,15 @@ impl Pace for Meeting {
     }
 }
 
-// Each would wait in vain if the other came only behind it.
-#[test]
-fn two_threads_run_at_once(rt: HostRuntime) -> Result<(), Fail> {
+const REPLIES: [&str; 4] = [
+    "thread 1 line 1: accepted ",
+    "thread 1 line 2: accepted ",
+    "thread 2 line 4: accepted ",
+    "thread 2 line 5: accepted ",
+];
+
+/// Whether two threads run at once: each would wait in vain if the other came only behind it.
+pub(crate) fn run_at_once<R: Threads + Wait + Sync>(rt: &R, alloc: Global) -> anyhow::Result<bool> {
     let call = Call {
         words: "run P S J",
         plan: b"A: { Start Lookup(go); }",
@@ -77,29 +93,18 @@ fn two_threads_run_at_once(rt: HostRuntime) -> Result<(), Fail> {
         faults: Faults::NONE,
     };
     let meeting = Meeting::new();
-    let Answer { status, text, .. } = paced_answer_of(&rt, rt.alloc(), call, &meeting)?;
+    let answer = answer_of(rt, alloc, call, &Pacing::Meeting(&meeting))?;
+    Ok(answer.status == 0 && meeting.is_kept() && has_each_once(answer.text.as_str(), &REPLIES))
+}
 
-    assert_eq!(rt; meeting.missed.load(SeqCst), 0);
-    assert_eq!(rt; status, 0);
-    for reply in [
-        "thread 1 line 1: accepted ",
-        "thread 1 line 2: accepted ",
-        "thread 2 line 4: accepted ",
-        "thread 2 line 5: accepted ",
-    ] {
-        let replies = text.as_str().lines().filter(|line| line.starts_with(reply));
-        assert_eq!(rt; replies.count(), 1, "{reply}");
+// Whether just one line of the text begins with each of these.
+fn has_each_once(text: &str, fronts: &[&str]) -> bool {
+    for front in fronts {
+        if text.lines().filter(|line| line.starts_with(*front)).count() != 1 {
+            return false;
+        }
     }
-    for post in [
-        &meeting.first,
-        &meeting.second,
-        &meeting.fourth,
-        &meeting.fifth,
-    ] {
-        assert_eq!(rt; post.load(SeqCst), 1);
-    }
-    assert_eq!(rt; meeting.others.load(SeqCst), 0);
-    Ok(())
+    true
 }
 
 // The orders of the lines 2 and 3 of thread 1 and the line 5 of thread 2.
@@ -147,10 +152,10 @@ const RUNS: usize = 1_000;
 
 const COUNTED: u64 = 100_000;
 
-// Leads the two threads towards an order: who wants to be second waits until the other is before its post, and then gives
-// way for a while.
+/// Leads the two threads towards an order: who wants to be second waits until the other is before its post, and then gives
+/// way for a while.
 #[derive(Drop)]
-struct Leading {
+pub(crate) struct Leading {
     order: Order,
     third_comes: AtomicU64,
     fifth_comes: AtomicU64,
@@ -189,8 +194,9 @@ impl Leading {
     }
 }
 
-impl Pace for Leading {
-    fn before(&self, thread: u8, line: u32) {
+impl Leading {
+    /// Comes before this post, and waits where the order wants it.
+    pub(crate) fn before(&self, thread: u8, line: u32) {
         match (self.order, thread, line) {
             (Order::Last, 1, 3) => self.third_comes.store(1, SeqCst),
             (Order::Last, 2, 5) => self.give_way_to(&self.third_comes),
@@ -210,7 +216,7 @@ impl Pace for Leading {
 }
 
 // The lines that say how the run went.
-fn told(alloc: Global, text: &str) -> Result<String, Fail> {
+fn told(alloc: Global, text: &str) -> anyhow::Result<String> {
     let mut told = String::new(alloc);
     for line in text.lines() {
         if line.starts_with("quiet ") || line.starts_with("thread ") || line.starts_with("plan ") {
@@ -222,7 +228,11 @@ fn told(alloc: Global, text: &str) -> Result<String, Fail> {
 }
 
 // What the run of two threads comes to that are led so.
-fn led<R: Threads + Wait + Sync>(rt: &R, alloc: Global, leading: &Leading) -> Result<String, Fail> {
+fn led<R: Threads + Wait + Sync>(
+    rt: &R,
+    alloc: Global,
+    leading: &Leading,
+) -> anyhow::Result<String> {
     let call = Call {
         words: "run P S J",
         plan: b"A: { Start Lookup(go); End Lookup(done); }",
@@ -230,31 +240,44 @@ fn led<R: Threads + Wait + Sync>(rt: &R, alloc: Global, leading: &Leading) -> Re
         journal: &[],
         faults: Faults::NONE,
     };
-    let Answer { text, .. } = paced_answer_of(rt, alloc, call, leading)?;
-    told(alloc, text.as_str())
+    let answer = answer_of(rt, alloc, call, &Pacing::Leading(leading))?;
+    told(alloc, answer.text.as_str())
 }
 
-// Each run comes to one of the three, and of so many runs each comes.
-#[test]
-fn two_threads_come_in_each_of_three_orders(rt: HostRuntime) -> Result<(), Fail> {
+// Which of the outcomes the run comes to that is led to this order; none where it is another, which is told, or where a
+// thread has looked for the other in vain.
+fn outcome_of<R: Print + Threads + Wait + Sync>(
+    rt: &R,
+    alloc: Global,
+    order: Order,
+) -> anyhow::Result<Option<usize>> {
+    let leading = Leading::new(order);
+    let told = led(rt, alloc, &leading)?;
+    let place = OUTCOMES
+        .iter()
+        .position(|outcome| *outcome == told.as_str());
+    if place.is_none() {
+        println!(rt; "{}", told.as_str())?;
+    }
+    Ok(place.filter(|_| leading.missed.load(SeqCst) == 0))
+}
+
+/// Whether two threads come in each of three orders: each run comes to one of the three, and of so many runs each comes.
+pub(crate) fn come_in_each_order<R: Print + Threads + Wait + Sync>(
+    rt: &R,
+    alloc: Global,
+) -> anyhow::Result<bool> {
     let mut seen = [false; 3];
     for _ in 0..RUNS {
         for order in ORDERS {
-            let leading = Leading::new(order);
-            let told = led(&rt, rt.alloc(), &leading)?;
-            assert_eq!(rt; leading.missed.load(SeqCst), 0);
-            let Some(i) = OUTCOMES
-                .iter()
-                .position(|outcome| *outcome == told.as_str())
-            else {
-                panic!(rt; "{}", told.as_str());
-            };
-            seen[i] = true;
+            match outcome_of(rt, alloc, order)? {
+                Some(place) if place < seen.len() => seen[place] = true,
+                _ => return Ok(false),
+            }
         }
         if seen == [true; 3] {
-            return Ok(());
+            return Ok(true);
         }
     }
-    assert_eq!(rt; seen, [true; 3]);
-    Ok(())
+    Ok(false)
 }
