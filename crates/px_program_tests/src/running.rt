@@ -1,8 +1,10 @@
 // A call of the program over a host in memory that has two files, and a disk in memory.
+ghost use Rattle.std.specs.Prelude.{◌≡◌, None, IfOk};
+
 use crate::faults::Faults;
 use crate::pacing::Pacing;
 use px_machine::Machine;
-use px_ports::{MemDisk, MemFile, MemHost};
+use px_ports::{MemDisk, MemFile, MemHost, Pick};
 use px_run::{Done, plexil_over};
 use px_sem::Stepper;
 use std::alloc::Global;
@@ -61,6 +63,14 @@ fn host_of(alloc: Global, call: Call<'_>) -> anyhow::Result<MemHost> {
     Ok(MemHost::new(alloc, files, fetches, emits, call.faults.piece)?)
 }
 
+fn disk_of(alloc: Global, call: Call<'_>) -> anyhow::Result<MemDisk>
+    ensures { IfOk result (λ disk. disk.bound ≡ None) }
+{
+    let failing = listed(alloc, call.faults.device)?;
+    let bytes = call.journal.to_vec(alloc)?;
+    Ok(MemDisk::new(alloc, bytes, failing, call.faults.stop)?)
+}
+
 /// What the call answers on the stepper that the program runs on, where the threads are held up so.
 pub(crate) fn answer_of<R: Threads + Wait + Sync>(
     rt: &R,
@@ -80,20 +90,35 @@ pub(crate) fn answer_over<S: Stepper + Send, R: Threads + Wait + Sync>(
 ) -> anyhow::Result<Answer> {
     let words = words_of(alloc, call.words)?;
     let mut host = host_of(alloc, call)?;
-    let failing = listed(alloc, call.faults.device)?;
-    let disk = MemDisk::new(
-        alloc,
-        call.journal.to_vec(alloc)?,
-        failing,
-        call.faults.stop,
-    )?;
+    answer_at::<S, R>(rt, alloc, &words, &mut host, call, pacing)
+}
 
+// The same over a host, with these words.
+fn answer_at<S: Stepper + Send, R: Threads + Wait + Sync>(
+    rt: &R,
+    alloc: Global,
+    words: &[String],
+    host: &mut MemHost,
+    call: Call<'_>,
+    pacing: &Pacing<'_>,
+) -> anyhow::Result<Answer> {
+    let disk = disk_of(alloc, call)?;
     let Done { status, disk } = plexil_over::<MemHost, MemDisk, S, Pacing<'_>, R>(
-        rt, alloc, &words, &mut host, disk, pacing,
+        rt, alloc, words, host, disk, pacing,
     );
-    Ok(Answer {
-        status,
-        text: String::from_utf8(host.emitted().to_vec(alloc)?)?,
-        left: disk.image(alloc, call.faults.image)?,
-    })
+    answer_with(alloc, status, host, &disk, call.faults.image)
+}
+
+// What was emitted and is left.
+fn answer_with(
+    alloc: Global,
+    status: u8,
+    host: &MemHost,
+    disk: &MemDisk,
+    image: Pick,
+) -> anyhow::Result<Answer> {
+    let emitted = host.emitted().to_vec(alloc)?;
+    let text = String::from_utf8(emitted)?;
+    let left = disk.image(alloc, image)?;
+    Ok(Answer { status, text, left })
 }
