@@ -50,6 +50,13 @@ follows_of plan first log threads places are = record {
   only = are.only;
 }
 
+-- an empty log follows all threads
+pub follows_nothing : (plan : List Site) (first : List Entry) (log : Log) (threads : List Todo) → log ≡ [] → Follows plan first log threads
+follows_nothing plan first log threads fresh = rw fresh (record {
+  each = λ k d within. (0, record { walks = omega arith; entries = refl });
+  only = λ k d within. absurd (omega (arith, within));
+})
+
 -- an entry that is there is that of a failed append
 some_entry : (failed : Option Failed) → IsSome (entry_in failed) → (f : Failed) × (failed ≡ Some f)
 some_entry None some = absurd (cc)

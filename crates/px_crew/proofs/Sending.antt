@@ -9,6 +9,7 @@ use Rattle.px_sem.specs.declared.stepper.Stepper
 use Rattle.px_ports.specs.declared.disk.Disk
 use Rattle.px_journal.proofs.journal.Journal.TheSendSync as journals
 use Rattle.px_event.proofs.entry.Entry.TheSendSync as entries
+use Rattle.px_event.proofs.names.Names.TheSendSync as names
 use Rattle.px_sem.proofs.log.LogEntry.TheSendSync as logs
 use Rattle.px_exec.proofs.closing.Failed.TheSendSync as fails
 use Rattle.px_exec.specs.contracts.exec.Exec as execs
@@ -30,7 +31,7 @@ module _ (S D : RattleType) (runs : Stepper.Ghosts S.Denot) (members : Disk.Ghos
       (struct_send (shape inside) (
         search (sendable, crosses) depth 12,
         (
-          search (sendable, crosses, journals.the_send) depth 12,
+          search (sendable, crosses, journals.the_send, names.the_send) depth 12,
           (
             search (sendable, crosses, entries.the_send) depth 12,
             (

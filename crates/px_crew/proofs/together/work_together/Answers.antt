@@ -7,8 +7,15 @@ use Rattle.px_exec.specs.Executive.{plan_of}
 use Rattle.px_script.specs.declared.todo.Todo.{Todo}
 use Rattle.px_script.proofs.Scripts.{few_lines}
 use Rattle.px_crew.specs.Crew.{failed_entry, AreAt, Comes, Wakes}
-use Rattle.px_crew.proofs.Gathering.{stalled, goes_on, over_within, unfailed, places_within}
+use Rattle.px_crew.specs.Seat.{entry_in}
+use Rattle.px_crew.proofs.Gathering.{follows_nothing, stalled, goes_on, over_within, unfailed, places_within}
 use Rattle.px_crew.proofs.together.work_together.Goals as goal
+
+pub returns-in_default-clause-ends : goal.returns-in_default-clause-ends
+returns-in_default-clause-ends g c = (
+  ap entry_in c.requires.open,
+  follows_nothing (plan_of g.S.Stepper c.args.exec) c.args.exec.opening.history c.args.exec.log c.args.script.now.threads c.requires.fresh,
+)
 
 pub returns-in-None-clause-ends : goal.returns-in-None-clause-ends
 returns-in-None-clause-ends g c =
