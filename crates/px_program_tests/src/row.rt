@@ -55,9 +55,8 @@ impl<'a> Row<'a> {
 
 // Whether a text is spelled so, without its last line feed. Behind a line of dots stands how it ends.
 fn is_spelled(text: &str, spelled: &str) -> bool {
-    let told = match text.strip_suffix('\n') {
-        Some(told) => told,
-        None => return text.is_empty() && spelled.is_empty(),
+    let Some(told) = text.strip_suffix('\n') else {
+        return text.is_empty() && spelled.is_empty();
     };
     match spelled.strip_prefix("..\n") {
         Some(end) => told.ends_with(end),
