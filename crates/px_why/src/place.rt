@@ -26,21 +26,17 @@ pub struct Place<'a> {
 
 /// The place of what a plan has at a byte of its text, and behind its end that of its last line's end.
 pub fn place_of(text: &str, at: usize) -> Place<'_> {
-    let mut line: usize = 0;
-    let mut content = "";
     let mut begin: usize = 0;
-    let mut behind: usize = 0;
-    for piece in text.split('\n') {
-        line = line.saturating_add(1);
-        content = piece;
-        begin = behind;
-        behind = begin.saturating_add(piece.len()).saturating_add(1);
-        if at < behind {
-            break;
+    let mut place = place_in("", 1, 0);
+    for (number, content) in text.split('\n').enumerate() {
+        let before = characters_before(content, at.saturating_sub(begin));
+        place = place_in(content, number.saturating_add(1), before);
+        begin = begin.saturating_add(content.len()).saturating_add(1);
+        if at < begin {
+            return place;
         }
     }
-    let before = characters_before(content, at.saturating_sub(begin));
-    place_in(content, line, before)
+    place
 }
 
 fn place_in(content: &str, line: usize, before: usize) -> Place<'_> {
