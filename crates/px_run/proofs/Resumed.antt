@@ -11,6 +11,7 @@ use Rattle.px_journal.specs.Crash.{LeavesOnly}
 use Rattle.px_journal.specs.Journal.{IsSynced, IsUntouched}
 use Rattle.px_journal.specs.Layout.{Stands}
 use Rattle.px_journal.proofs.Moments.{grows_on, grows_length, left_before_or_after}
+use Rattle.px_journal.proofs.Ready.{ready_stands, ready_synced}
 use Rattle.px_output.specs.View.{View, OnlyReads}
 use Rattle.px_ports.specs.declared.disk.Disk
 use Rattle.px_ports.specs.declared.moment.Moment.{Moment}
@@ -196,7 +197,7 @@ module _ {S D : Type 0} (runs : Stepper.Ghosts S) (members : Disk.Ghosts D) (scr
     course = taken_up;
     performs = by stop stopped;
     leaves = λ tells. subst (λ (d : D). Leaves members old d taken_up) (sym here)
-        (left_taken_up members r.text reopened.exec.opening.history old reopened.exec.opening.journal.disk r.untouched tells (r.ready).synced (r.ready).stands);
+        (left_taken_up members r.text reopened.exec.opening.history old reopened.exec.opening.journal.disk r.untouched tells (ready_synced _ _ _ _ r.ready) (ready_stands _ _ _ _ r.ready));
     bound = inl (ap members.bound_to here ∙ r.bound);
     back = reopened_back runs members journal limit old reopened r disk here _;
   }
@@ -281,7 +282,7 @@ module _ {S D : Type 0} (runs : Stepper.Ghosts S) (members : Disk.Ghosts D) (jou
     course = traced_course;
     performs = performs;
     leaves = λ tells. subst (λ (d : D). Leaves members old d traced_course) (sym here)
-        (left_taken_up members r.text reopened.exec.opening.history old reopened.exec.opening.journal.disk r.untouched tells (r.ready).synced (r.ready).stands);
+        (left_taken_up members r.text reopened.exec.opening.history old reopened.exec.opening.journal.disk r.untouched tells (ready_synced _ _ _ _ r.ready) (ready_stands _ _ _ _ r.ready));
     bound = inl (ap members.bound_to here ∙ r.bound);
     back = reopened_back runs members journal limit old reopened r disk here _;
   }

@@ -1,4 +1,5 @@
 use Rattle.std.proofs.Common.{refl}
+use Rattle.px_journal.proofs.Ready.{ready_synced}
 use Rattle.px_session.proofs.TakenUp.{not_recovered, not_run, taken_up}
 use Rattle.px_session.proofs.reopening.reopen.Goals as goal
 
@@ -7,7 +8,7 @@ returns-in-Ok-recover-clause-refused g c =
     let read = c.in-Ok-recover.recovered in
     let told = c.in-Ok-recover.ensures in
     not_run g.D.Disk c.args.name.now c.args.disk c.in-Ok.disk c.in-Ok.ensures.attached read.journal.disk told.writes_nothing told.goes
-    read.plan.items read.history.items c.run_recovered.result (λ failed. failed) told.stands (told.same (λ none. none)) (told.read).synced
+    read.plan.items read.history.items c.run_recovered.result (λ failed. failed) told.stands (told.same (λ none. none)) (ready_synced _ _ _ _ told.read)
     c.run_recovered.ensures.handed_back c.run_recovered.ensures.why
 
 pub returns-in-Err-recover-clause-refused : goal.returns-in-Err-recover-clause-refused
