@@ -55,8 +55,8 @@ pub fn fetch_plan<H: Host>(alloc: Global, name: &str, host: &mut H) -> Result<Pl
     Ok(fetch_source(alloc, name, host)?.plan)
 }
 
-/// Reads the tree of the plan in the file of this name, and how many nodes the plan has, which isn't made. It stops where
-/// `fetch_source` does.
+/// Reads the tree of the plan in the file of this name, and how many nodes the plan has. The plan isn't made. It stops
+/// where `fetch_source` does.
 pub fn fetch_tree<H: Host>(alloc: Global, name: &str, host: &mut H) -> Result<Compiled, Stop>
     ensures ok { IfOk result (λ made. (text : List ℕ) × (plan : Tree)
         × Reads (with_text plan_file) (view H.Host host.old) (view H.Host host.new) name.now (text, plan)
