@@ -10,8 +10,9 @@ use px_chart::{RecordFault, Recording, picture_of, run_of};
 use px_compile::TEXT_LIMIT;
 use px_core::Plan;
 use px_event::Entry;
+use px_journal::RecoverWhy;
 use px_ports::Host;
-use px_script::SCRIPT_LIMIT;
+use px_script::{SCRIPT_LIMIT, ScriptFault};
 use px_sem::Stepper;
 use px_value::NoMemory;
 use px_why::why_start;
@@ -44,7 +45,8 @@ fn chart_lines<S: Stepper>(
 {
     match entries_in(alloc, lines, plan) {
         Ok(entries) => chart_entries::<S>(alloc, title, plan, &entries),
-        Err(_) => {
+        Err(ScriptFault::NoMemory) => Err(Stop::NoMemory),
+        Err(ScriptFault::Fault { .. }) => {
             let mut text = String::new(alloc);
             let _ = why_script(alloc, name, lines, plan, &mut text)?;
             Ok(Answer::new(SCRIPT_REFUSED, text))
@@ -59,10 +61,15 @@ pub fn chart_journal<H: Host, S: Stepper>(
     host: &mut H,
 ) -> Result<Answer, Stop> {
     let bytes = fetch(alloc, name, JOURNAL_LIMIT, host)?;
-    let Ok(held) = recovered(alloc, &bytes) else {
-        return journal_answer(alloc, name, bytes);
+    let held = match recovered(alloc, &bytes) {
+        Ok(held) => held,
+        Err(RecoverWhy::NoJournal | RecoverWhy::Damaged { .. }) => {
+            return journal_answer(alloc, name, bytes);
+        }
+        Err(RecoverWhy::DiskFault | RecoverWhy::NoMemory) => return Err(Stop::NoMemory),
     };
-    let plan = plan_in(alloc, name, &held.text)?;
+    let plan_name = format!(in alloc; "the plan in {name}")?;
+    let plan = plan_in(alloc, plan_name.as_str(), &held.text)?;
     let answer = chart_entries::<S>(alloc, name, &plan, &held.history);
     drop(plan);
     answer

@@ -122,7 +122,8 @@ fn damaged(alloc: Global, name: &str, bytes: Vec<u8>, at: usize) -> Result<Answe
 
 fn why_at(at: usize, gate: usize) -> &'static str {
     match at.saturating_sub(gate) {
-        _ if at < 9 => "the file doesn't begin as a journal does",
+        _ if at < 8 => "the file doesn't begin as a journal does",
+        _ if at == 8 => "its version is neither 1 nor 2",
         _ if at < 13 => "the plan's text is too long, or longer than the file",
         1 => "the length of this record, or the gate behind it, lies past the end",
         3 => "this record is no entry",

@@ -1,5 +1,5 @@
 // The program over a host.
-use crate::answer::{Answer, DONE, Stop, WANT_OF_MEMORY};
+use crate::answer::{Answer, DONE, Stop, USAGE, WANT_OF_MEMORY};
 use crate::chart::{chart_journal, chart_script};
 use crate::journal::journal_file;
 use crate::nodes::nodes_file;
@@ -29,11 +29,26 @@ fn answer<H: Host, S: Stepper>(
         Task::Nodes { plan, like } => nodes_file(alloc, plan, like, host),
         Task::Journal { journal } => journal_file(alloc, journal, host),
         Task::ChartScript { plan, script, to } => {
+            spare(alloc, to, &[plan, script])?;
             sent_to(alloc, to, chart_script::<H, S>(alloc, plan, script, host)?)
         }
         Task::ChartJournal { journal, to } => {
+            spare(alloc, to, &[journal])?;
             sent_to(alloc, to, chart_journal::<H, S>(alloc, journal, host)?)
         }
+    }
+}
+
+// A picture doesn't take the place of a file that it is made of.
+fn spare(alloc: Global, to: Option<&str>, sources: &[&str]) -> Result<(), Stop> {
+    match to {
+        Some(name) if sources.iter().any(|source| *source == name) => {
+            let text = format!(in alloc;
+                "{name}: the picture is made of this file, and can't take its place\n"
+            )?;
+            Err(Stop::Refused(Answer::new(USAGE, text)))
+        }
+        _ => Ok(()),
     }
 }
 
