@@ -29,10 +29,11 @@
 //!
 //! The BYTES are what a read of the disk gives before the call and after it, in hexadecimal, two digits a byte; blanks and
 //! line feeds between them say nothing. A row without `journal` has an empty disk, and one without `leaves` leaves the disk
-//! as it was; behind `leaves ..` stands how the bytes end. In `faults` stands which fetch, emit or device call fails, each counted from 1, and how many bytes the sink
-//! takes at once; what isn't named doesn't fail, and the sink takes all. With `stop` each device call behind so many fails,
-//! as in a power cut, and `leaves` then tells the IMAGE of a crash: `stable` is what was synced last, and the number of a
-//! byte what a read gives with this byte in place of each that was written since; without IMAGE it is what a read gives.
+//! as it was; behind `leaves ..` stands how the bytes end. In `faults` stands which fetch, emit or device call fails, each
+//! counted from 1, and how many bytes the sink takes at once; what isn't named doesn't fail, and the sink takes all. With
+//! `stop` each device call behind so many fails, as in a power cut, and `leaves` then tells the IMAGE of a crash: `stable`
+//! is what was synced last, and the number of a byte what a read gives with this byte in place of each that was written
+//! since; without IMAGE it is what a read gives.
 //!
 //! The threads of a script run side by side: a row with several has the waits by which each order comes to the same.
 //!
