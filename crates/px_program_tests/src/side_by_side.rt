@@ -12,6 +12,16 @@ use std::thread::Threads;
 // How often a thread looks whether the other has come.
 const LOOKS: u64 = 1_000_000_000;
 
+// Returns once a post has come, or has not within so many looks, which is then counted as missed.
+fn wait_for(post: &AtomicU64, missed: &AtomicU64) {
+    for _ in 0..LOOKS {
+        if post.load(SeqCst) > 0 {
+            return;
+        }
+    }
+    missed.fetch_add(1, SeqCst);
+}
+
 /// Where two threads meet: each has come there at its first post, and waits for the other.
 #[derive(Drop)]
 pub(crate) struct Meeting {
@@ -48,18 +58,6 @@ impl Meeting {
             && self.missed.load(SeqCst) == 0
     }
 
-    // Returns once a post has come there, or has not within so many looks.
-    fn wait_for(&self, post: &AtomicU64) {
-        for _ in 0..LOOKS {
-            if post.load(SeqCst) > 0 {
-                return;
-            }
-        }
-        self.missed.fetch_add(1, SeqCst);
-    }
-}
-
-impl Meeting {
     /// Comes before this post, and waits for the other thread at its first one.
     pub(crate) fn before(&self, thread: u8, line: u32) {
         let (post, other) = match (thread, line) {
@@ -71,7 +69,7 @@ impl Meeting {
         };
         post.fetch_add(1, SeqCst);
         if let Some(other) = other {
-            self.wait_for(other);
+            wait_for(other, &self.missed);
         }
     }
 }
@@ -175,26 +173,14 @@ impl Leading {
         }
     }
 
-    // Returns once the other post has come, or has not within so many looks.
-    fn wait_for(&self, post: &AtomicU64) {
-        for _ in 0..LOOKS {
-            if post.load(SeqCst) > 0 {
-                return;
-            }
-        }
-        self.missed.fetch_add(1, SeqCst);
-    }
-
-    // The same, a while later.
+    // Returns a while after the other post has come.
     fn give_way_to(&self, post: &AtomicU64) {
-        self.wait_for(post);
+        wait_for(post, &self.missed);
         for _ in 0..COUNTED {
             self.counted.fetch_add(1, SeqCst);
         }
     }
-}
 
-impl Leading {
     /// Comes before this post, and waits where the order wants it.
     pub(crate) fn before(&self, thread: u8, line: u32) {
         match (self.order, thread, line) {
@@ -205,7 +191,7 @@ impl Leading {
                 self.give_way_to(&self.fifth_comes);
             }
             (Order::Between, 2, 5) => {
-                self.wait_for(&self.third_comes);
+                wait_for(&self.third_comes, &self.missed);
                 self.fifth_comes.store(1, SeqCst);
             }
             (Order::First, 1, 2) => self.give_way_to(&self.fifth_comes),
