@@ -1,10 +1,20 @@
-use Rattle.std.proofs.Common.{[], Ok, Err, ap, sym, subst, ◌∙◌, append-nil}
+use Rattle.std.proofs.Common.{List, [], Ok, Err, ap, sym, subst, ◌∙◌, append-nil, IsTrue}
+use Rattle.std.specs.List.{list_all}
+use Rattle.px_event.specs.Fit.{is_fit_entry}
+use Rattle.px_event.specs.declared.entry.Entry.{Entry}
+use Rattle.px_journal.proofs.Ready.{ready_fit}
 use Rattle.px_output.specs.Printing.{Prints}
 use Rattle.px_output.specs.View.{view}
 use Rattle.px_sem.specs.Stepper.{State}
 use Rattle.px_sem.specs.Text.{text_of}
 use Rattle.px_run.proofs.Resumed.{not_taken_up, trace_printed, trace_broken_off}
 use Rattle.px_run.proofs.trace.trace.Goals as goal
+
+pub print_log-requires-clause-events : goal.print_log-requires-clause-events
+print_log-requires-clause-events g c =
+    let r = c.in-Ok.ensures.reopened in
+    subst (λ (h : List Entry). IsTrue (list_all is_fit_entry h))
+    (sym (c.deref.ensures.value ∙ c.into_parts-stepper.ensures.history ∙ r.opening.now)) (ready_fit _ _ _ _ r.ready)
 
 pub returns-in-Err-clause-traces : goal.returns-in-Err-clause-traces
 returns-in-Err-clause-traces g c =
