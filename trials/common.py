@@ -147,9 +147,12 @@ def journal_of(content):
     """The plan's text and the bodies of the entries for which these bytes stand; None where they are nothing."""
     if len(content) < 13 or content[0] == 0:
         return None
-    for place in range(1, 9):
-        if content[place] != b".PLXJRNL1"[place]:
+    for place in range(1, 8):
+        if content[place] != b".PLXJRNL"[place]:
             raise Damaged(place)
+    if content[8] not in b"12":
+        raise Damaged(8)
+    is_named = content[8] == ord("2")
     gate = 13 + int.from_bytes(content[9:13], "big")
     if gate > 13 + 1048576 or gate >= len(content):
         raise Damaged(9)
@@ -161,7 +164,7 @@ def journal_of(content):
         after = body + int.from_bytes(content[gate + 1 : body], "big")
         if body > len(content) or after >= len(content):
             raise Damaged(gate + 1)
-        if not is_entry(content[body:after]):
+        if not is_entry(content[body:after], is_named):
             raise Damaged(body)
         bodies.append(content[body:after])
         gate = after
@@ -186,20 +189,21 @@ NAME = rb"[A-Za-z_][A-Za-z0-9_]{0,63}"
 PATH_NAME = rb"(?:" + NAME + rb"|#[A-Za-z0-9]{1,63})"
 
 
-def is_entry(body):
-    """Whether the bytes are those of an entry."""
+def is_entry(body, is_named):
+    """Whether the bytes are those of an entry, or of one with the name of its interface or none."""
     try:
-        rest = fields(body)
+        rest = fields(body, is_named)
     except (IndexError, UnicodeDecodeError, ValueError):
         return False
     return rest == b""
 
 
-def fields(body):
+def fields(body, is_named):
     """Takes an entry from the front of the bytes, and answers what is left."""
     if not (1 <= body[0] <= 8 and int.from_bytes(body[1:5], "big") > 0):
         raise ValueError
-    kind, rest = body[5], body[6:]
+    rest = text(body[5:], rb"(?:" + NAME + rb")?", 64) if is_named else body[5:]
+    kind, rest = rest[0], rest[1:]
     if kind == 1:
         rest = argumented(text(rest, NAME, 64))
         return value(rest)
