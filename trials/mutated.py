@@ -138,8 +138,19 @@ def mutated_pair(chance, plan, script):
     return plan.encode(), "\n".join(lines).encode()
 
 
+def named_journal(chance, journal):
+    """The journal in version 2, in which some entries have the name of an interface."""
+    plan, bodies = journal_of(journal)
+    names = [chance.choice((b"", b"arm", b"N" * 64)) for _ in bodies]
+    bodies = [body[:5] + len(name).to_bytes(2, "big") + name + body[5:] for body, name in zip(bodies, names)]
+    records = b"".join(b"\1" + len(body).to_bytes(2, "big") + body for body in bodies)
+    return b"\1PLXJRNL2" + journal[9 : 13 + len(plan)] + records + b"\0"
+
+
 def mutated_journal(chance, journal):
-    """A journal with changed bytes, or with records left out, doubled or exchanged."""
+    """A journal of either version with changed bytes, or with records left out, doubled or exchanged."""
+    if chance.random() < 0.5:
+        journal = named_journal(chance, journal)
     plan, bodies = journal_of(journal)
     if chance.random() < 0.7:
         for _ in range(chance.choice((1, 1, 2, 5))):
