@@ -1,10 +1,11 @@
 -- What each image since some moment stands for, from one post to the next.
-use Rattle.std.proofs.Common.{◌≡◌, inl, ⊎_elim, ℕ, List, [], ◌∷◌, ◌++◌, Some, length, take, sym, ◌∙◌, ap, subst, arith, append_assoc, append-nil}
+use Rattle.std.proofs.Common.{◌≡◌, inl, ⊎_elim, ℕ, List, [], ◌∷◌, ◌++◌, Option, Some, None, IsSome, length, take, refl, sym, ◌∙◌, ap, subst, arith, append_assoc, append-nil}
 use Rattle.std.proofs.lemmas.List.{take_all}
 use Rattle.px_event.specs.declared.entry.Entry.{Entry}
-use Rattle.px_journal.specs.Crash.{WithOrWithout, LeavesOnly}
-use Rattle.px_journal.specs.Journal.{IsReady}
-use Rattle.px_journal.specs.Layout.{Stands}
+use Rattle.px_event.specs.declared.named.NamedEntry.{NamedEntry}
+use Rattle.px_journal.specs.Crash.{WithOrWithout, WithOrWithoutAs, LeavesOnly}
+use Rattle.px_journal.specs.Journal.{IsReady, IsReadyAs, IsSynced, with_name}
+use Rattle.px_journal.specs.Layout.{Stands, StandsAs}
 use Rattle.px_journal.specs.declared.journal.Journal.{Journal}
 use Rattle.px_journal.proofs.Going.{goes_none, goes_told}
 use Rattle.px_journal.proofs.Moments.{grows_on, left_before_or_after}
@@ -15,6 +16,10 @@ use Rattle.px_ports.specs.declared.moment.Moment.{Moment}
 use Rattle.px_exec.specs.Crash.{AddsAtMost}
 use Rattle.px_exec.specs.Executive.{StandsWithin}
 
+pub told_of : {T : Type 0} (o : Option T) → IsSome o → (told : T) × (o ≡ Some told)
+told_of None some = absurd (cc)
+told_of (Some told) some = (told, refl)
+
 -- where no moment passes, an image since then is one now
 left_now : (images : Images) (moments : List Moment) (image : List ℕ) → LeftSince images moments (length moments) image → images moments image
 left_now images moments image left = subst (λ (ms : List Moment). images ms image) (take_all (left.0) moments (left.1)) (left.3)
@@ -22,22 +27,38 @@ left_now images moments image left = subst (λ (ms : List Moment). images ms ima
 nothing_passes : (moments : List Moment) → take (length moments) moments ≡ moments
 nothing_passes moments = take_all (length moments) moments (omega arith)
 
+-- what a synced disk leaves at a crash now
+synced_leaves : {D : Type 0} (members : Disk.Ghosts D) (disk : D) (told : List ℕ) (left : List ℕ → Type 0) → IsSynced members disk
+    → members.content disk ≡ Some told → left told → LeavesOnly members.images left (members.moments disk) (members.moments disk)
+synced_leaves members disk told left synced is now = record {
+  grows = nothing_passes (members.moments disk);
+  each = λ image since. subst left (sym (synced told is image (left_now members.images (members.moments disk) image since))) now;
+}
+
 -- what a ready journal leaves at a crash now
 pub ready_leaves : {D : Type 0} (members : Disk.Ghosts D) (journal : Journal D) (text told : List ℕ) (history : List Entry) (left : List ℕ → Type 0)
     → IsReady members journal text history → members.content journal.disk ≡ Some told → ((bytes : List ℕ) → Stands bytes text history → left bytes)
     → LeavesOnly members.images left (members.moments journal.disk) (members.moments journal.disk)
-ready_leaves members journal text told history left ready is to = record {
-  grows = nothing_passes (members.moments journal.disk);
-  each = λ image since.
-      let same : image ≡ told = ready_synced _ _ _ _ ready told is image (left_now members.images (members.moments journal.disk) image since) in
-      to image (subst (λ (bytes : List ℕ). Stands bytes text history) (sym same) (ready_stands _ _ _ _ ready told is));
-}
+ready_leaves members journal text told history left ready is to =
+    synced_leaves members journal.disk told left (ready_synced _ _ _ _ ready) is (to told (ready_stands _ _ _ _ ready told is))
+
+-- the same in its version, with the names
+pub ready_leaves_as : {D : Type 0} (members : Disk.Ghosts D) (journal : Journal D) (text told : List ℕ) (named : List NamedEntry) (left : List ℕ → Type 0)
+    → IsReadyAs members journal text named → members.content journal.disk ≡ Some told → ((bytes : List ℕ) → StandsAs journal.version bytes text named → left bytes)
+    → LeavesOnly members.images left (members.moments journal.disk) (members.moments journal.disk)
+ready_leaves_as members journal text told named left ready is to =
+    synced_leaves members journal.disk told left ready.synced is (to told (ready.stands told is))
 
 -- a call that doesn't reach the journal
 pub adds_nothing : {F D : Type 0} (members : Disk.Ghosts D) (entry : Entry) (journal : Journal D) → ¬ F → AddsAtMost members F entry journal journal
 adds_nothing members entry journal right = record {
   whole_or_not = λ text history ready told is. ready_leaves members journal text told history (WithOrWithout text history entry) ready is (λ bytes stands. inl stands);
   keeps = λ told is t early text front since. since;
+  named_or_not = λ text named ready told is.
+      ready_leaves_as members journal text told named (WithOrWithoutAs journal.version text named (with_name journal entry)) ready is (λ bytes stands. inl stands);
+  keeps_names = λ told is t early version text front since. since;
+  version = refl;
+  names = refl;
   goes = goes_none members journal.disk right;
 }
 
@@ -47,6 +68,10 @@ pub adds_told : {F G D : Type 0} (members : Disk.Ghosts D) {entry : Entry} {old 
 adds_told members adds to from = record {
   whole_or_not = adds.whole_or_not;
   keeps = adds.keeps;
+  named_or_not = adds.named_or_not;
+  keeps_names = adds.keeps_names;
+  version = adds.version;
+  names = adds.names;
   goes = goes_told members adds.goes to from;
 }
 

@@ -4,9 +4,10 @@ use Rattle.std.proofs.lemmas.List.{length-map, map-append}
 use Rattle.px_core.specs.Plan.{Site}
 use Rattle.px_event.specs.Fit.{is_fit_entry}
 use Rattle.px_event.specs.declared.entry.Entry.{Entry}
+use Rattle.px_event.specs.declared.named.NamedEntry.{NamedEntry}
 use Rattle.px_event.specs.declared.reply.Reply.{Reply}
 use Rattle.px_event.specs.declared.reply.Reply.TheVariants as replies
-use Rattle.px_journal.specs.Journal.{IsReady}
+use Rattle.px_journal.specs.Journal.{IsReady, IsReadyAs, with_name}
 use Rattle.px_journal.specs.declared.journal.Journal.{Journal}
 use Rattle.px_journal.proofs.Going.{rose_on, goes_none, goes_then, goes_told}
 use Rattle.px_journal.proofs.Moments.{left_now}
@@ -18,19 +19,12 @@ use Rattle.px_sem.specs.declared.stepper.Stepper
 use Rattle.px_exec.specs.declared.closing.Failed.{Failed}
 use Rattle.px_exec.specs.Answers.{answer_now, logged}
 use Rattle.px_exec.specs.Crash.{AddsAtMost}
-use Rattle.px_exec.specs.Executive.{Opening, Executive, Keeps, KeepsDisk, IsOpen, IsClosed, KeepsSinceOpening, plan_of, world_of}
+use Rattle.px_exec.specs.Executive.{Opening, Executive, Keeps, KeepsDisk, IsOpen, IsClosed, KeepsNaming, KeepsSinceOpening, TellsBytes, failed_entries, plan_of, world_of}
 use Rattle.px_sem.proofs.Logs.{accepted_more, answers_more}
 use Rattle.px_exec.proofs.Growing.{accepted_by, run_after, some_run}
+pub use Rattle.px_exec.proofs.Images.{told_of}
 use Rattle.px_exec.proofs.Images.{ready_leaves, within_at_once, within_more}
-
-pub told_of : {T : Type 0} (o : Option T) → IsSome o → (told : T) × (o ≡ Some told)
-told_of None some = absurd (cc)
-told_of (Some told) some = (told, refl)
-
--- the executive with other parts, of the same opening
-abbrev pub with_parts : {S D : Type 0} → Executive S D → S → Journal D → List Entry → Log → Option Failed → Executive S D
-with_parts exec stepper journal history log failed =
-    record { stepper = stepper; journal = journal; history = history; log = log; failed = failed; opening = exec.opening }
+use Rattle.px_exec.proofs.Naming.{with_parts, naming_at_once, naming_more, naming_still}
 
 -- an executive that no post has reached
 abbrev pub opened : {S D : Type 0} → S → Journal D → List Entry → Log → Opening S D → Executive S D
@@ -86,6 +80,33 @@ module _ {S D : Type 0} (runs : Stepper.Ghosts S) (members : Disk.Ghosts D) wher
     replied_open history log replies.Full keeps unfailed grows kept still adds = refused_open history log keeps unfailed (grows ∙ append-nil old.history) (still refl)
     replied_open history log replies.Runaway keeps unfailed grows kept still adds = refused_open history log keeps unfailed (grows ∙ append-nil old.history) (still refl)
 
+  -- ---- the names after a reply
+
+  tells_now : (exec : Executive S D) → Keeps runs members exec → TellsBytes members exec.opening.journal.disk → TellsBytes members exec.journal.disk
+  tells_now exec keeps tells = keeps.goes.tells ∙ tells
+
+  pub replied_naming : (old : Executive S D) (stepper : S) (journal : Journal D) (entry : Entry) (history : List Entry) (log : Log) (reply : Reply) → Keeps runs members old → old.failed ≡ None
+      → log ≡ old.log ++ logged entry reply ∷ []
+      → (IsTrue (is_accepted reply) → (text : List ℕ) (named : List NamedEntry) → IsReadyAs members old.journal text named
+      → IsReadyAs members journal text (named ++ with_name old.journal entry ∷ []))
+      → (IsFalse (is_accepted reply) → journal ≡ old.journal)
+      → {F : Type 0} → AddsAtMost members F entry old.journal journal → KeepsNaming members (with_parts old stepper journal history log None)
+  replied_naming old stepper journal entry history log reply keeps unfailed logs named still adds = by reply refl
+    where
+      now : accepted log ++ [] ≡ accepted old.log ++ accepted (logged entry reply ∷ [])
+      now = append-nil (accepted log) ∙ ap accepted logs ∙ accepted_more old.log (logged entry reply)
+
+      refused : IsFalse (is_accepted reply) → accepted (logged entry reply ∷ []) ≡ [] → KeepsNaming members (with_parts old stepper journal history log None)
+      refused is none = naming_still members old stepper history log None keeps.naming unfailed journal (still is)
+          (now ∙ ap (λ h. accepted old.log ++ h) none ∙ ap (λ (f : Option Failed). accepted old.log ++ failed_entries f) (sym unfailed))
+
+      by : (r : Reply) → reply ≡ r → KeepsNaming members (with_parts old stepper journal history log None)
+      by (replies.Accepted position) is = naming_more members old stepper history log None keeps.naming unfailed journal entry adds (tells_now old keeps)
+          (now ∙ ap (λ (r : Reply). accepted old.log ++ accepted (logged entry r ∷ [])) is) (λ none. named (ap is_accepted is))
+      by replies.PlanFinished is = refused (ap is_accepted is) (ap (λ (r : Reply). accepted (logged entry r ∷ [])) is)
+      by replies.Full is = refused (ap is_accepted is) (ap (λ (r : Reply). accepted (logged entry r ∷ [])) is)
+      by replies.Runaway is = refused (ap is_accepted is) (ap (λ (r : Reply). accepted (logged entry r ∷ [])) is)
+
   -- the events of the history, as the log has them
   events_grown : (first since : List Entry) (history : List Entry) → history ≡ first ++ since → events_of history ≡ events_of first ++ events_of since
   events_grown first since history grown = ap events_of grown ∙ map-append (λ e. e.event) first since
@@ -99,9 +120,11 @@ module _ {S D : Type 0} (runs : Stepper.Ghosts S) (members : Disk.Ghosts D) wher
       → log ≡ old.log ++ logged entry reply ∷ [] → history ≡ old.history ++ accepted (logged entry reply ∷ []) → length log < 2 ^ 32
       → runs.state stepper ≡ settled_state (plan_of runs old) (world_after (plan_of runs old) (world_of runs old) entry.event reply)
       → (IsTrue (is_accepted reply) → (text : List ℕ) (h : List Entry) → IsReady members old.journal text h → IsReady members journal text (h ++ entry ∷ []))
+      → (IsTrue (is_accepted reply) → (text : List ℕ) (named : List NamedEntry) → IsReadyAs members old.journal text named
+      → IsReadyAs members journal text (named ++ with_name old.journal entry ∷ []))
       → (IsFalse (is_accepted reply) → journal ≡ old.journal)
       → {F : Type 0} → ¬ F → AddsAtMost members F entry old.journal journal → Keeps runs members (with_parts old stepper journal history log None)
-  keeps_replied old stepper journal history log entry reply keeps unfailed due logs grows few moved kept still right adds = record {
+  keeps_replied old stepper journal history log entry reply keeps unfailed due logs grows few moved kept named still right adds = record {
     text = keeps.text;
     least = keeps.least;
     most = keeps.most;
@@ -120,6 +143,7 @@ module _ {S D : Type 0} (runs : Stepper.Ghosts S) (members : Disk.Ghosts D) wher
     runs_to = ap (λ h. run plan (events_of h)) grows ∙ run_after plan old.opening.limit old.history (world_of runs old) entry reply keeps.runs_to due ∙ ap Some (sym world_is);
     goes = goes_told members (goes_then members keeps.goes (none_failed old unfailed) adds.goes) (λ failed. absurd (right failed)) (λ some. absurd (cc));
     disk = replied_open old stepper journal entry history log reply keeps unfailed grows kept still adds;
+    naming = replied_naming old stepper journal entry history log reply keeps unfailed logs named still adds;
   }
     where
       plan : List Site
@@ -164,6 +188,8 @@ module _ {S D : Type 0} (runs : Stepper.Ghosts S) (members : Disk.Ghosts D) wher
           within_more members.images text old.opening.history old.history (accepted old.log) entry _ _ _ keeps.grown (was.since tells text is)
           (adds.whole_or_not text old.history (was.stands text is) (told.0) (told.1));
     };
+    naming = naming_more members old stepper old.history old.log (Some (record { entry = entry; faults = members.faults journal.disk })) keeps.naming unfailed journal entry adds
+        (tells_now old keeps) refl (λ none. absurd (cc));
   }
     where
       was : IsOpen members old
@@ -199,6 +225,7 @@ module _ {S D : Type 0} (runs : Stepper.Ghosts S) (members : Disk.Ghosts D) wher
         runs_to = keeps.runs_to ∙ ap Some (sym (ap (λ (s : State). s.world) same));
         goes = keeps.goes;
         disk = moved old.failed keeps.disk;
+        naming = record { version = keeps.naming.version; names = keeps.naming.names; stands = keeps.naming.stands; since = keeps.naming.since };
       }))))
     where
       moved : (f : Option Failed) → KeepsDisk runs members old f
@@ -236,6 +263,7 @@ module _ {S D : Type 0} (runs : Stepper.Ghosts S) (members : Disk.Ghosts D) wher
           let told = told_of (members.content journal.disk) tells in
           ready_leaves members journal text (told.0) history _ is (told.1) (within_at_once text history);
     };
+    naming = naming_at_once members _ refl refl refl;
   }
 
   -- the same, with what the opening keeps of what it was handed

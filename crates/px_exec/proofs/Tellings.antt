@@ -4,9 +4,10 @@ use Rattle.std.specs.Prelude.{Err}
 use Rattle.std.specs.Option.{option_map}
 use Rattle.px_event.specs.Fit.{is_fit_entry}
 use Rattle.px_event.specs.declared.entry.Entry.{Entry}
+use Rattle.px_event.specs.declared.named.NamedEntry.{NamedEntry}
 use Rattle.px_event.specs.declared.reply.Reply.{Reply}
 use Rattle.px_event.specs.declared.reply.Reply.TheVariants as replies
-use Rattle.px_journal.specs.Journal.{IsReady}
+use Rattle.px_journal.specs.Journal.{IsReady, IsReadyAs, with_name}
 use Rattle.px_journal.specs.declared.journal.Journal.{Journal}
 use Rattle.px_ports.specs.declared.disk.Disk
 use Rattle.px_sem.specs.Log.{Log, is_accepted, accepted, answer, world_after}
@@ -19,7 +20,8 @@ use Rattle.px_exec.specs.declared.fault.PostFault.TheVariants as faults
 use Rattle.px_exec.specs.Answers.{answer_now, answered, logged, Replies, Fails, RanOut, Posts}
 use Rattle.px_exec.specs.Crash.{AddsAtMost}
 use Rattle.px_exec.specs.Executive.{Executive, Keeps, plan_of, world_of}
-use Rattle.px_exec.proofs.Keeping.{with_parts, open_of, keeps_replied, keeps_failed, keeps_as_before}
+use Rattle.px_exec.proofs.Naming.{with_parts}
+use Rattle.px_exec.proofs.Keeping.{open_of, keeps_replied, keeps_failed, keeps_as_before}
 
 pub none_of : {T : Type 0} (o : Option T) → ((x : T) → o ≢ Some x) → o ≡ None
 none_of None other = refl
@@ -85,9 +87,12 @@ module _ {S D : Type 0} (runs : Stepper.Ghosts S) (members : Disk.Ghosts D) (old
         state_now : runs.state stepper ≡ settled_state (plan_of runs old) (world_after (plan_of runs old) (world_of runs old) entry.event reply)
         state_now = moved ∙ ap (λ nodes. settled_state nodes (world_after nodes (world_of runs old) entry.event reply)) nodes_are
 
-        pub keeps_reply : {F : Type 0} → length log < 2 ^ 32 → ¬ F → AddsAtMost members F entry old.journal journal → Keeps runs members (with_parts old stepper journal history log old.failed)
-        keeps_reply few right adds = subst (λ (f : Option Failed). Keeps runs members (with_parts old stepper journal history log f)) (sym unfailed)
-            (keeps_replied runs members old stepper journal history log entry reply keeps unfailed (due_now reply due) logs grows few state_now kept still right adds)
+        pub keeps_reply : {F : Type 0} → length log < 2 ^ 32
+            → (IsTrue (is_accepted reply) → (text : List ℕ) (named : List NamedEntry) → IsReadyAs members old.journal text named
+            → IsReadyAs members journal text (named ++ with_name old.journal entry ∷ []))
+            → ¬ F → AddsAtMost members F entry old.journal journal → Keeps runs members (with_parts old stepper journal history log old.failed)
+        keeps_reply few named right adds = subst (λ (f : Option Failed). Keeps runs members (with_parts old stepper journal history log f)) (sym unfailed)
+            (keeps_replied runs members old stepper journal history log entry reply keeps unfailed (due_now reply due) logs grows few state_now kept named still right adds)
 
         replies_so : Replies runs old (with_parts old stepper journal history log old.failed) entry reply
         replies_so = record {

@@ -1,13 +1,15 @@
 -- What an executive is, and what its type keeps from its opening on.
-use Rattle.std.specs.Prelude.{◌≡◌, ◌≤◌, ◌<◌, ◌^◌, ℕ, List, [], ◌∷◌, ◌++◌, length, Option, Some, None, IsSome, IsTrue}
+use Rattle.std.specs.Prelude.{◌≡◌, ◌≤◌, ◌<◌, ◌^◌, ℕ, List, [], ◌∷◌, ◌++◌, length, map, Option, Some, None, IsSome, IsTrue}
 use Rattle.px_core.specs.Plan.{Site}
 use Rattle.px_event.specs.Fit.{is_fit_entry}
 use Rattle.px_event.specs.declared.entry.Entry.{Entry}
+use Rattle.px_event.specs.declared.named.NamedEntry.{NamedEntry}
 use Rattle.px_journal.specs.Crash.{WithOrWithout, LeavesOnly}
 use Rattle.px_journal.specs.Goes.{Goes}
-use Rattle.px_journal.specs.Journal.{IsReady}
-use Rattle.px_journal.specs.Layout.{Stands}
+use Rattle.px_journal.specs.Journal.{IsReady, IsReadyAs, with_name}
+use Rattle.px_journal.specs.Layout.{entries, Stands, StandsAs}
 use Rattle.px_journal.specs.declared.journal.Journal.{Journal}
+use Rattle.px_journal.specs.declared.version.Version.{Version}
 use Rattle.px_ports.specs.Host.{Rose}
 use Rattle.px_ports.specs.declared.disk.Disk
 use Rattle.px_ports.specs.declared.moment.Moment.{Moment}
@@ -90,6 +92,39 @@ abbrev pub KeepsDisk : {S D : Type 0} → Stepper.Ghosts S → Disk.Ghosts D →
 KeepsDisk runs members exec None = IsOpen members exec
 KeepsDisk runs members exec (Some failed) = IsClosed runs members exec failed
 
+-- the journal of the opening stood for this text, and for the history then with these names
+abbrev pub WasNamed : {S D : Type 0} → Disk.Ghosts D → Executive S D → List ℕ → List NamedEntry → Type 0
+WasNamed members exec text found =
+    IsReadyAs members exec.opening.journal text found × (entries found ≡ exec.opening.history)
+
+abbrev pub failed_entries : Option Failed → List Entry
+failed_entries None = []
+failed_entries (Some failed) = failed.entry ∷ []
+
+-- what was accepted since the opening, and the entry of a failed append: each with the name that the journal gives its
+-- thread
+abbrev pub named_since : {S D : Type 0} → Executive S D → List NamedEntry
+named_since exec = map (with_name exec.opening.journal) (accepted exec.log ++ failed_entries exec.failed)
+
+-- the bytes stand for the text, for all that was found at first with the names that it had, and for a front of the rest
+pub record StandsNamed (version : Version) (text : List ℕ) (found since : List NamedEntry) (bytes : List ℕ) : Type 0 where
+  pub more : List NamedEntry
+  pub rest : List NamedEntry
+  pub front : since ≡ more ++ rest
+  pub stands : StandsAs version bytes text (found ++ more)
+
+-- WHAT AN EXECUTIVE KEEPS OF NAMES: the version of its journal and the names that entries get are those of the opening, and
+-- each image since then has the entries found with the names that they had, and the later ones with those of their threads
+pub record KeepsNaming {S D : Type 0} (members : Disk.Ghosts D) (exec : Executive S D) : Type 0 where
+  pub version : exec.journal.version ≡ exec.opening.journal.version
+  pub names : exec.journal.names ≡ exec.opening.journal.names
+  pub stands : exec.failed ≡ None → (text : List ℕ) (found : List NamedEntry) → WasNamed members exec text found
+      → IsReadyAs members exec.journal text (found ++ named_since exec)
+  pub since : TellsBytes members exec.opening.journal.disk → (text : List ℕ) (found : List NamedEntry)
+      → WasNamed members exec text found
+      → LeavesOnly members.images (StandsNamed exec.opening.journal.version text found (named_since exec))
+      (moments_then members exec) (moments_now members exec)
+
 -- WHAT AN EXECUTIVE KEEPS OF ITS OPENING, as long as it is there
 pub record Keeps {S D : Type 0} (runs : Stepper.Ghosts S) (members : Disk.Ghosts D) (exec : Executive S D) :
     Type 0 where
@@ -108,3 +143,5 @@ pub record Keeps {S D : Type 0} (runs : Stepper.Ghosts S) (members : Disk.Ghosts
   pub goes : Goes members (IsSome exec.failed) exec.opening.journal.disk exec.journal.disk
   -- the journal stands for the history, or the executive is closed
   pub disk : KeepsDisk runs members exec exec.failed
+  -- the names that entries have in it
+  pub naming : KeepsNaming members exec

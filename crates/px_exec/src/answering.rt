@@ -5,8 +5,9 @@
 ghost use Rattle.std.specs.Prelude.{◌≡◌, ◌≤◌, ◌+◌, [], ◌∷◌, ◌++◌, ℕ, List, length, IsTrue, IsFalse, IfOk, OnErr, IsErrOf};
 ghost use Rattle.px_event.specs.Fit.{is_fit_entry};
 ghost use Rattle.px_event.specs.declared.entry.Entry.{Entry as AnyEntry};
+ghost use Rattle.px_event.specs.declared.named.NamedEntry.{NamedEntry as AnyNamed};
 ghost use Rattle.px_event.specs.declared.reply.Reply.TheVariants.{Accepted};
-ghost use Rattle.px_journal.specs.Journal.{IsReady};
+ghost use Rattle.px_journal.specs.Journal.{IsReady, IsReadyAs, with_name};
 ghost use Rattle.px_sem.specs.Log.{answer, world_after, is_accepted};
 ghost use Rattle.px_sem.specs.Stepper.{Pending, settled_state};
 ghost use Rattle.px_exec.specs.Crash.{AddsAtMost};
@@ -46,6 +47,9 @@ pub(crate) fn answer<S: Stepper, D: Disk>(
         (world_after (S.state stepper.old).nodes (S.state stepper.old).world entry.now.event reply)) }
     ensures kept { IfOk result (λ reply. IsTrue (is_accepted reply) → (text : List ℕ) (history : List AnyEntry)
         → IsReady D.Disk journal.old text history → IsReady D.Disk journal.new text (history ++ entry.now ∷ [])) }
+    ensures named { IfOk result (λ reply. IsTrue (is_accepted reply) → (text : List ℕ) (named : List AnyNamed)
+        → IsReadyAs D.Disk journal.old text named
+        → IsReadyAs D.Disk journal.new text (named ++ with_name journal.old entry.now ∷ [])) }
     ensures refused { IfOk result (λ reply. IsFalse (is_accepted reply) → journal.new ≡ journal.old) }
 
     ensures err { OnErr result (S.state stepper.new ≡ S.state stepper.old) }

@@ -16,6 +16,7 @@ mod opening;
 mod parts;
 mod posting;
 mod receipt;
+mod renaming;
 mod room;
 
 pub use exec::Exec;

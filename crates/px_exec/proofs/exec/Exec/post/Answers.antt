@@ -78,7 +78,7 @@ invariant_of-self-in-Ok g c =
     keeps_reply g.S.Stepper g.D.Disk _ c.self.invariant (unfailed_of _ _ c.closed_after.ensures (none_of _ c.in_default.not-Some)) c.in_ok-copies.copies.for_log c.answer.new.stepper c.answer.new.journal
     _ (omega (arith, c.len.ensures, c.prepare.new.history.ok.0, ap length before.history)) _ _ c.in-Ok.reply done.due done.state
     (grows_from _ _ _ _ c.log_reply.ensures.log before.log) (grows_from _ _ _ _ c.log_reply.ensures.history before.history) done.kept done.refused
-    (length_more _ _ _ (2 ^ 32) c.log_reply.ensures.log (omega (arith, before.few, c.prepare.new.log.ok.0))) (λ failed. absurd (cc)) done.crash
+    (length_more _ _ _ (2 ^ 32) c.log_reply.ensures.log (omega (arith, before.few, c.prepare.new.log.ok.0))) done.named (λ failed. absurd (cc)) done.crash
 
 pub returns-in-Ok-clause-answers : goal.returns-in-Ok-clause-answers
 returns-in-Ok-clause-answers g c =
