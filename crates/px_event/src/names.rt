@@ -53,6 +53,14 @@ impl Names {
         name_in(self.list.as_slice(), thread)
     }
 
+    /// Whether no thread has a name.
+    pub fn is_empty(&self) -> bool
+        ensures none { IsTrue result → self.now ≡ [] }
+        ensures some { self.now ≡ [] → IsTrue result }
+    {
+        self.list.is_empty()
+    }
+
     /// Names a thread that has no name yet. After an `Err` it has none.
     pub fn add(&mut self, thread: u8, name: Name) -> Result<(), NoMemory>
         requires unnamed { name_of thread self.old ≡ None }
