@@ -1,23 +1,26 @@
 -- What the posts of a session have come to, by what the executive keeps.
-use Rattle.std.proofs.Common.{◌≡◌, inl, inr, ⊎_elim, ℕ, List, [], ◌∷◌, ◌++◌, Option, Some, None, IsSome, length, refl, sym, ◌∙◌, ap, subst, arith, append-nil, IsTrue}
+use Rattle.std.proofs.Common.{◌≡◌, inl, inr, ⊎_elim, ℕ, List, [], ◌∷◌, ◌++◌, map, Option, Some, None, IsSome, length, refl, sym, ◌∙◌, ap, subst, arith, append-nil, IsTrue}
 use Rattle.std.specs.List.{list_all}
 use Rattle.std.specs.Option.{option_map, ForSome}
 use Rattle.px_crew.specs.Crew.{failed_entry, Ends}
 use Rattle.px_event.specs.Fit.{is_fit_entry}
 use Rattle.px_event.specs.declared.entry.Entry.{Entry}
-use Rattle.px_exec.specs.Executive.{Opening, Executive, Keeps, KeepsDisk, IsOpen, IsClosed, IsTextOf, TellsBytes, StandsWithin, plan_of}
+use Rattle.px_event.specs.declared.named.NamedEntry.{NamedEntry}
+use Rattle.px_exec.specs.Executive.{Opening, Executive, Keeps, KeepsDisk, IsOpen, IsClosed, IsTextOf, TellsBytes, StandsNamed, StandsWithin, WasNamed, failed_entries, moments_now, moments_then, plan_of}
 use Rattle.px_exec.specs.declared.closing.Failed.{Failed}
 use Rattle.px_journal.proofs.Going.{goes_told}
 use Rattle.px_journal.proofs.Ready.{ready_few, ready_fit, ready_stands, ready_synced}
+use Rattle.px_journal.proofs.Moments.{left_now}
 use Rattle.px_journal.specs.Crash.{LeavesOnly}
 use Rattle.px_journal.specs.Goes.{Goes}
-use Rattle.px_journal.specs.Journal.{IsReady}
-use Rattle.px_journal.specs.Layout.{Stands}
+use Rattle.px_journal.specs.Journal.{IsReady, IsReadyAs, with_name}
+use Rattle.px_journal.specs.Layout.{entries, Stands}
+use Rattle.px_journal.specs.declared.journal.Journal.{Journal}
 use Rattle.px_ports.specs.declared.disk.Disk
 use Rattle.px_script.specs.declared.todo.Todo.{Todo}
 use Rattle.px_sem.specs.Log.{Log, IsLegal, HasRun, accepted}
 use Rattle.px_sem.specs.declared.stepper.Stepper
-use Rattle.px_session.specs.Posting.{WasDue, LeavesSession, Posts}
+use Rattle.px_session.specs.Posting.{WasDue, HasNames, LeavesNames, LeavesSession, Posts}
 use Rattle.px_session.specs.Session.{Session, longest_of, unsure, IsEnd}
 use Rattle.px_session.specs.declared.posting.Posted.{Posted}
 
@@ -95,6 +98,25 @@ module _ {S D : Type 0} (runs : Stepper.Ghosts S) (members : Disk.Ghosts D) (exe
       by None unfailed = leaves_open unfailed tells text is
       by (Some failed) closed = leaves_closed failed closed law tells text is
 
+  -- the names since the opening
+  pub leaves_names : ReadsAreLeft members → TellsBytes members exec.opening.journal.disk → (text : List ℕ) (found : List NamedEntry)
+      → WasNamed members exec text found
+      → LeavesNames members text found (accepted exec.log ++ unsure (failed_entry exec)) exec.opening.journal exec.journal.disk
+  leaves_names law tells text found was = record {
+    read = λ told here. since.each told (left_now members.images _ _ told keeps.goes.grows (law exec.journal.disk told here));
+    since = since;
+  }
+    where
+      the_failed : (f : Option Failed) → failed_entries f ≡ unsure (option_map (λ (f : Failed). f.entry) f)
+      the_failed None = refl
+      the_failed (Some failed) = refl
+
+      since : LeavesOnly members.images (HasNames members exec.opening.journal text found (accepted exec.log ++ unsure (failed_entry exec)))
+          (moments_then members exec) (moments_now members exec)
+      since = subst (λ (es : List Entry). LeavesOnly members.images (StandsNamed exec.opening.journal.version text found (map (with_name exec.opening.journal) (accepted exec.log ++ es)))
+          (moments_then members exec) (moments_now members exec))
+          (the_failed exec.failed) (keeps.naming.since tells text found was)
+
   -- the disk since the opening, by the entry of a failed append
   pub goes_since : Goes members (IsSome (failed_entry exec)) exec.opening.journal.disk exec.journal.disk
   goes_since = goes_told members keeps.goes (to exec.failed) (from exec.failed)
@@ -151,6 +173,13 @@ closes {S} {D} runs members was after law keeps same threads posted ends disk_is
       subst (λ (o : Opening S D). LeavesSession members (record { text = text; first = o.history; log = posted.log.items; failed = failed_entry after }) o.journal.disk posted.disk) same
       (subst (λ (l : Log). LeavesSession members (record { text = text; first = after.opening.history; log = l; failed = failed_entry after }) after.opening.journal.disk posted.disk) (sym log_is)
       (subst (λ (d : D). LeavesSession members (session_of text after) after.opening.journal.disk d) (sym disk_is) left));
+  names = λ tells text found is.
+      let told = subst (λ (o : Opening S D). TellsBytes members o.journal.disk) (sym same) tells in
+      let left = leaves_names runs members after keeps law told text found
+      (subst (λ (o : Opening S D). IsReadyAs members o.journal text found × (entries found ≡ o.history)) (sym same) is) in
+      subst (λ (o : Opening S D). LeavesNames members text found (accepted posted.log.items ++ unsure (failed_entry after)) o.journal posted.disk) same
+      (subst (λ (l : Log). LeavesNames members text found (accepted l ++ unsure (failed_entry after)) after.opening.journal posted.disk) (sym log_is)
+      (subst (λ (d : D). LeavesNames members text found (accepted after.log ++ unsure (failed_entry after)) after.opening.journal d) (sym disk_is) left));
   goes = subst (λ (o : Opening S D). Goes members (IsSome (failed_entry after)) o.journal.disk posted.disk) same
       (subst (λ (d : D). Goes members (IsSome (failed_entry after)) after.opening.journal.disk d) (sym disk_is) (goes_since runs members after keeps));
 }

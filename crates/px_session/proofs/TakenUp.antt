@@ -6,14 +6,16 @@ use Rattle.px_compile.specs.Compiled.{IsCompiled}
 use Rattle.px_core.specs.Fit.{IsFit}
 use Rattle.px_core.specs.Plan.{Site, Tree, tree_of, sites}
 use Rattle.px_event.specs.declared.entry.Entry.{Entry}
-use Rattle.px_exec.specs.Executive.{plan_of}
-use Rattle.px_exec.specs.Opening.{IsWhy, RunsAwayAt}
+use Rattle.px_event.specs.declared.named.NamedEntry.{NamedEntry}
+use Rattle.px_event.specs.declared.names.ThreadName.{ThreadName}
+use Rattle.px_exec.specs.Executive.{Executive, Opening, plan_of}
+use Rattle.px_exec.specs.Opening.{IsWhy, Renames, RunsAwayAt}
 use Rattle.px_exec.specs.declared.fault.OpenWhy.{OpenWhy}
 use Rattle.px_exec.specs.declared.fault.OpenWhy.TheVariants as opening
 use Rattle.px_journal.specs.Damage.{Damaged}
 use Rattle.px_journal.specs.Goes.{RisesWhere, Goes}
-use Rattle.px_journal.specs.Journal.{IsReady, IsSynced, IsUnwritten, IsUntouched}
-use Rattle.px_journal.specs.Layout.{is_nothing, Stands}
+use Rattle.px_journal.specs.Journal.{IsReady, IsReadyAs, IsSynced, IsUnwritten, IsUntouched}
+use Rattle.px_journal.specs.Layout.{entries, is_nothing, Stands, StandsAs}
 use Rattle.px_journal.specs.declared.fault.RecoverWhy.{RecoverWhy}
 use Rattle.px_journal.specs.declared.fault.RecoverWhy.TheVariants as recovering
 use Rattle.px_ports.specs.declared.disk.Disk
@@ -107,17 +109,22 @@ module _ {D : Type 0} (members : Disk.Ghosts D) (name : List ℕ) (old mid : D) 
     -- it was read, and its history was run
     pub taken_up : {S : Type 0} (runs : Stepper.Ghosts S) (limit : ℕ) (text : List ℕ) (history : List Entry) (journal : Journal D)
         (r : Result (Reopened S D) (ReopenFault D)) → ¬ Failed → journal.disk ≡ new → IsReady members journal text history
+        → (found : List NamedEntry) → IsReadyAs members journal text found → entries found ≡ history
         → ForSome (members.content mid) (λ told. Stands told text history) → members.content new ≡ members.content mid
         → IfOk r (λ reopened. IsCompiled text (tree_of reopened.plan)) → IfOk r (λ reopened. IsFit (tree_of reopened.plan))
         → IfOk r (λ reopened. plan_of runs reopened.exec ≡ sites (tree_of reopened.plan))
         → IfOk r (λ reopened. IsSome (run (sites (tree_of reopened.plan)) (events_of history)))
         → IfOk r (λ reopened. IsOpening journal history limit reopened.exec) → IfOk r (Reopens members runs name limit old)
-    taken_up runs limit text history journal (Err fault) right here ready stands same compiled fit nodes settles opening = tt
-    taken_up runs limit text history journal (Ok reopened) right here ready stands same compiled fit nodes settles opening = record {
+    taken_up runs limit text history journal (Err fault) right here ready found ready_as found_are stands same compiled fit nodes settles opening = tt
+    taken_up runs limit text history journal (Ok reopened) right here ready found ready_as found_are stands same compiled fit nodes settles opening = record {
       text = text;
       ready = subst (λ (h : List Entry). IsReady members reopened.exec.opening.journal text h) (sym opening.first)
           (subst (λ (j : Journal D). IsReady members j text history) (sym opening.opened) ready);
       stands = λ told is. subst (λ (h : List Entry). Stands told text h) (sym opening.first) (stands told ((was.untouched).content ∙ is));
+      found = found;
+      named = (subst (λ (j : Journal D). IsReadyAs members j text found) (sym opening.opened) ready_as, found_are ∙ sym opening.first);
+      stands_named = λ told is. subst (λ (j : Journal D). StandsAs j.version told text found) (sym opening.opened)
+          (ready_as.stands told (ap members.content here ∙ same ∙ (was.untouched).content ∙ is));
       compiled = compiled;
       fit = fit;
       nodes = nodes;
@@ -146,3 +153,34 @@ pub not_opened : (text : List ℕ) (history : List Entry) (tree : Tree) (nodes :
 not_opened text history tree nodes (opening.Runaway at) shown is compiled same away =
     subst (IsRunWhy text history) (sym is) (tree, compiled, subst (λ (n : List Site). RunsAwayAt n history at) same away)
 not_opened text history tree nodes opening.NoMemory shown is compiled same away = subst (IsRunWhy text history) (sym is) tt
+
+-- a session that goes on, with other names for further entries
+pub still_reopened : {S D : Type 0} (members : Disk.Ghosts D) (runs : Stepper.Ghosts S) (name : List ℕ) (limit : ℕ) (disk : D) (old : Reopened S D) (exec : Executive S D)
+    (names : List ThreadName) → Renames members names old.exec exec → Reopens members runs name limit disk old → Reopens members runs name limit disk (record old { exec = exec })
+still_reopened {S} {D} members runs name limit disk old exec names renames was = record {
+  text = was.text;
+  ready = subst (λ (h : List Entry). IsReady members exec.opening.journal was.text h) (sym first) (renames.kept was.text old.exec.opening.history was.ready);
+  stands = λ told is. subst (λ (h : List Entry). Stands told was.text h) (sym first) (was.stands told is);
+  found = was.found;
+  named = (renames.kept_names was.text was.found (was.named.0), was.named.1 ∙ sym first);
+  stands_named = λ told is. subst (λ v. StandsAs v told was.text was.found) (sym renames.version) (was.stands_named told is);
+  compiled = was.compiled;
+  fit = was.fit;
+  nodes = ap (λ (o : Opening S D). (runs.state o.stepper).nodes) renames.opening ∙ was.nodes;
+  settles = subst (λ (h : List Entry). IsSome (run (sites (tree_of old.plan)) (events_of h))) (sym first) was.settles;
+  opening = record {
+    opened = refl;
+    untouched = renames.unposted.journal;
+    first = refl;
+    now = renames.history ∙ was.opening.now ∙ sym first;
+    most = ap (λ (o : Opening S D). o.limit) renames.opening ∙ was.opening.most;
+    log = renames.unposted.log;
+    failed = renames.unposted.failed;
+  };
+  untouched = subst (IsUntouched members disk) (sym renames.disk) was.untouched;
+  bound = ap members.bound_to renames.disk ∙ was.bound;
+  faults = ap members.faults renames.disk ∙ was.faults;
+}
+  where
+    first : exec.opening.history ≡ old.exec.opening.history
+    first = ap (λ (o : Opening S D). o.history) renames.opening

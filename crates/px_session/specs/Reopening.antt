@@ -5,12 +5,13 @@ use Rattle.px_compile.specs.Compiled.{IsCompiled, IsRefused}
 use Rattle.px_core.specs.Fit.{IsFit}
 use Rattle.px_core.specs.Plan.{Tree, tree_of, sites}
 use Rattle.px_event.specs.declared.entry.Entry.{Entry}
-use Rattle.px_exec.specs.Executive.{plan_of, IsTextOf}
+use Rattle.px_event.specs.declared.named.NamedEntry.{NamedEntry}
+use Rattle.px_exec.specs.Executive.{plan_of, IsTextOf, WasNamed}
 use Rattle.px_exec.specs.Opening.{RunsAwayAt}
 use Rattle.px_journal.specs.Damage.{Damaged}
 use Rattle.px_journal.specs.Goes.{RisesWhere}
 use Rattle.px_journal.specs.Journal.{IsSynced, IsUnwritten, IsUntouched}
-use Rattle.px_journal.specs.Layout.{is_nothing, Stands}
+use Rattle.px_journal.specs.Layout.{is_nothing, Stands, StandsAs}
 use Rattle.px_ports.specs.Host.{Rose}
 use Rattle.px_ports.specs.declared.disk.Disk
 use Rattle.px_sem.specs.Log.{events_of}
@@ -40,6 +41,11 @@ module _ {D : Type 0} (members : Disk.Ghosts D) where
     pub text : List ℕ
     pub ready : IsTextOf members reopened.exec text
     pub stands : ForSome (members.content old) (λ told. Stands told text reopened.exec.opening.history)
+    -- the journal is of the version that the disk has, with the entries found under the names that they have there
+    pub found : List NamedEntry
+    pub named : WasNamed members reopened.exec text found
+    pub stands_named : ForSome (members.content old)
+        (λ told. StandsAs reopened.exec.opening.journal.version told text found)
     pub compiled : IsCompiled text (tree_of reopened.plan)
     pub fit : IsFit (tree_of reopened.plan)
     pub nodes : plan_of runs reopened.exec ≡ sites (tree_of reopened.plan)

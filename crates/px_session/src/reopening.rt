@@ -5,6 +5,7 @@ ghost use Rattle.px_core.specs.Fit.{IsFit};
 ghost use Rattle.px_core.specs.Plan.{tree_of, sites};
 ghost use Rattle.px_event.specs.declared.entry.Entry.{Entry as Logged};
 ghost use Rattle.px_exec.specs.Executive.{plan_of};
+ghost use Rattle.px_exec.specs.Opening.{IsUnposted, Renames};
 ghost use Rattle.px_journal.specs.Journal.{IsReady};
 ghost use Rattle.px_sem.specs.Log.{events_of};
 ghost use Rattle.px_sem.specs.Run.{run};
@@ -16,6 +17,7 @@ use crate::attaching::attached;
 use crate::fault::{ReopenFault, ReopenWhy};
 use px_compile::compile;
 use px_core::Plan;
+use px_event::Names;
 use px_exec::{Exec, OpenFault};
 use px_journal::{Journal, RecoverFault, Recovered};
 use px_ports::Disk;
@@ -29,6 +31,20 @@ pub struct Reopened<S: Stepper, D: Disk> {
     pub plan: Plan,
     /// The executive that has run the journal's history.
     pub exec: Exec<S, D>,
+}
+
+impl<S: Stepper, D: Disk> Reopened<S, D> {
+    /// Sets the names that further entries are kept with, where the journal is of the second version. It comes before the
+    /// first post, takes no memory, and leaves all else as it is.
+    pub fn rename(&mut self, names: Names)
+        requires { IsUnposted self.old.exec }
+        ensures kept { (name : List ℕ) (limit : ℕ) (disk : D) → Reopens D.Disk S.Stepper name limit disk self.old
+            → Reopens D.Disk S.Stepper name limit disk self.new }
+        ensures plan { self.new.plan ≡ self.old.plan }
+        ensures renamed { Renames D.Disk names self.old.exec self.new.exec }
+    {
+        self.exec.rename(names);
+    }
 }
 
 /// Binds the disk to the journal's name, reads the journal there, compiles its plan and runs its history. The history may

@@ -24,5 +24,5 @@ returns-in-Ok-recover-clause-reopened g c =
     let told = c.in-Ok-recover.ensures in
     let run = c.run_recovered.ensures in
     taken_up g.D.Disk c.args.name.now c.args.disk c.in-Ok.disk c.in-Ok.ensures.attached read.journal.disk told.writes_nothing told.goes
-    g.S.Stepper c.args.limit read.plan.items read.history.items read.journal c.run_recovered.result (λ failed. failed) refl told.read told.stands (told.same (λ none. none))
+    g.S.Stepper c.args.limit read.plan.items read.history.items read.journal c.run_recovered.result (λ failed. failed) refl told.read (told.named.0) (told.named.1) (told.named.2) told.stands (told.same (λ none. none))
     run.compiled run.fit run.nodes run.settles run.opening
