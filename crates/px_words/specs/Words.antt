@@ -16,6 +16,7 @@ pub data Command : Type 0 where
   Resume : (script journal : List ℕ) (limit : ℕ) → Command
   Trace : (journal : List ℕ) → Command
   Soak : (count seed : ℕ) (journal : List ℕ) → Command
+  Names : (journal : List ℕ) → Command
 
 -- the operands PLAN, SCRIPT and JOURNAL of a command, where it has them
 abbrev pub plan_operand : Command → Option (List ℕ)
@@ -27,6 +28,7 @@ plan_operand (Run plan script journal limit) = Some plan
 plan_operand (Resume script journal limit) = None
 plan_operand (Trace journal) = None
 plan_operand (Soak count seed journal) = None
+plan_operand (Names journal) = None
 
 abbrev pub script_operand : Command → Option (List ℕ)
 script_operand (TraceStart plan) = None
@@ -37,6 +39,7 @@ script_operand (Run plan script journal limit) = Some script
 script_operand (Resume script journal limit) = Some script
 script_operand (Trace journal) = None
 script_operand (Soak count seed journal) = None
+script_operand (Names journal) = None
 
 abbrev pub journal_operand : Command → Option (List ℕ)
 journal_operand (TraceStart plan) = None
@@ -47,6 +50,7 @@ journal_operand (Run plan script journal limit) = Some journal
 journal_operand (Resume script journal limit) = Some journal
 journal_operand (Trace journal) = Some journal
 journal_operand (Soak count seed journal) = Some journal
+journal_operand (Names journal) = Some journal
 
 -- whether a command takes up a journal that stands
 abbrev pub takes_up : Command → Bool
@@ -58,6 +62,7 @@ takes_up (Run plan script journal limit) = false
 takes_up (Resume script journal limit) = true
 takes_up (Trace journal) = true
 takes_up (Soak count seed journal) = false
+takes_up (Names journal) = true
 
 -- the limit of a command, or the number of its lines, where it has one, is one that a history may have
 abbrev pub HasFitLimit : Command → Type 0
@@ -69,6 +74,7 @@ HasFitLimit (Run plan script journal limit) = IsLimit limit
 HasFitLimit (Resume script journal limit) = IsLimit limit
 HasFitLimit (Trace journal) = Unit {0}
 HasFitLimit (Soak count seed journal) = IsLimit count
+HasFitLimit (Names journal) = Unit {0}
 
 -- whether a command runs its plan
 abbrev pub runs_plan : Command → Bool
@@ -80,6 +86,7 @@ runs_plan (Run plan script journal limit) = true
 runs_plan (Resume script journal limit) = true
 runs_plan (Trace journal) = true
 runs_plan (Soak count seed journal) = true
+runs_plan (Names journal) = false
 
 -- PLAN SCRIPT JOURNAL, and SCRIPT JOURNAL, with a limit
 abbrev pub run_of : Limited → Option Command
@@ -110,4 +117,5 @@ command (name ∷ words) =
     else if is_same name (codes "resume") then option_and_then resume_of (limited words)
     else if is_same name (codes "trace") then option_and_then (of_one Trace) (operands words)
     else if is_same name (codes "soak") then option_and_then soak_of (operands words)
+    else if is_same name (codes "names") then option_and_then (of_one Names) (operands words)
     else None

@@ -5,7 +5,7 @@ ghost use Rattle.std.specs.String.{string_bytes};
 ghost use Rattle.px_words.specs.Limited.{count_of, limited};
 ghost use Rattle.px_words.specs.Operands.{operands, of_one, of_two};
 ghost use Rattle.px_words.specs.Seed.{seed_of};
-ghost use Rattle.px_words.specs.Words.{TraceStart, DryRun, Check, Format, Trace, HasFitLimit, run_of, resume_of, soak_of, command};
+ghost use Rattle.px_words.specs.Words.{TraceStart, DryRun, Check, Format, Trace, Names, HasFitLimit, run_of, resume_of, soak_of, command};
 
 use crate::count::{count_of, seed_of};
 use crate::line::Line;
@@ -55,6 +55,10 @@ pub enum Command<'a> {
         seed: u32,
         journal: &'a str,
     },
+    /// Prints the names of the interfaces that the journal's events came through.
+    Names {
+        journal: &'a str,
+    },
 }
 
 impl<'a> Command<'a> {
@@ -84,6 +88,7 @@ impl<'a> Command<'a> {
             "resume" => Command::resume(alloc, words),
             "trace" => Ok(operand(alloc, words)?.map(|journal| Command::Trace { journal })),
             "soak" => Command::soak(alloc, words),
+            "names" => Ok(operand(alloc, words)?.map(|journal| Command::Names { journal })),
             _ => Ok(None),
         }
     }
