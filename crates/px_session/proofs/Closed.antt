@@ -15,7 +15,6 @@ use Rattle.px_journal.specs.Crash.{LeavesOnly}
 use Rattle.px_journal.specs.Goes.{Goes}
 use Rattle.px_journal.specs.Journal.{IsReady, IsReadyAs, with_name}
 use Rattle.px_journal.specs.Layout.{entries, Stands}
-use Rattle.px_journal.specs.declared.journal.Journal.{Journal}
 use Rattle.px_ports.specs.declared.disk.Disk
 use Rattle.px_script.specs.declared.todo.Todo.{Todo}
 use Rattle.px_sem.specs.Log.{Log, IsLegal, HasRun, accepted}

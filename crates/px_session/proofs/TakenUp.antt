@@ -1,5 +1,5 @@
--- A session that goes on, from the calls that take its journal up.
-use Rattle.std.proofs.Common.{◌≡◌, ◌≢◌, inl, ℕ, List, IsSome, Result, Ok, Err, IfOk, IfErr, refl, sym, ◌∙◌, ap, subst, arith, IsTrue, IsFalse}
+-- A journal that is read, and a session that goes on, from the calls that take its journal up.
+use Rattle.std.proofs.Common.{◌≡◌, inl, ℕ, List, IsSome, Result, Ok, Err, IfOk, IfErr, refl, sym, ◌∙◌, ap, subst, arith, IsTrue, IsFalse}
 use Rattle.std.specs.Prelude.{is_some}
 use Rattle.std.specs.Option.{ForSome}
 use Rattle.px_compile.specs.Compiled.{IsCompiled}
@@ -7,15 +7,15 @@ use Rattle.px_core.specs.Fit.{IsFit}
 use Rattle.px_core.specs.Plan.{Site, Tree, tree_of, sites}
 use Rattle.px_event.specs.declared.entry.Entry.{Entry}
 use Rattle.px_event.specs.declared.named.NamedEntry.{NamedEntry}
-use Rattle.px_event.specs.declared.names.ThreadName.{ThreadName}
-use Rattle.px_exec.specs.Executive.{Executive, Opening, plan_of}
-use Rattle.px_exec.specs.Opening.{IsWhy, Renames, RunsAwayAt}
+use Rattle.px_exec.specs.Executive.{plan_of}
+use Rattle.px_exec.specs.Opening.{IsWhy, RunsAwayAt}
 use Rattle.px_exec.specs.declared.fault.OpenWhy.{OpenWhy}
 use Rattle.px_exec.specs.declared.fault.OpenWhy.TheVariants as opening
 use Rattle.px_journal.specs.Damage.{Damaged}
 use Rattle.px_journal.specs.Goes.{RisesWhere, Goes}
-use Rattle.px_journal.specs.Journal.{IsReady, IsReadyAs, IsSynced, IsUnwritten, IsUntouched}
-use Rattle.px_journal.specs.Layout.{entries, is_nothing, Stands, StandsAs}
+use Rattle.px_journal.specs.Journal.{IsReady, IsReadyAs, IsNotRecovered, IsSynced, IsUnwritten, IsUntouched, disk_recovered}
+use Rattle.px_journal.specs.Layout.{entries, interfaces, is_nothing, Stands, StandsAs}
+use Rattle.px_journal.specs.declared.fault.RecoverFault.{RecoverFault}
 use Rattle.px_journal.specs.declared.fault.RecoverWhy.{RecoverWhy}
 use Rattle.px_journal.specs.declared.fault.RecoverWhy.TheVariants as recovering
 use Rattle.px_ports.specs.declared.disk.Disk
@@ -23,11 +23,13 @@ use Rattle.px_sem.specs.Log.{events_of}
 use Rattle.px_sem.specs.Run.{run}
 use Rattle.px_sem.specs.declared.stepper.Stepper
 use Rattle.px_journal.specs.declared.journal.Journal.{Journal}
+use Rattle.px_journal.specs.declared.journal.Recovered.{Recovered}
 use Rattle.px_session.specs.Attaching.{IsAttached, IsNotAttached}
+use Rattle.px_session.specs.Reading.{IsRead, IsReadWhy, IsNotRead}
 use Rattle.px_session.specs.Reopening.{IsRunWhy, IsReopenWhy, IsNotReopened, Reopens}
 use Rattle.px_session.specs.Session.{IsOpening}
 use Rattle.px_session.specs.declared.reopening.Reopened.{Reopened}
-use Rattle.px_journal.proofs.Going.{rises_told}
+use Rattle.px_journal.proofs.Going.{rises_none, rises_told}
 use Rattle.px_session.proofs.Sessions.{untouched_on, unwritten_on}
 use Rattle.px_session.specs.Fault.{of_recover, of_open}
 use Rattle.px_session.specs.declared.fault.ReopenFault.{ReopenFault}
@@ -35,7 +37,7 @@ use Rattle.px_session.specs.declared.fault.ReopenWhy.{ReopenWhy}
 use Rattle.px_session.specs.declared.fault.ReopenWhy.TheVariants as reopening
 
 module _ {D : Type 0} (members : Disk.Ghosts D) (name : List ℕ) (old mid : D) where
-  pub not_attached : IsNotAttached members name old mid → IsNotReopened members name old (record { disk = mid; why = reopening.DiskFault })
+  pub not_attached : IsNotAttached members name old mid → IsNotRead members name old (record { disk = mid; why = recovering.DiskFault })
   not_attached failed = record {
     why = failed.rose;
     unwritten = (failed.untouched).unwritten;
@@ -46,85 +48,125 @@ module _ {D : Type 0} (members : Disk.Ghosts D) (name : List ℕ) (old mid : D) 
     faults = record { later = failed.faults; rose = λ is. failed.rose; kept = λ other. absurd (other refl) };
   }
 
-  module _ (was : IsAttached members name old mid) (new : D) (writes_nothing : IsUnwritten members mid new)
-      {Failed : Type 0} (goes : Goes members Failed mid new) where
-    refused_with : (why : ReopenWhy) → IsReopenWhy members old new why → (why ≢ reopening.DiskFault → members.content new ≡ members.content mid)
-        → (why ≢ reopening.DiskFault → IsSynced members new) → RisesWhere (why ≡ reopening.DiskFault) (members.faults mid) (members.faults new)
-        → IsNotReopened members name old (record { disk = new; why = why })
-    refused_with why cause same synced counts = record {
-      why = cause;
-      unwritten = unwritten_on members old mid new (was.untouched).unwritten writes_nothing;
+  module _ (was : IsAttached members name old mid) where
+    -- the journal was read
+    pub is_read : (r : Result (Recovered D) (RecoverFault D))
+        → IfOk r (λ read. (named : List NamedEntry) × IsReadyAs members read.journal read.plan.items named
+        × (entries named ≡ read.history.items) × (interfaces named ≡ read.names.items))
+        → (¬ IsNotRecovered r recovering.DiskFault → members.content (disk_recovered r) ≡ members.content mid)
+        → IsUnwritten members mid (disk_recovered r) → Goes members (IsNotRecovered r recovering.DiskFault) mid (disk_recovered r)
+        → IfOk r (IsRead members name old)
+    is_read (Err fault) named same unwritten goes = tt
+    is_read (Ok read) named same unwritten goes =
+        let untouched = untouched_on members old mid read.journal.disk was.untouched (record { content = same (λ none. none); unwritten = unwritten }) in
+        record {
+          found = named.0;
+          ready = named.1;
+          history = named.2;
+          names = named.3;
+          stands = λ told here. (named.1).stands told (untouched.content ∙ here);
+          untouched = untouched;
+          bound = goes.stays.bound ∙ was.bound;
+          faults = goes.faults.kept (λ none. none) ∙ was.faults;
+        }
+
+    -- it was not read
+    pub not_read : (r : Result (Recovered D) (RecoverFault D))
+        → (IsNotRecovered r recovering.NoJournal → ForSome (members.content mid) (λ told. IsTrue (is_nothing told)))
+        → ((at : ℕ) → IsNotRecovered r (recovering.Damaged at) → ForSome (members.content mid) (λ told. IsFalse (is_nothing told) × Damaged told at))
+        → (¬ IsNotRecovered r recovering.DiskFault → members.content (disk_recovered r) ≡ members.content mid)
+        → (¬ IsNotRecovered r recovering.DiskFault → IsSynced members (disk_recovered r))
+        → IsUnwritten members mid (disk_recovered r) → Goes members (IsNotRecovered r recovering.DiskFault) mid (disk_recovered r)
+        → IfErr r (IsNotRead members name old)
+    not_read (Ok read) none damaged same synced unwritten goes = tt
+    not_read (Err fault) none damaged same synced unwritten goes = record {
+      why = by fault.why refl;
+      unwritten = unwritten_on members old mid fault.disk (was.untouched).unwritten unwritten;
       same = λ other. same other ∙ (was.untouched).content;
       synced = synced;
       tells = goes.tells ∙ ap is_some (was.untouched).content;
       bound = inl (goes.stays.bound ∙ was.bound);
-      faults = subst (λ (n : ℕ). RisesWhere (why ≡ reopening.DiskFault) n (members.faults new)) was.faults counts;
+      faults = subst (λ (n : ℕ). RisesWhere (fault.why ≡ recovering.DiskFault) n (members.faults fault.disk)) was.faults goes.faults;
     }
-
-    -- the journal was not read
-    pub not_recovered : (why : RecoverWhy) (shown : ReopenWhy) → shown ≡ of_recover why
-        → (why ≡ recovering.NoJournal → ForSome (members.content mid) (λ told. IsTrue (is_nothing told)))
-        → ((at : ℕ) → why ≡ recovering.Damaged at → ForSome (members.content mid) (λ told. IsFalse (is_nothing told) × Damaged told at))
-        → RisesWhere (why ≡ recovering.DiskFault) (members.faults mid) (members.faults new)
-        → (why ≢ recovering.DiskFault → members.content new ≡ members.content mid) → (why ≢ recovering.DiskFault → IsSynced members new)
-        → IsNotReopened members name old (record { disk = new; why = shown })
-    not_recovered why shown is none damaged counts same synced =
-        subst (λ (w : ReopenWhy). IsNotReopened members name old (record { disk = new; why = w })) (sym is) (by why refl)
       where
-        by : (w : RecoverWhy) → why ≡ w → IsNotReopened members name old (record { disk = new; why = of_recover w })
-        by recovering.NoJournal is = refused_with reopening.NoJournal (λ told here. none is told ((was.untouched).content ∙ here))
-            (λ other. same (λ e. let both = sym is ∙ e in cc)) (λ other. synced (λ e. let both = sym is ∙ e in cc))
-            (rises_told counts (λ e. absurd (let both = sym is ∙ e in cc)) (λ e. absurd (cc)))
-        by (recovering.Damaged at) is = refused_with (reopening.Damaged at) (λ told here. damaged at is told ((was.untouched).content ∙ here))
-            (λ other. same (λ e. let both = sym is ∙ e in cc)) (λ other. synced (λ e. let both = sym is ∙ e in cc))
-            (rises_told counts (λ e. absurd (let both = sym is ∙ e in cc)) (λ e. absurd (cc)))
-        by recovering.DiskFault is = let more = counts.rose is in
-            refused_with reopening.DiskFault (omega (arith, was.faults, more)) (λ other. absurd (other refl)) (λ other. absurd (other refl))
-            (rises_told counts (λ e. refl) (λ e. is))
-        by recovering.NoMemory is = refused_with reopening.NoMemory tt (λ other. same (λ e. let both = sym is ∙ e in cc))
-            (λ other. synced (λ e. let both = sym is ∙ e in cc)) (rises_told counts (λ e. absurd (let both = sym is ∙ e in cc)) (λ e. absurd (cc)))
+        by : (w : RecoverWhy) → fault.why ≡ w → IsReadWhy members old fault.disk w
+        by recovering.NoJournal is = λ told here. none is told ((was.untouched).content ∙ here)
+        by (recovering.Damaged at) is = λ told here. damaged at is told ((was.untouched).content ∙ here)
+        by recovering.DiskFault is = let more = goes.faults.rose is in omega (arith, was.faults, more)
+        by recovering.NoMemory is = tt
+
+module _ {D : Type 0} (members : Disk.Ghosts D) (name : List ℕ) (old : D) where
+  -- the journal was not read
+  pub not_taken_up : (fault : RecoverFault D) (shown : ReopenWhy) → shown ≡ of_recover fault.why → IsNotRead members name old fault
+      → IsNotReopened members name old (record { disk = fault.disk; why = shown })
+  not_taken_up fault shown is unread = subst (λ (w : ReopenWhy). IsNotReopened members name old (record { disk = fault.disk; why = w })) (sym is) (record {
+    why = cause fault.why unread.why;
+    unwritten = unread.unwritten;
+    same = λ other. unread.same (λ e. other (ap of_recover e));
+    synced = λ other. unread.synced (λ e. other (ap of_recover e));
+    tells = unread.tells;
+    bound = unread.bound;
+    faults = rises_told unread.faults (ap of_recover) (back fault.why);
+  })
+    where
+      cause : (w : RecoverWhy) → IsReadWhy members old fault.disk w → IsReopenWhy members old fault.disk (of_recover w)
+      cause recovering.NoJournal why = why
+      cause (recovering.Damaged at) why = why
+      cause recovering.DiskFault why = why
+      cause recovering.NoMemory why = why
+
+      back : (w : RecoverWhy) → of_recover w ≡ reopening.DiskFault → w ≡ recovering.DiskFault
+      back recovering.NoJournal is = absurd (cc)
+      back (recovering.Damaged at) is = absurd (cc)
+      back recovering.DiskFault is = refl
+      back recovering.NoMemory is = absurd (cc)
+
+  module _ (read : Recovered D) (was : IsRead members name old read) where
+    pub read_ready : IsReady members read.journal read.plan.items read.history.items
+    read_ready = record { named = was.found; ready = was.ready; entries_are = was.history }
+
+    before : ForSome (members.content old) (λ told. Stands told read.plan.items read.history.items)
+    before told here = record { version = read.journal.version; named = was.found; stands = was.stands told here; entries_are = was.history }
 
     -- it was read, and can't be run
-    pub not_run : {T : Type 0} (text : List ℕ) (history : List Entry) (r : Result T (ReopenFault D))
-        → ¬ Failed → ForSome (members.content mid) (λ told. Stands told text history) → members.content new ≡ members.content mid
-        → IsSynced members new → IfErr r (λ fault. fault.disk ≡ new) → IfErr r (λ fault. IsRunWhy text history fault.why) → IfErr r (IsNotReopened members name old)
-    not_run text history (Ok done) right stands same synced here why = tt
-    not_run text history (Err fault) right stands same synced here why =
-        subst (λ (d : D). IsNotReopened members name old (record { disk = d; why = fault.why })) (sym here)
-        (refused_with fault.why (by fault.why why) (λ other. same) (λ other. synced)
-        (rises_told goes.faults (λ failed. absurd (right failed)) (λ is. absurd (subst (IsRunWhy text history) is why))))
+    pub not_run : {T : Type 0} (r : Result T (ReopenFault D)) → IfErr r (λ fault. fault.disk ≡ read.journal.disk)
+        → IfErr r (λ fault. IsRunWhy read.plan.items read.history.items fault.why) → IfErr r (IsNotReopened members name old)
+    not_run (Ok done) here why = tt
+    not_run (Err fault) here why = subst (λ (d : D). IsNotReopened members name old (record { disk = d; why = fault.why })) (sym here) (record {
+      why = by fault.why why;
+      unwritten = (was.untouched).unwritten;
+      same = λ other. (was.untouched).content;
+      synced = λ other. was.ready.synced;
+      tells = ap is_some (was.untouched).content;
+      bound = inl was.bound;
+      faults = subst (RisesWhere (fault.why ≡ reopening.DiskFault) (members.faults old)) (sym was.faults)
+          (rises_none (members.faults old) (λ is. absurd (subst (IsRunWhy read.plan.items read.history.items) is why)));
+    })
       where
-        before : ForSome (members.content old) (λ told. Stands told text history)
-        before told is = stands told ((was.untouched).content ∙ is)
-
-        by : (w : ReopenWhy) → IsRunWhy text history w → IsReopenWhy members old new w
+        by : (w : ReopenWhy) → IsRunWhy read.plan.items read.history.items w → IsReopenWhy members old read.journal.disk w
         by reopening.NoJournal cause = absurd cause
         by (reopening.Damaged at) cause = absurd cause
-        by reopening.PlanRefused cause = (text, history, before, cause)
-        by reopening.RunawayAtStart cause = (text, history, before, cause)
-        by (reopening.Runaway at) cause = (text, history, before, cause)
+        by reopening.PlanRefused cause = (read.plan.items, read.history.items, before, cause)
+        by reopening.RunawayAtStart cause = (read.plan.items, read.history.items, before, cause)
+        by (reopening.Runaway at) cause = (read.plan.items, read.history.items, before, cause)
         by reopening.DiskFault cause = absurd cause
         by reopening.NoMemory cause = tt
 
     -- it was read, and its history was run
-    pub taken_up : {S : Type 0} (runs : Stepper.Ghosts S) (limit : ℕ) (text : List ℕ) (history : List Entry) (journal : Journal D)
-        (r : Result (Reopened S D) (ReopenFault D)) → ¬ Failed → journal.disk ≡ new → IsReady members journal text history
-        → (found : List NamedEntry) → IsReadyAs members journal text found → entries found ≡ history
-        → ForSome (members.content mid) (λ told. Stands told text history) → members.content new ≡ members.content mid
-        → IfOk r (λ reopened. IsCompiled text (tree_of reopened.plan)) → IfOk r (λ reopened. IsFit (tree_of reopened.plan))
+    pub taken_up : {S : Type 0} (runs : Stepper.Ghosts S) (limit : ℕ) (r : Result (Reopened S D) (ReopenFault D))
+        → IfOk r (λ reopened. IsCompiled read.plan.items (tree_of reopened.plan)) → IfOk r (λ reopened. IsFit (tree_of reopened.plan))
         → IfOk r (λ reopened. plan_of runs reopened.exec ≡ sites (tree_of reopened.plan))
-        → IfOk r (λ reopened. IsSome (run (sites (tree_of reopened.plan)) (events_of history)))
-        → IfOk r (λ reopened. IsOpening journal history limit reopened.exec) → IfOk r (Reopens members runs name limit old)
-    taken_up runs limit text history journal (Err fault) right here ready found ready_as found_are stands same compiled fit nodes settles opening = tt
-    taken_up runs limit text history journal (Ok reopened) right here ready found ready_as found_are stands same compiled fit nodes settles opening = record {
-      text = text;
-      ready = subst (λ (h : List Entry). IsReady members reopened.exec.opening.journal text h) (sym opening.first)
-          (subst (λ (j : Journal D). IsReady members j text history) (sym opening.opened) ready);
-      stands = λ told is. subst (λ (h : List Entry). Stands told text h) (sym opening.first) (stands told ((was.untouched).content ∙ is));
-      found = found;
-      named = (subst (λ (j : Journal D). IsReadyAs members j text found) (sym opening.opened) ready_as, found_are ∙ sym opening.first);
-      stands_named = λ told is. subst (λ (j : Journal D). StandsAs j.version told text found) (sym opening.opened)
-          (ready_as.stands told (ap members.content here ∙ same ∙ (was.untouched).content ∙ is));
+        → IfOk r (λ reopened. IsSome (run (sites (tree_of reopened.plan)) (events_of read.history.items)))
+        → IfOk r (λ reopened. IsOpening read.journal read.history.items limit reopened.exec) → IfOk r (Reopens members runs name limit old)
+    taken_up runs limit (Err fault) compiled fit nodes settles opening = tt
+    taken_up runs limit (Ok reopened) compiled fit nodes settles opening = record {
+      text = read.plan.items;
+      ready = subst (λ (h : List Entry). IsReady members reopened.exec.opening.journal read.plan.items h) (sym opening.first)
+          (subst (λ (j : Journal D). IsReady members j read.plan.items read.history.items) (sym opening.opened) read_ready);
+      stands = λ told here. subst (λ (h : List Entry). Stands told read.plan.items h) (sym opening.first) (before told here);
+      found = was.found;
+      named = (subst (λ (j : Journal D). IsReadyAs members j read.plan.items was.found) (sym opening.opened) was.ready, was.history ∙ sym opening.first);
+      stands_named = λ told here. subst (λ (j : Journal D). StandsAs j.version told read.plan.items was.found) (sym opening.opened) (was.stands told here);
       compiled = compiled;
       fit = fit;
       nodes = nodes;
@@ -138,14 +180,10 @@ module _ {D : Type 0} (members : Disk.Ghosts D) (name : List ℕ) (old mid : D) 
         log = opening.log;
         failed = opening.failed;
       };
-      untouched = subst (λ (d : D). IsUntouched members old d) (sym disk_is)
-          (untouched_on members old mid new was.untouched (record { content = same; unwritten = writes_nothing }));
-      bound = ap members.bound_to disk_is ∙ goes.stays.bound ∙ was.bound;
-      faults = ap members.faults disk_is ∙ goes.faults.kept right ∙ was.faults;
+      untouched = subst (λ (j : Journal D). IsUntouched members old j.disk) (sym opening.opened) was.untouched;
+      bound = ap (λ (j : Journal D). members.bound_to j.disk) opening.opened ∙ was.bound;
+      faults = ap (λ (j : Journal D). members.faults j.disk) opening.opened ∙ was.faults;
     }
-      where
-        disk_is : reopened.exec.opening.journal.disk ≡ new
-        disk_is = ap (λ (j : Journal D). j.disk) opening.opened ∙ here
 
 -- an event of the history runs away, or memory runs out
 pub not_opened : (text : List ℕ) (history : List Entry) (tree : Tree) (nodes : List Site) (why : OpenWhy) (shown : ReopenWhy) → shown ≡ of_open why
@@ -153,34 +191,3 @@ pub not_opened : (text : List ℕ) (history : List Entry) (tree : Tree) (nodes :
 not_opened text history tree nodes (opening.Runaway at) shown is compiled same away =
     subst (IsRunWhy text history) (sym is) (tree, compiled, subst (λ (n : List Site). RunsAwayAt n history at) same away)
 not_opened text history tree nodes opening.NoMemory shown is compiled same away = subst (IsRunWhy text history) (sym is) tt
-
--- a session that goes on, with other names for further entries
-pub still_reopened : {S D : Type 0} (members : Disk.Ghosts D) (runs : Stepper.Ghosts S) (name : List ℕ) (limit : ℕ) (disk : D) (old : Reopened S D) (exec : Executive S D)
-    (names : List ThreadName) → Renames members names old.exec exec → Reopens members runs name limit disk old → Reopens members runs name limit disk (record old { exec = exec })
-still_reopened {S} {D} members runs name limit disk old exec names renames was = record {
-  text = was.text;
-  ready = subst (λ (h : List Entry). IsReady members exec.opening.journal was.text h) (sym first) (renames.kept was.text old.exec.opening.history was.ready);
-  stands = λ told is. subst (λ (h : List Entry). Stands told was.text h) (sym first) (was.stands told is);
-  found = was.found;
-  named = (renames.kept_names was.text was.found (was.named.0), was.named.1 ∙ sym first);
-  stands_named = λ told is. subst (λ v. StandsAs v told was.text was.found) (sym renames.version) (was.stands_named told is);
-  compiled = was.compiled;
-  fit = was.fit;
-  nodes = ap (λ (o : Opening S D). (runs.state o.stepper).nodes) renames.opening ∙ was.nodes;
-  settles = subst (λ (h : List Entry). IsSome (run (sites (tree_of old.plan)) (events_of h))) (sym first) was.settles;
-  opening = record {
-    opened = refl;
-    untouched = renames.unposted.journal;
-    first = refl;
-    now = renames.history ∙ was.opening.now ∙ sym first;
-    most = ap (λ (o : Opening S D). o.limit) renames.opening ∙ was.opening.most;
-    log = renames.unposted.log;
-    failed = renames.unposted.failed;
-  };
-  untouched = subst (IsUntouched members disk) (sym renames.disk) was.untouched;
-  bound = ap members.bound_to renames.disk ∙ was.bound;
-  faults = ap members.faults renames.disk ∙ was.faults;
-}
-  where
-    first : exec.opening.history ≡ old.exec.opening.history
-    first = ap (λ (o : Opening S D). o.history) renames.opening

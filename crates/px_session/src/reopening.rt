@@ -13,13 +13,13 @@ ghost use Rattle.px_sem.specs.Stepper.{Pending};
 ghost use Rattle.px_session.specs.Reopening.{IsRunWhy, Reopens, IsNotReopened};
 ghost use Rattle.px_session.specs.Session.{IsOpening};
 
-use crate::attaching::attached;
 use crate::fault::{ReopenFault, ReopenWhy};
+use crate::reading::read_journal;
 use px_compile::compile;
 use px_core::Plan;
 use px_event::Names;
 use px_exec::{Exec, OpenFault};
-use px_journal::{Journal, RecoverFault, Recovered};
+use px_journal::{RecoverFault, Recovered};
 use px_ports::Disk;
 use px_sem::{Stepper, start};
 use std::alloc::Global;
@@ -66,16 +66,7 @@ pub fn reopen<S: Stepper, D: Disk>(
     ensures reopened { IfOk result (Reopens D.Disk S.Stepper name.now limit disk) }
     ensures refused { IfErr result (IsNotReopened D.Disk name.now disk) }
 {
-    let disk = match attached(disk, name) {
-        Ok(disk) => disk,
-        Err(disk) => {
-            return Err(ReopenFault {
-                disk,
-                why: ReopenWhy::DiskFault,
-            });
-        }
-    };
-    match Journal::recover(alloc, disk) {
+    match read_journal(alloc, disk, name) {
         Ok(recovered) => run_recovered(alloc, recovered, limit),
         Err(RecoverFault { disk, why }) => Err(ReopenFault {
             disk,

@@ -1,28 +1,20 @@
-use Rattle.std.proofs.Common.{refl}
-use Rattle.px_journal.proofs.Ready.{ready_synced}
-use Rattle.px_session.proofs.TakenUp.{not_recovered, not_run, taken_up}
+use Rattle.px_session.proofs.TakenUp.{not_run, not_taken_up, read_ready, taken_up}
 use Rattle.px_session.proofs.reopening.reopen.Goals as goal
 
-pub returns-in-Ok-recover-clause-refused : goal.returns-in-Ok-recover-clause-refused
-returns-in-Ok-recover-clause-refused g c =
-    let read = c.in-Ok-recover.recovered in
-    let told = c.in-Ok-recover.ensures in
-    not_run g.D.Disk c.args.name.now c.args.disk c.in-Ok.disk c.in-Ok.ensures.attached read.journal.disk told.writes_nothing told.goes
-    read.plan.items read.history.items c.run_recovered.result (λ failed. failed) told.stands (told.same (λ none. none)) (ready_synced _ _ _ _ told.read)
+pub run_recovered-requires-clause-ready : goal.run_recovered-requires-clause-ready
+run_recovered-requires-clause-ready g c = read_ready g.D.Disk c.args.name.now c.args.disk c.in-Ok.recovered c.in-Ok.ensures.read
+
+pub returns-in-Err-clause-refused : goal.returns-in-Err-clause-refused
+returns-in-Err-clause-refused g c =
+    not_taken_up g.D.Disk c.args.name.now c.args.disk c.in-Err.field-0 c.into.result c.into.ensures c.in-Err.ensures.refused
+
+pub returns-in-Ok-clause-refused : goal.returns-in-Ok-clause-refused
+returns-in-Ok-clause-refused g c =
+    not_run g.D.Disk c.args.name.now c.args.disk c.in-Ok.recovered c.in-Ok.ensures.read c.run_recovered.result
     c.run_recovered.ensures.handed_back c.run_recovered.ensures.why
 
-pub returns-in-Err-recover-clause-refused : goal.returns-in-Err-recover-clause-refused
-returns-in-Err-recover-clause-refused g c =
-    let fault = c.in-Err-recover.field-0 in
-    let told = c.in-Err-recover.ensures in
-    not_recovered g.D.Disk c.args.name.now c.args.disk c.in-Ok.disk c.in-Ok.ensures.attached fault.disk told.writes_nothing told.goes
-    fault.why c.into.result c.into.ensures told.no_journal told.damaged told.goes.faults told.same told.synced
-
-pub returns-in-Ok-recover-clause-reopened : goal.returns-in-Ok-recover-clause-reopened
-returns-in-Ok-recover-clause-reopened g c =
-    let read = c.in-Ok-recover.recovered in
-    let told = c.in-Ok-recover.ensures in
+pub returns-in-Ok-clause-reopened : goal.returns-in-Ok-clause-reopened
+returns-in-Ok-clause-reopened g c =
     let run = c.run_recovered.ensures in
-    taken_up g.D.Disk c.args.name.now c.args.disk c.in-Ok.disk c.in-Ok.ensures.attached read.journal.disk told.writes_nothing told.goes
-    g.S.Stepper c.args.limit read.plan.items read.history.items read.journal c.run_recovered.result (λ failed. failed) refl told.read (told.named.0) (told.named.1) (told.named.2) told.stands (told.same (λ none. none))
+    taken_up g.D.Disk c.args.name.now c.args.disk c.in-Ok.recovered c.in-Ok.ensures.read g.S.Stepper c.args.limit c.run_recovered.result
     run.compiled run.fit run.nodes run.settles run.opening
