@@ -8,8 +8,7 @@ use Rattle.byteorder.specs.Endian.{big_bytes, big_number}
 use Rattle.byteorder.specs.Numbers.{length-bytes_high_first, big_number-reads_back}
 use Rattle.px_event.specs.declared.entry.Entry.{Entry}
 use Rattle.px_event.specs.declared.named.NamedEntry.{NamedEntry}
-use Rattle.px_journal.specs.Damage.{HasVersion}
-use Rattle.px_journal.specs.Layout.{magic, digit, heading, body_bytes, record_bytes, entries, interfaces, is_fit, is_open, is_closed, Opens, Records, records_size, StandsAs, Stands, AreNamesOf}
+use Rattle.px_journal.specs.Layout.{magic, digit, HasVersion, heading, body_bytes, record_bytes, entries, interfaces, is_fit, is_open, is_closed, Opens, Records, records_size, StandsAs, Stands, AreNamesOf}
 use Rattle.px_journal.specs.declared.version.Version.{Version}
 use Rattle.px_journal.proofs.Bodies.{one_body, body_short}
 use Rattle.px_journal.proofs.Digits.{one_digit}
@@ -116,9 +115,16 @@ module _ (version : Version) (bytes text_a text_b : List ℕ) (a b : List NamedE
       (subst IsTrue (ap is_closed (sym (drop-drop (records_size version a) n bytes))) a_stands.closed)
       (subst IsTrue (ap is_closed (sym (drop-drop (records_size version b) (1 + length (heading version text_b)) bytes) ∙ ap (λ (l : List ℕ). drop (records_size version b) l) place)) b_stands.closed)
 
+-- bytes have one version at most, which is that of what they stand for
+pub one_told : (v w : Version) (bytes : List ℕ) → HasVersion v bytes → HasVersion w bytes → v ≡ w
+one_told v w bytes first second = one_digit v w (sym first.1 ∙ second.1)
+
+pub stands_told : (v : Version) (bytes text : List ℕ) (named : List NamedEntry) → StandsAs v bytes text named → HasVersion v bytes
+stands_told v bytes text named stands = has_version v text bytes stands.front.opens
+
 -- an open master gate and two headings behind it are of one version
 pub one_version : (v w : Version) (a b bytes : List ℕ) → Opens (heading v a) bytes → Opens (heading w b) bytes → v ≡ w
-one_version v w a b bytes v_opens w_opens = one_digit v w (sym (has_version v a bytes v_opens).1 ∙ (has_version w b bytes w_opens).1)
+one_version v w a b bytes v_opens w_opens = one_told v w bytes (has_version v a bytes v_opens) (has_version w b bytes w_opens)
 
 -- ONE MEANING: one version, one text, and one list of entries with their names
 pub one_meaning : (v w : Version) (bytes text other : List ℕ) (a b : List NamedEntry) → StandsAs v bytes text a → StandsAs w bytes other b

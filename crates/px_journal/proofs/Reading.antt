@@ -8,10 +8,10 @@ use Rattle.byteorder.specs.Numbers.{big_from-take}
 use Rattle.px_event.specs.declared.named.NamedEntry.{NamedEntry}
 use Rattle.px_event.proofs.Fields.{IsBytes, four_back}
 use Rattle.px_journal.specs.Damage as Damage
-use Rattle.px_journal.specs.Damage.{body, body_length, text_length, HasVersion, IsNoBody}
+use Rattle.px_journal.specs.Damage.{body, body_length, text_length, IsNoBody}
 use Rattle.px_journal.specs.Damage.Damaged.{magic_differs, version_differs, text_is_cut}
 use Rattle.px_journal.specs.declared.fault.RecoverWhy.TheVariants.{Damaged}
-use Rattle.px_journal.specs.Layout.{digit, is_closed, is_open, magic, record_bytes, Opens}
+use Rattle.px_journal.specs.Layout.{digit, is_closed, is_open, magic, record_bytes, Opens, HasVersion}
 use Rattle.px_journal.specs.declared.version.Version.{Version}
 use Rattle.px_journal.proofs.Bodies.{body_short}
 use Rattle.px_journal.proofs.Fronts.{same_part}

@@ -2,7 +2,7 @@
 use Rattle.std.specs.Prelude.{◌≡◌, ◌≢◌, ◌<◌, ◌≤◌, ◌⊎◌, ℕ, ◌+◌, List, length, take, drop, slice_index, IsTrue}
 use Rattle.byteorder.specs.Endian.{big_number}
 use Rattle.px_event.specs.declared.named.NamedEntry.{NamedEntry}
-use Rattle.px_journal.specs.Layout.{magic, digit, body_bytes, is_fit, is_open, next_gate, Front}
+use Rattle.px_journal.specs.Layout.{magic, digit, body_bytes, is_fit, is_open, next_gate, Front, HasVersion}
 use Rattle.px_journal.specs.declared.version.Version.{Version}
 
 -- the length that the heading tells, and that a record tells whose gate stands at the front
@@ -14,10 +14,6 @@ body_length bytes = big_number 2 (drop 1 bytes)
 
 abbrev pub body : List ℕ → List ℕ
 body bytes = take (body_length bytes) (drop 3 bytes)
-
--- the magic and a version stand behind the master gate
-abbrev pub HasVersion : Version → List ℕ → Type 0
-HasVersion version bytes = (take 7 (drop 1 bytes) ≡ magic) × (slice_index bytes 8 ≡ digit version)
 
 -- no fit entry has these bytes as its body
 abbrev pub IsNoBody : Version → List ℕ → Type 0

@@ -1,6 +1,6 @@
 -- THE LAYOUT OF A JOURNAL, over the whole list of its bytes. A gate is one byte, and closed exactly where it is 0. There
 -- are two versions: in the second each entry stands with the name of its interface.
-use Rattle.std.specs.Prelude.{◌≡◌, ◌≤◌, ℕ, ◌+◌, Bool, false, not, ◌==◌, nat_lt, ◌&&◌, ◌||◌, Option, is_none, List, [], ◌∷◌, ◌++◌, length, map, take, drop, IsTrue, ⊤}
+use Rattle.std.specs.Prelude.{◌≡◌, ◌≤◌, ℕ, ◌+◌, Bool, false, not, ◌==◌, nat_lt, ◌&&◌, ◌||◌, Option, is_none, List, [], ◌∷◌, ◌++◌, length, map, take, drop, slice_index, IsTrue, ⊤}
 use Rattle.std.specs.List.{list_all}
 use Rattle.byteorder.specs.Endian.{big_bytes}
 use Rattle.px_event.specs.Bytes.{entry_bytes, named_bytes}
@@ -17,6 +17,10 @@ magic = 80 ∷ 76 ∷ 88 ∷ 74 ∷ 82 ∷ 78 ∷ 76 ∷ []
 abbrev pub digit : Version → ℕ
 digit versions.One = 49
 digit versions.Two = 50
+
+-- THE BYTES HAVE A VERSION: it stands behind the master gate and the magic
+abbrev pub HasVersion : Version → List ℕ → Type 0
+HasVersion version bytes = (take 7 (drop 1 bytes) ≡ magic) × (slice_index bytes 8 ≡ digit version)
 
 -- the body of a record: the bytes of its entry, in the second version with the name of its interface
 abbrev pub body_bytes : Version → NamedEntry → List ℕ

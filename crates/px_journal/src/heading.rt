@@ -2,9 +2,9 @@
 ghost use Rattle.std.specs.Prelude.{◌≡◌, ◌≢◌, ◌≤◌, ◌<◌, ◌+◌, ℕ, length, take, drop, slice_index, slice_range, IsTrue, IfOk, IsErrOf, MatchOption};
 ghost use Rattle.std.specs.Option.{ForSome};
 ghost use Rattle.byteorder.specs.Endian.{big_bytes, big_number};
-ghost use Rattle.px_journal.specs.Damage.{Damaged, HasVersion};
+ghost use Rattle.px_journal.specs.Damage.{Damaged};
 ghost use Rattle.px_journal.specs.Goes.{Reads};
-ghost use Rattle.px_journal.specs.Layout.{is_closed, is_open, magic};
+ghost use Rattle.px_journal.specs.Layout.{is_closed, is_open, magic, HasVersion};
 ghost use Rattle.px_journal.specs.declared.fault.RecoverWhy.TheVariants as whys;
 
 use crate::fault::RecoverWhy;
