@@ -20,7 +20,7 @@ use Rattle.px_sem.specs.World.{World}
 use Rattle.px_sem.specs.declared.stepper.Stepper
 use Rattle.px_exec.specs.declared.closing.Failed.{Failed}
 
--- what was handed to an opening
+-- what was handed to an opening; its journal may have been given other names before the first post
 pub record Opening (S D : Type 0) : Type 0 where
   pub stepper : S
   pub journal : Journal D
@@ -97,6 +97,7 @@ abbrev pub WasNamed : {S D : Type 0} → Disk.Ghosts D → Executive S D → Lis
 WasNamed members exec text found =
     IsReadyAs members exec.opening.journal text found × (entries found ≡ exec.opening.history)
 
+-- the entry of a failed append, or none
 abbrev pub failed_entries : Option Failed → List Entry
 failed_entries None = []
 failed_entries (Some failed) = failed.entry ∷ []

@@ -7,7 +7,8 @@ use px_sem::{LogEntry, Stepper};
 use std::marker::Model;
 use std::snapshot::Snapshot;
 
-/// What an opening was handed. The snapshots have no bytes: contracts alone see them.
+/// What an opening was handed, with the names that its journal was given before the first post. The snapshots have no
+/// bytes: contracts alone see them.
 #[derive(Drop)]
 pub(crate) struct Opening<S, D: Disk> {
     pub(crate) stepper: Snapshot<S>,

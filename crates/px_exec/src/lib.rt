@@ -2,8 +2,8 @@
 //!
 //! `Exec::open` runs a journal's history, and `post` takes one event more: it advances the stepper, appends the entry
 //! to the journal, and settles. So after a crash at any moment the history that is recovered has each acknowledged
-//! event. `specs/Executive.antt` says what the type keeps from its opening on, and `specs/Answers.antt` what a post
-//! answers.
+//! event. `rename` sets the names that further entries are kept with, before the first post. `specs/Executive.antt` says
+//! what the type keeps from its opening on, and `specs/Answers.antt` what a post answers.
 #![tactic(auto)]
 
 mod answering;
