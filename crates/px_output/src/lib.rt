@@ -2,15 +2,17 @@
 //!
 //! A `Printer` gathers lines and emits them to a host's sink; `print_log` steps the history of a log once more and prints its
 //! trace, the replies, and how the plan stands, so that no trace is kept. `print_stalled` adds the waits at which threads
-//! stand, and `print_summary` prints the summary of a soak in place of a log's text. `specs/View.antt` says what a host shows
-//! of itself at a moment, `specs/Printing.antt` what a text is on its way to the sink, `specs/Stalls.antt` which lines tell
-//! of the waits, and `specs/Summary.antt` what the summary is.
+//! stand, `print_summary` prints the summary of a soak in place of a log's text, and `print_names` the names of a journal's
+//! interfaces. `specs/View.antt` says what a host shows of itself at a moment, `specs/Printing.antt` what a text is on its
+//! way to the sink, `specs/Stalls.antt` which lines tell of the waits, and `specs/Summary.antt` what the summary is.
 #![tactic(auto)]
 
 mod log;
+mod names;
 mod printer;
 mod summary;
 
 pub use log::{print_log, print_stalled};
+pub use names::print_names;
 pub use printer::{PrintFault, emit_all};
 pub use summary::print_summary;

@@ -3,6 +3,8 @@ ghost use Rattle.std.specs.Prelude.{◌≡◌, [], IfErr};
 ghost use Rattle.px_output.specs.declared.printer.PrintFault.TheVariants.{SinkFailed, NoMemory as OutOfMemory};
 ghost use Rattle.px_output.specs.Printing.{Prints, Gathers};
 ghost use Rattle.px_output.specs.View.{view, OnlyPrints};
+ghost use Rattle.std.specs.Option.{option_copied};
+ghost use Rattle.px_trace.specs.Names.{name_line};
 ghost use Rattle.px_sem.specs.Text.{start_text, heading_text, step_text, quiet_text, reply_line, standing_text, stall_line};
 
 use px_event::Entry;
@@ -10,10 +12,10 @@ use px_ports::Host;
 use px_script::Stall;
 use px_sem::{LogEntry, Move, Standing};
 use px_trace::{
-    LoggedLine, push_heading, push_quiet, push_reply, push_stall, push_standing, push_start,
-    push_step,
+    LoggedLine, push_heading, push_name, push_quiet, push_reply, push_stall, push_standing,
+    push_start, push_step,
 };
-use px_value::NoMemory;
+use px_value::{Name, NoMemory};
 use std::alloc::Global;
 use std::marker::Model;
 
@@ -161,6 +163,22 @@ impl Printer {
             &stall.cond,
             &mut self.buffer,
         )?;
+        self.emit_piece(host)
+    }
+
+    /// Prints the line of the name of an event at its position in the history, from 1.
+    #[tactic(auto, using(crate::proofs::Gathered::piece_gathered, crate::proofs::Gathered::nothing_gathered))]
+    pub fn name<H: Host>(
+        &mut self,
+        host: &mut H,
+        position: u32,
+        entry: &Entry,
+        name: Option<&Name>,
+    ) -> Result<(), PrintFault>
+        ensures { Gathers H.Host host.old self.old host.new self.new
+            (name_line position (record { name = option_copied name.entry; entry = entry.now })) result }
+    {
+        push_name(self.alloc, position, entry, name, &mut self.buffer)?;
         self.emit_piece(host)
     }
 
