@@ -3,7 +3,7 @@ use Rattle.std.proofs.Common.{◌≡◌, ℕ, Bool, true, cond, eqb, List, [], �
 use Rattle.std.specs.Prelude.{IsTrue, Result, Ok, Err, IfOk, IsErrOf}
 use Rattle.std.proofs.lemmas.Bool.{eqb-true}
 use Rattle.std.proofs.lemmas.List.{append-nil, nil_from_length}
-use Rattle.px_event.specs.Reading.{Read, ◌>>=◌, whole, Gives}
+use Rattle.px_event.specs.Reading.{Read, whole, Gives}
 use Rattle.px_event.specs.declared.fault.DecodeFault.{DecodeFault}
 use Rattle.px_event.specs.declared.fault.DecodeFault.TheVariants.{Bad, NoMemory}
 use Rattle.px_event.proofs.Fields.{IsBytes, Takes, bind_some, after, passed, some_is}

@@ -1,5 +1,6 @@
 -- The names of threads.
-use Rattle.std.specs.Prelude.{ℕ, Bool, true, ◌&&◌, ◌==◌, if◌then◌else◌, is_none, Option, Some, None, List, [], ◌∷◌}
+use Rattle.std.specs.Prelude.{ℕ, nat_eq, Bool, true, ◌&&◌, ◌==◌, if◌then◌else◌, is_none, Option, Some, None, List, [], ◌∷◌}
+use Rattle.std.specs.Cmp.Lexicographic.{pointwise}
 use Rattle.px_event.specs.Fit.{is_report_name}
 use Rattle.px_event.specs.declared.names.ThreadName.{ThreadName}
 
@@ -12,3 +13,7 @@ name_of thread (row ∷ later) = if row.thread == thread then Some row.name else
 abbrev pub are_names : List ThreadName → Bool
 are_names [] = true
 are_names (row ∷ later) = is_report_name row.name && is_none (name_of row.thread later) && are_names later
+
+-- the same thread with the same name
+abbrev pub is_same_row : ThreadName → ThreadName → Bool
+is_same_row one other = (one.thread == other.thread) && pointwise nat_eq one.name other.name

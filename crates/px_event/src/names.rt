@@ -1,15 +1,17 @@
 // The names of threads: through which interface each of them posts.
 ghost use Rattle.std.specs.Prelude.{◌≡◌, None, [], ◌∷◌, ◌++◌, IsTrue, OnOk, OnErr};
+ghost use Rattle.std.specs.Cmp.{and_equiv, on_equiv, nat_eq_equiv, partial_equiv_from_equiv};
+ghost use Rattle.std.specs.Cmp.Lexicographic.{pointwise, nat_list_eq_equiv, lists_equiv};
 ghost use Rattle.std.specs.Option.{option_copied};
 ghost use Rattle.px_event.specs.Fit.{is_report_name};
-ghost use Rattle.px_event.specs.Names.{name_of, are_names};
+ghost use Rattle.px_event.specs.Names.{name_of, are_names, is_same_row};
 
 use px_value::{Name, NoMemory};
 use std::alloc::Global;
 use std::marker::Model;
 
 /// A thread, and the name of the interface through which it posts.
-#[derive(Debug, Drop)]
+#[derive(Debug, Drop, PartialEq, Eq)]
 pub struct ThreadName {
     /// From 1 to 8.
     pub thread: u8,
@@ -71,6 +73,21 @@ impl Names {
         self.list.push(ThreadName { thread, name })?;
         Ok(())
     }
+}
+
+impl PartialEq for Names {
+    ghost eq = { pointwise is_same_row };
+
+    ghost laws = { partial_equiv_from_equiv
+        (lists_equiv (and_equiv (on_equiv (λ row. row.thread) nat_eq_equiv) (on_equiv (λ row. row.name) nat_list_eq_equiv))) };
+
+    fn eq(&self, other: &Self) -> bool {
+        self.list.as_slice() == other.list.as_slice()
+    }
+}
+
+impl Eq for Names {
+    ghost laws = { lists_equiv (and_equiv (on_equiv (λ row. row.thread) nat_eq_equiv) (on_equiv (λ row. row.name) nat_list_eq_equiv)) };
 }
 
 fn name_in(mut rows: &[ThreadName], thread: u8) -> Option<&Name>

@@ -2,10 +2,12 @@
 use Rattle.std.specs.Prelude.{ℕ, Bool, true, ◌&&◌, ◌^◌, nat_le, nat_lt, List, [], ◌∷◌, length, map, IsTrue}
 use Rattle.std.specs.List.{list_all}
 use Rattle.px_event.specs.Fit.{is_fit_event}
+use Rattle.px_event.specs.Names.{are_names}
 use Rattle.px_script.specs.declared.line.Line.{Line}
 use Rattle.px_script.specs.declared.line.What.{What}
 use Rattle.px_script.specs.declared.line.What.TheVariants as whats
 use Rattle.px_script.specs.declared.script.Script.{Script}
+use Rattle.px_script.specs.ThreadLine.{is_thread}
 
 -- each number is above the one before it, and the first above the given one
 abbrev pub rise_above : ℕ → List ℕ → Bool
@@ -26,8 +28,11 @@ are_fit_lines lines =
     nat_le 1 (length lines) && nat_le (length lines) 100000 && rise_above 0 (map (λ line. line.number) lines)
     && list_all is_fit_line lines
 
--- threads from 1 to 8, by rising number, each with fit lines
+-- threads from 1 to 8, by rising number, each with fit lines; and names of such threads, each an identifier of at most 64
+-- bytes and of a thread of its own
 pub record IsFitScript (script : Script) : Type 0 where
   pub rising : IsTrue (rise_above 0 (map (λ todo. todo.thread) script.threads))
   pub within : IsTrue (list_all (λ todo. nat_le todo.thread 8) script.threads)
   pub lines : IsTrue (list_all (λ todo. are_fit_lines todo.lines) script.threads)
+  pub names : IsTrue (are_names script.names)
+  pub named : IsTrue (list_all (λ row. is_thread row.thread) script.names)

@@ -3,6 +3,7 @@ pub mod Fault
 pub mod Fit
 pub mod Follows
 pub mod Kinds
+pub mod Naming
 pub mod NodeLine
 pub mod Order
 pub mod ParsedLine

@@ -1,15 +1,17 @@
 -- The script that bytes spell over a plan.
-use Rattle.std.specs.Prelude.{◌≡◌, ℕ, ◌+◌, ◌==◌, nat_le, nat_lt, List, [], ◌∷◌, map, filter, Option, Some, None, if◌then◌else◌}
-use Rattle.std.specs.List.{filter_map, count_by, range_with_len}
+use Rattle.std.specs.Prelude.{◌≡◌, ℕ, ◌+◌, Bool, not, ◌&&◌, ◌==◌, nat_le, nat_lt, List, [], ◌∷◌, map, filter, Option, Some, None, if◌then◌else◌}
+use Rattle.std.specs.List.{filter_map, count_by, list_any, range_with_len}
+use Rattle.std.specs.Option.{option_map}
+use Rattle.px_event.specs.declared.names.ThreadName.{ThreadName}
 use Rattle.px_script.specs.declared.fault.FaultKind.{FaultKind}
-use Rattle.px_script.specs.declared.fault.FaultKind.TheVariants.{TooManyLines}
+use Rattle.px_script.specs.declared.fault.FaultKind.TheVariants.{TooManyLines, OtherName}
 use Rattle.px_script.specs.declared.fault.ScriptFault.{ScriptFault}
 use Rattle.px_script.specs.declared.fault.ScriptFault.TheVariants as faults
 use Rattle.px_script.specs.declared.line.Line.{Line}
 use Rattle.px_script.specs.declared.line.What.{What}
 use Rattle.px_script.specs.declared.line.What.TheVariants as whats
 use Rattle.px_script.specs.declared.todo.Todo.{Todo}
-use Rattle.px_core.specs.Plan.{Site}
+use Rattle.px_core.specs.Plan.{Site, is_same}
 use Rattle.px_script.specs.Text.{lines_of}
 use Rattle.px_script.specs.declared.parsed_line.ParsedLine.{ParsedLine}
 use Rattle.px_script.specs.declared.parsed_line.ParsedLine.TheVariants.{Nothing, Posts, Waits, Thread, Faulty}
@@ -17,9 +19,9 @@ use Rattle.px_script.specs.Fault.{number_of}
 use Rattle.px_script.specs.ParsedLine.{parsed_line}
 use Rattle.px_script.specs.Remainder.{has_a_line}
 
--- a script's threads, or its first faulty line with the number of its fault
+-- a script's threads and their names, or its first faulty line with the number of its fault
 pub data Reading : Type 0 where
-  Threads : (threads : List Todo) → Reading
+  Threads : (threads : List Todo) (names : List ThreadName) → Reading
   Fault : (line kind : ℕ) → Reading
 
 -- what a line says, with its number and the thread that it belongs to
@@ -30,7 +32,7 @@ pub record Said : Type 0 where
 
 -- the thread that the line behind belongs to: the one that is named, or the same
 abbrev pub thread_behind : ℕ → ParsedLine → ℕ
-thread_behind thread (Thread named) = named
+thread_behind thread (Thread number name) = number
 thread_behind thread says = thread
 
 -- what lines say that go on from this number, for this thread
@@ -54,7 +56,7 @@ done_at said = at said.says
     at (Posts event) = line (whats.Post event)
     at (Waits cond) = line (whats.Wait cond)
     at Nothing = None
-    at (Thread named) = None
+    at (Thread number name) = None
     at (Faulty kind) = None
 
 -- the lines at which a thread does something
@@ -65,7 +67,35 @@ lines_of_thread thread lines = filter_map done_at (filter (λ said. said.thread 
 abbrev pub lines_before : Said → List Said → ℕ
 lines_before said lines = count_by (λ line. nat_lt line.number said.number) (lines_of_thread said.thread lines)
 
--- the fault of one of the lines, if it has one: its own, or that its thread does something after 100,000 others
+-- the name that a line gives a thread, if it gives one
+abbrev pub name_given : Said → Option ThreadName
+name_given said = by said.says
+  where
+    by : ParsedLine → Option ThreadName
+    by (Thread number name) = option_map (λ name. record { thread = number; name = name }) name
+    by Nothing = None
+    by (Posts event) = None
+    by (Waits cond) = None
+    by (Faulty kind) = None
+
+-- the names that lines give, in order
+abbrev pub names_given : List Said → List ThreadName
+names_given lines = filter_map name_given lines
+
+-- the lines with a lower number
+abbrev pub earlier_lines : Said → List Said → List Said
+earlier_lines said lines = filter (λ line. nat_lt line.number said.number) lines
+
+-- another name of this thread
+abbrev pub is_other_name : ℕ → List ℕ → ThreadName → Bool
+is_other_name thread name row = (row.thread == thread) && not (is_same row.name name)
+
+-- an earlier line names the thread otherwise
+abbrev pub is_named_otherwise : List Said → Said → ℕ → List ℕ → Bool
+is_named_otherwise lines said thread name = list_any (is_other_name thread name) (names_given (earlier_lines said lines))
+
+-- the fault of one of the lines, if it has one: its own, that its thread does something after 100,000 others, or that it names
+-- a thread otherwise than an earlier line did
 abbrev pub fault_in : List Said → Said → Option (ℕ × FaultKind)
 fault_in lines said = by said.says
   where
@@ -76,7 +106,8 @@ fault_in lines said = by said.says
     by (Posts event) = one_more
     by (Waits cond) = one_more
     by Nothing = None
-    by (Thread named) = None
+    by (Thread number None) = None
+    by (Thread number (Some name)) = if is_named_otherwise lines said number name then Some (said.number, OtherName) else None
     by (Faulty kind) = Some (said.number, kind)
 
 -- the threads from 1 to 8 that have a line, each with its lines
@@ -84,14 +115,23 @@ abbrev pub threads_of : List Said → List Todo
 threads_of lines =
     filter has_a_line (map (λ thread. record { thread = thread; lines = lines_of_thread thread lines }) (range_with_len 1 8))
 
--- the first fault decides; where there is none, the threads are the script
-abbrev pub by_faults : List (ℕ × FaultKind) → List Todo → Reading
-by_faults [] threads = Threads threads
-by_faults ((line, kind) ∷ later) threads = Fault line (number_of kind)
+-- each thread's first name, in the order in which the threads are first named
+abbrev pub first_names : List ThreadName → List ThreadName
+first_names [] = []
+first_names (row ∷ later) = row ∷ filter (λ other. not (other.thread == row.thread)) (first_names later)
+
+-- the threads that are named, each with its name
+abbrev pub names_of : List Said → List ThreadName
+names_of lines = first_names (names_given lines)
+
+-- the first fault decides; where there is none, the threads and their names are the script
+abbrev pub by_faults : List (ℕ × FaultKind) → List Todo → List ThreadName → Reading
+by_faults [] threads names = Threads threads names
+by_faults ((line, kind) ∷ later) threads names = Fault line (number_of kind)
 
 -- what lines are read as
 abbrev pub reading : List Said → Reading
-reading lines = by_faults (filter_map (fault_in lines) lines) (threads_of lines)
+reading lines = by_faults (filter_map (fault_in lines) lines) (threads_of lines) (names_of lines)
 
 -- the script that bytes spell over the nodes of a plan, or its first fault
 abbrev pub script : List Site → List ℕ → Reading

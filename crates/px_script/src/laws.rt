@@ -19,7 +19,7 @@ use px_core::Plan;
 /// A script that bytes spell over a plan, at most 16,777,216 of them, is fit.
 pub fn fitness(bytes: &[u8], plan: &Plan, spelled: &Script)
     requires { length bytes.now ≤ SCRIPT_LIMIT }
-    ensures { script (sites (tree_of plan.now)) bytes.now ≡ Threads spelled.now.threads → IsFitScript spelled.now }
+    ensures { script (sites (tree_of plan.now)) bytes.now ≡ Threads spelled.now.threads spelled.now.names → IsFitScript spelled.now }
 {}
 
 /// `==` of two scripts answers whether they are equal.

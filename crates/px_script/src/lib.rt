@@ -1,7 +1,7 @@
 //! Scripts: what each thread posts to a running plan, and what it waits for, line by line.
 //!
 //! `script`, `todo` and `line` are the parts of a script. `read` reads a script from bytes, with `threads` for the lines of
-//! each thread so far, and `parsed_line` one line: `set_line`, `node_line` with `kinds`, `wait_line` and `thread_line` have
+//! each thread so far and `naming` for their names, and `parsed_line` one line: `set_line`, `node_line` with `kinds`, `wait_line` and `thread_line` have
 //! the kinds of lines, `place` finds the VALUEs, `value` reads them, and `text` cuts lines and words. `order` turns a script
 //! into its posts, in file order, `remainder` is what a history leaves of a script, `worker` is who works a thread's lines
 //! off, `stall` says what stops a thread, and `soak` makes a large script from two numbers.
@@ -16,6 +16,7 @@ mod fault;
 mod kinds;
 pub mod laws;
 mod line;
+mod naming;
 mod node_line;
 mod order;
 mod pace;

@@ -1,17 +1,17 @@
 // What a line of a script says.
 ghost use Rattle.std.specs.Prelude.{◌≡◌, IfOk};
 ghost use Rattle.px_script.specs.Kinds.{plan_of};
-ghost use Rattle.px_script.specs.ParsedLine.{said, is_silent, parsed_line};
+ghost use Rattle.px_script.specs.ParsedLine.{said_in_text, said, is_silent, parsed_line};
 
 use crate::fault::FaultKind;
 use crate::kinds::Kinds;
 use crate::node_line::{abort_line, ack_line, handle_line, return_line};
 use crate::set_line::set_line;
-use crate::text::{content, is_word, split_word};
+use crate::text::{are_word, content, is_word, split_bytes, split_word};
 use crate::thread_line::thread_line;
 use crate::wait_line::wait_line;
 use px_event::{Cond, Event};
-use px_value::NoMemory;
+use px_value::{Name, NoMemory};
 use std::alloc::Global;
 use std::str;
 
@@ -23,8 +23,11 @@ pub(crate) enum ParsedLine {
     Posts(Event),
     /// The thread goes on once the condition holds.
     Waits(Cond),
-    /// The lines behind belong to this thread.
-    Thread(u8),
+    /// The lines behind belong to this thread, and it has this name, if one is given.
+    Thread {
+        number: u8,
+        name: Option<Name>,
+    },
     /// The line is at fault.
     Faulty(FaultKind),
 }
@@ -37,10 +40,7 @@ pub(crate) fn read_line(alloc: Global, kinds: &Kinds, line: &[u8]) -> Result<Par
     if is_silent(bytes) {
         return Ok(ParsedLine::Nothing);
     }
-    let Ok(text) = str::from_utf8(bytes) else {
-        return Ok(ParsedLine::Faulty(FaultKind::BadLine));
-    };
-    match said(alloc, kinds, text)? {
+    match said(alloc, kinds, bytes)? {
         Some(says) => Ok(says),
         None => Ok(ParsedLine::Faulty(FaultKind::BadLine)),
     }
@@ -53,9 +53,23 @@ fn is_silent(text: &[u8]) -> bool
     matches!(text, [] | [b'#', ..])
 }
 
-/// What a text says by its first word; None exactly where it has none of the shapes of a line.
-fn said(alloc: Global, kinds: &Kinds, text: &str) -> Result<Option<ParsedLine>, NoMemory>
-    ensures { IfOk result (λ says. says ≡ said (plan_of kinds.now) text.now) }
+/// What the bytes of a line say; None exactly where they have none of the shapes of a line.
+fn said(alloc: Global, kinds: &Kinds, bytes: &[u8]) -> Result<Option<ParsedLine>, NoMemory>
+    ensures { IfOk result (λ says. says ≡ said (plan_of kinds.now) bytes.now) }
+{
+    let (word, behind) = split_bytes(bytes);
+    if are_word(word, "thread") {
+        return thread_line(alloc, behind);
+    }
+    match str::from_utf8(bytes) {
+        Ok(text) => said_in_text(alloc, kinds, text),
+        Err(_) => Ok(None),
+    }
+}
+
+/// What a text says by its first word, where that isn't `thread`; None exactly where it has none of the shapes of a line.
+fn said_in_text(alloc: Global, kinds: &Kinds, text: &str) -> Result<Option<ParsedLine>, NoMemory>
+    ensures { IfOk result (λ says. says ≡ said_in_text (plan_of kinds.now) text.now) }
 {
     let (word, behind) = split_word(text);
     if is_word(word, "set") {
@@ -70,8 +84,6 @@ fn said(alloc: Global, kinds: &Kinds, text: &str) -> Result<Option<ParsedLine>, 
         ack_line(alloc, kinds, behind)
     } else if is_word(word, "wait") {
         wait_line(alloc, kinds, behind)
-    } else if is_word(word, "thread") {
-        Ok(thread_line(behind))
     } else {
         Ok(None)
     }

@@ -14,12 +14,13 @@ ghost use Rattle.px_script.specs.declared.fault.ScriptFault.TheVariants.{NoMemor
 use crate::fault::{FaultKind, ScriptFault};
 use crate::kinds::Kinds;
 use crate::line::{Line, What};
+use crate::naming::add_name;
 use crate::parsed_line::{ParsedLine, read_line};
 use crate::script::Script;
 use crate::text::split_line;
 use crate::threads::ThreadLines;
-use crate::todo::Todo;
 use px_core::Plan;
+use px_event::Names;
 use std::alloc::Global;
 
 /// The most bytes that a script has.
@@ -37,37 +38,37 @@ const FIRST_THREAD: u8 = 1;
 /// both ends, are dropped. Lines count from 1. A line that is then empty or begins with `#` says nothing. The others
 /// are `set NAME = VALUE`, `set NAME(VALUE, ..) = VALUE` with 1 to 8 arguments, `handle PATH HANDLE`,
 /// `return PATH VALUE`, `abort PATH`, `ack PATH`, `wait state PATH STATE`, `wait events N` with an N of 1 to 6 digits,
-/// and `thread N` with a number from 1 to 8. Blanks or tabs part words, and are free around `=`, `(`, `,` and `)`. A NAME
+/// `thread N` and `thread N NAME` with a number from 1 to 8. Blanks or tabs part words, and are free around `=`, `(`, `,` and `)`. A NAME
 /// is an identifier of at most 64 bytes; a VALUE is `true`, `false`, `UNKNOWN` (not as an argument), an integer of 32 bits
 /// in 1 to 10 decimal digits behind an optional minus, or a string as in plans. Numbers may have leading zeros. The lines
-/// behind `thread N` belong to thread N, which may come again; before the first such line they belong to thread 1.
+/// behind a `thread` line belong to its thread, which may come again; before the first such line they belong to thread 1. A
+/// name is its thread's in the whole script, wherever it is given; it may be given again.
 ///
 /// `Fault` comes exactly where a line is at fault, and names the first such line and the kind of its fault, the first of
-/// these that it has: 4, it names a thread by a number in digits that isn't from 1 to 8; 1, it has no such shape, or is no
-/// UTF-8; 2, the plan has no node at its PATH, or one of another kind than the line needs, a Command for `handle`,
+/// these that it has: 4, it is `thread`, a number in digits that isn't from 1 to 8, and one word behind it at most; 1, it has
+/// no such shape, or is no UTF-8; 6, it gives a thread another name than an earlier line did; 2, the plan has no node at its
+/// PATH, or one of another kind than the line needs, a Command for `handle`,
 /// `return` and `abort` and an Update for `ack`; 3, a VALUE is none; 5, it is the 100,001st line of its thread that posts
 /// or waits.
 pub fn read_script(alloc: Global, bytes: &[u8], plan: &Plan) -> Result<Script, ScriptFault>
     requires size { length bytes.now ≤ SCRIPT_LIMIT }
     requires plan { IsFit (tree_of plan.now) }
-    ensures ok { IfOk result (λ read. script (sites (tree_of plan.now)) bytes.now ≡ Threads read.threads) }
+    ensures ok { IfOk result (λ read. script (sites (tree_of plan.now)) bytes.now ≡ Threads read.threads read.names) }
     ensures fit { IfOk result (λ read. IsFitScript read) }
     ensures fault { IfErr result (IsFaultOf (script (sites (tree_of plan.now)) bytes.now)) }
 {
     let kinds = Kinds::of(alloc, plan)?;
-    let threads = read_lines(alloc, &kinds, bytes)?;
-    Ok(Script {
-        threads: threads.into(),
-    })
+    read_lines(alloc, &kinds, bytes)
 }
 
-/// The threads that the lines spell.
-fn read_lines(alloc: Global, kinds: &Kinds, bytes: &[u8]) -> Result<Vec<Todo>, ScriptFault>
+/// The script that the lines spell.
+fn read_lines(alloc: Global, kinds: &Kinds, bytes: &[u8]) -> Result<Script, ScriptFault>
     requires { length bytes.now ≤ SCRIPT_LIMIT }
-    ensures ok { IfOk result (λ threads. script (plan_of kinds.now) bytes.now ≡ Threads threads.items) }
+    ensures ok { IfOk result (λ read. script (plan_of kinds.now) bytes.now ≡ Threads read.threads read.names) }
     ensures fault { IfErr result (IsFaultOf (script (plan_of kinds.now) bytes.now)) }
 {
     let mut lines = ThreadLines::new(alloc);
+    let mut names = Names::new(alloc);
     let mut thread = FIRST_THREAD;
     let mut number = 0;
     let mut left = Some(bytes);
@@ -78,12 +79,18 @@ fn read_lines(alloc: Global, kinds: &Kinds, bytes: &[u8]) -> Result<Vec<Todo>, S
             ParsedLine::Nothing => {}
             ParsedLine::Posts(event) => add_line(&mut lines, thread, number, What::Post(event))?,
             ParsedLine::Waits(cond) => add_line(&mut lines, thread, number, What::Wait(cond))?,
-            ParsedLine::Thread(named) => thread = named,
+            ParsedLine::Thread { number: named, name } => {
+                add_name(&mut names, named, name, number)?;
+                thread = named;
+            }
             ParsedLine::Faulty(kind) => return Err(kind.at(number)),
         }
         left = behind;
     }
-    Ok(lines.into_threads(alloc)?)
+    Ok(Script {
+        threads: lines.into_threads(alloc)?.into(),
+        names,
+    })
 }
 
 /// Adds a line to those of its thread, where there is room for it.

@@ -11,14 +11,17 @@ use px_value::{NoMemory, Series};
 use std::alloc::Global;
 
 /// What is left of a script after a history: of each thread the lines with numbers above the greatest that the history
-/// has of the thread. A thread with no line left is dropped.
+/// has of the thread. A thread with no line left is dropped; the names stay.
 pub fn rest(alloc: Global, script: Script, history: &[Entry]) -> Result<Script, NoMemory>
     ensures ok { IfOk result (λ left. left.threads ≡ rest script.threads history.now) }
+    ensures names { IfOk result (λ left. left.names ≡ script.names) }
     ensures fit { IsFitScript script → IfOk result (λ left. IsFitScript left) }
 {
-    let threads = threads_left(alloc, script.threads, history)?;
+    let Script { threads, names } = script;
+    let threads = threads_left(alloc, threads, history)?;
     Ok(Script {
         threads: threads.into(),
+        names,
     })
 }
 

@@ -48,7 +48,7 @@ fn report(name: Name, args: Option<Values>, value: Option<Value>) -> ParsedLine
 }
 
 /// The name that is reported; None exactly where the text is no identifier, or one of over 64 bytes.
-fn report_name(alloc: Global, text: &str) -> Result<Option<Name>, NoMemory>
+pub(crate) fn report_name(alloc: Global, text: &str) -> Result<Option<Name>, NoMemory>
     ensures { IfOk result (λ name. name ≡ (if is_report_name text.now then Some text.now else None)) }
 {
     if !is_identifier(text.as_bytes()) {

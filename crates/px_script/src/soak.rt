@@ -1,21 +1,22 @@
 // The script of `soak`.
-ghost use Rattle.std.specs.Prelude.{◌≡◌, ◌≤◌, IfOk, codes};
+ghost use Rattle.std.specs.Prelude.{◌≡◌, ◌≤◌, [], IfOk, codes};
 ghost use Rattle.px_script.specs.Fit.{IsFitScript};
 ghost use Rattle.px_script.specs.Soak.{soak_line, soak_lines, soak_threads};
 
 use crate::line::{Line, What};
 use crate::script::Script;
 use crate::todo::Todo;
-use px_event::Event;
+use px_event::{Event, Names};
 use px_value::{Name, NameFault, NoMemory, Value};
 use std::alloc::{AllocError, Global};
 
 /// The script of `soak`: `count` lines on thread 1, from 1 to 100,000. Line k reports of the state `level` the number
-/// 100 k + ((seed + 37 k) mod 100), so that each report is greater than the one before.
+/// 100 k + ((seed + 37 k) mod 100), so that each report is greater than the one before. It names no thread.
 pub fn soak_script(alloc: Global, count: u32, seed: u32) -> Result<Script, NoMemory>
     requires least { 1 ≤ count }
     requires most { count ≤ 100000 }
     ensures lines { IfOk result (λ script. script.threads ≡ soak_threads count seed) }
+    ensures names { IfOk result (λ script. script.names ≡ []) }
     ensures fit { IfOk result (λ script. IsFitScript script) }
 {
     let lines = soak_lines(alloc, count, seed)?;
@@ -27,6 +28,7 @@ pub fn soak_script(alloc: Global, count: u32, seed: u32) -> Result<Script, NoMem
     ]?;
     Ok(Script {
         threads: threads.into(),
+        names: Names::new(alloc),
     })
 }
 

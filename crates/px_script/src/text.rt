@@ -22,7 +22,23 @@ pub(crate) fn split_line(text: &[u8]) -> (&[u8], Option<&[u8]>)
 pub(crate) fn is_word(text: &str, word: &str) -> bool
     ensures { result ≡ is_same word.now text.now }
 {
-    word.as_bytes() == text.as_bytes()
+    are_word(text.as_bytes(), word)
+}
+
+/// Whether bytes are the word.
+pub(crate) fn are_word(bytes: &[u8], word: &str) -> bool
+    ensures { result ≡ is_same word.now bytes.now }
+{
+    word.as_bytes() == bytes
+}
+
+/// The first word of bytes, and what is behind it, from the next word on.
+pub(crate) fn split_bytes(bytes: &[u8]) -> (&[u8], &[u8])
+    ensures word { result.0.now ≡ first_word bytes.now }
+    ensures behind { result.1.now ≡ behind_word bytes.now }
+{
+    let (word, behind) = bytes.split_at(word_length(bytes));
+    (word, &behind[blanks_at_start(behind)..])
 }
 
 /// The first word of a text, and what is behind it, from the next word on.
