@@ -1,15 +1,18 @@
--- Numbers in digits, as the library reads them.
-use Rattle.std.proofs.Common.{◌≡◌, ℕ, ◌^◌, ◌<◌, ◌≤◌, true, false, List, length, refl, ap, subst, arith, Result, Ok, Err, Some, None, inl, inr}
-use Rattle.std.specs.Prelude.{nat_le}
+-- Numbers in digits, as the library reads them; these and names are text.
+use Rattle.std.proofs.Common.{◌≡◌, ℕ, ◌^◌, ◌<◌, ◌≤◌, true, false, List, length, refl, ap, subst, arith, Result, Ok, Err, Option, Some, None, inl, inr}
+use Rattle.std.specs.Char.{is_ascii}
+use Rattle.std.specs.Prelude.{nat_le, if◌then◌else◌}
 use Rattle.std.specs.List.{list_all}
 use Rattle.std.specs.Result.{OkIff, result_ok}
+use Rattle.std.specs.Str.{IsUtf8}
 use Rattle.std.specs.Str.Parse.{AllDigits, ParsesUnsigned, digits_value}
 use Rattle.std.proofs.lemmas.Bool.{cases_Bool, and_parts, leb-true}
+use Rattle.std.proofs.lemmas.Bool.Decides.{nat_tests}
 use Rattle.std.proofs.lemmas.Str.Parse.{IsNumeralModel, numerals_by_value, tells_digits, digits_value_short, parse_digits, parse_gives}
-use Rattle.px_value.specs.Name.{is_digit}
-use Rattle.px_script.specs.ThreadLine.{are_digits, is_thread, thread_line}
-use Rattle.px_script.specs.declared.fault.FaultKind.TheVariants.{BadThread}
-use Rattle.px_script.specs.declared.parsed_line.ParsedLine.TheVariants.{Thread, Faulty}
+use Rattle.px_value.specs.Name.{is_digit, is_identifier}
+use Rattle.px_value.proofs.Ascii.{ascii_text, identifier_text, list_all-weaker}
+use Rattle.px_event.specs.Fit.{is_report_name}
+use Rattle.px_script.specs.ThreadLine.{are_digits, is_thread}
 use Rattle.px_script.proofs.Integers.{all_digits}
 
 numerals : IsNumeralModel (AllDigits 10) (digits_value 10)
@@ -37,26 +40,44 @@ value_read : {E : Type 0} (ds : List ℕ) (read : Result ℕ E) (number : ℕ) �
 value_read ds read number digits parses is =
     (subst (λ r. OkIff r ((0 < length ds) × (digits_value 10 ds < 2 ^ 8)) (digits_value 10 ds)) is (parse_digits numerals 8 ds read parses (digits_of ds digits))).1
 
--- a thread
-pub named : {E : Type 0} (ds : List ℕ) (read : Result ℕ E) (number : ℕ) → are_digits ds ≡ true → ParsesUnsigned 8 10 ds read → read ≡ Ok number
-    → is_thread number ≡ true → Some (Thread number) ≡ thread_line ds
-named ds read number digits parses is thread = rw (digits, ← value_read ds read number digits parses is, thread) refl
+-- digits are text
+digit_ascii : (c : ℕ) → is_digit c ≡ true → is_ascii c ≡ true
+digit_ascii c h = grind (arith, nat_tests)
 
--- a number that is none
-pub unnamed : {E : Type 0} (ds : List ℕ) (read : Result ℕ E) (number : ℕ) → are_digits ds ≡ true → ParsesUnsigned 8 10 ds read → read ≡ Ok number
-    → is_thread number ≡ false → Some (Faulty BadThread) ≡ thread_line ds
-unnamed ds read number digits parses is other = rw (digits, ← value_read ds read number digits parses is, other) refl
+pub digits_text : (ds : List ℕ) → are_digits ds ≡ true → IsUtf8 ds
+digits_text ds digits =
+    ascii_text ds (list_all-weaker is_digit is_ascii digit_ascii ds (and_parts (nat_le 1 (length ds)) (list_all is_digit ds) digits).1)
+
+-- and so are names
+pub no_name : (word : List ℕ) → (IsUtf8 word → ⊥) → None ≡ (if is_report_name word then Some word else None)
+no_name word other = elim (cases_Bool (is_report_name word)) [
+  | inl is ↦ absurd (other (identifier_text word (and_parts (is_identifier word) (nat_le (length word) 64) is).0))
+  | inr isnt ↦ rw isnt refl
+]
+
+-- the thread of a number
+abbrev pub thread_at : ℕ → Option ℕ
+thread_at number = if is_thread number then Some number else None
+
+pub found : {E : Type 0} (ds : List ℕ) (read : Result ℕ E) (number : ℕ) → are_digits ds ≡ true → ParsesUnsigned 8 10 ds read → read ≡ Ok number
+    → is_thread number ≡ true → Some number ≡ thread_at (digits_value 10 ds)
+found ds read number digits parses is thread = rw (← value_read ds read number digits parses is, thread) refl
+
+-- a number of no thread
+pub none_found : {E : Type 0} (ds : List ℕ) (read : Result ℕ E) (number : ℕ) → are_digits ds ≡ true → ParsesUnsigned 8 10 ds read → read ≡ Ok number
+    → is_thread number ≡ false → None ≡ thread_at (digits_value 10 ds)
+none_found ds read number digits parses is other = rw (← value_read ds read number digits parses is, other) refl
 
 -- a number that is too large to be read
 pub unread : {E : Type 0} (ds : List ℕ) (read : Result ℕ E) → are_digits ds ≡ true → ParsesUnsigned 8 10 ds read → result_ok read ≡ None
-    → Some (Faulty BadThread) ≡ thread_line ds
+    → None ≡ thread_at (digits_value 10 ds)
 unread ds (Ok number) digits parses none = cc
 unread ds (Err fault) digits parses none =
     let value : ℕ = digits_value 10 ds in
     let large : ¬ ((0 < length ds) × (value < 2 ^ 8)) = parse_digits numerals 8 ds (Err fault) parses (digits_of ds digits) in
-    rw digits (elim (cases_Bool (is_thread value)) [
+    elim (cases_Bool (is_thread value)) [
       | inl is ↦
           let small : value ≤ 8 = leb-true value 8 (and_parts (nat_le 1 value) (nat_le value 8) is).1 in
           absurd (large (omega (arith, some_of ds digits), omega arith))
       | inr isnt ↦ rw isnt refl
-    ])
+    ]

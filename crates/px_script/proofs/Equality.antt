@@ -8,6 +8,8 @@ use Rattle.px_value.specs.contracts.enums.NodeState.{the_type as state_type}
 use Rattle.px_event.specs.contracts.cond.CondPartialEq.TheImpl as cond_equality
 use Rattle.px_event.specs.declared.cond.Cond.{Cond}
 use Rattle.px_event.specs.declared.cond.Cond.TheVariants as conds
+use Rattle.px_event.specs.Names.{is_same_row}
+use Rattle.px_event.specs.declared.names.ThreadName.{ThreadName}
 use Rattle.px_event.proofs.Equality.{bare_eq-decides, event_eq-decides}
 use Rattle.px_script.specs.contracts.line.WhatPartialEq.TheImpl as what_equality
 use Rattle.px_script.specs.declared.line.Line.{Line}
@@ -47,6 +49,14 @@ todo_eq-decides a b =
     (λ e. (ap (λ (x : Todo). x.thread) e, ap (λ (x : Todo). x.lines) e))
     (Decides-and _ _ (Decides-eqb a.thread b.thread) (pointwise_decides line_eq-decides a.lines b.lines))
 
+row_eq-decides : (a b : ThreadName) → Decides (is_same_row a b) (a ≡ b)
+row_eq-decides a b =
+    Decides-like _ (λ e i. record { thread = e.0 i; name = e.1 i })
+    (λ e. (ap (λ (x : ThreadName). x.thread) e, ap (λ (x : ThreadName). x.name) e))
+    (Decides-and _ _ (Decides-eqb a.thread b.thread) (bytes_decides a.name b.name))
+
 pub script_eq-decides : (a b : Script) → Decides (script_eq a b) (a ≡ b)
 script_eq-decides a b =
-    Decides-like _ (λ e i. record { threads = e i }) (ap (λ (x : Script). x.threads)) (pointwise_decides todo_eq-decides a.threads b.threads)
+    Decides-like _ (λ e i. record { threads = e.0 i; names = e.1 i })
+    (λ e. (ap (λ (x : Script). x.threads) e, ap (λ (x : Script). x.names) e))
+    (Decides-and _ _ (pointwise_decides todo_eq-decides a.threads b.threads) (pointwise_decides row_eq-decides a.names b.names))

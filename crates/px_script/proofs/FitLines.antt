@@ -14,19 +14,19 @@ use Rattle.px_lex.specs.Table.{row_of}
 use Rattle.px_core.specs.declared.node.Kind.{Kind}
 use Rattle.px_core.specs.declared.node.Kind.TheVariants as kinds
 use Rattle.px_core.specs.Plan.{Site, is_same}
-use Rattle.px_event.specs.Fit.{is_report_name, is_fit_event}
+use Rattle.px_event.specs.Fit.{is_report_name, is_interface, is_fit_event}
 use Rattle.px_event.specs.Values.{is_plain, is_plain_or_unknown}
 use Rattle.px_event.specs.declared.cond.Cond.TheVariants.{State}
 use Rattle.px_event.specs.declared.event.Event.TheVariants as events
 use Rattle.px_script.specs.NodeLine.{kind_at, of_command, of_update, handle_of, handle_line, returned, return_line, is_one_word, abort_line, ack_line}
-use Rattle.px_script.specs.ParsedLine.{lines, said, is_silent, parsed_line}
+use Rattle.px_script.specs.ParsedLine.{lines, said_in_text, said, is_silent, parsed_line}
 use Rattle.px_script.specs.Place.{in_place, behind_place, behind_sign}
 use Rattle.px_script.specs.SetLine.{Setting, told_in, with_argument, arguments_from, arguments_in, plain_setting, setting_with, setting_with_arguments, setting_of, all_values, report, setting_says, set_line}
 use Rattle.px_script.specs.Text.{content, first_word, behind_word, is_nothing}
-use Rattle.px_script.specs.ThreadLine.{are_digits, is_thread, thread_line}
+use Rattle.px_script.specs.ThreadLine.{are_digits, is_thread, thread_named, thread_line}
 use Rattle.px_script.specs.Value.{plain, is_number, integer_of, all_of, text_of, argument_of, value_of}
 use Rattle.px_script.specs.WaitLine.{of_node, state_of, state_wait, events_wait, waits, wait_line}
-use Rattle.px_script.specs.declared.fault.FaultKind.TheVariants.{BadLine, BadThread}
+use Rattle.px_script.specs.declared.fault.FaultKind.TheVariants.{BadLine}
 use Rattle.px_script.specs.declared.parsed_line.ParsedLine.{ParsedLine}
 use Rattle.px_script.specs.declared.parsed_line.ParsedLine.TheVariants.{Nothing, Posts, Waits, Thread, Faulty}
 
@@ -153,12 +153,12 @@ setting_few text =
     (of_map HasFew _ (told_in (behind_place text)) (λ value. omega arith))
     (called_few (in_place text) (behind_sign 40 (behind_place text)))
 
--- what a line posts is fit, and what it names is a thread
+-- what a line posts is fit, and what it names is a thread, by a name if there is one
 abbrev pub IsFitParsedLine : ParsedLine → Type 0
 IsFitParsedLine Nothing = Unit {0}
 IsFitParsedLine (Posts event) = is_fit_event event ≡ true
 IsFitParsedLine (Waits cond) = Unit {0}
-IsFitParsedLine (Thread named) = is_thread named ≡ true
+IsFitParsedLine (Thread number name) = (is_thread number ≡ true) × (is_interface name ≡ true)
 IsFitParsedLine (Faulty kind) = Unit {0}
 
 report_fit : (name : List ℕ) (most : ℕ) (args : Option (List Value)) (value : Option Value) → is_report_name name ≡ true → most ≤ 8
@@ -265,20 +265,34 @@ events_fit text = of_cond IsFitParsedLine (are_digits text && nat_le (length tex
 wait_fit : (plan : List Site) (text : List ℕ) → Of IsFitParsedLine (wait_line plan text)
 wait_fit plan text = row_fit (waits plan) (first_word text) (behind_word text) (state_fit plan, (events_fit, tt))
 
-named_fit : (number : ℕ) → IsFitParsedLine (cond (is_thread number) (Thread number) (Faulty BadThread))
-named_fit number = elim (cases_Bool (is_thread number)) [
-  | inl is ↦ rw is is
+word_fit : (number : ℕ) (word : List ℕ) → is_thread number ≡ true
+    → Of IsFitParsedLine (cond (is_nothing word) (Some (Thread number None)) (cond (is_report_name word) (Some (Thread number (Some word))) None))
+word_fit number word is = elim (cases_Bool (is_report_name word)) [
+  | inl fit ↦ rw fit (of_cond IsFitParsedLine (is_nothing word) _ _ (is, refl) (is, fit))
+  | inr unfit ↦ rw unfit (of_cond IsFitParsedLine (is_nothing word) _ _ (is, refl) tt)
+]
+
+named_fit : (number : ℕ) (word : List ℕ) → Of IsFitParsedLine (thread_named number word)
+named_fit number word = elim (cases_Bool (is_thread number)) [
+  | inl is ↦ rw is (word_fit number word is)
   | inr isnt ↦ rw isnt tt
 ]
 
 thread_fit : (text : List ℕ) → Of IsFitParsedLine (thread_line text)
-thread_fit text = of_cond IsFitParsedLine (are_digits text) _ _ (named_fit (digits_value 10 text)) tt
+thread_fit text =
+    of_cond IsFitParsedLine (are_digits (first_word text) && is_nothing (behind_word (behind_word text))) _ _
+    (named_fit (digits_value 10 (first_word text)) (first_word (behind_word text))) tt
 
 -- ---- what a line says
 
-said_fit : (plan : List Site) (text : List ℕ) → Of IsFitParsedLine (said plan text)
-said_fit plan text =
-    row_fit (lines plan) (first_word text) (behind_word text) (set_fit, (handle_fit plan, (return_fit plan, (abort_fit plan, (ack_fit plan, (wait_fit plan, (thread_fit, tt)))))))
+text_fit : (plan : List Site) (text : List ℕ) → Of IsFitParsedLine (said_in_text plan text)
+text_fit plan text =
+    row_fit (lines plan) (first_word text) (behind_word text) (set_fit, (handle_fit plan, (return_fit plan, (abort_fit plan, (ack_fit plan, (wait_fit plan, tt))))))
+
+said_fit : (plan : List Site) (line : List ℕ) → Of IsFitParsedLine (said plan line)
+said_fit plan line =
+    of_cond IsFitParsedLine (is_same (codes "thread") (first_word line)) _ _ (thread_fit (behind_word line))
+    (of_cond IsFitParsedLine (is_utf8 line) _ _ (text_fit plan line) tt)
 
 or_bad : (o : Option ParsedLine) → Of IsFitParsedLine o → IsFitParsedLine (unwrap_or o (Faulty BadLine))
 or_bad None fit = tt
@@ -290,7 +304,7 @@ one_of false left right l r = r
 
 pub parsed_line_fit : (plan : List Site) (line : List ℕ) → IsFitParsedLine (parsed_line plan line)
 parsed_line_fit plan line =
-    one_of (is_silent (content line)) _ _ tt (one_of (is_utf8 (content line)) _ _ (or_bad (said plan (content line)) (said_fit plan (content line))) tt)
+    one_of (is_silent (content line)) _ _ tt (or_bad (said plan (content line)) (said_fit plan (content line)))
 
 abbrev pub AllFit : List ParsedLine → Type 0
 AllFit [] = Unit {0}

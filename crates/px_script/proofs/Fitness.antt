@@ -1,23 +1,26 @@
 -- What is read is fit.
-use Rattle.std.proofs.Common.{◌≡◌, ℕ, ◌+◌, ◌^◌, ◌<◌, ◌≤◌, true, List, [], ◌∷◌, ◌++◌, length, map, refl, sym, ap, ◌∙◌, arith, Option, Some, None, cond, inl, inr}
+use Rattle.std.proofs.Common.{◌≡◌, ℕ, ◌+◌, ◌^◌, ◌<◌, ◌≤◌, true, List, [], ◌∷◌, ◌++◌, length, map, refl, sym, ap, ◌∙◌, arith, Option, Some, None, Result, Ok, Err, IfOk, cond, inl, inr}
 use Rattle.std.specs.Prelude.{◌==◌, nat_le, nat_lt}
 use Rattle.std.specs.List.{list_all, filter, filter_map, cons_option, range_with_len}
 use Rattle.std.proofs.lemmas.List.{append_assoc, append-nil, length-map, length_push}
 use Rattle.std.proofs.lemmas.Bool.{lt-ltb, leb-false, ltb-true, and_from, eqb-true, cases_Bool}
 use Rattle.px_core.specs.Plan.{Site}
+use Rattle.px_event.specs.Fit.{is_report_name}
 use Rattle.px_script.specs.declared.fault.FaultKind.{FaultKind}
 use Rattle.px_script.specs.declared.fault.FaultKind.TheVariants.{TooManyLines}
 use Rattle.px_script.specs.Fit.{rise_above, is_fit_line, are_fit_lines, IsFitScript}
 use Rattle.px_script.specs.ParsedLine.{parsed_line}
 use Rattle.px_script.specs.Remainder.{has_a_line}
-use Rattle.px_script.specs.Script.{Threads, Said, said_from, thread_behind, done_at, lines_of_thread, lines_before, fault_in, by_faults, threads_of, reading, script}
+use Rattle.px_script.specs.Script.{Threads, Said, said_from, thread_behind, done_at, lines_of_thread, lines_before, fault_in, names_given, by_faults, threads_of, names_of, reading, script}
 use Rattle.px_script.specs.Text.{lines_of}
+use Rattle.px_script.specs.ThreadLine.{is_thread}
 use Rattle.px_script.specs.declared.line.Line.{Line}
 use Rattle.px_script.specs.declared.script.Script.{Script}
 use Rattle.px_script.specs.declared.todo.Todo.{Todo}
 use Rattle.px_script.specs.declared.parsed_line.ParsedLine.{ParsedLine}
 use Rattle.px_script.specs.declared.parsed_line.ParsedLine.TheVariants.{Nothing, Posts, Waits, Thread, Faulty}
 use Rattle.px_script.proofs.FitLines.{Of, IsFitParsedLine, AllFit, all_fit}
+use Rattle.px_script.proofs.FirstNames.{given_all, first_all, first_are_names}
 use Rattle.px_script.proofs.Reading.{fault_after}
 use Rattle.px_script.proofs.Remainders.{rise-filter, list_all-filter, fit_from}
 use Rattle.px_script.proofs.SaidLines.{say, done_number, AllBelow, below_said, said_later, count_is, lines_push}
@@ -51,7 +54,7 @@ done_fit : (thread number : ℕ) (says : ParsedLine) → number < 2 ^ 32 → IsF
 done_fit thread number Nothing below fit = tt
 done_fit thread number (Posts event) below fit = rw (lt-ltb number (2 ^ 32) below, fit) refl
 done_fit thread number (Waits cond) below fit = rw (lt-ltb number (2 ^ 32) below) refl
-done_fit thread number (Thread named) below fit = tt
+done_fit thread number (Thread to name) below fit = tt
 done_fit thread number (Faulty kind) below fit = tt
 
 each_fit : (of thread number : ℕ) (more : List ParsedLine) → number + length more ≤ 2 ^ 32 → AllFit more
@@ -96,7 +99,7 @@ has_room : (all : List Said) (thread number : ℕ) (says : ParsedLine) → fault
 has_room all thread number Nothing none = tt
 has_room all thread number (Posts event) none = room_of number (lines_before (say thread number (Posts event)) all) none
 has_room all thread number (Waits cond) none = room_of number (lines_before (say thread number (Waits cond)) all) none
-has_room all thread number (Thread named) none = tt
+has_room all thread number (Thread to name) none = tt
 has_room all thread number (Faulty kind) none = tt
 
 short : (of : ℕ) (all before : List Said) (thread number : ℕ) (more : List ParsedLine) → all ≡ before ++ said_from thread number more → AllBelow number before
@@ -132,15 +135,17 @@ short of all before thread number (says ∷ more) whole below none few =
 -- ---- the threads
 
 -- what a script without faults is read as
-record IsSound (all : List Said) (spelled : List Todo) : Type 0 where
+record IsSound (all : List Said) (spelled : Script) : Type 0 where
   none : filter_map (fault_in all) all ≡ []
-  threads : threads_of all ≡ spelled
+  threads : threads_of all ≡ spelled.threads
+  names : names_of all ≡ spelled.names
 
-sound_from : (all : List Said) (threads : List Todo) → reading all ≡ Threads threads → IsSound all threads
-sound_from all threads is = by (filter_map (fault_in all) all) refl is
+sound_from : (all : List Said) (spelled : Script) → reading all ≡ Threads spelled.threads spelled.names → IsSound all spelled
+sound_from all spelled is = by (filter_map (fault_in all) all) refl is
   where
-    by : (faults : List (ℕ × FaultKind)) → filter_map (fault_in all) all ≡ faults → by_faults faults (threads_of all) ≡ Threads threads → IsSound all threads
-    by [] none is = record { none = none; threads = cc }
+    by : (faults : List (ℕ × FaultKind)) → filter_map (fault_in all) all ≡ faults
+        → by_faults faults (threads_of all) (names_of all) ≡ Threads spelled.threads spelled.names → IsSound all spelled
+    by [] none is = record { none = none; threads = cc; names = cc }
     by (fault ∷ faults) none is = cc
 
 abbrev todo_of : List Said → ℕ → Todo
@@ -158,11 +163,11 @@ todos_fit all (thread ∷ threads) each = elim (cases_Bool (has_a_line (todo_of 
 ]
 
 -- a script that bytes spell is fit
-pub script_fit : (plan : List Site) (bytes : List ℕ) (spelled : Script) → length bytes ≤ 16777216 → script plan bytes ≡ Threads spelled.threads → IsFitScript spelled
+pub script_fit : (plan : List Site) (bytes : List ℕ) (spelled : Script) → length bytes ≤ 16777216 → script plan bytes ≡ Threads spelled.threads spelled.names → IsFitScript spelled
 script_fit plan bytes spelled few is =
     let says : List ParsedLine = map (parsed_line plan) (lines_of bytes) in
     let all : List Said = said_from 1 1 says in
-    let sound : IsSound all spelled.threads = sound_from all spelled.threads is in
+    let sound : IsSound all spelled = sound_from all spelled is in
     let todos : List Todo = map (todo_of all) (range_with_len 1 8) in
     let fit : AllFit says = all_fit plan (lines_of bytes) in
     let count : 1 + length says ≤ 2 ^ 32 = omega (arith, length-map (lines_of bytes) (parsed_line plan), few_lines bytes) in
@@ -176,4 +181,12 @@ script_fit plan bytes spelled few is =
             rising = rise of 0 1 1 says (omega arith);
             fit = each_fit of 1 1 says count fit;
           })));
+      names = rw (← sound.names) (first_are_names (names_given all) (given_all (λ row. is_report_name row.name) (λ thread name is fit. fit) 1 1 says fit));
+      named = rw (← sound.names) (first_all (λ row. is_thread row.thread) (names_given all) (given_all (λ row. is_thread row.thread) (λ thread name is fit. is) 1 1 says fit));
     }
+
+-- and so is what is read
+pub read_fit : {E : Type 0} (plan : List Site) (bytes : List ℕ) (read : Result Script E) → length bytes ≤ 16777216
+    → IfOk read (λ script_read. script plan bytes ≡ Threads script_read.threads script_read.names) → IfOk read (λ script_read. IsFitScript script_read)
+read_fit plan bytes (Ok spelled) few is = script_fit plan bytes spelled few is
+read_fit plan bytes (Err fault) few is = tt

@@ -13,6 +13,7 @@ pub mod Orders
 pub mod Equality
 pub mod FitLines
 pub mod SaidLines
+pub mod FirstNames
 pub mod Fitness
 pub mod Reading
 pub mod Remainders

@@ -208,8 +208,9 @@ threads_kept : (history : List Entry) (threads : List Todo) → map (λ todo. to
 threads_kept history [] = refl
 threads_kept history (todo ∷ threads) = ap (λ more. todo.thread ∷ more) (threads_kept history threads)
 
-pub rest_fit : (script : Script) (history : List Entry) (left : Script) → left.threads ≡ rest script.threads history → IsFitScript script → IsFitScript left
-rest_fit script history left is fit =
+pub rest_fit : (script : Script) (history : List Entry) (left : Script) → left.threads ≡ rest script.threads history → left.names ≡ script.names
+    → IsFitScript script → IsFitScript left
+rest_fit script history left is same fit =
     let lefts : List Todo = map (left_of history) script.threads in
     record {
       rising = rw is (rise-filter (λ todo. todo.thread) has_a_line 0 lefts (ap (rise_above 0) (threads_kept history script.threads) ∙ fit.rising));
@@ -217,6 +218,8 @@ rest_fit script history left is fit =
           (list_all-filter (λ todo. nat_le todo.thread 8) has_a_line lefts
           (list_all-map (λ todo. nat_le todo.thread 8) (left_of history) script.threads ∙ fit.within));
       lines = rw is (threads_left_fit history script.threads fit.lines);
+      names = rw same fit.names;
+      named = rw same fit.named;
     }
 
 -- ---- no history

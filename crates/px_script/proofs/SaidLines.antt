@@ -19,7 +19,7 @@ pub done_number : (thread number : ℕ) (says : ParsedLine) → Of (λ (line : L
 done_number thread number Nothing = tt
 done_number thread number (Posts event) = refl
 done_number thread number (Waits cond) = refl
-done_number thread number (Thread named) = tt
+done_number thread number (Thread to name) = tt
 done_number thread number (Faulty kind) = tt
 
 abbrev is_of : ℕ → Said → Bool

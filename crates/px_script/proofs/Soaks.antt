@@ -1,11 +1,10 @@
 -- The script of `soak` is fit.
-use Rattle.std.proofs.Common.{◌≡◌, ℕ, zero, suc, ◌+◌, ◌*◌, ◌%◌, ◌^◌, ◌<◌, ◌≤◌, Bool, true, false, List, [], ◌∷◌, ◌++◌, Some, length, map, refl, sym, ap, ◌∙◌, subst, arith, pos}
-use Rattle.std.specs.Prelude.{◌&&◌, nat_le, nat_lt, IsTrue, codes}
+use Rattle.std.proofs.Common.{◌≡◌, ℕ, zero, suc, ◌+◌, ◌^◌, ◌<◌, ◌≤◌, Bool, true, false, List, [], ◌∷◌, ◌++◌, Some, length, map, refl, sym, ap, ◌∙◌, subst, arith}
+use Rattle.std.specs.Prelude.{◌&&◌, nat_le, nat_lt}
 use Rattle.std.specs.List.{list_all, range_with_len, slice_get}
 use Rattle.std.proofs.lemmas.Bool.{le-leb, lt-ltb, and_from, and_parts}
 use Rattle.std.proofs.lemmas.List.FromFn.{length-map-range_with_len, map-range_with_len_more}
 use Rattle.px_core.specs.Plan.{Site}
-use Rattle.px_event.specs.Fit.{is_fit_event}
 use Rattle.px_event.specs.declared.entry.Entry.{Entry}
 use Rattle.px_sem.specs.Log.{Log}
 use Rattle.px_script.specs.Fit.{rise_above, is_fit_line, are_fit_lines, IsFitScript}
@@ -56,11 +55,14 @@ lines_fit count seed some few =
     (le-leb 1 (length (soak_lines count seed)) (omega (arith, long, some))) (le-leb (length (soak_lines count seed)) 100000 (omega (arith, long, few))))
     (rises seed 0 1 count (omega arith))) (each_fit seed 1 count (omega (arith, few)))
 
-pub script_fit : (script : Script) (count seed : ℕ) → script.threads ≡ soak_threads count seed → 1 ≤ count → count ≤ 100000 → IsFitScript script
-script_fit script count seed is some few = record {
+pub script_fit : (script : Script) (count seed : ℕ) → script.threads ≡ soak_threads count seed → script.names ≡ [] → 1 ≤ count → count ≤ 100000
+    → IsFitScript script
+script_fit script count seed is unnamed some few = record {
   rising = rw is refl;
   within = rw is refl;
   lines = rw is (and_from (are_fit_lines (soak_lines count seed)) true (lines_fit count seed some few) refl);
+  names = rw unnamed refl;
+  named = rw unnamed refl;
 }
 
 -- ---- no thread of it waits

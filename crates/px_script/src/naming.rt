@@ -22,9 +22,9 @@ pub(crate) fn add_name(
 ) -> Result<(), ScriptFault>
     requires { IsTrue (is_interface name) }
     ensures ok { OnOk result (names.new ≡ with_name names.old thread name) }
-    ensures same { OnOk result (is_another (name_of thread names.old) name ≡ false) }
+    ensures same { OnOk result (is_another name (name_of thread names.old) ≡ false) }
     ensures fault { IfErr result (IsFaultOf (Fault line (number_of OtherName))) }
-    ensures memory { is_another (name_of thread names.old) name ≡ false → IfErr result (λ fault. fault ≡ OutOfMemory) }
+    ensures memory { is_another name (name_of thread names.old) ≡ false → IfErr result (λ fault. fault ≡ OutOfMemory) }
 {
     let Some(name) = name else {
         return Ok(());

@@ -24,10 +24,7 @@ pub(crate) enum ParsedLine {
     /// The thread goes on once the condition holds.
     Waits(Cond),
     /// The lines behind belong to this thread, and it has this name, if one is given.
-    Thread {
-        number: u8,
-        name: Option<Name>,
-    },
+    Thread { number: u8, name: Option<Name> },
     /// The line is at fault.
     Faulty(FaultKind),
 }

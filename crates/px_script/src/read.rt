@@ -79,7 +79,10 @@ fn read_lines(alloc: Global, kinds: &Kinds, bytes: &[u8]) -> Result<Script, Scri
             ParsedLine::Nothing => {}
             ParsedLine::Posts(event) => add_line(&mut lines, thread, number, What::Post(event))?,
             ParsedLine::Waits(cond) => add_line(&mut lines, thread, number, What::Wait(cond))?,
-            ParsedLine::Thread { number: named, name } => {
+            ParsedLine::Thread {
+                number: named,
+                name,
+            } => {
                 add_name(&mut names, named, name, number)?;
                 thread = named;
             }

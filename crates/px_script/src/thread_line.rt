@@ -61,7 +61,9 @@ fn thread_of(digits: &[u8]) -> Option<u8>
     requires { IsTrue (are_digits digits.now) }
     ensures { result ≡ (if is_thread (digits_value 10 digits.now) then Some (digits_value 10 digits.now) else None) }
 {
-    let text = str::from_utf8(digits).ok()?;
+    let Ok(text) = str::from_utf8(digits) else {
+        return None;
+    };
     match text.parse::<u8>() {
         Ok(number) if is_thread(number) => Some(number),
         _ => None,

@@ -1,24 +1,16 @@
-use Rattle.std.proofs.Common.{sym}
+use Rattle.std.proofs.Common.{◌≡◌, rules, sym}
+use Rattle.std.specs.Str.{IsUtf8}
 use Rattle.px_script.specs.Kinds.{plan_of}
-use Rattle.px_script.proofs.Saids.{return_row, wait_row}
+use Rattle.px_script.proofs.Saids.{no_text, text_says}
 use Rattle.px_script.proofs.parsed_line.said.Goals as goal
 
-pub returns-then-is_word-3 : goal.returns-then-is_word-3
-returns-then-is_word-3 c =
-    rw (
-      return_row (plan_of c.args.kinds.now) c.args.text.now (rw c.split_word.ensures.word at (sym c.if-is_word.ensures))
-          (rw c.split_word.ensures.word at (sym c.if-is_word-2.ensures)) (rw c.split_word.ensures.word at (sym c.if-is_word-3.ensures)),
-      ← c.split_word.ensures.behind,
-    )
-    c.return_line.ensures
+pub returns-in-Err : goal.returns-in-Err
+returns-in-Err c =
+    no_text (plan_of c.args.kinds.now) c.args.bytes.now (rw c.split_bytes.ensures.word at (sym c.if-are_word.ensures)) c.in-Err.ensures.cases.0
 
-pub returns-then-is_word-6 : goal.returns-then-is_word-6
-returns-then-is_word-6 c =
-    rw (
-      wait_row (plan_of c.args.kinds.now) c.args.text.now (rw c.split_word.ensures.word at (sym c.if-is_word.ensures))
-          (rw c.split_word.ensures.word at (sym c.if-is_word-2.ensures)) (rw c.split_word.ensures.word at (sym c.if-is_word-3.ensures))
-          (rw c.split_word.ensures.word at (sym c.if-is_word-4.ensures)) (rw c.split_word.ensures.word at (sym c.if-is_word-5.ensures))
-          (rw c.split_word.ensures.word at (sym c.if-is_word-6.ensures)),
-      ← c.split_word.ensures.behind,
-    )
-    c.wait_line.ensures
+pub returns-in-Ok : goal.returns-in-Ok
+returns-in-Ok c =
+    let same : c.in-Ok.text.now ≡ c.args.bytes.now = search rules in
+    let utf8 : IsUtf8 c.args.bytes.now = search rules in
+    rw (← text_says (plan_of c.args.kinds.now) c.args.bytes.now (rw c.split_bytes.ensures.word at (sym c.if-are_word.ensures)) utf8, ← same)
+    c.said_in_text.ensures

@@ -8,11 +8,11 @@ use Rattle.px_script.specs.ThreadLine.{is_thread}
 use Rattle.px_script.proofs.Reading.{read_on}
 use Rattle.px_script.proofs.read.read_lines.Given as goal
 
--- what is left gives the script, behind the lines that the threads keep; the thread is one of them; and no line is lost or
--- added
+-- what is left gives the script, behind the lines and the names that are kept; the thread is one of them; and no line is lost
+-- or added
 abbrev pub invariant-loop-left : goal.invariant-loop-left
 invariant-loop-left l = record {
-  reads : read_on l.lines.lines l.thread (l.number + 1) (map (parsed_line (plan_of l.kinds)) (lines_left (option_copied l.left))) ≡ script (plan_of l.kinds) l.bytes;
+  reads : read_on l.lines.lines l.names l.thread (l.number + 1) (map (parsed_line (plan_of l.kinds)) (lines_left (option_copied l.left))) ≡ script (plan_of l.kinds) l.bytes;
   named : is_thread l.thread ≡ true;
   counted : l.number + length (lines_left (option_copied l.left)) ≤ 16777217;
 }
