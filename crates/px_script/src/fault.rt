@@ -43,7 +43,7 @@ impl FaultKind {
 pub enum ScriptFault {
     /// The first faulty line, counted from 1, and what is wrong with it: 1, it has none of the shapes of a line; 2, the
     /// plan has no such node, or one of another kind; 3, a VALUE spells none; 4, it names a thread by a number that isn't
-    /// from 1 to 8; 5, it is the 100,001st line of its thread that posts or waits; 6, it gives a thread another name than an
+    /// from 1 to 8; 5, it is the 100,001st line of its thread that posts or waits; 6, it names a thread otherwise than an
     /// earlier line did.
     #[error("line {line}: fault of kind {kind}")]
     Fault { line: u32, kind: u8 },

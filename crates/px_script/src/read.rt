@@ -38,18 +38,17 @@ const FIRST_THREAD: u8 = 1;
 /// both ends, are dropped. Lines count from 1. A line that is then empty or begins with `#` says nothing. The others
 /// are `set NAME = VALUE`, `set NAME(VALUE, ..) = VALUE` with 1 to 8 arguments, `handle PATH HANDLE`,
 /// `return PATH VALUE`, `abort PATH`, `ack PATH`, `wait state PATH STATE`, `wait events N` with an N of 1 to 6 digits,
-/// `thread N` and `thread N NAME` with a number from 1 to 8. Blanks or tabs part words, and are free around `=`, `(`, `,` and `)`. A NAME
-/// is an identifier of at most 64 bytes; a VALUE is `true`, `false`, `UNKNOWN` (not as an argument), an integer of 32 bits
-/// in 1 to 10 decimal digits behind an optional minus, or a string as in plans. Numbers may have leading zeros. The lines
-/// behind a `thread` line belong to its thread, which may come again; before the first such line they belong to thread 1. A
-/// name is its thread's in the whole script, wherever it is given; it may be given again.
+/// and `thread N` or `thread N NAME` with a number from 1 to 8. Blanks or tabs part words, and are free around `=`, `(`,
+/// `,` and `)`. A NAME is an identifier of at most 64 bytes; a VALUE is `true`, `false`, `UNKNOWN` (not as an argument),
+/// an integer of 32 bits in 1 to 10 decimal digits behind an optional minus, or a string as in plans. Numbers may have
+/// leading zeros. The lines behind a `thread` line belong to its thread, which may come again; before the first such line
+/// they belong to thread 1. A NAME behind its number names the thread of all its lines, wherever they stand.
 ///
 /// `Fault` comes exactly where a line is at fault, and names the first such line and the kind of its fault, the first of
-/// these that it has: 4, it is `thread`, a number in digits that isn't from 1 to 8, and one word behind it at most; 1, it has
-/// no such shape, or is no UTF-8; 6, it gives a thread another name than an earlier line did; 2, the plan has no node at its
-/// PATH, or one of another kind than the line needs, a Command for `handle`,
-/// `return` and `abort` and an Update for `ack`; 3, a VALUE is none; 5, it is the 100,001st line of its thread that posts
-/// or waits.
+/// these that it has: 4, it is `thread`, a number in digits that isn't from 1 to 8, and one word behind it or none; 1, it
+/// has no such shape, or is no UTF-8; 6, it names a thread otherwise than an earlier line did; 2, the plan has no node at
+/// its PATH, or one of another kind than the line needs, a Command for `handle`, `return` and `abort` and an Update for
+/// `ack`; 3, a VALUE is none; 5, it is the 100,001st line of its thread that posts or waits.
 pub fn read_script(alloc: Global, bytes: &[u8], plan: &Plan) -> Result<Script, ScriptFault>
     requires size { length bytes.now ≤ SCRIPT_LIMIT }
     requires plan { IsFit (tree_of plan.now) }
