@@ -31,7 +31,10 @@ const SHAPES: [(&str, &str); 7] = [
         "wait",
         "`wait events N`, or `wait state PATH STATE`, where STATE is INACTIVE, WAITING, EXECUTING, ITERATION_ENDED, FAILING, FINISHING or FINISHED",
     ),
-    ("thread", "`thread N`, where N is a number from 1 to 8"),
+    (
+        "thread",
+        "`thread N` or `thread N NAME`, where N is a number from 1 to 8, and NAME begins with a letter or `_`, goes on with letters, digits and `_`, and has at most 64 characters",
+    ),
 ];
 
 /// Appends why the bytes of a file are no script for a plan, in words, and answers whether there is a reason: the first
@@ -109,7 +112,7 @@ fn push_line(
 // The number of the word, from 0, that is wrong.
 fn word_meant(content: &str, kind: u8) -> usize {
     match (kind, word(content, 0)) {
-        (2, "wait") | (3, "return") => 2,
+        (2, "wait") | (3, "return") | (6, _) => 2,
         (2, _) | (4, _) => 1,
         (1, "handle") if !word(content, 2).is_empty() => 2,
         _ => 0,
@@ -147,6 +150,11 @@ fn words_for(alloc: Global, content: &str, kind: u8, plan: &Plan) -> Result<Word
             "a VALUE is `true`, `false`, an Integer from -2147483648 to 2147483647, a String in double quotes, or `UNKNOWN`, which is no argument",
         ),
         4 => Words::fixed_plain(alloc, "threads are numbered from 1 to 8"),
+        6 => Words::fixed(
+            alloc,
+            "an earlier line names this thread otherwise",
+            "a thread has one name; a later line of it may have that name again, or none",
+        ),
         _ => Words::fixed_plain(
             alloc,
             "a thread has at most 100,000 lines that post or wait, and this is one more",
