@@ -3,6 +3,7 @@ use Rattle.std.specs.Prelude.{◌≡◌, ◌≢◌, ◌⊎◌, ◌<◌, ℕ, tru
 use Rattle.std.specs.Option.{option_map, option_and_then, ForSome}
 use Rattle.px_compile.specs.Compiled.{IsCompiled}
 use Rattle.px_event.specs.declared.entry.Entry.{Entry}
+use Rattle.px_event.specs.declared.named.NamedEntry.{NamedEntry}
 use Rattle.px_journal.specs.Layout.{is_nothing, Stands}
 use Rattle.px_output.specs.View.{View, Faulted}
 use Rattle.px_ports.specs.Host.{Files, Emits, Rose}
@@ -14,11 +15,11 @@ use Rattle.px_sem.specs.Run.{run, started}
 use Rattle.px_script.specs.Follows.{AreStalled}
 use Rattle.px_script.specs.Remainder.{rest}
 use Rattle.px_script.specs.declared.stall.Stall.{Stall}
-use Rattle.px_script.specs.declared.todo.Todo.{Todo}
-use Rattle.px_words.specs.Words.{Command, Run, Resume, Soak, plan_operand, script_operand, journal_operand, takes_up, runs_plan, command}
+use Rattle.px_script.specs.declared.script.Script.{Script}
+use Rattle.px_words.specs.Words.{Command, Run, Resume, Names, Soak, plan_operand, script_operand, journal_operand, takes_up, runs_plan, command}
 use Rattle.px_run.specs.Ending.{Ending, nodes_ending, start_ending, stalled_ending}
 use Rattle.px_run.specs.Reading.{FileKind, Reads, IsRefusedAs, Holds, HoldsNone}
-use Rattle.px_run.specs.Journaled.{JournalRefuses}
+use Rattle.px_run.specs.Journaled.{HasNoJournal, IsNamed, JournalRefuses}
 use Rattle.px_run.specs.Kinds.{plan_file, script_file}
 use Rattle.px_run.specs.Soak.{soak_plan}
 
@@ -32,7 +33,7 @@ HasScript words name = option_and_then script_operand (command words) ≡ Some n
 abbrev pub HasJournal : List (List ℕ) → Type 0
 HasJournal words = (name : List ℕ) × (option_and_then journal_operand (command words) ≡ Some name)
 
--- they ask that a journal that stands is taken up
+-- they ask that a journal that stands is taken up, to go on with it, to print it, or to print its names
 abbrev pub TakesUpJournal : List (List ℕ) → Type 0
 TakesUpJournal words = option_map takes_up (command words) ≡ Some true
 
@@ -54,7 +55,7 @@ ReadsPlan words old new IsSuch = (plan : List ℕ) × (tree : Tree) × HasPlan w
 -- the script's file, where the command has one, spells a script over the plan
 abbrev pub ReadsScript : List (List ℕ) → View → View → Tree → Type 0
 ReadsScript words old new tree =
-    (name : List ℕ) → HasScript words name → (threads : List Todo) × Reads (script_file (sites tree)) old new name threads
+    (name : List ℕ) → HasScript words name → (read : Script) × Reads (script_file (sites tree)) old new name read
 
 -- the words ask for a soak, and the start of its plan is such
 abbrev pub SoakStarts : List (List ℕ) → (Option (World × ℕ) → Type 0) → Type 0
@@ -77,12 +78,12 @@ FailsToRead Has words old new =
 
 -- the script in a file is read, and a legal log of what it has left behind a history stalls
 pub record StallsBehind (before now : View) (script : List ℕ) (plan : List Site) (limit : ℕ) (first : List Entry) : Type 0 where
-  pub threads : List Todo
-  pub read : Reads (script_file plan) before now script threads
+  pub spelled : Script
+  pub read : Reads (script_file plan) before now script spelled
   pub log : Log
   pub legal : IsLegal plan first limit log
   pub stalls : List Stall
-  pub stalled : AreStalled plan first log (rest threads first) stalls
+  pub stalled : AreStalled plan first log (rest spelled.threads first) stalls
   pub text : Emits before.emitted now.emitted (stalled_ending plan first log stalls).text
 
 module _ {D : Type 0} (members : Disk.Ghosts D) where
@@ -121,6 +122,9 @@ module _ {D : Type 0} (members : Disk.Ghosts D) where
     taken_up :
         TakesUp words old (λ tree first. ReadsScript words before now tree × IsSome (run (sites tree) (events_of first)))
         → Cause words before now old new 0
+    named :
+        (journal : List ℕ) (text : List ℕ) (found : List NamedEntry) → command words ≡ Some (Names journal)
+        → IsNamed members old text found → Cause words before now old new 0
     checked : OnlyChecks words → ReadsPlan words before now (λ tree. Unit {0}) → Cause words before now old new 0
     no_command : command words ≡ None → Cause words before now old new 2
     plan_refused : OperandIsRefused plan_file HasPlan words before now → Cause words before now old new 3
@@ -169,7 +173,7 @@ module _ {D : Type 0} (members : Disk.Ghosts D) where
     pub plan :
         (plan : List ℕ) (files : Files) (tree : Tree) → HasPlan words plan
         → before.files ≡ Some files → Holds plan_file files plan tree
-        → ((name : List ℕ) → HasScript words name → (threads : List Todo) × Holds (script_file (sites tree)) files name threads)
+        → ((name : List ℕ) → HasScript words name → (held : Script) × Holds (script_file (sites tree)) files name held)
         → IsSound words old new (λ bytes. IsTrue (is_nothing bytes))
         → ¬ FailsToRead HasPlan words before now → ¬ FailsToRead HasScript words before now → ¬ Faulted before now
         → (status ≡ 10) ⊎ ((status ≡ status_behind (command words) tree) ⊎ (status ≡ 11))
@@ -177,12 +181,17 @@ module _ {D : Type 0} (members : Disk.Ghosts D) where
     pub soak :
         (tree : Tree) → IsSoak words → IsCompiled soak_plan tree → IsSound words old new (λ bytes. IsTrue (is_nothing bytes))
         → ¬ Faulted before now → (status ≡ 10) ⊎ (status ≡ (start_ending tree).status)
+    -- the names of a journal
+    pub names :
+        (journal : List ℕ) → command words ≡ Some (Names journal)
+        → IsSound words old new (λ bytes. (text : List ℕ) × (first : List Entry) × Stands bytes text first)
+        → ¬ Faulted before now → (status ≡ 10) ⊎ (status ≡ 0)
     -- a journal that is taken up
     pub journal :
         (text : List ℕ) (first : List Entry) (tree : Tree) → TakesUpJournal words → HasJournal words
         → IsCompiled text tree → IsSome (run (sites tree) (events_of first))
         → ((name : List ℕ) → HasScript words name
-        → (files : Files) × (before.files ≡ Some files) × ((threads : List Todo) × Holds (script_file (sites tree)) files name threads))
+        → (files : Files) × (before.files ≡ Some files) × ((held : Script) × Holds (script_file (sites tree)) files name held))
         → IsSound words old new (λ bytes. Stands bytes text first)
         → ¬ FailsToRead HasScript words before now → ¬ Faulted before now
         → (status ≡ 10) ⊎ ((status ≡ 0) ⊎ (status ≡ 11))
@@ -202,7 +211,7 @@ module _ {D : Type 0} (members : Disk.Ghosts D) where
     pub runaway :
         (plan : List ℕ) (files : Files) (tree : Tree) → HasPlan words plan → AsksForRun words → before.files ≡ Some files
         → Holds plan_file files plan tree
-        → ((name : List ℕ) → HasScript words name → (threads : List Todo) × Holds (script_file (sites tree)) files name threads)
+        → ((name : List ℕ) → HasScript words name → (held : Script) × Holds (script_file (sites tree)) files name held)
         → started (sites tree) ≡ None
         → ¬ FailsToRead HasPlan words before now → ¬ FailsToRead HasScript words before now → ¬ Faulted before now
         → (status ≡ 10) ⊎ (status ≡ 6)
@@ -214,7 +223,7 @@ module _ {D : Type 0} (members : Disk.Ghosts D) where
     pub exists :
         (plan : List ℕ) (files : Files) (tree : Tree) → HasPlan words plan → HasJournal words → before.files ≡ Some files
         → Holds plan_file files plan tree
-        → ((name : List ℕ) → HasScript words name → (threads : List Todo) × Holds (script_file (sites tree)) files name threads)
+        → ((name : List ℕ) → HasScript words name → (held : Script) × Holds (script_file (sites tree)) files name held)
         → IsSome (started (sites tree)) → IsSound words old new (λ bytes. IsFalse (is_nothing bytes))
         → ¬ FailsToRead HasPlan words before now → ¬ FailsToRead HasScript words before now → ¬ Faulted before now
         → (status ≡ 10) ⊎ (status ≡ 5)
@@ -224,7 +233,12 @@ module _ {D : Type 0} (members : Disk.Ghosts D) where
         → IsSound words old new (λ bytes. IsFalse (is_nothing bytes)) → ¬ Faulted before now → (status ≡ 10) ⊎ (status ≡ 5)
     -- a journal that is none that can be taken up: 5, or 6 where the start of its plan runs away
     pub journal :
-        (why : Ending) → TakesUpJournal words → HasJournal words → JournalRefuses members old why
+        (why : Ending) → TakesUpJournal words → AsksForRun words → HasJournal words → JournalRefuses members old why
+        → ((bytes : List ℕ) × (members.content old ≡ Some bytes)) → ¬ Rose (members.faults old) (members.faults new)
+        → ¬ Faulted before now → (status ≡ 10) ⊎ (status ≡ why.status)
+    -- none whose names could be told
+    pub names :
+        (journal : List ℕ) (why : Ending) → command words ≡ Some (Names journal) → HasNoJournal members old why
         → ((bytes : List ℕ) × (members.content old ≡ Some bytes)) → ¬ Rose (members.faults old) (members.faults new)
         → ¬ Faulted before now → (status ≡ 10) ⊎ (status ≡ why.status)
     -- a script behind a journal that is taken up

@@ -1,13 +1,14 @@
 -- What became of the journal in a call, and what is due to be printed then.
-use Rattle.std.specs.Prelude.{◌≡◌, ℕ, List, Option, Some, None, IsTrue, IsFalse}
+use Rattle.std.specs.Prelude.{◌≡◌, ◌⊎◌, ℕ, List, [], Option, Some, None, IsTrue, IsFalse}
 use Rattle.std.specs.Option.{ForSome}
 use Rattle.px_event.specs.declared.entry.Entry.{Entry}
 use Rattle.px_journal.specs.Journal.{IsSynced, IsUnwritten, IsUntouched}
-use Rattle.px_journal.specs.Layout.{is_nothing}
+use Rattle.px_journal.specs.Layout.{is_nothing, Stands}
 use Rattle.px_ports.specs.declared.disk.Disk
 use Rattle.px_session.specs.Creating.{LeavesNew}
 use Rattle.px_session.specs.Session.{Session, unposted, HasOneHistory, LeavesFronts}
 use Rattle.px_run.specs.Ending.{Ending}
+use Rattle.px_run.specs.Naming.{Naming, LeavesNames}
 use Rattle.px_run.specs.Reading.{FileKind, Seen, Shows, Spells, Refuses}
 use Rattle.px_output.specs.View.{View}
 
@@ -26,11 +27,11 @@ pub data Course : Type 0 where
   -- the journal of this text was to be made, and a call of the disk failed on the way; one that stood there was not touched
   HalfMade : (text : List ℕ) → Course
   -- a journal was made, and a session ran over it
-  Made : Session → Course
+  Made : Session → Naming → Course
   -- a journal of this text and history was taken up, and nothing was written
   TakenUp : (text : List ℕ) (history : List Entry) → Course
   -- a journal was taken up, and a session ran over it
-  GoneOn : Session → Course
+  GoneOn : Session → Naming → Course
 
 module _ {D : Type 0} (members : Disk.Ghosts D) where
   -- WHAT EACH COURSE LEAVES OF THE DISK
@@ -40,12 +41,15 @@ module _ {D : Type 0} (members : Disk.Ghosts D) where
   Leaves old new Unread = IsUnwritten members old new
   Leaves old new (HalfMade text) =
       LeavesNew members text old new × ForSome (members.content old) (λ told. IsFalse (is_nothing told) → IsUntouched members old new)
-  Leaves old new (Made session) =
+  Leaves old new (Made session naming) =
       HasOneHistory members session new × LeavesFronts members (λ image. IsTrue (is_nothing image)) session old new
+      × LeavesNames members (λ image. IsTrue (is_nothing image) ⊎ Stands image session.text []) session naming old new
   Leaves old new (TakenUp text history) =
       IsUntouched members old new × HasOneHistory members (unposted text history) new
       × LeavesFronts members (λ image. ⊥) (unposted text history) old new
-  Leaves old new (GoneOn session) = HasOneHistory members session new × LeavesFronts members (λ image. ⊥) session old new
+  Leaves old new (GoneOn session naming) =
+      HasOneHistory members session new × LeavesFronts members (λ image. ⊥) session old new
+      × LeavesNames members (λ image. ⊥) session naming old new
 
 -- a call of this course ends so
 abbrev pub EndsIn : Course → Ending → Course → Due → Type 0

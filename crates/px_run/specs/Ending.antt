@@ -7,6 +7,8 @@ use Rattle.px_sem.specs.Log.{Log}
 use Rattle.px_sem.specs.Run.{started}
 use Rattle.px_sem.specs.Text.{line, text_of}
 use Rattle.px_script.specs.declared.stall.Stall.{Stall}
+use Rattle.px_event.specs.declared.named.NamedEntry.{NamedEntry}
+use Rattle.px_trace.specs.Names.{name_lines}
 use Rattle.px_output.specs.Stalls.{stall_lines}
 use Rattle.px_syntax.specs.declared.fault.PlanFault.{PlanFault}
 use Rattle.px_run.specs.PlanRefusal.{plan_reason}
@@ -21,7 +23,7 @@ abbrev pub refusal : ℕ → List ℕ → Ending
 refusal status reason = record { status = status; text = line reason }
 
 abbrev pub usage : Ending
-usage = refusal 2 (codes "usage: plexil trace-start PLAN | dry-run PLAN SCRIPT | run PLAN SCRIPT JOURNAL [--events N] | resume SCRIPT JOURNAL [--events N] | trace JOURNAL | check PLAN | format PLAN | soak COUNT SEED JOURNAL")
+usage = refusal 2 (codes "usage: plexil trace-start PLAN | dry-run PLAN SCRIPT | run PLAN SCRIPT JOURNAL [--events N] | resume SCRIPT JOURNAL [--events N] | trace JOURNAL | check PLAN | format PLAN | soak COUNT SEED JOURNAL | names JOURNAL")
 
 abbrev pub plan_too_long : Ending
 plan_too_long = refusal 3 (codes "plan refused: longer than 1048576 bytes")
@@ -95,3 +97,7 @@ start_ending tree = of_start (sites tree) (started (sites tree))
 -- the text of a log behind which threads stand at these waits
 abbrev pub stalled_ending : List Site → List Entry → Log → List Stall → Ending
 stalled_ending plan first log stalls = record { status = 11; text = text_of plan first log ++ stall_lines stalls }
+
+-- the names of a journal's entries
+abbrev pub names_ending : List NamedEntry → Ending
+names_ending named = record { status = 0; text = name_lines 1 named }

@@ -10,11 +10,11 @@ use Rattle.px_script.specs.declared.todo.Todo.{Todo}
 use Rattle.px_sem.specs.Log.{Log, IsLegal, posted_in}
 use Rattle.px_sem.specs.Run.{started}
 use Rattle.px_words.specs.Limited.{event_limit}
-use Rattle.px_words.specs.Words.{Command, TraceStart, DryRun, Check, Format, Run, Resume, Trace, Soak, command, journal_operand}
+use Rattle.px_words.specs.Words.{Command, TraceStart, DryRun, Check, Format, Run, Resume, Trace, Names, Soak, command, journal_operand}
 use Rattle.px_run.specs.Course.{Course, Untouched, Due, EndsIn, AfterFile, Leaves}
 use Rattle.px_run.specs.Ending.{Ending, usage, nodes_ending, start_ending, log_ending, runaway_at_start}
 use Rattle.px_run.specs.Format.{FormatCalls}
-use Rattle.px_run.specs.Journaled.{RunCalls, ResumeCalls, TraceCalls}
+use Rattle.px_run.specs.Journaled.{RunCalls, ResumeCalls, TraceCalls, NamesCalls}
 use Rattle.px_run.specs.Kinds.{plan_file, script_file}
 use Rattle.px_run.specs.Soak.{SoakCalls}
 
@@ -37,7 +37,7 @@ TraceStartCalls plan before now = AfterFile plan_file before now plan Untouched 
 abbrev pub DryRunCalls : List ℕ → List ℕ → View → View → Course → Due → Type 0
 DryRunCalls plan script before now =
     AfterFile plan_file before now plan Untouched (λ tree.
-    AfterFile (script_file (sites tree)) before now script Untouched (DryRunOf (sites tree)))
+    AfterFile (script_file (sites tree)) before now script Untouched (λ read. DryRunOf (sites tree) read.threads))
 
 abbrev pub CheckCalls : List ℕ → View → View → Course → Due → Type 0
 CheckCalls plan before now = AfterFile plan_file before now plan Untouched (λ tree. EndsIn Untouched (nodes_ending tree))
@@ -57,6 +57,7 @@ module _ {D : Type 0} (members : Disk.Ghosts D) where
   CommandCallsFor (Some (Resume script journal limit)) before now old new course due =
       ResumeCalls members script limit before now old new course due
   CommandCallsFor (Some (Trace journal)) before now old new course due = TraceCalls members old new course due
+  CommandCallsFor (Some (Names journal)) before now old new course due = NamesCalls members old new course due
   CommandCallsFor (Some (Soak count seed journal)) before now old new course due = SoakCalls members count seed old new course due
 
   -- the disk is bound to the command's journal, or to none

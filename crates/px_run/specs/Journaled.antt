@@ -6,13 +6,17 @@ use Rattle.px_core.specs.Plan.{Site, Tree, sites}
 use Rattle.px_event.specs.declared.entry.Entry.{Entry}
 use Rattle.px_exec.specs.Opening.{RunsAwayAt}
 use Rattle.px_journal.specs.Damage.{Damaged}
-use Rattle.px_journal.specs.Layout.{is_nothing, Stands}
+use Rattle.px_journal.specs.Layout.{is_nothing, entries, Stands, StandsAs}
+use Rattle.px_journal.specs.declared.version.Version.{Version}
 use Rattle.px_ports.specs.Host.{Rose}
 use Rattle.px_ports.specs.declared.disk.Disk
 use Rattle.px_script.specs.Follows.{Follows, GoesThroughAll, AreStalled, IsNextPost}
 use Rattle.px_script.specs.Remainder.{rest}
 use Rattle.px_script.specs.declared.stall.Stall.{Stall}
+use Rattle.px_script.specs.declared.script.Script.{Script}
 use Rattle.px_script.specs.declared.todo.Todo.{Todo}
+use Rattle.px_event.specs.declared.named.NamedEntry.{NamedEntry}
+use Rattle.px_event.specs.declared.names.ThreadName.{ThreadName}
 use Rattle.px_sem.specs.Log.{IsLegal, events_of}
 use Rattle.px_sem.specs.Run.{run, started}
 use Rattle.px_sem.specs.World.{World}
@@ -22,7 +26,8 @@ use Rattle.px_syntax.specs.declared.fault.PlanFault.{PlanFault}
 use Rattle.px_syntax.specs.declared.fault.PlanFault.TheVariants.{NoMemory as PlanOutOfMemory}
 use Rattle.px_output.specs.View.{View}
 use Rattle.px_run.specs.Course.{Course, Untouched, Synced, Unread, HalfMade, Made, TakenUp, GoneOn, Due, EndsIn, AfterFile}
-use Rattle.px_run.specs.Ending.{Ending, session_ending, stalled_ending, runaway_at_start, disk_fault, journal_exists, no_journal, journal_damaged, journal_plan, journal_runaway}
+use Rattle.px_run.specs.Ending.{Ending, session_ending, stalled_ending, runaway_at_start, disk_fault, journal_exists, no_journal, journal_damaged, journal_plan, journal_runaway, names_ending}
+use Rattle.px_run.specs.Naming.{Naming, new_naming}
 use Rattle.px_run.specs.Reading.{with_text}
 use Rattle.px_run.specs.Kinds.{plan_file, script_file}
 use Rattle.px_run.specs.Telling.{told_ending}
@@ -71,33 +76,33 @@ module _ {D : Type 0} (members : Disk.Ghosts D) where
   -- ---- `run`
 
   -- a new journal: one stands there, a call of the disk fails on the way, or a session runs over it
-  pub data NewCalls (telling : Telling) (plan : List Site) (text : List ℕ) (limit : ℕ) (threads : List Todo) (old new : D) : Course → Due → Type 0 where
+  pub data NewCalls (telling : Telling) (plan : List Site) (text : List ℕ) (limit : ℕ) (script : Script) (old new : D) : Course → Due → Type 0 where
     exists :
         ForSome (members.content old) (λ told. IsFalse (is_nothing told))
-        → NewCalls telling plan text limit threads old new Untouched (Some journal_exists)
+        → NewCalls telling plan text limit script old new Untouched (Some journal_exists)
     half_made :
-        Rose (members.faults old) (members.faults new) → NewCalls telling plan text limit threads old new (HalfMade text) (Some disk_fault)
+        Rose (members.faults old) (members.faults new) → NewCalls telling plan text limit script old new (HalfMade text) (Some disk_fault)
     made :
         (session : Session) (due : Due) → ForSome (members.content old) (λ told. IsTrue (is_nothing told))
-        → SessionCalls telling plan text [] limit (rest threads []) old new session due
-        → NewCalls telling plan text limit threads old new (Made session) due
-    no_memory : NewCalls telling plan text limit threads old new Untouched None
+        → SessionCalls telling plan text [] limit (rest script.threads []) old new session due
+        → NewCalls telling plan text limit script old new (Made session (new_naming script.names)) due
+    no_memory : NewCalls telling plan text limit script old new Untouched None
 
   -- by what the start of the plan settles into
-  abbrev pub RunCallsBy : Telling → List Site → List ℕ → ℕ → List Todo → D → D → Course → Due → Option (World × ℕ) → Type 0
-  RunCallsBy telling plan text limit threads old new course due None = EndsIn Untouched runaway_at_start course due
-  RunCallsBy telling plan text limit threads old new course due (Some settled) =
-      NewCalls telling plan text limit threads old new course due
+  abbrev pub RunCallsBy : Telling → List Site → List ℕ → ℕ → Script → D → D → Course → Due → Option (World × ℕ) → Type 0
+  RunCallsBy telling plan text limit script old new course due None = EndsIn Untouched runaway_at_start course due
+  RunCallsBy telling plan text limit script old new course due (Some settled) =
+      NewCalls telling plan text limit script old new course due
 
   -- the plan is read, then the script, then the plan starts, then its journal is made
   abbrev pub RunCalls : List ℕ → List ℕ → ℕ → View → View → D → D → Course → Due → Type 0
   RunCalls plan script limit before now old new course due =
       AfterFile (with_text plan_file) before now plan Untouched (λ source.
-      AfterFile (script_file (sites source.1)) before now script Untouched (λ threads course due.
-      RunCallsBy tellings.Text (sites source.1) source.0 limit threads old new course due (started (sites source.1))))
+      AfterFile (script_file (sites source.1)) before now script Untouched (λ read course due.
+      RunCallsBy tellings.Text (sites source.1) source.0 limit read old new course due (started (sites source.1))))
       course due
 
-  -- ---- `resume` and `trace`
+  -- ---- `resume`, `trace` and `names`
 
   -- why a disk has no journal
   pub data HasNoJournal (old : D) : Ending → Type 0 where
@@ -109,6 +114,10 @@ module _ {D : Type 0} (members : Disk.Ghosts D) where
   -- the disk stands for the text and the history
   abbrev pub StandsFor : D → List ℕ → List Entry → Type 0
   StandsFor old text first = ForSome (members.content old) (λ told. Stands told text first)
+
+  -- in one version or the other, it stands for the text and for entries with these names
+  abbrev pub IsNamed : D → List ℕ → List NamedEntry → Type 0
+  IsNamed old text found = ForSome (members.content old) (λ told. (version : Version) × StandsAs version told text found)
 
   -- why the journal of a disk is refused
   abbrev pub JournalRefuses : D → Ending → Type 0
@@ -130,16 +139,32 @@ module _ {D : Type 0} (members : Disk.Ghosts D) where
         → IsCompiled text tree → IsSome (run (sites tree) (events_of first)) → Next text first tree course due
         → AfterJournal old new Next course due
 
+  -- the disk stands in its version for the text, and for this history with the names; new entries get these ones
+  pub record WasFound (old : D) (text : List ℕ) (first : List Entry) (names : List ThreadName) (naming : Naming) : Type 0 where
+    pub stands : ForSome (members.content old) (λ told. StandsAs naming.version told text naming.found)
+    pub entries_are : entries naming.found ≡ first
+    pub names_are : naming.names ≡ names
+
   -- the journal is read, then the script, and a session goes on with what is left of it
   abbrev pub ResumeCalls : List ℕ → ℕ → View → View → D → D → Course → Due → Type 0
   ResumeCalls script limit before now old new course due =
       AfterJournal old new (λ text first tree.
-      AfterFile (script_file (sites tree)) before now script (TakenUp text first) (λ threads course due.
-      (session : Session) × (course ≡ GoneOn session)
-      × SessionCalls tellings.Text (sites tree) text first limit (rest threads first) old new session due))
+      AfterFile (script_file (sites tree)) before now script (TakenUp text first) (λ read course due.
+      (session : Session) × (naming : Naming) × (course ≡ GoneOn session naming) × WasFound old text first read.names naming
+      × SessionCalls tellings.Text (sites tree) text first limit (rest read.threads first) old new session due))
       course due
 
   -- the journal is read, and its history is printed
   abbrev pub TraceCalls : D → D → Course → Due → Type 0
   TraceCalls old new course due =
       AfterJournal old new (λ text first tree. EndsIn (TakenUp text first) (session_ending (sites tree) first [])) course due
+
+  -- the journal is read, and the names of its entries are printed; its plan isn't compiled
+  pub data NamesCalls (old new : D) : Course → Due → Type 0 where
+    not_read : new ≡ old → NamesCalls old new Untouched None
+    no_memory : NamesCalls old new Synced None
+    disk_fails : Rose (members.faults old) (members.faults new) → NamesCalls old new Unread (Some disk_fault)
+    no_journal_there : (ending : Ending) → HasNoJournal old ending → NamesCalls old new Synced (Some ending)
+    named :
+        (text : List ℕ) (found : List NamedEntry) → IsNamed old text found
+        → NamesCalls old new (TakenUp text (entries found)) (Some (names_ending found))

@@ -16,3 +16,5 @@ pub mod Trace
 pub mod Top
 pub mod Causes
 pub mod OverStops
+pub mod Naming
+pub mod Names

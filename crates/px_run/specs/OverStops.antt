@@ -9,6 +9,7 @@ use Rattle.px_ports.specs.Moment.{LeftSince}
 use Rattle.px_ports.specs.declared.disk.Disk
 use Rattle.px_script.specs.Soak.{soak_threads}
 use Rattle.px_script.specs.Sound.{IsSoundFor}
+use Rattle.px_script.specs.declared.script.Script.{Script}
 use Rattle.px_script.specs.declared.todo.Todo.{Todo}
 use Rattle.px_words.specs.Words.{Soak, command}
 use Rattle.px_run.specs.Causes.{HasScript}
@@ -25,8 +26,8 @@ IsSoundImage threads image =
 -- wherever the call reads the script, it is this one; and so is that of a soak
 abbrev pub ReadsOnly : List (List ℕ) → View → View → List Todo → Type 0
 ReadsOnly words before now threads =
-    ((name : List ℕ) → HasScript words name → (plan : List Site) (read : List Todo)
-    → Reads (script_file plan) before now name read → read ≡ threads)
+    ((name : List ℕ) → HasScript words name → (plan : List Site) (read : Script)
+    → Reads (script_file plan) before now name read → read.threads ≡ threads)
     × ((count seed : ℕ) (journal : List ℕ) → command words ≡ Some (Soak count seed journal) → soak_threads count seed ≡ threads)
 
 module _ {D : Type 0} (members : Disk.Ghosts D) where

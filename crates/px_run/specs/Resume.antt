@@ -7,7 +7,6 @@ use Rattle.px_ports.specs.declared.disk.Disk
 use Rattle.px_script.specs.Fit.{IsFitScript}
 use Rattle.px_script.specs.Remainder.{rest}
 use Rattle.px_script.specs.declared.script.Script.{Script}
-use Rattle.px_script.specs.declared.todo.Todo.{Todo}
 use Rattle.px_run.specs.Reading.{Reads}
 use Rattle.px_run.specs.Journaled.{ResumeCalls}
 use Rattle.px_run.specs.Kinds.{script_file}
@@ -16,9 +15,10 @@ use Rattle.px_run.specs.Finishing.{Carries}
 
 -- what the script in a file has left behind a history
 pub record IsLeft (plan : List Site) (name : List ℕ) (history : List Entry) (before now : View) (left : Script) : Type 0 where
-  pub threads : List Todo
-  pub read : Reads (script_file plan) before now name threads
-  pub behind : left.threads ≡ rest threads history
+  pub spelled : Script
+  pub read : Reads (script_file plan) before now name spelled
+  pub behind : left.threads ≡ rest spelled.threads history
+  pub names : left.names ≡ spelled.names
   pub fit : IsFitScript left
 
 module _ {D : Type 0} (members : Disk.Ghosts D) where

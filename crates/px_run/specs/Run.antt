@@ -4,7 +4,7 @@ use Rattle.px_core.specs.Plan.{Site, Tree, sites}
 use Rattle.px_output.specs.View.{View}
 use Rattle.px_ports.specs.declared.disk.Disk
 use Rattle.px_script.specs.Fit.{IsFitScript}
-use Rattle.px_script.specs.declared.todo.Todo.{Todo}
+use Rattle.px_script.specs.declared.script.Script.{Script}
 use Rattle.px_sem.specs.Run.{run, started}
 use Rattle.px_sem.specs.Stepper.{Pending}
 use Rattle.px_sem.specs.declared.stepper.Stepper
@@ -25,7 +25,7 @@ use Rattle.px_run.specs.Finishing.{Carries}
 pub record IsPrepared {S : Type 0} (runs : Stepper.Ghosts S) (plan name : List ℕ) (before now : View) (prepared : Prepared S) : Type 0 where
   pub tree : Tree
   pub source : Reads (with_text plan_file) before now plan (prepared.text.items, tree)
-  pub script : Reads (script_file (sites tree)) before now name prepared.script.threads
+  pub script : Reads (script_file (sites tree)) before now name prepared.script
   pub lines : IsFitScript prepared.script
   pub short : length prepared.text.items ≤ 1048576
   pub nodes : (runs.state prepared.stepper).nodes ≡ sites tree
@@ -36,7 +36,7 @@ pub record IsPrepared {S : Type 0} (runs : Stepper.Ghosts S) (plan name : List �
 abbrev pub IsNotPrepared : List ℕ → List ℕ → View → View → Stop → Type 0
 IsNotPrepared plan script before now (stops.Refused refusal) =
     AfterFile (with_text plan_file) before now plan Untouched (λ source.
-    AfterFile (script_file (sites source.1)) before now script Untouched (λ threads course due.
+    AfterFile (script_file (sites source.1)) before now script Untouched (λ read course due.
     (started (sites source.1) ≡ None) × EndsIn Untouched runaway_at_start course due))
     Untouched (Some (ending_of refusal))
 IsNotPrepared plan script before now stops.SinkFailed = ⊥
@@ -48,6 +48,6 @@ module _ {D : Type 0} (members : Disk.Ghosts D) where
       Carries members journal (λ new. RunCalls members plan script limit before now old new) before now old carried
 
   -- the same of a plan that has started, behind a script that was read
-  abbrev pub PreparedCarries : Telling → List Site → List ℕ → List ℕ → ℕ → List Todo → View → View → D → Carried D → Type 0
-  PreparedCarries telling plan text journal limit threads before now old carried =
-      Carries members journal (λ new. NewCalls members telling plan text limit threads old new) before now old carried
+  abbrev pub PreparedCarries : Telling → List Site → List ℕ → List ℕ → ℕ → Script → View → View → D → Carried D → Type 0
+  PreparedCarries telling plan text journal limit script before now old carried =
+      Carries members journal (λ new. NewCalls members telling plan text limit script old new) before now old carried

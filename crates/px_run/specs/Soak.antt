@@ -6,6 +6,7 @@ use Rattle.px_output.specs.View.{View}
 use Rattle.px_ports.specs.declared.disk.Disk
 use Rattle.px_script.specs.Fit.{IsFitScript}
 use Rattle.px_script.specs.Soak.{soak_threads}
+use Rattle.px_script.specs.declared.script.Script.{Script}
 use Rattle.px_sem.specs.Run.{run, started}
 use Rattle.px_sem.specs.Stepper.{Pending}
 use Rattle.px_sem.specs.declared.stepper.Stepper
@@ -25,12 +26,16 @@ use Rattle.px_run.specs.Finishing.{Carries}
 abbrev pub soak_plan : List ℕ
 soak_plan = codes "Soak: Sequence {\n  Integer seen = 0;\n  Integer sum = 0;\n  Start Lookup(level) > seen;\n  Repeat true;\n  Add: { sum = sum + Lookup(level) % 100; }\n  Note: { seen = Lookup(level); }\n}\n"
 
+-- the script: its lines are of one thread, which has no name
+abbrev pub soak_lines : ℕ → ℕ → Script
+soak_lines count seed = record { threads = soak_threads count seed; names = [] }
+
 -- the plan of a soak has started, and these are its lines
 pub record IsSoakPrepared {S : Type 0} (runs : Stepper.Ghosts S) (count seed : ℕ) (prepared : Prepared S) : Type 0 where
   pub tree : Tree
   pub text : prepared.text.items ≡ soak_plan
   pub compiled : IsCompiled soak_plan tree
-  pub script : prepared.script.threads ≡ soak_threads count seed
+  pub script : prepared.script ≡ soak_lines count seed
   pub lines : IsFitScript prepared.script
   pub nodes : (runs.state prepared.stepper).nodes ≡ sites tree
   pub nothing : (runs.state prepared.stepper).pending ≡ Pending.Nothing
@@ -48,7 +53,7 @@ module _ {D : Type 0} (members : Disk.Ghosts D) where
   pub data SoakCalls (count seed : ℕ) (old new : D) : Course → Due → Type 0 where
     starts :
         (tree : Tree) (course : Course) (due : Due) → IsCompiled soak_plan tree
-        → RunCallsBy members tellings.Summary (sites tree) soak_plan event_limit (soak_threads count seed) old new course due (started (sites tree))
+        → RunCallsBy members tellings.Summary (sites tree) soak_plan event_limit (soak_lines count seed) old new course due (started (sites tree))
         → SoakCalls count seed old new course due
     no_memory : SoakCalls count seed old new Untouched None
 
