@@ -8,11 +8,12 @@ use Rattle.px_session.specs.Session.{IsBoundAtMost}
 use Rattle.px_session.proofs.Sessions.{untouched_at_once}
 use Rattle.px_words.specs.Asked.{asked}
 use Rattle.px_words.specs.declared.command.Command.{Command as Asked}
-use Rattle.px_words.specs.Words.{Command, TraceStart, DryRun, Check, Format, Run, Resume, Trace, Soak, journal_operand}
+use Rattle.px_words.specs.Words.{Command, TraceStart, DryRun, Check, Format, Run, Resume, Trace, Names, Soak, journal_operand}
 use Rattle.px_run.specs.Course.{Untouched, Due, EndsIn, AfterFile}
 use Rattle.px_run.specs.Ending.{usage}
 use Rattle.px_run.specs.Format.{FormatCalls}
-use Rattle.px_run.specs.Journaled.{AfterJournal}
+use Rattle.px_run.specs.Journaled.{AfterJournal, NamesCalls}
+use Rattle.px_run.specs.Names.{NamesCarries}
 use Rattle.px_run.specs.Resume.{ResumeCarries}
 use Rattle.px_run.specs.Run.{RunCarries}
 use Rattle.px_run.specs.Soak.{SoakCalls, SoakCarries}
@@ -70,6 +71,7 @@ module _ {D : Type 0} (members : Disk.Ghosts D) (before now : View) (disk : D) (
       by (Some (Run plan script journal limit)) = inr (AfterFile.no_memory, refl)
       by (Some (Resume script journal limit)) = inr (AfterJournal.not_read refl, refl)
       by (Some (Trace journal)) = inr (AfterJournal.not_read refl, refl)
+      by (Some (Names journal)) = inr (NamesCalls.not_read refl, refl)
       by (Some (Soak count seed journal)) = inr (SoakCalls.no_memory, refl)
 
   pub trace_start_performed : (words : Option Command) (plan : List ℕ) (r : Result End Stop) → words ≡ Some (TraceStart plan)
@@ -126,6 +128,16 @@ module _ {D : Type 0} (members : Disk.Ghosts D) (before now : View) (disk : D) (
     performs = c.performs;
     leaves = c.leaves;
     bound = bound_for (Trace journal) journal refl c.bound;
+    back = c.back;
+  })
+
+  pub names_performed : (words : Option Command) (journal : List ℕ) → words ≡ Some (Names journal)
+      → NamesCarries members journal before now disk carried → Performed members words before now disk carried
+  names_performed words journal is c = rw is (record {
+    course = c.course;
+    performs = c.performs;
+    leaves = c.leaves;
+    bound = bound_for (Names journal) journal refl c.bound;
     back = c.back;
   })
 

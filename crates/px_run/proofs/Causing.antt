@@ -12,22 +12,24 @@ use Rattle.px_script.specs.Follows.{AreStalled}
 use Rattle.px_script.specs.Soak.{soak_threads}
 use Rattle.px_script.proofs.Soaks.{soak_never_stalls}
 use Rattle.px_script.specs.Remainder.{rest}
+use Rattle.px_script.specs.declared.script.Script.{Script}
 use Rattle.px_script.specs.declared.todo.Todo.{Todo}
 use Rattle.px_syntax.specs.Plan.{PlanTree}
 use Rattle.px_sem.specs.Log.{events_of}
 use Rattle.px_sem.specs.Run.{run, started}
 use Rattle.px_sem.specs.World.{World}
 use Rattle.px_session.specs.Session.{Session}
-use Rattle.px_words.specs.Words.{Command, TraceStart, DryRun, Check, Format, Run, Resume, Trace, Soak, plan_operand, script_operand, journal_operand, takes_up, runs_plan, command}
+use Rattle.px_words.specs.Words.{Command, TraceStart, DryRun, Check, Format, Run, Resume, Trace, Names, Soak, plan_operand, script_operand, journal_operand, takes_up, runs_plan, command}
 use Rattle.px_run.specs.Causes.{HasPlan, HasScript, HasJournal, TakesUpJournal, IsSoak, AsksForRun, ReadsScript, Starts, OperandIsRefused, FailsToRead, StallsBehind, StallsOver, TakesUp, Cause}
 use Rattle.px_run.specs.Course.{Course, Untouched, TakenUp, GoneOn, Due, EndsIn, AfterFile}
 use Rattle.px_run.specs.Ending.{Ending, of_start, start_ending, nodes_ending, session_ending, stalled_ending, runaway_at_start}
 use Rattle.px_run.specs.Reading.{FileKind, Seen, Content, Longer, Unreadable, Shows, Refuses, with_text, Reads}
 use Rattle.px_run.specs.Format.{LaysOut, layout_ending}
 use Rattle.px_run.specs.Headline.{DryRunOf, TraceStartCalls, DryRunCalls, CommandCallsFor, Delivers, Headline}
-use Rattle.px_run.specs.Journaled.{IsSession, DueBehind, SessionCalls, NewCalls, RunCallsBy, RunCalls, HasNoJournal, CannotRun, AfterJournal, ResumeCalls, TraceCalls}
+use Rattle.px_run.specs.Journaled.{IsSession, DueBehind, SessionCalls, NewCalls, RunCallsBy, RunCalls, HasNoJournal, CannotRun, WasFound, AfterJournal, ResumeCalls, TraceCalls, NamesCalls}
 use Rattle.px_run.specs.Kinds.{plan_file, script_file}
-use Rattle.px_run.specs.Soak.{soak_plan, SoakCalls}
+use Rattle.px_run.specs.Naming.{Naming}
+use Rattle.px_run.specs.Soak.{soak_plan, soak_lines, SoakCalls}
 use Rattle.px_run.specs.declared.finishing.Telling.{Telling}
 use Rattle.px_run.specs.declared.finishing.Telling.TheVariants as tellings
 use Rattle.px_run.proofs.FileKinds.{IsKind, plan_kind, script_kind, text_kind}
@@ -87,10 +89,10 @@ module _ {D : Type 0} (members : Disk.Ghosts D) (words : List (List ℕ)) (befor
       after_operand Tree plan_file 3 HasPlan plan Untouched Next course due plan_kind has (λ r. Cause.plan_refused r) (λ fails. Cause.read_fault (inl fails)) behind after
 
   -- the script that was read is the one that the words ask for
-  reads_script : (tree : Tree) (name : List ℕ) (threads : List Todo) → HasScript words name → Reads (script_file (sites tree)) before now name threads
+  reads_script : (tree : Tree) (name : List ℕ) (read : Script) → HasScript words name → Reads (script_file (sites tree)) before now name read
       → ReadsScript words before now tree
-  reads_script tree name threads has reads other asks =
-      let same : name ≡ other = cc in (threads, subst (λ n. Reads (script_file (sites tree)) before now n threads) same reads)
+  reads_script tree name read has reads other asks =
+      let same : name ≡ other = cc in (read, subst (λ n. Reads (script_file (sites tree)) before now n read) same reads)
 
   -- without a script there is none to be read
   no_script : (tree : Tree) → option_and_then script_operand (command words) ≡ None → ReadsScript words before now tree
@@ -99,24 +101,24 @@ module _ {D : Type 0} (members : Disk.Ghosts D) (words : List (List ℕ)) (befor
   -- ---- sessions
 
   -- behind a session: its script is carried out or stalls, or the disk fails
-  session_caused : (telling : Telling) (plan : List Site) (text : List ℕ) (first : List Entry) (limit : ℕ) (script : List ℕ) (threads : List Todo) (session : Session) (due : Due)
+  session_caused : (telling : Telling) (plan : List Site) (text : List ℕ) (first : List Entry) (limit : ℕ) (script : List ℕ) (spelled : Script) (session : Session) (due : Due)
       → (Rose (members.faults old) (members.faults new) → Cause members words before now old new 9) → Cause members words before now old new 0
       → (StallsBehind before now script plan limit first → StallsOver members words before now old)
-      → Reads (script_file plan) before now script threads → IsSession plan text first limit (rest threads first) session
-      → DueBehind members telling plan (rest threads first) session old new due → AreCaused due
-  session_caused telling plan text first limit script threads session _ fails carried_out stalls reads so (DueBehind.whole none all) = λ emits. carried_out
-  session_caused telling plan text first limit script threads session _ fails carried_out stalls reads so (DueBehind.stalled waits none stalled) =
+      → Reads (script_file plan) before now script spelled → IsSession plan text first limit (rest spelled.threads first) session
+      → DueBehind members telling plan (rest spelled.threads first) session old new due → AreCaused due
+  session_caused telling plan text first limit script spelled session _ fails carried_out stalls reads so (DueBehind.whole none all) = λ emits. carried_out
+  session_caused telling plan text first limit script spelled session _ fails carried_out stalls reads so (DueBehind.stalled waits none stalled) =
       λ emits. Cause.stalled (stalls (record {
-        threads = threads;
+        spelled = spelled;
         read = reads;
         log = session.log;
         legal = so.legal;
         stalls = waits;
-        stalled = subst (λ (h : List Entry). AreStalled plan h session.log (rest threads first) waits) so.same_first stalled;
+        stalled = subst (λ (h : List Entry). AreStalled plan h session.log (rest spelled.threads first) waits) so.same_first stalled;
         text = subst (λ (h : List Entry). Emits before.emitted now.emitted (stalled_ending plan h session.log waits).text) so.same_first emits;
       }))
-  session_caused telling plan text first limit script threads session _ fails carried_out stalls reads so (DueBehind.failed some rose) = λ emits. fails rose
-  session_caused telling plan text first limit script threads session _ fails carried_out stalls reads so (DueBehind.no_memory none) = tt
+  session_caused telling plan text first limit script spelled session _ fails carried_out stalls reads so (DueBehind.failed some rose) = λ emits. fails rose
+  session_caused telling plan text first limit script spelled session _ fails carried_out stalls reads so (DueBehind.no_memory none) = tt
 
   -- ---- a plan that is to be run
 
@@ -144,21 +146,21 @@ module _ {D : Type 0} (members : Disk.Ghosts D) (words : List (List ℕ)) (befor
             rw is (caused_as (start_ending tree) (start_ending tree).status refl (start_caused tree (started (sites tree)) no_journal reads (no_script tree none) refl))
 
     -- a script behind the plan
-    behind_plan : (tree : Tree) (script : List ℕ) (Next : List Todo → Course → Due → Type 0) (course : Course) (due : Due) → HasScript words script
+    behind_plan : (tree : Tree) (script : List ℕ) (Next : Script → Course → Due → Type 0) (course : Course) (due : Due) → HasScript words script
         → Reads plan_file before now plan tree
-        → ((threads : List Todo) → Reads (script_file (sites tree)) before now script threads → Next threads course due → AreCaused due)
+        → ((read : Script) → Reads (script_file (sites tree)) before now script read → Next read course due → AreCaused due)
         → AfterFile (script_file (sites tree)) before now script Untouched Next course due → AreCaused due
     behind_plan tree script Next course due asks reads behind after =
-        after_operand (List Todo) (script_file (sites tree)) 4 HasScript script Untouched Next course due (script_kind (sites tree)) asks
+        after_operand Script (script_file (sites tree)) 4 HasScript script Untouched Next course due (script_kind (sites tree)) asks
         (λ r. Cause.script_refused (inl (plan, tree, has, reads, r))) (λ fails. Cause.read_fault (inr (inl (plan, tree, has, reads, fails)))) behind after
 
     dry_run_caused : (script : List ℕ) (course : Course) (due : Due) → HasScript words script → option_and_then journal_operand (command words) ≡ None
         → DryRunCalls plan script before now course due → AreCaused due
     dry_run_caused script course due asks no_journal after =
-        after_plan plan (λ tree. AfterFile (script_file (sites tree)) before now script Untouched (DryRunOf (sites tree))) course due has
-        (λ tree reads next. behind_plan tree script (DryRunOf (sites tree)) course due asks reads
-        (λ threads read dry. ended tree due (start_caused tree (started (sites tree)) no_journal reads (reads_script tree script threads asks read) refl)
-        (dry_run_status tree threads course due dry)) next) after
+        after_plan plan (λ tree. AfterFile (script_file (sites tree)) before now script Untouched (λ read. DryRunOf (sites tree) read.threads)) course due has
+        (λ tree reads next. behind_plan tree script (λ read. DryRunOf (sites tree) read.threads) course due asks reads
+        (λ spelled read dry. ended tree due (start_caused tree (started (sites tree)) no_journal reads (reads_script tree script spelled asks read) refl)
+        (dry_run_status tree spelled.threads course due dry)) next) after
       where
         ended : (tree : Tree) (d : Due) → Cause members words before now old new (start_ending tree).status
             → WhereDue (λ ending. ending.status ≡ (start_ending tree).status) d → AreCaused d
@@ -166,28 +168,28 @@ module _ {D : Type 0} (members : Disk.Ghosts D) (words : List (List ℕ)) (befor
         ended tree (Some ending) cause is = caused_as ending (start_ending tree).status is cause
 
     -- a journal behind them
-    new_caused : (tree : Tree) (text : List ℕ) (limit : ℕ) (script journal : List ℕ) (threads : List Todo) (course : Course) (due : Due)
+    new_caused : (tree : Tree) (text : List ℕ) (limit : ℕ) (script journal : List ℕ) (spelled : Script) (course : Course) (due : Due)
         → command words ≡ Some (Run plan script journal limit) → Reads plan_file before now plan tree
-        → Reads (script_file (sites tree)) before now script threads → Starts words before now (λ found. IsSome found) → HasJournal words
-        → NewCalls members tellings.Text (sites tree) text limit threads old new course due → AreCaused due
-    new_caused tree text limit script journal threads _ _ asked reads read starts has_journal (NewCalls.exists told) =
+        → Reads (script_file (sites tree)) before now script spelled → Starts words before now (λ found. IsSome found) → HasJournal words
+        → NewCalls members tellings.Text (sites tree) text limit spelled old new course due → AreCaused due
+    new_caused tree text limit script journal spelled _ _ asked reads read starts has_journal (NewCalls.exists told) =
         λ emits. Cause.journal_refused (inl (starts, has_journal, told))
-    new_caused tree text limit script journal threads _ _ asked reads read starts has_journal (NewCalls.half_made rose) =
+    new_caused tree text limit script journal spelled _ _ asked reads read starts has_journal (NewCalls.half_made rose) =
         λ emits. Cause.disk_fault has_journal (inr starts) rose
-    new_caused tree text limit script journal threads _ _ asked reads read starts has_journal (NewCalls.made session due nothing (so, behind)) =
-        session_caused _ (sites tree) text [] limit script threads session due (Cause.disk_fault has_journal (inr starts)) (Cause.done starts (λ has. nothing))
+    new_caused tree text limit script journal spelled _ _ asked reads read starts has_journal (NewCalls.made session due nothing (so, behind)) =
+        session_caused _ (sites tree) text [] limit script spelled session due (Cause.disk_fault has_journal (inr starts)) (Cause.done starts (λ has. nothing))
         (λ stalls. StallsOver.of_new plan script journal limit tree asked reads nothing stalls) read so behind
-    new_caused tree text limit script journal threads _ _ asked reads read starts has_journal NewCalls.no_memory = tt
+    new_caused tree text limit script journal spelled _ _ asked reads read starts has_journal NewCalls.no_memory = tt
 
-    run_caused : (tree : Tree) (text : List ℕ) (limit : ℕ) (script journal : List ℕ) (threads : List Todo) (course : Course) (due : Due)
+    run_caused : (tree : Tree) (text : List ℕ) (limit : ℕ) (script journal : List ℕ) (spelled : Script) (course : Course) (due : Due)
         (found : Option (World × ℕ)) → command words ≡ Some (Run plan script journal limit) → HasScript words script → HasJournal words
-        → Reads plan_file before now plan tree → Reads (script_file (sites tree)) before now script threads → started (sites tree) ≡ found
-        → RunCallsBy members tellings.Text (sites tree) text limit threads old new course due found → AreCaused due
-    run_caused tree text limit script journal threads course due None asked asks has_journal reads read is (untouched, ends) =
-        rw ends (caused_as runaway_at_start 6 refl (Cause.runaway (started_so tree (λ found. found ≡ None) reads (reads_script tree script threads asks read) is)))
-    run_caused tree text limit script journal threads course due (Some settled) asked asks has_journal reads read is calls =
-        new_caused tree text limit script journal threads course due asked reads read
-        (started_so tree (λ found. IsSome found) reads (reads_script tree script threads asks read) (rw is refl)) has_journal calls
+        → Reads plan_file before now plan tree → Reads (script_file (sites tree)) before now script spelled → started (sites tree) ≡ found
+        → RunCallsBy members tellings.Text (sites tree) text limit spelled old new course due found → AreCaused due
+    run_caused tree text limit script journal spelled course due None asked asks has_journal reads read is (untouched, ends) =
+        rw ends (caused_as runaway_at_start 6 refl (Cause.runaway (started_so tree (λ found. found ≡ None) reads (reads_script tree script spelled asks read) is)))
+    run_caused tree text limit script journal spelled course due (Some settled) asked asks has_journal reads read is calls =
+        new_caused tree text limit script journal spelled course due asked reads read
+        (started_so tree (λ found. IsSome found) reads (reads_script tree script spelled asks read) (rw is refl)) has_journal calls
 
     run_is_caused : (script journal : List ℕ) (limit : ℕ) (course : Course) (due : Due) → command words ≡ Some (Run plan script journal limit)
         → HasScript words script → HasJournal words → RunCalls members plan script limit before now old new course due → AreCaused due
@@ -195,7 +197,7 @@ module _ {D : Type 0} (members : Disk.Ghosts D) (words : List (List ℕ)) (befor
         after_operand (List ℕ × Tree) (with_text plan_file) 3 HasPlan plan Untouched _ course due (text_kind Tree plan_file 3 plan_kind) has
         (λ r. Cause.plan_refused r) (λ fails. Cause.read_fault (inl fails))
         (λ source reads next. behind_plan source.1 script _ course due asks (without_text before now plan source reads)
-        (λ threads read calls. run_caused source.1 source.0 limit script journal threads course due (started (sites source.1)) asked asks has_journal
+        (λ spelled read calls. run_caused source.1 source.0 limit script journal spelled course due (started (sites source.1)) asked asks has_journal
         (without_text before now plan source reads) read refl calls) next) after
 
   -- ---- a journal that is to be taken up
@@ -246,17 +248,25 @@ module _ {D : Type 0} (members : Disk.Ghosts D) (words : List (List ℕ)) (befor
             → AreCaused d
         ended tree first d carried_out is = rw is (λ emits. carried_out)
 
+    names_caused : (asked : List ℕ) (course : Course) (due : Due) → command words ≡ Some (Names asked) → NamesCalls members old new course due → AreCaused due
+    names_caused asked _ _ is (NamesCalls.not_read same) = tt
+    names_caused asked _ _ is NamesCalls.no_memory = tt
+    names_caused asked _ _ is (NamesCalls.disk_fails rose) = λ emits. Cause.disk_fault journal (inl reopens) rose
+    names_caused asked _ _ is (NamesCalls.no_journal_there ending none) = no_journal_caused ending none
+    names_caused asked _ _ is (NamesCalls.named text found told) = λ emits. Cause.named asked text found is told
+
     resume_caused : (script name : List ℕ) (limit : ℕ) (course : Course) (due : Due) → command words ≡ Some (Resume script name limit)
         → HasScript words script → ResumeCalls members script limit before now old new course due → AreCaused due
     resume_caused script name limit course due asked asks calls =
-        after_journal (λ text first tree. AfterFile (script_file (sites tree)) before now script (TakenUp text first) (λ threads c d.
-        (session : Session) × (c ≡ GoneOn session) × SessionCalls members tellings.Text (sites tree) text first limit (rest threads first) old new session d)) course due
-        (λ text first tree told compiled runs after. after_operand (List Todo) (script_file (sites tree)) 4 HasScript script (TakenUp text first) _ course due
+        after_journal (λ text first tree. AfterFile (script_file (sites tree)) before now script (TakenUp text first) (λ read c d.
+        (session : Session) × (naming : Naming) × (c ≡ GoneOn session naming) × WasFound members old text first read.names naming
+        × SessionCalls members tellings.Text (sites tree) text first limit (rest read.threads first) old new session d)) course due
+        (λ text first tree told compiled runs after. after_operand Script (script_file (sites tree)) 4 HasScript script (TakenUp text first) _ course due
         (script_kind (sites tree)) asks
         (λ r. Cause.script_refused (inr (taken_up text first tree (λ t h. OperandIsRefused (script_file (sites t)) HasScript words before now) told compiled r)))
         (λ fails. Cause.read_fault (inr (inr (taken_up text first tree (λ t h. FailsToRead HasScript words before now) told compiled fails))))
-        (λ threads read (session, is, (so, behind)). session_caused _ (sites tree) text first limit script threads session due (Cause.disk_fault journal (inl reopens))
-        (done_by text first tree told compiled runs (reads_script tree script threads asks read))
+        (λ spelled read (session, naming, is, found, (so, behind)). session_caused _ (sites tree) text first limit script spelled session due (Cause.disk_fault journal (inl reopens))
+        (done_by text first tree told compiled runs (reads_script tree script spelled asks read))
         (λ stalls. StallsOver.of_taken_up script name limit text first tree asked told compiled stalls) read so behind) after) calls
 
   -- ---- a soak
@@ -279,14 +289,14 @@ module _ {D : Type 0} (members : Disk.Ghosts D) (words : List (List ℕ)) (befor
       soaked_caused session _ nothing (DueBehind.no_memory none) = tt
 
       soak_made_caused : (text : List ℕ) (limit : ℕ) (course : Course) (due : Due)
-          → NewCalls members tellings.Summary (sites tree) text limit (soak_threads count seed) old new course due → AreCaused due
+          → NewCalls members tellings.Summary (sites tree) text limit (soak_lines count seed) old new course due → AreCaused due
       soak_made_caused text limit _ _ (NewCalls.exists told) = λ emits. Cause.journal_refused (inl (starts, soak_journal, told))
       soak_made_caused text limit _ _ (NewCalls.half_made rose) = λ emits. Cause.disk_fault soak_journal (inr starts) rose
       soak_made_caused text limit _ _ (NewCalls.made session due nothing (so, behind)) = soaked_caused session due nothing behind
       soak_made_caused text limit _ _ NewCalls.no_memory = tt
 
     soak_started_caused : (text : List ℕ) (limit : ℕ) (course : Course) (due : Due) (found : Option (World × ℕ)) → started (sites tree) ≡ found
-        → RunCallsBy members tellings.Summary (sites tree) text limit (soak_threads count seed) old new course due found → AreCaused due
+        → RunCallsBy members tellings.Summary (sites tree) text limit (soak_lines count seed) old new course due found → AreCaused due
     soak_started_caused text limit course due None is (untouched, ends) =
         rw ends (caused_as runaway_at_start 6 refl (Cause.runaway (soak_starts (λ found. found ≡ None) is)))
     soak_started_caused text limit course due (Some settled) is calls =
@@ -330,6 +340,8 @@ module _ {D : Type 0} (members : Disk.Ghosts D) (words : List (List ℕ)) (befor
       (ap (option_and_then script_operand) asks) calls
   caused_by (Some (Trace journal)) course due asks calls =
       trace_caused (ap (option_map takes_up) asks) (journal, ap (option_and_then journal_operand) asks) course due (ap (option_and_then script_operand) asks) calls
+  caused_by (Some (Names journal)) course due asks calls =
+      names_caused (ap (option_map takes_up) asks) (journal, ap (option_and_then journal_operand) asks) journal course due asks calls
   caused_by (Some (Soak count seed journal)) course due asks calls = soak_caused (count, seed, journal, asks) count seed course due calls
 
   pub caused : (course : Course) (ending : Ending) → CommandCallsFor members (command words) before now old new course (Some ending) → IsCaused ending

@@ -5,7 +5,7 @@ use Rattle.px_compile.specs.Compiled.{IsCompiled}
 use Rattle.px_compile.proofs.Refusals.{one_plan}
 use Rattle.px_core.specs.Plan.{Site, Tree, sites}
 use Rattle.px_event.specs.declared.entry.Entry.{Entry}
-use Rattle.px_journal.specs.Layout.{is_nothing, Stands}
+use Rattle.px_journal.specs.Layout.{is_nothing, entries, Stands}
 use Rattle.px_journal.proofs.Creating.{nothing_or_not}
 use Rattle.px_output.specs.View.{View, Faulted}
 use Rattle.px_ports.specs.Host.{Files, Rose}
@@ -13,26 +13,26 @@ use Rattle.px_ports.specs.declared.disk.Disk
 use Rattle.px_script.specs.Remainder.{rest}
 use Rattle.px_script.specs.Soak.{soak_threads}
 use Rattle.px_script.proofs.Soaks.{soak_never_stalls}
-use Rattle.px_script.specs.declared.todo.Todo.{Todo}
+use Rattle.px_script.specs.declared.script.Script.{Script}
 use Rattle.px_sem.specs.Log.{events_of}
 use Rattle.px_sem.specs.Run.{run, started}
 use Rattle.px_sem.specs.World.{World}
 use Rattle.px_session.specs.Session.{Session}
 use Rattle.px_words.specs.Limited.{event_limit}
-use Rattle.px_words.specs.Words.{Command, TraceStart, DryRun, Check, Format, Run, Resume, Trace, Soak, plan_operand, script_operand, journal_operand, takes_up, runs_plan, command}
+use Rattle.px_words.specs.Words.{Command, TraceStart, DryRun, Check, Format, Run, Resume, Trace, Names, Soak, plan_operand, script_operand, journal_operand, takes_up, runs_plan, command}
 use Rattle.px_run.specs.Causes.{HasPlan, HasScript, HasJournal, TakesUpJournal, IsSoak, AsksForRun, FailsToRead, status_behind, IsSound, IsComplete, RefusesFiles}
 use Rattle.px_run.specs.Course.{Course, Untouched, TakenUp, Due, EndsIn, AfterFile}
 use Rattle.px_run.specs.Ending.{Ending, of_start, start_ending, nodes_ending, session_ending, runaway_at_start}
 use Rattle.px_run.specs.Reading.{FileKind, with_text, Holds, HoldsNone}
 use Rattle.px_run.specs.Format.{LaysOut, layout_ending}
 use Rattle.px_run.specs.Headline.{CommandCallsFor, Delivers, Headline}
-use Rattle.px_run.specs.Journaled.{DueBehind, NewCalls, RunCallsBy, JournalRefuses, AfterJournal}
+use Rattle.px_run.specs.Journaled.{DueBehind, NewCalls, RunCallsBy, HasNoJournal, JournalRefuses, AfterJournal, NamesCalls}
 use Rattle.px_run.specs.Kinds.{plan_file, script_file}
-use Rattle.px_run.specs.Soak.{soak_plan, SoakCalls}
+use Rattle.px_run.specs.Soak.{soak_plan, soak_lines, SoakCalls}
 use Rattle.px_run.specs.declared.finishing.Telling.{Telling}
 use Rattle.px_run.specs.declared.finishing.Telling.TheVariants as tellings
 use Rattle.px_run.proofs.Causing.{dry_run_status}
-use Rattle.px_run.proofs.Excluding.{none_or_some, same_text, same_first, same_tree, never_refused, one_status}
+use Rattle.px_run.proofs.Excluding.{none_or_some, same_text, same_first, same_tree, never_none, never_refused, one_status}
 use Rattle.px_run.proofs.FileKinds.{IsKind, plan_kind, script_kind, text_kind, holds_text, held, none_held}
 use Rattle.px_run.proofs.SeenFiles.{WhereDue}
 
@@ -91,25 +91,25 @@ module _ {D : Type 0} (members : Disk.Ghosts D) (words : List (List ℕ)) (befor
     session_sound telling plan left session _ (DueBehind.no_memory none) = tt
 
     -- over a new journal, on a disk that was nothing
-    new_sound : (telling : Telling) (plan : List Site) (text : List ℕ) (limit : ℕ) (threads : List Todo) (course : Course) (due : Due) (bytes : List ℕ)
-        → members.content old ≡ Some bytes → IsTrue (is_nothing bytes) → NewCalls members telling plan text limit threads old new course due
+    new_sound : (telling : Telling) (plan : List Site) (text : List ℕ) (limit : ℕ) (script : Script) (course : Course) (due : Due) (bytes : List ℕ)
+        → members.content old ≡ Some bytes → IsTrue (is_nothing bytes) → NewCalls members telling plan text limit script old new course due
         → WhereDue (λ ending. OrStalled 0 ending.status) due
-    new_sound telling plan text limit threads _ _ bytes content nothing (NewCalls.exists told) =
+    new_sound telling plan text limit script _ _ bytes content nothing (NewCalls.exists told) =
         absurd (nothing_or_not (is_nothing bytes) nothing (told bytes content))
-    new_sound telling plan text limit threads _ _ bytes content nothing (NewCalls.half_made rose) = absurd (steady rose)
-    new_sound telling plan text limit threads _ _ bytes content nothing (NewCalls.made session due was (so, behind)) =
-        session_sound telling plan (rest threads []) session due behind
-    new_sound telling plan text limit threads _ _ bytes content nothing NewCalls.no_memory = tt
+    new_sound telling plan text limit script _ _ bytes content nothing (NewCalls.half_made rose) = absurd (steady rose)
+    new_sound telling plan text limit script _ _ bytes content nothing (NewCalls.made session due was (so, behind)) =
+        session_sound telling plan (rest script.threads []) session due behind
+    new_sound telling plan text limit script _ _ bytes content nothing NewCalls.no_memory = tt
 
     -- or on one that was something
-    new_refused : (telling : Telling) (plan : List Site) (text : List ℕ) (limit : ℕ) (threads : List Todo) (course : Course) (due : Due) (bytes : List ℕ)
-        → members.content old ≡ Some bytes → IsFalse (is_nothing bytes) → NewCalls members telling plan text limit threads old new course due
+    new_refused : (telling : Telling) (plan : List Site) (text : List ℕ) (limit : ℕ) (script : Script) (course : Course) (due : Due) (bytes : List ℕ)
+        → members.content old ≡ Some bytes → IsFalse (is_nothing bytes) → NewCalls members telling plan text limit script old new course due
         → WhereDue (λ ending. ending.status ≡ 5) due
-    new_refused telling plan text limit threads _ _ bytes content something (NewCalls.exists told) = refl
-    new_refused telling plan text limit threads _ _ bytes content something (NewCalls.half_made rose) = absurd (steady rose)
-    new_refused telling plan text limit threads _ _ bytes content something (NewCalls.made session due was (so, behind)) =
+    new_refused telling plan text limit script _ _ bytes content something (NewCalls.exists told) = refl
+    new_refused telling plan text limit script _ _ bytes content something (NewCalls.half_made rose) = absurd (steady rose)
+    new_refused telling plan text limit script _ _ bytes content something (NewCalls.made session due was (so, behind)) =
         absurd (nothing_or_not (is_nothing bytes) (was bytes content) something)
-    new_refused telling plan text limit threads _ _ bytes content something NewCalls.no_memory = tt
+    new_refused telling plan text limit script _ _ bytes content something NewCalls.no_memory = tt
 
     -- a soak over a new journal, on a disk that was nothing
     soak_session_sound : (plan : List Site) (count seed : ℕ) (session : Session) (due : Due)
@@ -122,7 +122,7 @@ module _ {D : Type 0} (members : Disk.Ghosts D) (words : List (List ℕ)) (befor
 
     soak_new_sound : (plan : List Site) (text : List ℕ) (limit count seed : ℕ) (course : Course) (due : Due) (bytes : List ℕ)
         → members.content old ≡ Some bytes → IsTrue (is_nothing bytes)
-        → NewCalls members tellings.Summary plan text limit (soak_threads count seed) old new course due → WhereDue (λ ending. ending.status ≡ 0) due
+        → NewCalls members tellings.Summary plan text limit (soak_lines count seed) old new course due → WhereDue (λ ending. ending.status ≡ 0) due
     soak_new_sound plan text limit count seed _ _ bytes content nothing (NewCalls.exists told) =
         absurd (nothing_or_not (is_nothing bytes) nothing (told bytes content))
     soak_new_sound plan text limit count seed _ _ bytes content nothing (NewCalls.half_made rose) = absurd (steady rose)
@@ -138,22 +138,22 @@ module _ {D : Type 0} (members : Disk.Ghosts D) (words : List (List ℕ)) (befor
 
     -- its start, and what comes of it
     soak_behind : (course : Course) (due : Due) → CommandCallsFor members (command words) before now old new course due
-        → WhereDue (λ ending. RunCallsBy members tellings.Summary (sites tree) soak_plan event_limit (soak_threads asked.0 asked.1) old new course (Some ending)
+        → WhereDue (λ ending. RunCallsBy members tellings.Summary (sites tree) soak_plan event_limit (soak_lines asked.0 asked.1) old new course (Some ending)
         (started (sites tree))) due
     soak_behind course due calls =
         by course due (subst (λ a. CommandCallsFor members a before now old new course due) asked.3 calls)
       where
         by : (c : Course) (d : Due) → SoakCalls members asked.0 asked.1 old new c d
-            → WhereDue (λ ending. RunCallsBy members tellings.Summary (sites tree) soak_plan event_limit (soak_threads asked.0 asked.1) old new c (Some ending)
+            → WhereDue (λ ending. RunCallsBy members tellings.Summary (sites tree) soak_plan event_limit (soak_lines asked.0 asked.1) old new c (Some ending)
             (started (sites tree))) d
         by _ _ (SoakCalls.starts other c None spells calls) = tt
         by _ _ (SoakCalls.starts other c (Some ending) spells calls) =
-            subst (λ t. RunCallsBy members tellings.Summary (sites t) soak_plan event_limit (soak_threads asked.0 asked.1) old new c (Some ending) (started (sites t)))
+            subst (λ t. RunCallsBy members tellings.Summary (sites t) soak_plan event_limit (soak_lines asked.0 asked.1) old new c (Some ending) (started (sites t)))
             (one_plan soak_plan other tree spells compiled) calls
         by _ _ SoakCalls.no_memory = tt
 
     soak_status : IsSound members words old new (λ bytes. IsTrue (is_nothing bytes)) → (course : Course) (ending : Ending) (found : Option (World × ℕ))
-        → RunCallsBy members tellings.Summary (sites tree) soak_plan event_limit (soak_threads asked.0 asked.1) old new course (Some ending) found
+        → RunCallsBy members tellings.Summary (sites tree) soak_plan event_limit (soak_lines asked.0 asked.1) old new course (Some ending) found
         → ending.status ≡ (of_start (sites tree) found).status
     soak_status journal course ending None ends = ending_is course Untouched ending runaway_at_start ends
     soak_status journal course ending (Some settled) calls =
@@ -161,36 +161,36 @@ module _ {D : Type 0} (members : Disk.Ghosts D) (words : List (List ℕ)) (befor
         soak_new_sound steady (sites tree) soak_plan event_limit asked.0 asked.1 course (Some ending) bytes content nothing calls
 
     soak_runs_away : started (sites tree) ≡ None → (course : Course) (ending : Ending)
-        → RunCallsBy members tellings.Summary (sites tree) soak_plan event_limit (soak_threads asked.0 asked.1) old new course (Some ending) (started (sites tree))
+        → RunCallsBy members tellings.Summary (sites tree) soak_plan event_limit (soak_lines asked.0 asked.1) old new course (Some ending) (started (sites tree))
         → ending.status ≡ 6
     soak_runs_away none course ending calls =
         ending_is course Untouched ending runaway_at_start
-        (subst (λ found. RunCallsBy members tellings.Summary (sites tree) soak_plan event_limit (soak_threads asked.0 asked.1) old new course (Some ending) found)
+        (subst (λ found. RunCallsBy members tellings.Summary (sites tree) soak_plan event_limit (soak_lines asked.0 asked.1) old new course (Some ending) found)
         none calls)
 
     soak_exists_status : IsSound members words old new (λ bytes. IsFalse (is_nothing bytes)) → (course : Course) (ending : Ending) (found : Option (World × ℕ))
         → IsSome found
-        → RunCallsBy members tellings.Summary (sites tree) soak_plan event_limit (soak_threads asked.0 asked.1) old new course (Some ending) found
+        → RunCallsBy members tellings.Summary (sites tree) soak_plan event_limit (soak_lines asked.0 asked.1) old new course (Some ending) found
         → ending.status ≡ 5
     soak_exists_status journal course ending None some ends = absurd (none_or_some {A = World × ℕ} None refl some)
     soak_exists_status journal course ending (Some settled) some calls =
         let ((bytes, content, something), steady) = journal soak_journal in
-        new_refused steady _ (sites tree) soak_plan event_limit (soak_threads asked.0 asked.1) course (Some ending) bytes content something calls
+        new_refused steady _ (sites tree) soak_plan event_limit (soak_lines asked.0 asked.1) course (Some ending) bytes content something calls
 
   module _ (files : Files) (told : before.files ≡ Some files) where
     -- ---- a script that the host holds, or that is none
 
-    module _ (plan : List Site) (readable : ¬ FailsToRead HasScript words before now) (so_far : Course) (Next : List Todo → Course → Due → Type 0)
+    module _ (plan : List Site) (readable : ¬ FailsToRead HasScript words before now) (so_far : Course) (Next : Script → Course → Due → Type 0)
         (name : List ℕ) (asks : HasScript words name) (course : Course) (ending : Ending)
         (after : AfterFile (script_file plan) before now name so_far Next course (Some ending)) where
-      behind_script : (threads : List Todo) → Holds (script_file plan) files name threads → Next threads course (Some ending)
-      behind_script threads holds =
-          held (List Todo) (script_file plan) 4 before now files name (script_kind plan) told (λ rose. readable (name, asks, rose)) so_far Next threads course
+      behind_script : (spelled : Script) → Holds (script_file plan) files name spelled → Next spelled course (Some ending)
+      behind_script spelled holds =
+          held Script (script_file plan) 4 before now files name (script_kind plan) told (λ rose. readable (name, asks, rose)) so_far Next spelled course
           (Some ending) holds after
 
       without_script : (other : List ℕ) → HasScript words other → HoldsNone (script_file plan) files other → ending.status ≡ 4
       without_script other also none =
-          none_held (List Todo) (script_file plan) 4 before now files name (script_kind plan) told (λ rose. readable (name, asks, rose)) so_far Next course
+          none_held Script (script_file plan) 4 before now files name (script_kind plan) told (λ rose. readable (name, asks, rose)) so_far Next course
           (Some ending) (subst (λ n. HoldsNone (script_file plan) files n) (one_script_asked other name also asks) none) after
 
     -- ---- a plan that the host holds, or that is none
@@ -227,6 +227,7 @@ module _ {D : Type 0} (members : Disk.Ghosts D) (words : List (List ℕ)) (befor
           without_plan (List ℕ × Tree) (with_text plan_file) text_of_kind _ other (ap (option_and_then plan_operand) is) course ending calls none
       plan_refused_by none (Some (Resume script journal limit)) course ending is calls = absurd (plan_or_none plan has (ap (option_and_then plan_operand) is))
       plan_refused_by none (Some (Trace journal)) course ending is calls = absurd (plan_or_none plan has (ap (option_and_then plan_operand) is))
+      plan_refused_by none (Some (Names journal)) course ending is calls = absurd (plan_or_none plan has (ap (option_and_then plan_operand) is))
       plan_refused_by none (Some (Soak count seed journal)) course ending is calls = absurd (plan_or_none plan has (ap (option_and_then plan_operand) is))
 
       module _ (tree : Tree) (holds : Holds plan_file files plan tree) (script_readable : ¬ FailsToRead HasScript words before now) where
@@ -257,10 +258,12 @@ module _ {D : Type 0} (members : Disk.Ghosts D) (words : List (List ℕ)) (befor
             absurd (plan_or_none plan has (ap (option_and_then plan_operand) is))
         script_refused_by name asks none (Some (Trace journal)) course ending is calls =
             absurd (plan_or_none plan has (ap (option_and_then plan_operand) is))
+        script_refused_by name asks none (Some (Names journal)) course ending is calls =
+            absurd (script_or_none name asks (ap (option_and_then script_operand) is))
         script_refused_by name asks none (Some (Soak count seed journal)) course ending is calls =
             absurd (script_or_none name asks (ap (option_and_then script_operand) is))
 
-        module _ (scripts : (name : List ℕ) → HasScript words name → (threads : List Todo) × Holds (script_file (sites tree)) files name threads) where
+        module _ (scripts : (name : List ℕ) → HasScript words name → (held : Script) × Holds (script_file (sites tree)) files name held) where
           -- the calls of a run behind its files
           run_behind : (other script journal : List ℕ) (limit : ℕ) (course : Course) (ending : Ending) → HasPlan words other → (asks : HasScript words script)
               → Calls (Some (Run other script journal limit)) course ending
@@ -272,13 +275,13 @@ module _ {D : Type 0} (members : Disk.Ghosts D) (words : List (List ℕ)) (befor
 
           module _ (journal : IsSound members words old new (λ bytes. IsTrue (is_nothing bytes))) where
             -- the start of a plan behind a disk that is nothing and doesn't fail
-            start_sound : HasJournal words → (text : List ℕ) (limit : ℕ) (threads : List Todo) (course : Course) (ending : Ending) (found : Option (World × ℕ))
-                → RunCallsBy members tellings.Text (sites tree) text limit threads old new course (Some ending) found
+            start_sound : HasJournal words → (text : List ℕ) (limit : ℕ) (script : Script) (course : Course) (ending : Ending) (found : Option (World × ℕ))
+                → RunCallsBy members tellings.Text (sites tree) text limit script old new course (Some ending) found
                 → OrStalled (of_start (sites tree) found).status ending.status
-            start_sound has_journal text limit threads course ending None ends = inl (ending_is course Untouched ending runaway_at_start ends)
-            start_sound has_journal text limit threads course ending (Some settled) calls =
+            start_sound has_journal text limit script course ending None ends = inl (ending_is course Untouched ending runaway_at_start ends)
+            start_sound has_journal text limit script course ending (Some settled) calls =
                 let ((bytes, content, nothing), steady) = journal has_journal in
-                new_sound steady _ (sites tree) text limit threads course (Some ending) bytes content nothing calls
+                new_sound steady _ (sites tree) text limit script course (Some ending) bytes content nothing calls
 
             complete_by : (asked : Option Command) (course : Course) (ending : Ending) → command words ≡ asked → Calls asked course ending
                 → OrStalled (status_behind asked tree) ending.status
@@ -288,7 +291,7 @@ module _ {D : Type 0} (members : Disk.Ghosts D) (words : List (List ℕ)) (befor
                 (behind_plan Tree plan_file plan_kind _ other (ap (option_and_then plan_operand) is) course ending calls tree holds))
             complete_by (Some (DryRun other script)) course ending is (same, calls) =
                 let asks : HasScript words script = ap (option_and_then script_operand) is in
-                inl (dry_run_status tree (scripts script asks).0 course (Some ending)
+                inl (dry_run_status tree (scripts script asks).0.threads course (Some ending)
                 (behind_script (sites tree) script_readable Untouched _ script asks course ending
                 (behind_plan Tree plan_file plan_kind _ other (ap (option_and_then plan_operand) is) course ending calls tree holds)
                 (scripts script asks).0 (scripts script asks).1))
@@ -305,6 +308,7 @@ module _ {D : Type 0} (members : Disk.Ghosts D) (words : List (List ℕ)) (befor
                 (run_behind other script name limit course ending (ap (option_and_then plan_operand) is) asks calls)
             complete_by (Some (Resume script name limit)) course ending is calls = absurd (plan_or_none plan has (ap (option_and_then plan_operand) is))
             complete_by (Some (Trace name)) course ending is calls = absurd (plan_or_none plan has (ap (option_and_then plan_operand) is))
+            complete_by (Some (Names name)) course ending is calls = absurd (plan_or_none plan has (ap (option_and_then plan_operand) is))
             complete_by (Some (Soak count seed name)) course ending is calls = absurd (plan_or_none plan has (ap (option_and_then plan_operand) is))
 
           -- a start that doesn't settle
@@ -317,7 +321,7 @@ module _ {D : Type 0} (members : Disk.Ghosts D) (words : List (List ℕ)) (befor
               ∙ ap (λ found. (of_start (sites tree) found).status) none
           runs_away_by runs none (Some (DryRun other script)) course ending is (same, calls) =
               let asks : HasScript words script = ap (option_and_then script_operand) is in
-              dry_run_status tree (scripts script asks).0 course (Some ending)
+              dry_run_status tree (scripts script asks).0.threads course (Some ending)
               (behind_script (sites tree) script_readable Untouched _ script asks course ending
               (behind_plan Tree plan_file plan_kind _ other (ap (option_and_then plan_operand) is) course ending calls tree holds)
               (scripts script asks).0 (scripts script asks).1)
@@ -331,17 +335,18 @@ module _ {D : Type 0} (members : Disk.Ghosts D) (words : List (List ℕ)) (befor
               (run_behind other script name limit course ending (ap (option_and_then plan_operand) is) asks calls))
           runs_away_by runs none (Some (Resume script name limit)) course ending is calls = absurd (plan_or_none plan has (ap (option_and_then plan_operand) is))
           runs_away_by runs none (Some (Trace name)) course ending is calls = absurd (plan_or_none plan has (ap (option_and_then plan_operand) is))
+          runs_away_by runs none (Some (Names name)) course ending is calls = absurd (plan_or_none plan has (ap (option_and_then plan_operand) is))
           runs_away_by runs none (Some (Soak count seed name)) course ending is calls = absurd (plan_or_none plan has (ap (option_and_then plan_operand) is))
 
           module _ (has_journal : HasJournal words) (starts : IsSome (started (sites tree)))
               (journal : IsSound members words old new (λ bytes. IsFalse (is_nothing bytes))) where
             -- the start of a plan behind a journal that doesn't fail
-            start_refused : (text : List ℕ) (limit : ℕ) (threads : List Todo) (course : Course) (ending : Ending) (found : Option (World × ℕ)) → IsSome found
-                → RunCallsBy members tellings.Text (sites tree) text limit threads old new course (Some ending) found → ending.status ≡ 5
-            start_refused text limit threads course ending None some ends = absurd (none_or_some {A = World × ℕ} None refl some)
-            start_refused text limit threads course ending (Some settled) some calls =
+            start_refused : (text : List ℕ) (limit : ℕ) (script : Script) (course : Course) (ending : Ending) (found : Option (World × ℕ)) → IsSome found
+                → RunCallsBy members tellings.Text (sites tree) text limit script old new course (Some ending) found → ending.status ≡ 5
+            start_refused text limit script course ending None some ends = absurd (none_or_some {A = World × ℕ} None refl some)
+            start_refused text limit script course ending (Some settled) some calls =
                 let ((bytes, content, something), steady) = journal has_journal in
-                new_refused steady _ (sites tree) text limit threads course (Some ending) bytes content something calls
+                new_refused steady _ (sites tree) text limit script course (Some ending) bytes content something calls
 
             exists_by : (asked : Option Command) (course : Course) (ending : Ending) → command words ≡ asked → Calls asked course ending → ending.status ≡ 5
             exists_by None course ending is calls = absurd (plan_or_none plan has (ap (option_and_then plan_operand) is))
@@ -355,9 +360,31 @@ module _ {D : Type 0} (members : Disk.Ghosts D) (words : List (List ℕ)) (befor
                 (run_behind other script name limit course ending (ap (option_and_then plan_operand) is) asks calls)
             exists_by (Some (Resume script name limit)) course ending is calls = absurd (plan_or_none plan has (ap (option_and_then plan_operand) is))
             exists_by (Some (Trace name)) course ending is calls = absurd (plan_or_none plan has (ap (option_and_then plan_operand) is))
+            exists_by (Some (Names name)) course ending is calls = absurd (plan_or_none plan has (ap (option_and_then plan_operand) is))
             exists_by (Some (Soak count seed name)) course ending is calls = absurd (plan_or_none plan has (ap (option_and_then plan_operand) is))
 
   -- ---- a journal
+
+  -- whose names are told
+  module _ (bytes : List ℕ) (content : members.content old ≡ Some bytes) (steady : ¬ Rose (members.faults old) (members.faults new)) where
+    names_sound : (text : List ℕ) (first : List Entry) → Stands bytes text first → (course : Course) (due : Due) → NamesCalls members old new course due
+        → WhereDue (λ ending. ending.status ≡ 0) due
+    names_sound text first stands _ _ (NamesCalls.not_read same) = tt
+    names_sound text first stands _ _ NamesCalls.no_memory = tt
+    names_sound text first stands _ _ (NamesCalls.disk_fails rose) = absurd (steady rose)
+    names_sound text first stands _ _ (NamesCalls.no_journal_there ending none) = absurd (never_none members old bytes text first content stands ending none)
+    names_sound text first stands _ _ (NamesCalls.named other found told) = refl
+
+    -- or can't be
+    names_refused : (why : Ending) → HasNoJournal members old why → (course : Course) (due : Due) → NamesCalls members old new course due
+        → WhereDue (λ ending. ending.status ≡ why.status) due
+    names_refused why none _ _ (NamesCalls.not_read same) = tt
+    names_refused why none _ _ NamesCalls.no_memory = tt
+    names_refused why none _ _ (NamesCalls.disk_fails rose) = absurd (steady rose)
+    names_refused why none _ _ (NamesCalls.no_journal_there ending also) = one_status members old bytes why ending content (inl none) (inl also)
+    names_refused why none _ _ (NamesCalls.named text found told) =
+        let (version, stands) = told bytes content in
+        absurd (never_none members old bytes text (entries found) content (record { version = version; named = found; stands = stands; entries_are = refl }) why none)
 
   module _ (reopens : TakesUpJournal words) (has_journal : HasJournal words) (bytes : List ℕ)
       (content : members.content old ≡ Some bytes) (steady : ¬ Rose (members.faults old) (members.faults new)) where
@@ -380,7 +407,7 @@ module _ {D : Type 0} (members : Disk.Ghosts D) (words : List (List ℕ)) (befor
           (subst (λ b. Next b others found course (Some ending)) (same_text members old bytes text first tree content stands compiled other others so) next))
 
       taken_up_by : ((name : List ℕ) → HasScript words name
-          → (files : Files) × (before.files ≡ Some files) × ((threads : List Todo) × Holds (script_file (sites tree)) files name threads))
+          → (files : Files) × (before.files ≡ Some files) × ((held : Script) × Holds (script_file (sites tree)) files name held))
           → ¬ FailsToRead HasScript words before now → (asked : Option Command) (course : Course) (ending : Ending) → command words ≡ asked
           → Calls asked course ending → OrStalled 0 ending.status
       taken_up_by scripts readable None course ending is calls = absurd (journal_or_none has_journal (ap (option_and_then journal_operand) is))
@@ -392,12 +419,13 @@ module _ {D : Type 0} (members : Disk.Ghosts D) (words : List (List ℕ)) (befor
           absurd (reopens_or_not reopens (ap (option_map takes_up) is))
       taken_up_by scripts readable (Some (Resume script name limit)) course ending is calls =
           let asks : HasScript words script = ap (option_and_then script_operand) is in
-          let (files, told, (threads, holds)) = scripts script asks in
-          let (session, gone_on, (so, behind)) =
-          behind_script files told (sites tree) readable (TakenUp text first) _ script asks course ending (taken_up _ course (Some ending) calls) threads holds in
-          session_sound steady _ (sites tree) (rest threads first) session (Some ending) behind
+          let (files, told, (spelled, holds)) = scripts script asks in
+          let (session, naming, gone_on, found, (so, behind)) =
+          behind_script files told (sites tree) readable (TakenUp text first) _ script asks course ending (taken_up _ course (Some ending) calls) spelled holds in
+          session_sound steady _ (sites tree) (rest spelled.threads first) session (Some ending) behind
       taken_up_by scripts readable (Some (Trace name)) course ending is calls =
           inl (ending_is course (TakenUp text first) ending (session_ending (sites tree) first []) (taken_up _ course (Some ending) calls))
+      taken_up_by scripts readable (Some (Names name)) course ending is calls = inl (names_sound bytes content steady text first stands course (Some ending) calls)
       taken_up_by scripts readable (Some (Soak count seed name)) course ending is calls = absurd (reopens_or_not reopens (ap (option_map takes_up) is))
 
       -- behind which the script is none
@@ -420,6 +448,8 @@ module _ {D : Type 0} (members : Disk.Ghosts D) (words : List (List ℕ)) (befor
           (taken_up _ course (Some ending) calls) name asks none
       script_refused_behind name files asks told none readable (Some (Trace journal)) course ending is calls =
           absurd (script_or_none name asks (ap (option_and_then script_operand) is))
+      script_refused_behind name files asks told none readable (Some (Names journal)) course ending is calls =
+          absurd (script_or_none name asks (ap (option_and_then script_operand) is))
       script_refused_behind name files asks told none readable (Some (Soak count seed journal)) course ending is calls =
           absurd (script_or_none name asks (ap (option_and_then script_operand) is))
 
@@ -436,23 +466,24 @@ module _ {D : Type 0} (members : Disk.Ghosts D) (words : List (List ℕ)) (befor
       never_taken_up Next _ _ (AfterJournal.opened text first tree course due so compiled runs next) =
           absurd (never_refused members old bytes text first tree content (so bytes content) compiled why runs refuses)
 
-      journal_refused_by : (asked : Option Command) (course : Course) (ending : Ending) → command words ≡ asked → Calls asked course ending
+      journal_refused_by : AsksForRun words → (asked : Option Command) (course : Course) (ending : Ending) → command words ≡ asked → Calls asked course ending
           → ending.status ≡ why.status
-      journal_refused_by None course ending is calls = absurd (journal_or_none has_journal (ap (option_and_then journal_operand) is))
-      journal_refused_by (Some (TraceStart plan)) course ending is calls = absurd (reopens_or_not reopens (ap (option_map takes_up) is))
-      journal_refused_by (Some (DryRun plan script)) course ending is calls = absurd (reopens_or_not reopens (ap (option_map takes_up) is))
-      journal_refused_by (Some (Check plan)) course ending is calls = absurd (reopens_or_not reopens (ap (option_map takes_up) is))
-      journal_refused_by (Some (Format plan)) course ending is calls = absurd (reopens_or_not reopens (ap (option_map takes_up) is))
-      journal_refused_by (Some (Run plan script name limit)) course ending is calls = absurd (reopens_or_not reopens (ap (option_map takes_up) is))
-      journal_refused_by (Some (Resume script name limit)) course ending is calls = never_taken_up _ course (Some ending) calls
-      journal_refused_by (Some (Trace name)) course ending is calls = never_taken_up _ course (Some ending) calls
-      journal_refused_by (Some (Soak count seed name)) course ending is calls = absurd (reopens_or_not reopens (ap (option_map takes_up) is))
+      journal_refused_by runs None course ending is calls = absurd (journal_or_none has_journal (ap (option_and_then journal_operand) is))
+      journal_refused_by runs (Some (TraceStart plan)) course ending is calls = absurd (reopens_or_not reopens (ap (option_map takes_up) is))
+      journal_refused_by runs (Some (DryRun plan script)) course ending is calls = absurd (reopens_or_not reopens (ap (option_map takes_up) is))
+      journal_refused_by runs (Some (Check plan)) course ending is calls = absurd (reopens_or_not reopens (ap (option_map takes_up) is))
+      journal_refused_by runs (Some (Format plan)) course ending is calls = absurd (reopens_or_not reopens (ap (option_map takes_up) is))
+      journal_refused_by runs (Some (Run plan script name limit)) course ending is calls = absurd (reopens_or_not reopens (ap (option_map takes_up) is))
+      journal_refused_by runs (Some (Resume script name limit)) course ending is calls = never_taken_up _ course (Some ending) calls
+      journal_refused_by runs (Some (Trace name)) course ending is calls = never_taken_up _ course (Some ending) calls
+      journal_refused_by runs (Some (Names name)) course ending is calls = absurd (let both = sym runs ∙ ap (option_map runs_plan) is in cc)
+      journal_refused_by runs (Some (Soak count seed name)) course ending is calls = absurd (reopens_or_not reopens (ap (option_map takes_up) is))
 
   module _ (status : ℕ) (headline : Headline members words before now old new status) where
     journal_complete : (text : List ℕ) (first : List Entry) (tree : Tree) → TakesUpJournal words → HasJournal words
         → IsCompiled text tree → IsSome (run (sites tree) (events_of first))
         → ((name : List ℕ) → HasScript words name
-        → (files : Files) × (before.files ≡ Some files) × ((threads : List Todo) × Holds (script_file (sites tree)) files name threads))
+        → (files : Files) × (before.files ≡ Some files) × ((held : Script) × Holds (script_file (sites tree)) files name held))
         → IsSound members words old new (λ bytes. Stands bytes text first) → ¬ FailsToRead HasScript words before now → ¬ Faulted before now
         → (status ≡ 10) ⊎ OrStalled 0 status
     journal_complete text first tree reopens has_journal compiled runs scripts journal readable sound =
@@ -481,6 +512,11 @@ module _ {D : Type 0} (members : Disk.Ghosts D) (words : List (List ℕ)) (befor
           sound_status members words before now old new (λ s. s ≡ (start_ending tree).status) status headline sound
           (λ course ending calls. soak_status asked tree compiled journal course ending (started (sites tree))
           (soak_behind asked tree compiled course (Some ending) calls));
+      names = λ name asked journal sound.
+          let ((bytes, content, (text, first, stands)), steady) = journal (name, ap (option_and_then journal_operand) asked) in
+          sound_status members words before now old new (λ s. s ≡ 0) status headline sound
+          (λ course ending calls. names_sound bytes content steady text first stands course (Some ending)
+          (subst (λ a. CommandCallsFor members a before now old new course (Some ending)) asked calls));
       journal = journal_complete;
     }
 
@@ -505,8 +541,12 @@ module _ {D : Type 0} (members : Disk.Ghosts D) (words : List (List ℕ)) (befor
           sound_status members words before now old new (λ s. s ≡ 5) status headline sound
           (λ course ending calls. soak_exists_status asked tree compiled journal course ending (started (sites tree)) starts
           (soak_behind asked tree compiled course (Some ending) calls));
-      journal = λ why reopens has_journal refuses told steady sound.
+      journal = λ why reopens runs has_journal refuses told steady sound.
           sound_status members words before now old new (λ s. s ≡ why.status) status headline sound
-          (λ course ending calls. journal_refused_by reopens has_journal told.0 told.1 steady why refuses (command words) course ending refl calls);
+          (λ course ending calls. journal_refused_by reopens has_journal told.0 told.1 steady why refuses runs (command words) course ending refl calls);
+      names = λ journal why asked none told steady sound.
+          sound_status members words before now old new (λ s. s ≡ why.status) status headline sound
+          (λ course ending calls. names_refused told.0 told.1 steady why none course (Some ending)
+          (subst (λ a. CommandCallsFor members a before now old new course (Some ending)) asked calls));
       script_behind_journal = script_behind;
     }

@@ -8,8 +8,8 @@ use Rattle.px_output.specs.declared.printer.PrintFault.TheVariants.{SinkFailed}
 use Rattle.px_output.specs.Printing.{Prints}
 use Rattle.px_output.specs.View.{View, Faulted, EmitsPart, OnlyPrints, KeepsFiles}
 use Rattle.px_output.proofs.Printed.{emits_nothing, emitted_whole, emitted_part, piece_printed}
-use Rattle.px_script.specs.declared.todo.Todo.{Todo}
-use Rattle.px_words.specs.Words.{Command, TraceStart, DryRun, Check, Format, Run, Resume, Trace, Soak, command}
+use Rattle.px_script.specs.declared.script.Script.{Script}
+use Rattle.px_words.specs.Words.{Command, TraceStart, DryRun, Check, Format, Run, Resume, Trace, Names, Soak, command}
 use Rattle.px_run.specs.declared.ending.End.{End}
 use Rattle.px_run.specs.declared.ending.Refusal.{Refusal}
 use Rattle.px_run.specs.declared.ending.Stop.{Stop}
@@ -55,7 +55,7 @@ module _ (before mid now : View) (only : OnlyPrints mid now) where
     calls_later (Some (DryRun plan script)) course due (same, calls) = (
       same,
       later Tree plan_file plan Untouched _ _ course due
-          (λ tree next. later (List Todo) (script_file (sites tree)) script Untouched _ _ course due (λ threads ends. ends) next) calls,
+          (λ tree next. later Script (script_file (sites tree)) script Untouched _ _ course due (λ read ends. ends) next) calls,
     )
     calls_later (Some (Check plan)) course due (same, calls) =
         (same, later Tree plan_file plan Untouched _ _ course due (λ tree ends. ends) calls)
@@ -63,11 +63,12 @@ module _ (before mid now : View) (only : OnlyPrints mid now) where
         (same, later (List ℕ × Tree) (with_text plan_file) plan Untouched _ _ course due (λ source laid. laid) calls)
     calls_later (Some (Run plan script journal limit)) course due calls =
         later (List ℕ × Tree) (with_text plan_file) plan Untouched _ _ course due
-        (λ source next. later (List Todo) (script_file (sites source.1)) script Untouched _ _ course due (λ threads ends. ends) next) calls
+        (λ source next. later Script (script_file (sites source.1)) script Untouched _ _ course due (λ read ends. ends) next) calls
     calls_later (Some (Resume script journal limit)) course due calls =
         after_journal_later _ _ course due
-        (λ text first tree c d next. later (List Todo) (script_file (sites tree)) script (TakenUp text first) _ _ c d (λ threads ends. ends) next) calls
+        (λ text first tree c d next. later Script (script_file (sites tree)) script (TakenUp text first) _ _ c d (λ read ends. ends) next) calls
     calls_later (Some (Trace journal)) course due calls = calls
+    calls_later (Some (Names journal)) course due calls = calls
     calls_later (Some (Soak count seed journal)) course due calls = calls
 
 faulted_after : (before mid now : View) → KeepsFiles before mid → Faulted mid now → Faulted before now

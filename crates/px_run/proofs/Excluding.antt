@@ -59,6 +59,12 @@ runs_to_its_end plan history at away some =
 pub stands_something : (bytes text : List ℕ) (history : List Entry) → Stands bytes text history → IsTrue (is_nothing bytes) → ⊥
 stands_something bytes text history stands nothing = nothing_or_not (is_nothing bytes) nothing (stands_not_nothing bytes text history stands)
 
+-- where it stands, one is there and undamaged
+pub never_none : {D : Type 0} (members : Disk.Ghosts D) (disk : D) (bytes text : List ℕ) (first : List Entry) → members.content disk ≡ Some bytes
+    → Stands bytes text first → (ending : Ending) → HasNoJournal members disk ending → ⊥
+never_none members disk bytes text first told stands _ (HasNoJournal.nothing nothing) = stands_something bytes text first stands (nothing bytes told)
+never_none members disk bytes text first told stands _ (HasNoJournal.damaged at damaged) = undamaged bytes text first stands at ((damaged bytes told).1)
+
 -- ---- refusals of a disk
 
 -- the start of this plan doesn't settle, or an event of this history doesn't
@@ -80,8 +86,7 @@ module _ {D : Type 0} (members : Disk.Ghosts D) (disk : D) (bytes text : List �
 
   -- it is refused only where its plan or its history runs away
   pub only_runs_away : (ending : Ending) → JournalRefuses members disk ending → RunsAway tree first ending
-  only_runs_away _ (inl (HasNoJournal.nothing nothing)) = absurd (stands_something bytes text first stands (nothing bytes told))
-  only_runs_away _ (inl (HasNoJournal.damaged at damaged)) = absurd (undamaged bytes text first stands at ((damaged bytes told).1))
+  only_runs_away ending (inl none) = absurd (never_none members disk bytes text first told stands ending none)
   only_runs_away _ (inr (other, others, so, CannotRun.no_plan fault some refused)) =
       absurd (no_refused_plan other tree fault (subst (λ t. IsCompiled t tree) (sym (same_text other others so)) compiled) some refused)
   only_runs_away _ (inr (other, others, so, CannotRun.start_runs_away found spells is)) =

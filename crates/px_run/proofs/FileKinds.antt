@@ -6,6 +6,8 @@ use Rattle.px_core.specs.Plan.{Site, Tree}
 use Rattle.px_output.specs.View.{View}
 use Rattle.px_ports.specs.Host.{Files}
 use Rattle.px_script.specs.Script.{Threads, Fault, script}
+use Rattle.px_event.specs.declared.names.ThreadName.{ThreadName}
+use Rattle.px_script.specs.declared.script.Script.{Script}
 use Rattle.px_script.specs.declared.todo.Todo.{Todo}
 use Rattle.px_syntax.specs.declared.fault.PlanFault.{PlanFault}
 use Rattle.px_syntax.specs.declared.fault.PlanFault.TheVariants.{NoMemory}
@@ -34,7 +36,7 @@ plan_kind = record {
   never = λ bytes a ending s r. no_refused_plan bytes a r.0 s r.1 r.2;
 }
 
-pub script_kind : (plan : List Site) → IsKind (List Todo) (script_file plan) 4
+pub script_kind : (plan : List Site) → IsKind Script (script_file plan) 4
 script_kind plan = record {
   too_long = refl;
   refused = λ bytes ending r. ap (λ e. e.status) r.3;
@@ -42,10 +44,17 @@ script_kind plan = record {
   never = λ bytes a ending s r. none bytes a r.0 r.1 s r.2;
 }
   where
-    same : (bytes : List ℕ) (a b : List Todo) → script plan bytes ≡ Threads a → script plan bytes ≡ Threads b → a ≡ b
-    same bytes a b s t = let both = sym s ∙ t in cc
+    of : List Todo → List ThreadName → Script
+    of threads names = record { threads = threads; names = names }
 
-    none : (bytes : List ℕ) (a : List Todo) (number kind : ℕ) → script plan bytes ≡ Threads a → script plan bytes ≡ Fault number kind → ⊥
+    same : (bytes : List ℕ) (a b : Script) → script plan bytes ≡ Threads a.threads a.names → script plan bytes ≡ Threads b.threads b.names → a ≡ b
+    same bytes a b s t =
+        let both = sym s ∙ t in
+        let threads : a.threads ≡ b.threads = cc in
+        let names : a.names ≡ b.names = cc in
+        ap (λ threads. of threads a.names) threads ∙ ap (of b.threads) names
+
+    none : (bytes : List ℕ) (a : Script) (number kind : ℕ) → script plan bytes ≡ Threads a.threads a.names → script plan bytes ≡ Fault number kind → ⊥
     none bytes a number kind s f = let both = sym s ∙ f in cc
 
 -- a file whose text is asked for too

@@ -120,6 +120,7 @@ module _ {S D : Type 0} (runs : Stepper.Ghosts S) (members : Disk.Ghosts D) (tel
     };
     performs = performs;
     leaves = λ tells. p.disk tells text is;
+    names = λ tells found was. p.names tells text found was;
     goes = goes;
   }
 

@@ -5,9 +5,11 @@ pub mod Delivering
 pub mod Excluding
 pub mod FileKinds
 pub mod Finished
+pub mod Named
 pub mod OverStops
 pub mod Performing
 pub mod Preparing
+pub mod ReadNames
 pub mod SeenFiles
 pub mod Resumed
 pub mod Returning

@@ -7,7 +7,7 @@ use Rattle.px_exec.proofs.Keeping.{told_of}
 use Rattle.px_exec.specs.Executive.{TellsBytes}
 use Rattle.px_journal.proofs.Meaning.{one_meaning_history}
 use Rattle.px_journal.specs.Journal.{IsUnwritten}
-use Rattle.px_journal.specs.Layout.{is_nothing}
+use Rattle.px_journal.specs.Layout.{is_nothing, entries}
 use Rattle.px_output.specs.View.{View}
 use Rattle.px_ports.specs.Moment.{LeftSince}
 use Rattle.px_ports.specs.declared.disk.Disk
@@ -25,16 +25,16 @@ use Rattle.px_sem.specs.World.{World}
 use Rattle.px_session.proofs.Closed.{ReadsAreLeft}
 use Rattle.px_session.specs.Creating.{LeavesNew}
 use Rattle.px_session.specs.Session.{Session, unsure, longest_of, IsFront, LeavesFronts}
-use Rattle.px_words.specs.Words.{Command, TraceStart, DryRun, Check, Format, Run, Resume, Trace, Soak, script_operand, command}
+use Rattle.px_words.specs.Words.{Command, TraceStart, DryRun, Check, Format, Run, Resume, Trace, Names, Soak, script_operand, command}
 use Rattle.px_run.proofs.Excluding.{stands_something}
 use Rattle.px_run.proofs.Running.{left_at_end}
 use Rattle.px_run.specs.Course.{Course, Untouched, TakenUp, Due, EndsIn, AfterFile, Leaves}
 use Rattle.px_run.specs.Ending.{Ending}
 use Rattle.px_run.specs.Reading.{FileKind, Reads, with_text}
 use Rattle.px_run.specs.Headline.{CommandCallsFor, Headline}
-use Rattle.px_run.specs.Journaled.{IsSession, StandsFor, NewCalls, RunCalls, RunCallsBy, AfterJournal, ResumeCalls, TraceCalls}
+use Rattle.px_run.specs.Journaled.{IsSession, StandsFor, NewCalls, RunCalls, RunCallsBy, AfterJournal, ResumeCalls, TraceCalls, NamesCalls}
 use Rattle.px_run.specs.Kinds.{plan_file, script_file}
-use Rattle.px_run.specs.Soak.{SoakCalls}
+use Rattle.px_run.specs.Soak.{soak_lines, SoakCalls}
 use Rattle.px_run.specs.declared.finishing.Telling.{Telling}
 use Rattle.px_run.specs.OverStops.{IsSoundImage, ReadsOnly, AreSoundNow, AreSoundSince, AfterCalls}
 
@@ -119,25 +119,25 @@ module _ {D : Type 0} (members : Disk.Ghosts D) (read_left : ReadsAreLeft member
   ended_sound : (so_far : Course) (ending : Ending) (course : Course) (due : Due) → LeavesSound so_far → EndsIn so_far ending course due → LeavesSound course
   ended_sound so_far ending course due here (same, is) leaves = here (subst (λ (c : Course). Leaves members old new c) same leaves)
 
-  new_sound : (telling : Telling) (plan : List Site) (text : List ℕ) (limit : ℕ) (threads : List Todo) (course : Course) (due : Due) → threads ≡ script.threads
-      → NewCalls members telling plan text limit threads old new course due → LeavesSound course
-  new_sound telling plan text limit threads _ _ same (NewCalls.exists something) = untouched_sound
-  new_sound telling plan text limit threads _ _ same (NewCalls.half_made rose) = λ leaves. made_new text (leaves.0)
-  new_sound telling plan text limit threads _ _ same (NewCalls.made session due nothing (so, behind)) =
+  new_sound : (telling : Telling) (plan : List Site) (text : List ℕ) (limit : ℕ) (spelled : Script) (course : Course) (due : Due) → spelled.threads ≡ script.threads
+      → NewCalls members telling plan text limit spelled old new course due → LeavesSound course
+  new_sound telling plan text limit spelled _ _ same (NewCalls.exists something) = untouched_sound
+  new_sound telling plan text limit spelled _ _ same (NewCalls.half_made rose) = λ leaves. made_new text (leaves.0)
+  new_sound telling plan text limit spelled _ _ same (NewCalls.made session due nothing (so, behind)) =
       λ leaves. fronts (λ image. IsTrue (is_nothing image)) session (λ image is. is)
       (longest_sound script fit plan text [] limit session (sound_empty script.threads) (subst (λ (t : List Todo). IsSession plan text [] limit (rest t []) session) same so))
-      (leaves.1)
-  new_sound telling plan text limit threads _ _ same NewCalls.no_memory = untouched_sound
+      (leaves.1.0)
+  new_sound telling plan text limit spelled _ _ same NewCalls.no_memory = untouched_sound
 
-  run_sound : (telling : Telling) (plan : List Site) (text : List ℕ) (limit : ℕ) (threads : List Todo) (course : Course) (due : Due) (found : Option (World × ℕ))
-      → threads ≡ script.threads → RunCallsBy members telling plan text limit threads old new course due found → LeavesSound course
-  run_sound telling plan text limit threads course due None same ends = ended_sound Untouched _ course due untouched_sound ends
-  run_sound telling plan text limit threads course due (Some settled) same calls = new_sound telling plan text limit threads course due same calls
+  run_sound : (telling : Telling) (plan : List Site) (text : List ℕ) (limit : ℕ) (spelled : Script) (course : Course) (due : Due) (found : Option (World × ℕ))
+      → spelled.threads ≡ script.threads → RunCallsBy members telling plan text limit spelled old new course due found → LeavesSound course
+  run_sound telling plan text limit spelled course due None same ends = ended_sound Untouched _ course due untouched_sound ends
+  run_sound telling plan text limit spelled course due (Some settled) same calls = new_sound telling plan text limit spelled course due same calls
 
   soak_sound : (count seed : ℕ) (course : Course) (due : Due) → soak_threads count seed ≡ script.threads → SoakCalls members count seed old new course due
       → LeavesSound course
   soak_sound count seed _ _ same (SoakCalls.starts tree course due compiled calls) =
-      run_sound _ (sites tree) _ _ (soak_threads count seed) course due (started (sites tree)) same calls
+      run_sound _ (sites tree) _ _ (soak_lines count seed) course due (started (sites tree)) same calls
   soak_sound count seed _ _ same SoakCalls.no_memory = untouched_sound
 
   goes_on_sound : (plan : List Site) (text : List ℕ) (first : List Entry) (limit : ℕ) (threads : List Todo) (session : Session)
@@ -162,6 +162,13 @@ module _ {D : Type 0} (members : Disk.Ghosts D) (read_left : ReadsAreLeft member
   trace_sound course due calls =
       after_journal _ course due (λ text first tree stands ends. ended_sound (TakenUp text first) _ course due (taken_up_sound text first) ends) calls
 
+  names_sound : (course : Course) (due : Due) → NamesCalls members old new course due → LeavesSound course
+  names_sound _ _ (NamesCalls.not_read same) = untouched_sound
+  names_sound _ _ NamesCalls.no_memory = λ leaves. unwritten (leaves.0).unwritten
+  names_sound _ _ (NamesCalls.disk_fails rose) = unwritten
+  names_sound _ _ (NamesCalls.no_journal_there ending none) = λ leaves. unwritten (leaves.0).unwritten
+  names_sound _ _ (NamesCalls.named text found told) = taken_up_sound text (entries found)
+
   -- ---- whatever the command
 
   module _ (words : List (List ℕ)) (before now : View) (only : ReadsOnly words before now script.threads) where
@@ -176,18 +183,18 @@ module _ {D : Type 0} (members : Disk.Ghosts D) (read_left : ReadsAreLeft member
         → RunCalls members plan name limit before now old new course due → LeavesSound course
     run_is_sound plan name limit course due asks calls =
         after_file (List ℕ × Tree) (with_text plan_file) plan Untouched _ course due untouched_sound
-        (λ source reads next. after_file (List Todo) (script_file (sites source.1)) name Untouched _ course due untouched_sound
-        (λ threads read by. run_sound _ (sites source.1) source.0 limit threads course due (started (sites source.1)) (only.0 name asks (sites source.1) threads read) by)
+        (λ source reads next. after_file Script (script_file (sites source.1)) name Untouched _ course due untouched_sound
+        (λ spelled read by. run_sound _ (sites source.1) source.0 limit spelled course due (started (sites source.1)) (only.0 name asks (sites source.1) spelled read) by)
         next) calls
 
     resume_is_sound : (name : List ℕ) (limit : ℕ) (course : Course) (due : Due) → option_and_then script_operand (command words) ≡ Some name
         → ResumeCalls members name limit before now old new course due → LeavesSound course
     resume_is_sound name limit course due asks calls =
         after_journal _ course due
-        (λ text first tree stands next. after_file (List Todo) (script_file (sites tree)) name (TakenUp text first) _ course due (taken_up_sound text first)
-        (λ threads read (session, is, (so, behind)) leaves.
-        goes_on_sound (sites tree) text first limit threads session (only.0 name asks (sites tree) threads read) stands so
-        ((subst (λ (c : Course). Leaves members old new c) is leaves).1)) next) calls
+        (λ text first tree stands next. after_file Script (script_file (sites tree)) name (TakenUp text first) _ course due (taken_up_sound text first)
+        (λ spelled read (session, naming, is, found, (so, behind)) leaves.
+        goes_on_sound (sites tree) text first limit spelled.threads session (only.0 name asks (sites tree) spelled read) stands so
+        ((subst (λ (c : Course). Leaves members old new c) is leaves).1.0)) next) calls
 
     calls_sound : (asked : Option Command) (course : Course) (due : Due) → command words ≡ asked → CommandCallsFor members asked before now old new course due
         → LeavesSound course
@@ -199,6 +206,7 @@ module _ {D : Type 0} (members : Disk.Ghosts D) (read_left : ReadsAreLeft member
     calls_sound (Some (Run plan name journal limit)) course due asks calls = run_is_sound plan name limit course due (ap (option_and_then script_operand) asks) calls
     calls_sound (Some (Resume name journal limit)) course due asks calls = resume_is_sound name limit course due (ap (option_and_then script_operand) asks) calls
     calls_sound (Some (Trace journal)) course due asks calls = trace_sound course due calls
+    calls_sound (Some (Names journal)) course due asks calls = names_sound course due calls
     calls_sound (Some (Soak count seed journal)) course due asks calls = soak_sound count seed course due (only.1 count seed journal asks) calls
 
     pub once : (status : ℕ) → Headline members words before now old new status → AreSound

@@ -4,7 +4,7 @@ use Rattle.px_core.specs.Plan.{Site, Tree, sites}
 use Rattle.px_output.specs.View.{View, OnlyReads, KeepsFiles}
 use Rattle.px_ports.specs.declared.disk.Disk
 use Rattle.px_script.specs.Fit.{IsFitScript}
-use Rattle.px_script.specs.declared.todo.Todo.{Todo}
+use Rattle.px_script.specs.declared.script.Script.{Script}
 use Rattle.px_sem.proofs.Logs.{run_on_none}
 use Rattle.px_sem.specs.Run.{run, started, settled_world}
 use Rattle.px_sem.specs.Stepper.{settled_state}
@@ -58,16 +58,16 @@ script_not_read old mid new plan script text tree (stops.Refused refusal) source
 script_not_read old mid new plan script text tree stops.SinkFailed source first second none = none
 script_not_read old mid new plan script text tree stops.NoMemory source first second any = tt
 
-start_not_made : (old mid new : View) (plan script text : List ℕ) (tree : Tree) (threads : List Todo) (fault : StepFault)
+start_not_made : (old mid new : View) (plan script text : List ℕ) (tree : Tree) (read : Script) (fault : StepFault)
     → Reads (with_text plan_file) old mid plan (text, tree) → OnlyReads old mid → OnlyReads mid new
-    → Reads (script_file (sites tree)) mid new script threads → (fault ≡ steps.Runaway → started (sites tree) ≡ None)
+    → Reads (script_file (sites tree)) mid new script read → (fault ≡ steps.Runaway → started (sites tree) ≡ None)
     → IsNotPrepared plan script old new (stop_of_start fault)
-start_not_made old mid new plan script text tree threads steps.Runaway source first second left runaway =
+start_not_made old mid new plan script text tree read steps.Runaway source first second left runaway =
     after_reading (List ℕ × Tree) (with_text plan_file) old new plan (text, tree) Untouched _ Untouched (Some runaway_at_start)
     (reads_later (List ℕ × Tree) (with_text plan_file) old mid new plan (text, tree) second.read_faults source)
-    (after_reading (List Todo) (script_file (sites tree)) old new script threads Untouched _ Untouched (Some runaway_at_start)
-    (reads_since (List Todo) (script_file (sites tree)) old mid new script threads first left) (runaway refl, (refl, refl)))
-start_not_made old mid new plan script text tree threads steps.NoMemory source first second left runaway = tt
+    (after_reading Script (script_file (sites tree)) old new script read Untouched _ Untouched (Some runaway_at_start)
+    (reads_since Script (script_file (sites tree)) old mid new script read first left) (runaway refl, (refl, refl)))
+start_not_made old mid new plan script text tree read steps.NoMemory source first second left runaway = tt
 
 -- a stop that is handed on
 stopped : {A : Type 0} (P : Stop → Type 0) (stop : Stop) (r : Result A Stop) → IsErrAnd r (λ e. e ≡ stop) → P stop → IfErr r P
@@ -85,27 +85,27 @@ pub stopped_at_script : {A : Type 0} (old mid new : View) (plan script text : Li
 stopped_at_script old mid new plan script text tree stop r is source first second reading =
     stopped (IsNotPrepared plan script old new) stop r is (script_not_read old mid new plan script text tree stop source first second reading)
 
-pub stopped_at_start : {A : Type 0} (old mid new : View) (plan script text : List ℕ) (tree : Tree) (threads : List Todo) (fault : StepFault)
+pub stopped_at_start : {A : Type 0} (old mid new : View) (plan script text : List ℕ) (tree : Tree) (read : Script) (fault : StepFault)
     (r : Result A Stop) → IsErrAnd r (λ e. e ≡ stop_of_start fault) → Reads (with_text plan_file) old mid plan (text, tree) → OnlyReads old mid
-    → OnlyReads mid new → Reads (script_file (sites tree)) mid new script threads → (fault ≡ steps.Runaway → started (sites tree) ≡ None)
+    → OnlyReads mid new → Reads (script_file (sites tree)) mid new script read → (fault ≡ steps.Runaway → started (sites tree) ≡ None)
     → IfErr r (IsNotPrepared plan script old new)
-stopped_at_start old mid new plan script text tree threads fault r is source first second left runaway =
+stopped_at_start old mid new plan script text tree read fault r is source first second left runaway =
     stopped (IsNotPrepared plan script old new) (stop_of_start fault) r is
-    (start_not_made old mid new plan script text tree threads fault source first second left runaway)
+    (start_not_made old mid new plan script text tree read fault source first second left runaway)
 
 -- ---- a plan that has started
 
 pub prepared : {S : Type 0} (runs : Stepper.Ghosts S) (old mid new : View) (plan name : List ℕ) (tree : Tree) (ready : Prepared S)
     → Reads (with_text plan_file) old mid plan (ready.text.items, tree) → OnlyReads old mid → OnlyReads mid new
     → length ready.text.items ≤ 1048576
-    → Reads (script_file (sites tree)) mid new name ready.script.threads → IsFitScript ready.script
+    → Reads (script_file (sites tree)) mid new name ready.script → IsFitScript ready.script
     → (count : ℕ) × (started (sites tree) ≡ Some ((runs.state ready.stepper).world, count))
     → runs.state ready.stepper ≡ settled_state (sites tree) (runs.state ready.stepper).world
     → IsPrepared runs plan name old new ready
 prepared runs old mid new plan name tree ready source first second short read fit_script start at_rest = record {
   tree = tree;
   source = reads_later (List ℕ × Tree) (with_text plan_file) old mid new plan (ready.text.items, tree) second.read_faults source;
-  script = reads_since (List Todo) (script_file (sites tree)) old mid new name ready.script.threads first read;
+  script = reads_since Script (script_file (sites tree)) old mid new name ready.script first read;
   lines = fit_script;
   short = short;
   nodes = ap (λ s. s.nodes) at_rest;
@@ -127,17 +127,17 @@ module _ {D : Type 0} (members : Disk.Ghosts D) (plan script name : List ℕ) (l
   -- a plan that has started was run
   pub prepared_runs : {S : Type 0} (runs : Stepper.Ghosts S) (ready : Prepared S) (carried : Carried D) → OnlyReads old mid → KeepsFiles mid new
       → IsPrepared runs plan script old mid ready
-      → PreparedCarries members tellings.Text (runs.state ready.stepper).nodes ready.text.items name limit ready.script.threads mid new disk carried
+      → PreparedCarries members tellings.Text (runs.state ready.stepper).nodes ready.text.items name limit ready.script mid new disk carried
       → RunCarries members plan script name limit old new disk carried
   prepared_runs runs ready carried only keeps is_ready of_nodes = record {
     course = done.course;
-    performs = performs_since old mid new (NewCalls members tellings.Text (sites tree) ready.text.items limit threads disk carried.disk done.course)
+    performs = performs_since old mid new (NewCalls members tellings.Text (sites tree) ready.text.items limit ready.script disk carried.disk done.course)
         (RunCalls members plan script limit old new disk carried.disk done.course) carried.result only
         (λ due calls. after_reading (List ℕ × Tree) (with_text plan_file) old new plan (ready.text.items, tree) Untouched _ done.course due
         (reads_later (List ℕ × Tree) (with_text plan_file) old mid new plan (ready.text.items, tree) keeps.read_faults is_ready.source)
-        (after_reading (List Todo) (script_file (sites tree)) old new script threads Untouched _ done.course due
-        (reads_later (List Todo) (script_file (sites tree)) old mid new script threads keeps.read_faults is_ready.script)
-        (subst (RunCallsBy members tellings.Text (sites tree) ready.text.items limit threads disk carried.disk done.course due) (sym start.1) calls)))
+        (after_reading Script (script_file (sites tree)) old new script ready.script Untouched _ done.course due
+        (reads_later Script (script_file (sites tree)) old mid new script ready.script keeps.read_faults is_ready.script)
+        (subst (RunCallsBy members tellings.Text (sites tree) ready.text.items limit ready.script disk carried.disk done.course due) (sym start.1) calls)))
         done.performs;
     leaves = done.leaves;
     bound = done.bound;
@@ -147,11 +147,8 @@ module _ {D : Type 0} (members : Disk.Ghosts D) (plan script name : List ℕ) (l
       tree : Tree
       tree = is_ready.tree
 
-      threads : List Todo
-      threads = ready.script.threads
-
-      done : PreparedCarries members tellings.Text (sites tree) ready.text.items name limit threads mid new disk carried
-      done = subst (λ (nodes : List Site). PreparedCarries members tellings.Text nodes ready.text.items name limit threads mid new disk carried) is_ready.nodes of_nodes
+      done : PreparedCarries members tellings.Text (sites tree) ready.text.items name limit ready.script mid new disk carried
+      done = subst (λ (nodes : List Site). PreparedCarries members tellings.Text nodes ready.text.items name limit ready.script mid new disk carried) is_ready.nodes of_nodes
 
       start : (found : World × ℕ) × (started (sites tree) ≡ Some found)
       start = start_settles (sites tree) (runs.state ready.stepper).world
@@ -164,8 +161,8 @@ module _ {D : Type 0} (members : Disk.Ghosts D) (plan script name : List ℕ) (l
     course = Untouched;
     performs = (
       after_since (List ℕ × Tree) (with_text plan_file) old old mid plan Untouched _ _ Untouched (Some (ending_of refusal)) (reads_at_once old)
-          (λ source next. after_since (List Todo) (script_file (sites source.1)) old old mid script Untouched _ _ Untouched (Some (ending_of refusal)) (reads_at_once old)
-          (λ threads runs_away. subst (RunCallsBy members tellings.Text (sites source.1) source.0 limit threads disk disk Untouched (Some (ending_of refusal))) (sym runs_away.0) runs_away.1)
+          (λ source next. after_since Script (script_file (sites source.1)) old old mid script Untouched _ _ Untouched (Some (ending_of refusal)) (reads_at_once old)
+          (λ read runs_away. subst (RunCallsBy members tellings.Text (sites source.1) source.0 limit read disk disk Untouched (Some (ending_of refusal))) (sym runs_away.0) runs_away.1)
           next) calls,
       only.emitted,
     );

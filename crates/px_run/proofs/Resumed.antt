@@ -7,12 +7,14 @@ use Rattle.px_core.specs.Plan.{Site, Tree, tree_of, sites}
 use Rattle.px_event.specs.declared.entry.Entry.{Entry}
 use Rattle.px_exec.proofs.Keeping.{told_of}
 use Rattle.px_exec.specs.Executive.{plan_of, IsTextOf, TellsBytes}
+use Rattle.px_exec.specs.Opening.{GivesNames}
 use Rattle.px_journal.specs.Crash.{LeavesOnly}
 use Rattle.px_journal.specs.Journal.{IsSynced, IsUntouched}
 use Rattle.px_journal.specs.Layout.{Stands}
 use Rattle.px_journal.proofs.Moments.{grows_on, grows_length, left_before_or_after}
 use Rattle.px_journal.proofs.Ready.{ready_stands, ready_synced}
 use Rattle.px_output.specs.View.{View, OnlyReads}
+use Rattle.px_ports.specs.Moment.{Elapses, Stays}
 use Rattle.px_ports.specs.declared.disk.Disk
 use Rattle.px_ports.specs.declared.moment.Moment.{Moment}
 use Rattle.px_script.specs.Remainder.{rest}
@@ -32,6 +34,7 @@ use Rattle.px_run.specs.Resume.{IsLeft, ResumeCarries}
 use Rattle.px_run.specs.Trace.{TraceCarries}
 use Rattle.px_run.specs.Journaled.{IsSession, DueBehind, HasNoJournal, CannotRun, AfterJournal, ResumeCalls, TraceCalls}
 use Rattle.px_run.specs.Kinds.{script_file}
+use Rattle.px_run.specs.Naming.{Naming}
 use Rattle.px_run.specs.Stops.{Performs, StopsReading, stop_of, stop_of_reopen, ending_of}
 use Rattle.px_run.specs.declared.ending.End.{End}
 use Rattle.px_run.specs.declared.ending.End.TheVariants as ends
@@ -43,6 +46,7 @@ use Rattle.px_output.specs.Printing.{Prints}
 use Rattle.px_output.specs.declared.printer.PrintFault.{PrintFault}
 use Rattle.px_session.proofs.Sessions.{one_history}
 use Rattle.px_run.proofs.Finished.{due_behind_since, opening_stands}
+use Rattle.px_run.proofs.Named.{leaves_names}
 use Rattle.px_run.proofs.Performing.{performs_since, printed, broken_off}
 use Rattle.px_run.proofs.SeenFiles.{shows_later}
 use Rattle.px_run.proofs.Running.{left_at_end}
@@ -81,7 +85,7 @@ front_unposted text first bytes stands = record {
 }
 
 -- a journal of this text and history was read, and no more
-left_taken_up : {D : Type 0} (members : Disk.Ghosts D) (text : List ℕ) (first : List Entry) (old new : D) → IsUntouched members old new
+pub left_taken_up : {D : Type 0} (members : Disk.Ghosts D) (text : List ℕ) (first : List Entry) (old new : D) → IsUntouched members old new
     → TellsBytes members old → IsSynced members new → ForSome (members.content new) (λ told. Stands told text first)
     → Leaves members old new (TakenUp text first)
 left_taken_up members text first old new untouched tells synced stands = (
@@ -215,19 +219,23 @@ module _ {S D : Type 0} (runs : Stepper.Ghosts S) (members : Disk.Ghosts D) (scr
 
   -- it is read, and a session goes on with what is left of it
   pub resume_finished : (history : List Entry) (script_left : Script) (carried : Carried D) → history ≡ reopened.exec.opening.history
-      → IsLeft (sites tree) script history before mid script_left
+      → IsLeft (sites tree) script history before mid script_left → GivesNames reopened.exec.opening.journal script_left.names
       → ((other : List ℕ) → mid.read_faults other ≤ now.read_faults other)
       → ((text : List ℕ) → IsTextOf members reopened.exec text → Finishes members runs tellings.Text text reopened.exec script_left.threads mid now carried)
       → ResumeCarries members script journal limit before now old carried
-  resume_finished history script_left carried same left later finishes = record {
-    course = GoneOn f.session;
-    performs = performs_since before mid now _ (ResumeCalls members script limit before now old carried.disk (GoneOn f.session)) carried.result only goes_on f.performs;
+  resume_finished history script_left carried same left gives later finishes = record {
+    course = GoneOn f.session naming;
+    performs = performs_since before mid now _ (ResumeCalls members script limit before now old carried.disk (GoneOn f.session naming)) carried.result only goes_on f.performs;
     leaves = λ tells.
         let told = ap is_some (r.untouched).content ∙ tells in
         let l = f.leaves told in (
           l.now,
           fronts_since members f.session old reopened.exec.opening.journal.disk carried.disk r.untouched
               (opening_stands members reopened.exec r.text f.session (f.is_session).same_text (f.is_session).same_first told r.ready) l.since,
+          leaves_names members f.session naming (λ image. ⊥) r.text old reopened.exec.opening.journal carried.disk (f.is_session).same_text refl
+              (subst (GivesNames reopened.exec.opening.journal) left.names gives) elapses.grows
+              (λ image early. let from = elapses.each image early in inl (subst (members.images (members.moments old)) (sym (from.2)) (from.1)))
+              (f.names told r.found r.named),
         );
     bound = inl (f.goes.stays.bound ∙ r.bound);
     back = record {
@@ -239,23 +247,31 @@ module _ {S D : Type 0} (runs : Stepper.Ghosts S) (members : Disk.Ghosts D) (scr
       f : Finishes members runs tellings.Text r.text reopened.exec script_left.threads mid now carried
       f = finishes r.text r.ready
 
-      threads_left : script_left.threads ≡ rest left.threads reopened.exec.opening.history
-      threads_left = left.behind ∙ ap (rest left.threads) same
+      naming : Naming
+      naming = record { version = reopened.exec.opening.journal.version; found = r.found; names = left.spelled.names }
 
-      is_session : IsSession (sites tree) r.text reopened.exec.opening.history limit (rest left.threads reopened.exec.opening.history) f.session
+      elapses : Elapses members.images Stays (members.moments old) (members.moments reopened.exec.opening.journal.disk)
+      elapses = (r.untouched.unwritten).elapses
+
+      threads_left : script_left.threads ≡ rest left.spelled.threads reopened.exec.opening.history
+      threads_left = left.behind ∙ ap (rest left.spelled.threads) same
+
+      is_session : IsSession (sites tree) r.text reopened.exec.opening.history limit (rest left.spelled.threads reopened.exec.opening.history) f.session
       is_session =
           subst (λ (t : List Todo). IsSession (sites tree) r.text reopened.exec.opening.history limit t f.session) threads_left
           (subst (λ (n : ℕ). IsSession (sites tree) r.text reopened.exec.opening.history n script_left.threads f.session) (r.opening).most
           (subst (λ (p : List Site). IsSession p r.text reopened.exec.opening.history reopened.exec.opening.limit script_left.threads f.session) r.nodes f.is_session))
 
       goes_on : (due : Due) → DueBehind members tellings.Text (plan_of runs reopened.exec) script_left.threads f.session reopened.exec.opening.journal.disk carried.disk due
-          → ResumeCalls members script limit before now old carried.disk (GoneOn f.session) due
+          → ResumeCalls members script limit before now old carried.disk (GoneOn f.session naming) due
       goes_on due behind =
           let (seen, shows, spells) = left.read in
-          AfterJournal.opened r.text reopened.exec.opening.history tree (GoneOn f.session) due r.stands r.compiled r.settles
-          (AfterFile.read seen left.threads (GoneOn f.session) due (shows_later (script_file (sites tree)).limit before mid now script seen later shows) spells (
+          AfterJournal.opened r.text reopened.exec.opening.history tree (GoneOn f.session naming) due r.stands r.compiled r.settles
+          (AfterFile.read seen left.spelled (GoneOn f.session naming) due (shows_later (script_file (sites tree)).limit before mid now script seen later shows) spells (
             f.session,
+            naming,
             refl,
+            record { stands = r.stands_named; entries_are = r.named.1; names_are = refl },
             (
               is_session,
               subst (λ (t : List Todo). DueBehind members tellings.Text (sites tree) t f.session old carried.disk due) threads_left

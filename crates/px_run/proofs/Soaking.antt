@@ -1,11 +1,13 @@
 -- A soak, from its plan and its lines.
-use Rattle.std.proofs.Common.{◌≡◌, inr, ℕ, List, [], Some, None, Result, Ok, Err, IsErrAnd, IfErr, refl, sym, ap, subst}
+use Rattle.std.proofs.Common.{◌≡◌, inr, ℕ, List, [], Some, None, Result, Ok, Err, IsErrAnd, IfErr, refl, sym, ◌∙◌, ap, subst}
 use Rattle.px_compile.specs.Compiled.{IsCompiled}
 use Rattle.px_core.specs.Plan.{Site, Tree, sites}
 use Rattle.px_output.specs.View.{View}
 use Rattle.px_ports.specs.declared.disk.Disk
 use Rattle.px_script.specs.Fit.{IsFitScript}
+use Rattle.px_event.specs.declared.names.ThreadName.{ThreadName}
 use Rattle.px_script.specs.Soak.{soak_threads}
+use Rattle.px_script.specs.declared.script.Script.{Script}
 use Rattle.px_script.specs.declared.todo.Todo.{Todo}
 use Rattle.px_sem.specs.Run.{run, started}
 use Rattle.px_sem.specs.Stepper.{settled_state}
@@ -18,7 +20,7 @@ use Rattle.px_words.specs.Limited.{event_limit}
 use Rattle.px_run.specs.Course.{Untouched}
 use Rattle.px_run.specs.Journaled.{NewCalls, RunCallsBy}
 use Rattle.px_run.specs.Run.{PreparedCarries}
-use Rattle.px_run.specs.Soak.{soak_plan, IsSoakPrepared, IsSoakNotPrepared, SoakCalls, SoakCarries}
+use Rattle.px_run.specs.Soak.{soak_plan, soak_lines, IsSoakPrepared, IsSoakNotPrepared, SoakCalls, SoakCarries}
 use Rattle.px_run.specs.Stops.{stop_of_start, ending_of}
 use Rattle.px_run.specs.declared.ending.Stop.{Stop}
 use Rattle.px_run.specs.declared.ending.Stop.TheVariants as stops
@@ -40,9 +42,15 @@ pub soak_not_started : {A : Type 0} (tree : Tree) (fault : StepFault) (r : Resul
 soak_not_started tree fault (Ok done) is compiled runaway = absurd is
 soak_not_started tree fault (Err stop) is compiled runaway = subst IsSoakNotPrepared (sym is) (no_start tree fault compiled runaway)
 
+-- the script of these lines, in which no thread has a name
+pub of_soak : (script : Script) (count seed : ℕ) → script.threads ≡ soak_threads count seed → script.names ≡ [] → script ≡ soak_lines count seed
+of_soak script count seed threads names =
+    let of : List Todo → List ThreadName → Script = λ threads names. record { threads = threads; names = names } in
+    ap (λ threads. of threads script.names) threads ∙ ap (of (soak_threads count seed)) names
+
 -- a plan that has started
 pub soak_prepared : {S : Type 0} (runs : Stepper.Ghosts S) (count seed : ℕ) (tree : Tree) (ready : Prepared S) → ready.text.items ≡ soak_plan
-    → IsCompiled soak_plan tree → ready.script.threads ≡ soak_threads count seed → IsFitScript ready.script
+    → IsCompiled soak_plan tree → ready.script ≡ soak_lines count seed → IsFitScript ready.script
     → (steps : ℕ) × (started (sites tree) ≡ Some ((runs.state ready.stepper).world, steps))
     → runs.state ready.stepper ≡ settled_state (sites tree) (runs.state ready.stepper).world → IsSoakPrepared runs count seed ready
 soak_prepared runs count seed tree ready text compiled script fit start at_rest = record {
@@ -59,14 +67,14 @@ soak_prepared runs count seed tree ready text compiled script fit start at_rest 
 module _ {D : Type 0} (members : Disk.Ghosts D) (count seed : ℕ) (name : List ℕ) (before now : View) (disk : D) where
   -- a plan that has started was run
   pub prepared_soaks : {S : Type 0} (runs : Stepper.Ghosts S) (ready : Prepared S) (carried : Carried D) → IsSoakPrepared runs count seed ready
-      → PreparedCarries members tellings.Summary (runs.state ready.stepper).nodes ready.text.items name event_limit ready.script.threads before now disk carried
+      → PreparedCarries members tellings.Summary (runs.state ready.stepper).nodes ready.text.items name event_limit ready.script before now disk carried
       → SoakCarries members count seed name before now disk carried
   prepared_soaks runs ready carried is_ready of_nodes = record {
     course = done.course;
-    performs = performs_more before now (NewCalls members tellings.Summary (sites is_ready.tree) soak_plan event_limit (soak_threads count seed) disk carried.disk done.course)
+    performs = performs_more before now (NewCalls members tellings.Summary (sites is_ready.tree) soak_plan event_limit (soak_lines count seed) disk carried.disk done.course)
         (SoakCalls members count seed disk carried.disk done.course) carried.result
         (λ due calls. SoakCalls.starts is_ready.tree done.course due is_ready.compiled
-        (subst (RunCallsBy members tellings.Summary (sites is_ready.tree) soak_plan event_limit (soak_threads count seed) disk carried.disk done.course due)
+        (subst (RunCallsBy members tellings.Summary (sites is_ready.tree) soak_plan event_limit (soak_lines count seed) disk carried.disk done.course due)
         (sym start.1) calls))
         done.performs;
     leaves = done.leaves;
@@ -74,13 +82,13 @@ module _ {D : Type 0} (members : Disk.Ghosts D) (count seed : ℕ) (name : List 
     back = done.back;
   }
     where
-      done : PreparedCarries members tellings.Summary (sites is_ready.tree) soak_plan name event_limit (soak_threads count seed) before now disk carried
+      done : PreparedCarries members tellings.Summary (sites is_ready.tree) soak_plan name event_limit (soak_lines count seed) before now disk carried
       done =
-          subst (λ (nodes : List Site). PreparedCarries members tellings.Summary nodes soak_plan name event_limit (soak_threads count seed) before now disk carried)
+          subst (λ (nodes : List Site). PreparedCarries members tellings.Summary nodes soak_plan name event_limit (soak_lines count seed) before now disk carried)
           is_ready.nodes
-          (subst (λ (text : List ℕ). PreparedCarries members tellings.Summary (runs.state ready.stepper).nodes text name event_limit (soak_threads count seed) before now disk carried)
+          (subst (λ (text : List ℕ). PreparedCarries members tellings.Summary (runs.state ready.stepper).nodes text name event_limit (soak_lines count seed) before now disk carried)
           is_ready.text
-          (subst (λ (threads : List Todo). PreparedCarries members tellings.Summary (runs.state ready.stepper).nodes ready.text.items name event_limit threads before now disk carried)
+          (subst (λ (script : Script). PreparedCarries members tellings.Summary (runs.state ready.stepper).nodes ready.text.items name event_limit script before now disk carried)
           is_ready.script of_nodes))
 
       start : (found : World × ℕ) × (started (sites is_ready.tree) ≡ Some found)
@@ -94,7 +102,7 @@ module _ {D : Type 0} (members : Disk.Ghosts D) (count seed : ℕ) (name : List 
     course = Untouched;
     performs = (
       SoakCalls.starts tree Untouched (Some (ending_of refusal)) compiled
-          (subst (RunCallsBy members tellings.Summary (sites tree) soak_plan event_limit (soak_threads count seed) disk disk Untouched (Some (ending_of refusal))) (sym none)
+          (subst (RunCallsBy members tellings.Summary (sites tree) soak_plan event_limit (soak_lines count seed) disk disk Untouched (Some (ending_of refusal))) (sym none)
           (refl, ap Some is)),
       refl,
     );

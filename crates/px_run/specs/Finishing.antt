@@ -8,8 +8,7 @@ use Rattle.px_ports.specs.declared.disk.Disk
 use Rattle.px_script.specs.declared.todo.Todo.{Todo}
 use Rattle.px_sem.specs.declared.stepper.Stepper
 use Rattle.px_sem.specs.Log.{accepted}
-use Rattle.px_session.specs.Posting.{LeavesSession}
-use Rattle.px_session.specs.Posting as Posting
+use Rattle.px_session.specs.Posting.{LeavesSession, LeavesNames as PostsLeaveNames}
 use Rattle.px_session.specs.Session.{Session, unsure, IsBoundAtMost}
 use Rattle.px_run.specs.Course.{Course, Due, Leaves}
 use Rattle.px_run.specs.Journaled.{IsSession, DueBehind}
@@ -45,5 +44,5 @@ module _ {D : Type 0} (members : Disk.Ghosts D) where
     pub performs : Performs before now (DueBehind members telling (plan_of runs exec) left session exec.opening.journal.disk carried.disk) carried.result
     pub leaves : TellsBytes members exec.opening.journal.disk → LeavesSession members session exec.opening.journal.disk carried.disk
     pub names : TellsBytes members exec.opening.journal.disk → (found : List NamedEntry) → WasNamed members exec text found
-        → Posting.LeavesNames members text found (accepted session.log ++ unsure session.failed) exec.opening.journal carried.disk
+        → PostsLeaveNames members text found (accepted session.log ++ unsure session.failed) exec.opening.journal carried.disk
     pub goes : Goes members (IsDiskFault carried) exec.opening.journal.disk carried.disk

@@ -3,6 +3,8 @@ use Rattle.std.specs.Prelude.{◌≡◌, ◌⊎◌, ℕ, List, Some, None, Resul
 use Rattle.px_ports.specs.Host.{Emits}
 use Rattle.px_journal.specs.declared.fault.CreateWhy.{CreateWhy}
 use Rattle.px_journal.specs.declared.fault.CreateWhy.TheVariants as creating
+use Rattle.px_journal.specs.declared.fault.RecoverWhy.{RecoverWhy}
+use Rattle.px_journal.specs.declared.fault.RecoverWhy.TheVariants as recovering
 use Rattle.px_session.specs.declared.fault.ReopenWhy.{ReopenWhy}
 use Rattle.px_session.specs.declared.fault.ReopenWhy.TheVariants as reopening
 use Rattle.px_sem.specs.declared.settling.StepFault.{StepFault}
@@ -73,6 +75,12 @@ abbrev pub stop_of_create : CreateWhy → Stop
 stop_of_create creating.Exists = stops.Refused refusals.JournalExists
 stop_of_create creating.DiskFault = stops.Refused refusals.DiskFault
 stop_of_create creating.NoMemory = stops.NoMemory
+
+abbrev pub stop_of_recover : RecoverWhy → Stop
+stop_of_recover recovering.NoJournal = stops.Refused refusals.NoJournal
+stop_of_recover (recovering.Damaged at) = stops.Refused (refusals.JournalDamaged at)
+stop_of_recover recovering.DiskFault = stops.Refused refusals.DiskFault
+stop_of_recover recovering.NoMemory = stops.NoMemory
 
 abbrev pub stop_of_reopen : ReopenWhy → Stop
 stop_of_reopen reopening.NoJournal = stops.Refused refusals.NoJournal

@@ -45,7 +45,7 @@ fn dry_run_plan<H: Host, S: Stepper>(
     requires fit { IsFit (tree_of plan.now) }
     ensures performs { Performs (view H.Host host.old) (view H.Host host.new)
         (AfterFile (script_file (sites (tree_of plan.now))) (view H.Host host.old) (view H.Host host.new) script.now Untouched
-        (DryRunOf (sites (tree_of plan.now))) Untouched)
+        (λ read. DryRunOf (sites (tree_of plan.now)) read.threads) Untouched)
         result }
     ensures keeps { KeepsFiles (view H.Host host.old) (view H.Host host.new) }
 {

@@ -5,7 +5,7 @@ ghost use Rattle.px_run.specs.declared.ending.Stop.TheVariants.{NoMemory as OutO
 ghost use Rattle.px_run.specs.Ending.{script_at_fault, journal_damaged, journal_runaway};
 
 use crate::plan_refusal::plan_refusal;
-use px_journal::CreateWhy;
+use px_journal::{CreateWhy, RecoverWhy};
 use px_output::PrintFault;
 use px_sem::StepFault;
 use px_session::ReopenWhy;
@@ -166,6 +166,21 @@ impl From<CreateWhy> for Stop {
     }
 }
 
+impl From<RecoverWhy> for Stop {
+    ghost use Rattle.px_run.specs.Stops.{stop_of_recover};
+
+    ghost from_gives = { λ fault stop. stop ≡ stop_of_recover fault };
+
+    fn from(fault: RecoverWhy) -> Self {
+        match fault {
+            RecoverWhy::NoJournal => Stop::Refused(Refusal::NoJournal),
+            RecoverWhy::Damaged { at } => Stop::Refused(Refusal::JournalDamaged { at }),
+            RecoverWhy::DiskFault => Stop::Refused(Refusal::DiskFault),
+            RecoverWhy::NoMemory => Stop::NoMemory,
+        }
+    }
+}
+
 impl From<ReopenWhy> for Stop {
     ghost use Rattle.px_run.specs.Stops.{stop_of_reopen};
 
@@ -223,7 +238,7 @@ impl Refusal {
     {
         let text = match self {
             Refusal::Usage => {
-                "usage: plexil trace-start PLAN | dry-run PLAN SCRIPT | run PLAN SCRIPT JOURNAL [--events N] | resume SCRIPT JOURNAL [--events N] | trace JOURNAL | check PLAN | format PLAN | soak COUNT SEED JOURNAL\n"
+                "usage: plexil trace-start PLAN | dry-run PLAN SCRIPT | run PLAN SCRIPT JOURNAL [--events N] | resume SCRIPT JOURNAL [--events N] | trace JOURNAL | check PLAN | format PLAN | soak COUNT SEED JOURNAL | names JOURNAL\n"
             }
             Refusal::PlanTooLong => "plan refused: longer than 1048576 bytes\n",
             Refusal::PlanAtFault(fault) => return plan_refusal(alloc, fault),

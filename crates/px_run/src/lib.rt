@@ -1,7 +1,7 @@
 //! The program: what each command does, and how it ends.
 //!
 //! `top` is the one entry, and each command has a module: `check`, `format`, `trace_start` and `dry_run` touch no disk;
-//! `run`, `soak`, `resume` and `trace` have a journal, and `finishing` is the end that the first three share. `reading`
+//! `run`, `soak`, `resume`, `trace` and `names` have a journal, and `finishing` is the end that the first three share. `reading`
 //! reads the files; `ending` has the statuses and the texts of refusals, `plan_refusal` those of plans.
 //! `specs/Headline.antt` says what a call emits, which status it answers and what it leaves of the disk, `specs/Journaled.antt`
 //! what the commands with a journal call for, and `specs/Causes.antt` what each status tells. `laws` has what the headline
@@ -14,6 +14,8 @@ mod ending;
 mod finishing;
 mod format;
 pub mod laws;
+mod names;
+mod naming;
 mod plan_refusal;
 mod reading;
 mod resume;

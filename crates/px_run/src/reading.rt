@@ -79,7 +79,7 @@ pub fn fetch_script<H: Host>(
 ) -> Result<Script, Stop>
     requires { IsFit (tree_of plan.now) }
     ensures ok { IfOk result (λ script.
-        Reads (script_file (sites (tree_of plan.now))) (view H.Host host.old) (view H.Host host.new) name.now script.threads) }
+        Reads (script_file (sites (tree_of plan.now))) (view H.Host host.old) (view H.Host host.new) name.now script) }
     ensures fit { IfOk result (λ script. IsFitScript script) }
     ensures err { IfErr result
         (StopsReading (script_file (sites (tree_of plan.now))) (view H.Host host.old) (view H.Host host.new) name.now) }

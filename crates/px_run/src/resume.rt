@@ -10,19 +10,21 @@ ghost use Rattle.px_run.specs.Stops.{StopsReading};
 
 use crate::ending::Stop;
 use crate::finishing::{Carried, Telling, finish};
+use crate::naming::without_names;
 use crate::reading::fetch_script;
 use px_core::Plan;
 use px_event::Entry;
 use px_ports::{Disk, Host};
 use px_script::{Pace, Script, rest};
 use px_sem::Stepper;
-use px_session::{ReopenFault, Reopened, reopen};
+use px_session::{ReopenFault, reopen};
 use std::alloc::Global;
 use std::sync::Wait;
 use std::thread::Threads;
 
 /// Goes on with the journal of this name on the disk: posts what the script in the file has left behind the journal's
-/// history, which may grow to `limit` events, from 1 to 100,000, and prints the text of the whole.
+/// history, which may grow to `limit` events, from 1 to 100,000, and prints the text of the whole. In a journal of the second
+/// version the new entries get the script's names.
 pub fn resume<H: Host, D: Disk + Send, S: Stepper + Send, P: Pace, R: Threads + Wait + Sync>(
     rt: &R,
     alloc: Global,
@@ -39,7 +41,7 @@ pub fn resume<H: Host, D: Disk + Send, S: Stepper + Send, P: Pace, R: Threads + 
     ensures resumes { ResumeCarries D.Disk script.now journal.now limit (view H.Host host.old) (view H.Host host.new) disk result }
     ensures keeps { KeepsFiles (view H.Host host.old) (view H.Host host.new) }
 {
-    let Reopened { plan, exec } = match reopen::<S, D>(alloc, disk, journal, limit) {
+    let mut reopened = match reopen::<S, D>(alloc, disk, journal, limit) {
         Ok(reopened) => reopened,
         Err(ReopenFault { disk, why }) => {
             return Carried {
@@ -48,11 +50,29 @@ pub fn resume<H: Host, D: Disk + Send, S: Stepper + Send, P: Pace, R: Threads + 
             };
         }
     };
-    match script_left(alloc, script, &plan, exec.history(), host) {
-        Ok(left) => finish(rt, alloc, exec, &left, Telling::Text, host, pace),
+    match script_left(
+        alloc,
+        script,
+        &reopened.plan,
+        reopened.exec.history(),
+        host,
+    ) {
+        Ok(left) => {
+            let (left, names) = without_names(alloc, left);
+            reopened.rename(names);
+            finish(
+                rt,
+                alloc,
+                reopened.exec,
+                &left,
+                Telling::Text,
+                host,
+                pace,
+            )
+        }
         Err(stop) => Carried {
             result: Err(stop),
-            disk: exec.into_parts().journal.into_disk(),
+            disk: reopened.exec.into_parts().journal.into_disk(),
         },
     }
 }

@@ -9,6 +9,7 @@ ghost use Rattle.px_run.specs.Run.{IsPrepared, IsNotPrepared, RunCarries, Prepar
 
 use crate::ending::Stop;
 use crate::finishing::{Carried, Telling, finish};
+use crate::naming::without_names;
 use crate::reading::{Source, fetch_script, fetch_source};
 use px_journal::CreateFault;
 use px_ports::{Disk, Host};
@@ -112,7 +113,7 @@ pub(crate) fn run_prepared<
     requires nothing { (S.state prepared.stepper).pending ≡ Pending.Nothing }
     requires started { run (S.state prepared.stepper).nodes [] ≡ Some (S.state prepared.stepper).world }
 
-    ensures runs { PreparedCarries D.Disk telling (S.state prepared.stepper).nodes prepared.text.items journal.now limit prepared.script.threads
+    ensures runs { PreparedCarries D.Disk telling (S.state prepared.stepper).nodes prepared.text.items journal.now limit prepared.script
         (view H.Host host.old) (view H.Host host.new) disk result }
     ensures keeps { KeepsFiles (view H.Host host.old) (view H.Host host.new) }
 {
@@ -121,7 +122,8 @@ pub(crate) fn run_prepared<
         script,
         stepper,
     } = prepared;
-    match create(alloc, disk, journal, &text, stepper, limit) {
+    let (script, names) = without_names(alloc, script);
+    match create(alloc, disk, journal, &text, stepper, limit, names) {
         Ok(exec) => finish(rt, alloc, exec, &script, telling, host, pace),
         Err(CreateFault { disk, why }) => Carried {
             result: Err(why.into()),

@@ -13,6 +13,7 @@ use crate::dry_run::dry_run;
 use crate::ending::{Refusal, Status, Stop};
 use crate::finishing::Carried;
 use crate::format::format;
+use crate::names::names;
 use crate::resume::resume;
 use crate::run::run;
 use crate::soak::soak;
@@ -48,7 +49,7 @@ pub struct Done<D> {
 /// | 2 | the words are no command |
 /// | 3 | the plan's file has over 1,048,576 bytes, or spells no plan that can be run |
 /// | 4 | the script's file has over 16,777,216 bytes, or a faulty line |
-/// | 5 | a journal stands where `run` or `soak` is to make one; or none stands where `resume` and `trace` need one, or it is damaged, its plan can't be run, or its history runs away |
+/// | 5 | a journal stands where `run` or `soak` is to make one; or none stands where `resume`, `trace` and `names` need one, or it is damaged; or, but for `names`, its plan can't be run or its history runs away |
 /// | 6 | the start of the plan does not settle |
 /// | 7 | the plan's or the script's file could not be read |
 /// | 8 | the sink failed, or took nothing |
@@ -185,6 +186,7 @@ fn carry_out<H: Host, D: Disk + Send, S: Stepper + Send, P: Pace, R: Threads + W
             return resume::<H, D, S, P, R>(rt, alloc, script, journal, limit, host, disk, pace);
         }
         Some(Command::Trace { journal }) => return trace::<H, D, S>(alloc, journal, host, disk),
+        Some(Command::Names { journal }) => return names(alloc, journal, host, disk),
         Some(
             Command::Soak {
                 count,

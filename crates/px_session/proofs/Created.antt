@@ -28,7 +28,7 @@ use Rattle.px_session.specs.Session.{unposted, HasOneHistory}
 use Rattle.px_session.proofs.Sessions.{untouched_at_once, untouched_on, new_read, new_on, one_history}
 
 -- where no entry is named, there is none
-none_named : (named : List NamedEntry) → entries named ≡ [] → named ≡ []
+pub none_named : (named : List NamedEntry) → entries named ≡ [] → named ≡ []
 none_named [] none = refl
 none_named (first ∷ later) none = absurd (cc)
 

@@ -1,7 +1,7 @@
 use Rattle.std.proofs.Common.{List}
 use Rattle.px_core.specs.Plan.{Tree, tree_of, sites}
 use Rattle.px_output.specs.View.{view}
-use Rattle.px_script.specs.declared.todo.Todo.{Todo}
+use Rattle.px_script.specs.declared.script.Script.{Script}
 use Rattle.px_run.specs.Course.{Untouched, AfterFile}
 use Rattle.px_run.specs.Headline.{DryRunOf}
 use Rattle.px_run.specs.Kinds.{plan_file, script_file}
@@ -22,11 +22,11 @@ returns-clause-performs g c =
     let tree = tree_of c.in_ok-plan.plan in
     let script = c.args.script.now in
     let kind = script_file (sites tree) in
-    performs_since old mid new (AfterFile kind mid new script Untouched (DryRunOf (sites tree)) Untouched)
-    (AfterFile plan_file old new c.args.plan.now Untouched (λ tree. AfterFile (script_file (sites tree)) old new script Untouched (DryRunOf (sites tree))) Untouched)
+    performs_since old mid new (AfterFile kind mid new script Untouched (λ read. DryRunOf (sites tree) read.threads) Untouched)
+    (AfterFile plan_file old new c.args.plan.now Untouched (λ tree. AfterFile (script_file (sites tree)) old new script Untouched (λ read. DryRunOf (sites tree) read.threads)) Untouched)
     c.dry_run_plan-ended.result c.in_ok-plan.ensures.only
     (λ due calls. after_reading Tree plan_file old new c.args.plan.now tree Untouched _ Untouched due
     (reads_later Tree plan_file old mid new c.args.plan.now tree c.dry_run_plan-ended.ensures.keeps.read_faults c.in_ok-plan.ensures.ok)
-    (after_since (List Todo) kind old mid new script Untouched (DryRunOf (sites tree)) (DryRunOf (sites tree)) Untouched due c.in_ok-plan.ensures.only
-    (λ threads dry. dry) calls))
+    (after_since Script kind old mid new script Untouched (λ read. DryRunOf (sites tree) read.threads) (λ read. DryRunOf (sites tree) read.threads) Untouched due c.in_ok-plan.ensures.only
+    (λ read dry. dry) calls))
     c.dry_run_plan-ended.ensures.performs

@@ -2,7 +2,7 @@ use Rattle.std.proofs.Common.{Ok, Err, List, refl, ap, ◌∙◌}
 use Rattle.px_core.specs.Plan.{tree_of, sites}
 use Rattle.px_sem.proofs.Logs.{fit_accepted}
 use Rattle.px_sem.specs.Stepper.{State}
-use Rattle.px_script.specs.declared.todo.Todo.{Todo}
+use Rattle.px_script.specs.declared.script.Script.{Script}
 use Rattle.px_run.specs.Course.{Untouched, AfterFile}
 use Rattle.px_run.specs.Ending.{log_ending}
 use Rattle.px_run.specs.Headline.{DryRunOf}
@@ -15,7 +15,7 @@ use Rattle.px_run.proofs.dry_run.dry_run_plan.Goals as goal
 
 pub returns-in_err-fetch_script-clause-performs : goal.returns-in_err-fetch_script-clause-performs
 returns-in_err-fetch_script-clause-performs g c =
-    reading_stopped (List Todo) (script_file (sites (tree_of c.args.plan.now))) (view g.H.Host c.args.host.now) (view g.H.Host c.fetch_script.new.host)
+    reading_stopped Script (script_file (sites (tree_of c.args.plan.now))) (view g.H.Host c.args.host.now) (view g.H.Host c.fetch_script.new.host)
     c.args.script.now Untouched _ c.in_err-fetch_script.field-0.0 c.from_residual.result c.from_residual.ensures.1 c.in_err-fetch_script.ensures.err
     c.in_err-fetch_script.ensures.only
 
@@ -23,14 +23,14 @@ pub returns-in_err-entries-clause-performs : goal.returns-in_err-entries-clause-
 returns-in_err-entries-clause-performs g c =
     memory_stopped (view g.H.Host c.args.host.now) (view g.H.Host c.fetch_script.new.host)
     (AfterFile (script_file (sites (tree_of c.args.plan.now))) (view g.H.Host c.args.host.now) (view g.H.Host c.fetch_script.new.host) c.args.script.now Untouched
-    (DryRunOf (sites (tree_of c.args.plan.now))) Untouched) c.from_residual-in_err-entries.result
+    (λ read. DryRunOf (sites (tree_of c.args.plan.now)) read.threads) Untouched) c.from_residual-in_err-entries.result
     c.from_residual-in_err-entries.ensures.1 AfterFile.no_memory c.in_ok-fetch_script.ensures.only
 
 pub returns-in_err-stepper-clause-performs : goal.returns-in_err-stepper-clause-performs
 returns-in_err-stepper-clause-performs g c =
     let tree = tree_of c.args.plan.now in
-    start_stopped_behind (List Todo) (script_file (sites tree)) (view g.H.Host c.args.host.now) (view g.H.Host c.fetch_script.new.host) c.args.script.now
-    c.in_ok-fetch_script.field-0.threads Untouched (DryRunOf (sites tree)) c.in_err-stepper.field-0.0 c.from_residual-in_err-stepper.result
+    start_stopped_behind Script (script_file (sites tree)) (view g.H.Host c.args.host.now) (view g.H.Host c.fetch_script.new.host) c.args.script.now
+    c.in_ok-fetch_script.field-0 Untouched (λ read. DryRunOf (sites tree) read.threads) c.in_err-stepper.field-0.0 c.from_residual-in_err-stepper.result
     c.in_ok-fetch_script.ensures.ok c.in_ok-fetch_script.ensures.only c.from_residual-in_err-stepper.ensures.1
     (λ is. DryRunOf.runaway (c.in_err-stepper.ensures.runaway (ap Err is)))
 
@@ -38,7 +38,7 @@ pub returns-in_err-posted-clause-performs : goal.returns-in_err-posted-clause-pe
 returns-in_err-posted-clause-performs g c =
     memory_stopped (view g.H.Host c.args.host.now) (view g.H.Host c.fetch_script.new.host)
     (AfterFile (script_file (sites (tree_of c.args.plan.now))) (view g.H.Host c.args.host.now) (view g.H.Host c.fetch_script.new.host) c.args.script.now Untouched
-    (DryRunOf (sites (tree_of c.args.plan.now))) Untouched) c.from_residual-in_err-posted.result
+    (λ read. DryRunOf (sites (tree_of c.args.plan.now)) read.threads) Untouched) c.from_residual-in_err-posted.result
     c.from_residual-in_err-posted.ensures.1 AfterFile.no_memory c.in_ok-fetch_script.ensures.only
 
 pub post_each-requires-clause-started : goal.post_each-requires-clause-started
@@ -62,8 +62,8 @@ returns-in_err-print_log-clause-performs g c =
     c.in_ok-posted.ensures.each c.in_ok-posted.ensures.legal in
     let nodes = ap (λ (s : State). s.nodes) c.in_ok-posted.ensures.rest
     ∙ nodes_at_rest (sites tree) (g.S.Stepper.state c.in_ok-stepper.stepper) c.in_ok-stepper.ensures.rest in
-    broken_off_behind (List Todo) (script_file (sites tree)) (view g.H.Host c.args.host.now) mid new c.args.script.now threads Untouched
-    (DryRunOf (sites tree)) Untouched (log_ending (sites tree) posted.log.items) c.in_err-print_log.field-0.0 _ c.in_ok-fetch_script.ensures.ok c.in_ok-fetch_script.ensures.only
+    broken_off_behind Script (script_file (sites tree)) (view g.H.Host c.args.host.now) mid new c.args.script.now c.in_ok-fetch_script.field-0 Untouched
+    (λ read. DryRunOf (sites tree) read.threads) Untouched (log_ending (sites tree) posted.log.items) c.in_err-print_log.field-0.0 _ c.in_ok-fetch_script.ensures.ok c.in_ok-fetch_script.ensures.only
     c.in_err-print_log.ensures.only due c.from_residual-in_err-print_log.ensures.1
     (prints_log mid new (g.S.Stepper.state c.post_each.new.stepper).nodes (sites tree) c.deref.result.now posted.history.items c.deref-2.result.now posted.log.items (Err c.in_err-print_log.field-0.0)
     nodes c.deref.ensures.value c.deref-2.ensures.value c.in_ok-posted.ensures.history c.in_err-print_log.ensures.prints)
@@ -80,7 +80,7 @@ returns-clause-performs g c =
     c.in_ok-posted.ensures.each c.in_ok-posted.ensures.legal in
     let nodes = ap (λ (s : State). s.nodes) c.in_ok-posted.ensures.rest
     ∙ nodes_at_rest (sites tree) (g.S.Stepper.state c.in_ok-stepper.stepper) c.in_ok-stepper.ensures.rest in
-    printed_behind (List Todo) (script_file (sites tree)) (view g.H.Host c.args.host.now) mid new c.args.script.now threads Untouched
-    (DryRunOf (sites tree)) Untouched ends.Done (log_ending (sites tree) posted.log.items) c.in_ok-fetch_script.ensures.ok c.in_ok-fetch_script.ensures.only c.in_ok-print_log.ensures.only due refl
+    printed_behind Script (script_file (sites tree)) (view g.H.Host c.args.host.now) mid new c.args.script.now c.in_ok-fetch_script.field-0 Untouched
+    (λ read. DryRunOf (sites tree) read.threads) Untouched ends.Done (log_ending (sites tree) posted.log.items) c.in_ok-fetch_script.ensures.ok c.in_ok-fetch_script.ensures.only c.in_ok-print_log.ensures.only due refl
     (prints_log mid new (g.S.Stepper.state c.post_each.new.stepper).nodes (sites tree) c.deref.result.now posted.history.items c.deref-2.result.now posted.log.items (Ok tt)
     nodes c.deref.ensures.value c.deref-2.ensures.value c.in_ok-posted.ensures.history c.in_ok-print_log.ensures.prints)

@@ -1,5 +1,13 @@
-use Rattle.std.proofs.Common.{ap, ◌∙◌}
+use Rattle.std.proofs.Common.{List, ap, sym, subst, ◌∙◌}
+use Rattle.px_core.specs.Plan.{tree_of, sites}
+use Rattle.px_core.specs.declared.plan.Plan.{Plan}
+use Rattle.px_exec.specs.Executive.{Opening}
+use Rattle.px_exec.specs.Opening.{GivesNames}
 use Rattle.px_output.specs.View.{view}
+use Rattle.px_script.specs.declared.todo.Todo.{Todo}
+use Rattle.px_run.specs.Finishing.{Finishes}
+use Rattle.px_run.specs.Resume.{IsLeft}
+use Rattle.px_run.specs.declared.finishing.Telling.TheVariants as tellings
 use Rattle.px_run.proofs.Resumed.{not_taken_up, resume_refused, resume_finished}
 use Rattle.px_run.proofs.resume.resume.Goals as goal
 
@@ -14,10 +22,17 @@ returns-in-Ok-script_left-clause-resumes g c =
     let now = view g.H.Host c.finish.new.host in
     let reopened = c.in-Ok.reopened in
     let r = c.in-Ok.ensures.reopened in
-    resume_finished g.S.Stepper g.D.Disk c.args.script.now c.args.journal.now c.args.limit c.args.disk reopened r before mid now c.in-Ok-script_left.ensures.only
-    c.history.result.now c.in-Ok-script_left.left c.finish.result (c.history.ensures ∙ r.opening.now) c.in-Ok-script_left.ensures.ok
+    let renamed = c.rename.new.self in
+    let renames = c.rename.ensures.renamed in
+    let left = c.in-Ok-script_left.left in
+    resume_finished g.S.Stepper g.D.Disk c.args.script.now c.args.journal.now c.args.limit c.args.disk renamed
+    (c.rename.ensures.kept c.args.journal.now c.args.limit c.args.disk r) before mid now c.in-Ok-script_left.ensures.only
+    c.history.result.now left c.finish.result (c.history.ensures ∙ r.opening.now ∙ sym (ap (λ (o : Opening g.row.S.Denot g.row.D.Denot). o.history) renames.opening))
+    (subst (λ (plan : Plan). IsLeft (sites (tree_of plan)) c.args.script.now c.history.result.now before mid left) (sym c.rename.ensures.plan) c.in-Ok-script_left.ensures.ok)
+    (subst (GivesNames renamed.exec.opening.journal) c.without_names-left.ensures.names renames.gives)
     c.finish.ensures.keeps.read_faults
-    c.finish.ensures.finishes
+    (λ text is. subst (λ (threads : List Todo). Finishes g.D.Disk g.S.Stepper tellings.Text text renamed.exec threads mid now c.finish.result)
+    c.without_names-left.ensures.threads (c.finish.ensures.finishes text is))
 
 pub returns-clause-resumes : goal.returns-clause-resumes
 returns-clause-resumes g c =

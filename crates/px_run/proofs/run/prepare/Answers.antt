@@ -21,7 +21,7 @@ pub returns-in_err-stepper-clause-err : goal.returns-in_err-stepper-clause-err
 returns-in_err-stepper-clause-err g c =
     let source = c.in_ok-text.field-0 in
     stopped_at_start (view g.H.Host c.args.host.now) (view g.H.Host c.fetch_source.new.host) (view g.H.Host c.fetch_script.new.host)
-    c.args.plan.now c.args.script.now source.text.items (tree_of source.plan) c.in_ok-script.script.threads c.in_err-stepper.field-0.0
+    c.args.plan.now c.args.script.now source.text.items (tree_of source.plan) c.in_ok-script.script c.in_err-stepper.field-0.0
     c.from_residual-in_err-stepper.result c.from_residual-in_err-stepper.ensures.1 c.in_ok-text.ensures.ok c.in_ok-text.ensures.only
     c.in_ok-script.ensures.only c.in_ok-script.ensures.ok (λ is. c.in_err-stepper.ensures.runaway (ap Err is))
 

@@ -4,7 +4,7 @@ use Rattle.std.specs.String.{string_bytes}
 use Rattle.px_output.specs.View.{view}
 use Rattle.px_words.specs.Asked.{asked}
 use Rattle.px_words.specs.Words.{command}
-use Rattle.px_run.proofs.Carrying.{asks_for, early_performed, usage_performed, trace_start_performed, dry_run_performed, check_performed, format_performed, run_performed, resume_performed, trace_performed, soak_performed}
+use Rattle.px_run.proofs.Carrying.{asks_for, early_performed, usage_performed, trace_start_performed, dry_run_performed, check_performed, format_performed, run_performed, resume_performed, trace_performed, names_performed, soak_performed}
 use Rattle.px_run.proofs.top.carry_out.Goals as goal
 use Rattle.px_run.proofs.top.carry_out.Goals.{in-None, in-Some-TraceStart, in-Some-DryRun, in-Some-Check, in-Some-Format}
 
@@ -33,6 +33,13 @@ returns-in-Some-Trace-clause-performs g c =
     let at = c.in-Some-Trace in
     trace_performed g.D.Disk (view g.H.Host c.args.host.now) (view g.H.Host c.trace.new.host) c.args.disk c.trace.result words at.journal.now
     (asks_for c.in-Ok.ensures.asked at.is (rw at.is at at.field-0-is)) c.trace.ensures.traces
+
+pub returns-in-Some-Names-clause-performs : goal.returns-in-Some-Names-clause-performs
+returns-in-Some-Names-clause-performs g c =
+    let words = command (map string_bytes c.args.words.now) in
+    let at = c.in-Some-Names in
+    names_performed g.D.Disk (view g.H.Host c.args.host.now) (view g.H.Host c.names.new.host) c.args.disk c.names.result words at.journal.now
+    (asks_for c.in-Ok.ensures.asked at.is (rw at.is at at.field-0-is)) c.names.ensures.names
 
 pub returns-in-Some-Soak-clause-performs : goal.returns-in-Some-Soak-clause-performs
 returns-in-Some-Soak-clause-performs g c =
