@@ -23,10 +23,11 @@ fn main(rt: HostRuntime) -> ExitCode {
     ExitCode::from(plexil(&rt, alloc, &words, &mut host, disk, &NoPace).status)
 }
 
-// What the command does with its journal: `trace` writes nothing, so that it can stand beside a command that does.
+// What the command does with its journal: `trace` and `names` write nothing, so that they can stand beside a command that
+// does.
 fn access_for(words: &[String]) -> Access {
     match words.first() {
-        Some(name) if name.as_str() == "trace" => Access::Read,
+        Some(name) if matches!(name.as_str(), "trace" | "names") => Access::Read,
         _ => Access::Write,
     }
 }

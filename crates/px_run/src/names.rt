@@ -13,12 +13,7 @@ use std::alloc::Global;
 
 /// Prints for each event of the journal of this name on the disk the name of the interface that it came through, or that it
 /// has none. Nothing is written, no plan compiled, and no event run.
-pub fn names<H: Host, D: Disk>(
-    alloc: Global,
-    journal: &str,
-    host: &mut H,
-    disk: D,
-) -> Carried<D>
+pub fn names<H: Host, D: Disk>(alloc: Global, journal: &str, host: &mut H, disk: D) -> Carried<D>
     requires unbound { D.bound_to disk ≡ None }
     ensures names { NamesCarries D.Disk journal.now (view H.Host host.old) (view H.Host host.new) disk result }
     ensures keeps { KeepsFiles (view H.Host host.old) (view H.Host host.new) }

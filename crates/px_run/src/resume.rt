@@ -50,25 +50,11 @@ pub fn resume<H: Host, D: Disk + Send, S: Stepper + Send, P: Pace, R: Threads + 
             };
         }
     };
-    match script_left(
-        alloc,
-        script,
-        &reopened.plan,
-        reopened.exec.history(),
-        host,
-    ) {
+    match script_left(alloc, script, &reopened.plan, reopened.exec.history(), host) {
         Ok(left) => {
             let (left, names) = without_names(alloc, left);
             reopened.rename(names);
-            finish(
-                rt,
-                alloc,
-                reopened.exec,
-                &left,
-                Telling::Text,
-                host,
-                pace,
-            )
+            finish(rt, alloc, reopened.exec, &left, Telling::Text, host, pace)
         }
         Err(stop) => Carried {
             result: Err(stop),
