@@ -24,7 +24,7 @@ pub const CROSS: &str = "M0 -4 L8 4 M8 -4 L0 4";
 const SIGN: u32 = 20;
 
 /// Where the words of the legend stand.
-const LEGEND: u32 = 57;
+const LEGEND_BASELINE: u32 = 57;
 
 impl Deed {
     /// The outline of its mark, from the middle of the mark's left edge.
@@ -91,14 +91,14 @@ impl Drawing {
     }
 
     fn sign(&mut self, class: &str, form: &str, x: u32) -> Result<(), NoMemory> {
-        self.begin_shape(class, form, x, LEGEND.saturating_sub(4))?;
+        self.begin_shape(class, form, x, LEGEND_BASELINE.saturating_sub(4))?;
         self.text.push_str("</path>")
     }
 
     // Draws a word behind its sign, and answers where the next sign stands.
     fn legend_word(&mut self, word: &str, x: u32) -> Result<u32, NoMemory> {
         let x = x.saturating_add(SIGN);
-        self.words("word", x, LEGEND, word)?;
+        self.words("word", x, LEGEND_BASELINE, word)?;
         Ok(x.saturating_add(text_width(word)).saturating_add(MARGIN))
     }
 }

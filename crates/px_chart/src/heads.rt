@@ -2,7 +2,7 @@
 use crate::columns::{Column, Fate};
 use crate::draw::Drawing;
 use crate::frame::CROSS;
-use crate::layout::{AGAIN, NUMBERS};
+use crate::layout::{NUMBERS_EVERY, NUMBERS};
 use px_value::NoMemory;
 
 /// How far above the rows the events' numbers stand.
@@ -47,7 +47,7 @@ impl Drawing {
     /// Draws the events' numbers again and again where the picture is high, so that they are always in sight.
     pub fn numbers_again(&mut self, columns: &[Column], rows: usize) -> Result<(), NoMemory> {
         for row in 1..rows {
-            if row % AGAIN == 0 {
+            if row % NUMBERS_EVERY == 0 {
                 let y = self.layout.row(row);
                 self.numbers(columns, y)?;
             }

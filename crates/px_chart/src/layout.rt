@@ -29,9 +29,9 @@ const WIDE_LETTER: u32 = 14;
 /// The longest outcome and failure, at the right: `INTERRUPTED INVARIANT_CONDITION_FAILED`.
 const ENDS: u32 = 330;
 /// The width that the legend needs.
-const LEGEND: u32 = 1_150;
+const LEGEND_WIDTH: u32 = 1_150;
 /// After how many rows the events' numbers stand again, in a row of their own.
-pub const AGAIN: usize = 40;
+pub const NUMBERS_EVERY: usize = 40;
 
 /// Where things stand.
 #[derive(Clone, Copy)]
@@ -108,7 +108,7 @@ impl Layout {
             left,
             right,
             top,
-            width: right.saturating_add(ENDS).max(LEGEND).max(title),
+            width: right.saturating_add(ENDS).max(LEGEND_WIDTH).max(title),
             height: 0,
         };
         let rows = recording.rows.len();
@@ -125,7 +125,7 @@ impl Layout {
 
     /// Where a row begins.
     pub fn row(&self, number: usize) -> u32 {
-        let before = number.saturating_add(number / AGAIN);
+        let before = number.saturating_add(number / NUMBERS_EVERY);
         as_units(before)
             .saturating_mul(ROW)
             .saturating_add(self.top)

@@ -13,7 +13,7 @@ use std::alloc::Global;
 const LEAST_SLOTS: u32 = 3;
 
 /// After how many slots the nodes' names stand again.
-const AGAIN: u32 = 120;
+const NAMES_EVERY: u32 = 120;
 
 /// A run, slot by slot: each micro step has one, and each column ends with one for the quiet world.
 #[derive(Drop)]
@@ -82,7 +82,7 @@ impl Recording {
     // Leaves room for the names, where they last stood far to the left.
     fn leave_room(&mut self) -> Result<(), NoMemory> {
         let last = self.again.last().copied().unwrap_or(0);
-        if self.slot.saturating_sub(last) >= AGAIN {
+        if self.slot.saturating_sub(last) >= NAMES_EVERY {
             self.again.push(self.slot)?;
             self.slot = self.slot.saturating_add(self.name_slots);
         }
