@@ -50,14 +50,8 @@ impl<'a> Seen<'a> {
     fn not_assignable(&self, alloc: Global, token: usize) -> Result<Words, NoMemory> {
         let name = self.name(token);
         match self.sign(token.saturating_add(1)) {
-            Some(Sign::OpenBracket) => Ok(Words::with_help(
-                format!(in alloc; "`{name}` is no array, and has no elements to write")?,
-                format!(in alloc; "leave the index away: `{name} = ..`")?,
-            )),
-            _ => Ok(Words::with_help(
-                format!(in alloc; "`{name}` is an array, which isn't written as a whole")?,
-                format!(in alloc; "write its elements one by one, as `{name}[0] = ..`")?,
-            )),
+            Some(Sign::OpenBracket) => no_array(alloc, name),
+            _ => whole_array(alloc, name),
         }
     }
 
@@ -129,6 +123,20 @@ impl<'a> Seen<'a> {
             None => Ok(Words::plain(format!(in alloc; "`{name}` has over 8 arguments")?)),
         }
     }
+}
+
+// Of an element of a variable that isn't an array.
+fn no_array(alloc: Global, name: &str) -> Result<Words, NoMemory> {
+    let message = format!(in alloc; "`{name}` is no array, and has no elements to write")?;
+    let help = format!(in alloc; "leave the index away: `{name} = ..`")?;
+    Ok(Words::with_help(message, help))
+}
+
+// Of an array without an index.
+fn whole_array(alloc: Global, name: &str) -> Result<Words, NoMemory> {
+    let message = format!(in alloc; "`{name}` is an array, which isn't written as a whole")?;
+    let help = format!(in alloc; "write its elements one by one, as `{name}[0] = ..`")?;
+    Ok(Words::with_help(message, help))
 }
 
 fn large_variable(alloc: Global, name: &str) -> Result<Words, NoMemory> {

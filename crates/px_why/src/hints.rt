@@ -30,23 +30,23 @@ impl<'a> Hint<'a> {
     }
 }
 
-/// What helps at a cut behind a front, if there is such a thing. The front has its last token no more then.
+/// What helps at a cut behind a front, if there is such a thing.
 pub fn hint_for<'a>(
     alloc: Global,
     cut: &Cut<'a>,
     wanted: &Wanted,
-    front: &mut Front,
+    mut front: Front,
 ) -> Result<Option<Hint<'a>>, NoMemory> {
     let found = cut.place.spelled();
     let before = cut.before.spelled();
     if let Some(rule) = rule_broken(before, found, wanted) {
         return Ok(Some(Hint::Rule(rule)));
     }
-    if let Some(keyword) = keyword_taken(alloc, front, found)? {
+    if let Some(keyword) = keyword_taken(alloc, &mut front, found)? {
         return Ok(Some(Hint::Here(keyword)));
     }
     front.leave_last();
-    match keyword_taken(alloc, front, before)? {
+    match keyword_taken(alloc, &mut front, before)? {
         Some(keyword) if keyword != before => Ok(Some(Hint::Before {
             keyword,
             word: before,
@@ -69,33 +69,36 @@ fn keyword_taken<'a>(
 
 // The rule that is broken where the second stands behind the first.
 fn rule_broken(before: &str, found: &str, wanted: &Wanted) -> Option<&'static str> {
-    match (before, found) {
-        ("else", "if") => Some("`else if` is written `elseif`"),
-        ("}", ";") => Some("no `;` stands behind a `}`"),
-        ("+", "+") => Some("there is no `++`: write `x + 1`"),
-        (_, "#(") => Some(
+    match found {
+        "if" if before == "else" => Some("`else if` is written `elseif`"),
+        ";" if before == "}" => Some("no `;` stands behind a `}`"),
+        "+" if before == "+" => Some("there is no `++`: write `x + 1`"),
+        "#(" => Some(
             "a list of values stands in a declaration alone: write the elements one by one, as `x[0] = 1`",
         ),
-        (_, "Command" | "Integer" | "Boolean" | "String") if wanted.is_complete => {
+        _ => rule_of_order(found, wanted),
+    }
+}
+
+// The rule that is broken where this word stands too late.
+fn rule_of_order(found: &str, wanted: &Wanted) -> Option<&'static str> {
+    match found {
+        "Command" | "Integer" | "Boolean" | "String" if wanted.is_complete => {
             Some("declarations stand before the plan")
         }
-        (_, "Integer" | "Boolean" | "String") if wanted.action => {
+        _ if wanted.action => rule_of_block(found),
+        _ => None,
+    }
+}
+
+// The rule that is broken where this word stands in place of an action.
+fn rule_of_block(found: &str) -> Option<&'static str> {
+    match found {
+        "Integer" | "Boolean" | "String" => {
             Some("variables are declared before the first action of their block")
         }
-        (
-            _,
-            "Start"
-            | "End"
-            | "Exit"
-            | "Skip"
-            | "Repeat"
-            | "Pre"
-            | "Post"
-            | "Invariant"
-            | "Priority",
-        ) if wanted.action => {
-            Some("conditions and a Priority stand before the first action of their block")
-        }
+        "Start" | "End" | "Exit" | "Skip" | "Repeat" | "Pre" | "Post" | "Invariant" | "Priority" =>
+            Some("conditions and a Priority stand before the first action of their block"),
         _ => None,
     }
 }

@@ -1,5 +1,6 @@
 // Names of variables and nodes that aren't there.
 use crate::declared::{A_LOOKUP, A_VARIABLE, What};
+use crate::nearest::is_meant;
 use crate::report::Words;
 use crate::seen::Seen;
 use crate::spellings::value_meant;
@@ -21,20 +22,21 @@ impl<'a> Seen<'a> {
 
     fn variable_meant(&self, alloc: Global, name: &'a str) -> Result<String, NoMemory> {
         if self.first_of(A_LOOKUP, name).is_some() {
-            return format!(in alloc; "`{name}` is a state of the outside: write `Lookup({name})`");
+            return to_look_up(alloc, name);
         }
-        if let Some(near) = self.nearest(alloc, A_VARIABLE, name)? {
-            return format!(in alloc; "is `{near}` meant?");
+        match self.nearest(alloc, A_VARIABLE, name)? {
+            Some(near) => is_meant(alloc, near),
+            None => self.other_meant(alloc, name),
         }
-        if let Some(value) = value_meant(alloc, name)? {
-            return format!(in alloc; "is `{value}` meant?");
+    }
+
+    // What is meant by the name of no variable, if it is near to none either.
+    fn other_meant(&self, alloc: Global, name: &'a str) -> Result<String, NoMemory> {
+        match value_meant(alloc, name)? {
+            Some(value) => is_meant(alloc, value),
+            None if self.first_of(What::Node, name).is_some() => to_ask_node(alloc, name),
+            None => to_declare(alloc, name),
         }
-        if self.first_of(What::Node, name).is_some() {
-            return format!(in alloc;
-                "`{name}` is a node: write `{name}.state` or `{name}.outcome`"
-            );
-        }
-        to_declare(alloc, name)
     }
 
     /// What is said of a node that isn't there, or that is no command where its handle is asked for.
@@ -82,7 +84,7 @@ impl<'a> Seen<'a> {
 
     fn node_meant(&self, alloc: Global, name: &'a str) -> Result<String, NoMemory> {
         match self.nearest(alloc, What::Node, name)? {
-            Some(near) => format!(in alloc; "is `{near}` meant?"),
+            Some(near) => is_meant(alloc, near),
             None => format!(in alloc; "give the node that is meant the label `{name}:`"),
         }
     }
@@ -92,6 +94,14 @@ fn seen_elsewhere(alloc: Global, name: &str, line: usize) -> Result<String, NoMe
     format!(in alloc;
         "the `{name}` of line {line} is seen in its own block alone: declare it in a block round both places"
     )
+}
+
+fn to_look_up(alloc: Global, name: &str) -> Result<String, NoMemory> {
+    format!(in alloc; "`{name}` is a state of the outside: write `Lookup({name})`")
+}
+
+fn to_ask_node(alloc: Global, name: &str) -> Result<String, NoMemory> {
+    format!(in alloc; "`{name}` is a node: write `{name}.state` or `{name}.outcome`")
 }
 
 fn to_declare(alloc: Global, name: &str) -> Result<String, NoMemory> {

@@ -41,3 +41,8 @@ impl<'a> Nearest<'a> {
         self.found
     }
 }
+
+/// The hint that this name may be meant.
+pub fn is_meant(alloc: Global, name: &str) -> Result<String, NoMemory> {
+    format!(in alloc; "is `{name}` meant?")
+}

@@ -6,7 +6,7 @@ use crate::report::{Words, push_fault, push_whole};
 use crate::seen::Seen;
 use crate::syntax::{cut_short, place_at, too_deep};
 use px_check::{Spot, first_behind};
-use px_compile::{TEXT_LIMIT, compile};
+use px_compile::{TEXT_LIMIT, compile_tree};
 use px_lex::{LexFault, Token, lex};
 use px_plan_parse::parse;
 use px_syntax::{ExpandFault, ParseFault, PlanFault, Surface};
@@ -171,9 +171,9 @@ fn too_large(alloc: Global, name: &str, text: &str, out: &mut String) -> Result<
     if bytes.len() > TEXT_LIMIT {
         return Ok(0);
     }
-    match compile(alloc, bytes) {
-        Ok(plan) => {
-            drop(plan);
+    match compile_tree(alloc, bytes) {
+        Ok(made) => {
+            drop(made);
             Ok(0)
         }
         Err(PlanFault::Expand(ExpandFault::TooMany { nodes })) => {

@@ -25,10 +25,8 @@ pub fn cut_short<'a>(
     token: usize,
 ) -> Result<Unexpected<'a>, NoMemory> {
     let cut = Cut::at(alloc, text, &tokens, token)?;
-    let mut front = Front::of(tokens, token);
-    let help = help_for(alloc, &cut, &mut front);
-    drop(front);
-    let words = Words::with_help(message_for(alloc, &cut)?, help?);
+    let help = help_for(alloc, &cut, Front::of(tokens, token))?;
+    let words = Words::with_help(message_for(alloc, &cut)?, help);
     Ok(Unexpected {
         place: cut.place,
         words,
@@ -42,8 +40,8 @@ fn message_for(alloc: Global, cut: &Cut<'_>) -> Result<String, NoMemory> {
     }
 }
 
-fn help_for(alloc: Global, cut: &Cut<'_>, front: &mut Front) -> Result<String, NoMemory> {
-    let wanted = Wanted::behind(alloc, front)?;
+fn help_for(alloc: Global, cut: &Cut<'_>, mut front: Front) -> Result<String, NoMemory> {
+    let wanted = Wanted::behind(alloc, &mut front)?;
     let mut help = String::new(alloc);
     match hint_for(alloc, cut, &wanted, front)? {
         Some(hint) => hint.push(&mut help)?,
