@@ -7,7 +7,7 @@ use px_core::Plan;
 use px_event::Entry;
 use px_script::{SCRIPT_LIMIT, ScriptFault, read_script};
 use px_value::NoMemory;
-use px_why::{Nearest, Place, Words, push_fault, push_whole};
+use px_why::{Nearest, Place, Words, is_meant, push_fault, push_whole};
 use std::alloc::{AllocError, Global};
 use std::str::from_utf8;
 
@@ -165,52 +165,68 @@ fn words_for(alloc: Global, content: &str, kind: u8, plan: &Plan) -> Result<Word
 fn no_shape(alloc: Global, content: &str) -> Result<Words, NoMemory> {
     let first = word(content, 0);
     match SHAPES.iter().find(|shape| shape.0 == first) {
-        Some((_, shape)) => Ok(Words::with_help(
-            format!(in alloc; "this is no `{first}` line")?,
-            format!(in alloc; "it is {shape}")?,
-        )),
+        Some((_, shape)) => of_shape(alloc, first, *shape),
         None => no_first_word(alloc, first),
     }
 }
 
+fn of_shape(alloc: Global, first: &str, shape: &str) -> Result<Words, NoMemory> {
+    let message = format!(in alloc; "this is no `{first}` line")?;
+    let help = format!(in alloc; "it is {shape}")?;
+    Ok(Words::with_help(message, help))
+}
+
 fn no_first_word(alloc: Global, first: &str) -> Result<Words, NoMemory> {
+    let message = format!(in alloc; "no line of a script begins with `{first}`")?;
+    match first_word_meant(alloc, first)? {
+        Some(near) => Ok(Words::with_help(message, is_meant(alloc, near)?)),
+        None => Words::with_fixed_help(
+            alloc,
+            message,
+            "a line begins with `set`, `handle`, `return`, `abort`, `ack`, `wait` or `thread`, a comment with `#`",
+        ),
+    }
+}
+
+fn first_word_meant<'a>(alloc: Global, first: &'a str) -> Result<Option<&'a str>, NoMemory> {
     let mut nearest = Nearest::to(first);
     for (word, _) in SHAPES {
         nearest.look_at(alloc, word)?;
     }
-    let help = match nearest.found() {
-        Some(near) => format!(in alloc; "is `{near}` meant?")?,
-        None => String::from_str(
-            alloc,
-            "a line begins with `set`, `handle`, `return`, `abort`, `ack`, `wait` or `thread`, a comment with `#`",
-        )?,
-    };
-    let message = format!(in alloc; "no line of a script begins with `{first}`")?;
-    Ok(Words::with_help(message, help))
+    Ok(nearest.found())
 }
 
 fn no_node(alloc: Global, content: &str, plan: &Plan) -> Result<Words, NoMemory> {
-    let first = word(content, 0);
     let path = word(content, word_meant(content, 2));
     let nodes = paths_of(alloc, plan)?;
     match nodes.iter().find(|node| node.path.as_str() == path) {
-        Some(node) => {
-            let a_kind = node.a_kind();
-            let wanted = if first == "ack" {
-                "an Update"
-            } else {
-                "a Command"
-            };
-            let message = format!(in alloc; "`{path}` is {a_kind}; `{first}` is for {wanted}")?;
-            let help = kin(alloc, &nodes, path, wanted)?;
-            Ok(Words { message, help })
-        }
-        None => {
-            let message = format!(in alloc; "the plan has no node `{path}`")?;
-            let help = alike(alloc, &nodes, path)?;
-            Ok(Words { message, help })
-        }
+        Some(node) => of_other_kind(alloc, &nodes, node, word(content, 0)),
+        None => no_path(alloc, &nodes, path),
     }
+}
+
+// Of a line that isn't for nodes of this one's kind.
+fn of_other_kind(
+    alloc: Global,
+    nodes: &[NodePath<'_>],
+    node: &NodePath<'_>,
+    first: &str,
+) -> Result<Words, NoMemory> {
+    let path = node.path.as_str();
+    let a_kind = node.a_kind();
+    let wanted = match first {
+        "ack" => "an Update",
+        _ => "a Command",
+    };
+    let message = format!(in alloc; "`{path}` is {a_kind}; `{first}` is for {wanted}")?;
+    let help = kin(alloc, nodes, path, wanted)?;
+    Ok(Words { message, help })
+}
+
+fn no_path(alloc: Global, nodes: &[NodePath<'_>], path: &str) -> Result<Words, NoMemory> {
+    let message = format!(in alloc; "the plan has no node `{path}`")?;
+    let help = alike(alloc, nodes, path)?;
+    Ok(Words { message, help })
 }
 
 // The nodes of the kind that is wanted below a path.
@@ -236,10 +252,19 @@ fn alike(alloc: Global, nodes: &[NodePath<'_>], path: &str) -> Result<Option<Str
     for node in nodes {
         nearest.look_at(alloc, node.path.as_str())?;
     }
-    if let Some(near) = nearest.found() {
-        return Ok(Some(format!(in alloc; "is `{near}` meant?")?));
+    match nearest.found() {
+        Some(near) => Ok(Some(is_meant(alloc, near)?)),
+        None => alike_at_last(alloc, nodes, last_name(path)),
     }
-    let mut nearest = Nearest::to(last_name(path));
+}
+
+// The nodes with the last name that is nearest to this one.
+fn alike_at_last(
+    alloc: Global,
+    nodes: &[NodePath<'_>],
+    last: &str,
+) -> Result<Option<String>, NoMemory> {
+    let mut nearest = Nearest::to(last);
     for node in nodes {
         nearest.look_at(alloc, last_name(node.path.as_str()))?;
     }
@@ -264,16 +289,21 @@ fn named(alloc: Global, nodes: &[NodePath<'_>], last: &str) -> Result<Option<Str
 }
 
 fn one_of(alloc: Global, paths: &[&str]) -> Result<Option<String>, NoMemory> {
-    let Some((first, others)) = paths.split_first() else {
-        return Ok(None);
-    };
+    match paths.split_first() {
+        Some((first, others)) => Ok(Some(first_or_other(alloc, *first, others)?)),
+        None => Ok(None),
+    }
+}
+
+fn first_or_other(alloc: Global, first: &str, others: &[&str]) -> Result<String, NoMemory> {
     let mut help = format!(in alloc; "is `{first}` meant")?;
     for path in others.iter().take(TOLD) {
         write!(help, ", or `{path}`")?;
     }
-    if others.len() > TOLD {
-        help.push_str(", or another one of that name")?;
-    }
-    help.push_str("?")?;
-    Ok(Some(help))
+    help.push_str(if others.len() > TOLD {
+        ", or another one of that name?"
+    } else {
+        "?"
+    })?;
+    Ok(help)
 }

@@ -118,23 +118,16 @@ fn commands<'a>(alloc: Global) -> Result<Vec<Command<'a>>, NoMemory> {
     Ok(commands)
 }
 
-fn add<'a>(
-    command: Result<Command<'a>, NoMemory>,
-    commands: &mut Vec<Command<'a>>,
-) -> Result<(), NoMemory> {
-    commands.push(command?)?;
+fn add<T: Drop>(item: Result<T, NoMemory>, list: &mut Vec<T>) -> Result<(), NoMemory> {
+    list.push(item?)?;
     Ok(())
 }
 
-fn command<'a>(
-    alloc: Global,
-    name: &'a str,
-    about: &'a str,
-    args: Vec<Arg<'a>>,
-) -> Result<Command<'a>, NoMemory> {
-    Command::new(alloc, name).about(about).args(args)
+fn command<'a>(alloc: Global, name: &'a str, about: &'a str) -> Command<'a> {
+    Command::new(alloc, name).about(about)
 }
 
+// The file that a command is for.
 fn file<'a>(alloc: Global, name: &'a str, help: &'a str) -> Arg<'a> {
     Arg::new(alloc, "FILE")
         .value_name(name)
@@ -142,41 +135,57 @@ fn file<'a>(alloc: Global, name: &'a str, help: &'a str) -> Arg<'a> {
         .required(true)
 }
 
+// An option with a value.
+fn option<'a>(alloc: Global, name: &'a str, value: &'a str, help: &'a str) -> Arg<'a> {
+    Arg::new(alloc, name)
+        .long(name)
+        .value_name(value)
+        .help(help)
+}
+
 fn why<'a>(alloc: Global) -> Result<Command<'a>, NoMemory> {
-    let file = file(alloc, "FILE", "A plan, or with --plan a script");
-    let plan = Arg::new(alloc, "plan")
-        .long("plan")
-        .value_name("PLAN")
-        .help("The file is a script for this plan");
     let about = "Says what a plan or a script is refused for, and where";
-    command(alloc, "why", about, vec![in alloc; file, plan]?)
+    command(alloc, "why", about)
+        .arg(file(alloc, "FILE", "A plan, or with --plan a script"))?
+        .arg(option(alloc, "plan", "PLAN", "The file is a script for this plan"))
 }
 
 fn nodes<'a>(alloc: Global) -> Result<Command<'a>, NoMemory> {
-    let file = file(alloc, "PLAN", "A plan");
-    let like = Arg::new(alloc, "like")
-        .long("like")
-        .value_name("WORD")
-        .help("Only nodes whose paths have this in them");
     let about =
         "Lists the nodes of a plan, what each waits for, and which lines a script may have for it";
-    command(alloc, "nodes", about, vec![in alloc; file, like]?)
+    command(alloc, "nodes", about)
+        .arg(file(alloc, "PLAN", "A plan"))?
+        .arg(option(
+            alloc,
+            "like",
+            "WORD",
+            "Only nodes whose paths have this in them",
+        ))
 }
 
 fn journal<'a>(alloc: Global) -> Result<Command<'a>, NoMemory> {
-    let file = file(alloc, "JOURNAL", "A journal");
     let about = "Says what a journal holds, entry by entry, and where it is damaged";
-    command(alloc, "journal", about, vec![in alloc; file]?)
+    command(alloc, "journal", about).arg(file(alloc, "JOURNAL", "A journal"))
 }
 
 fn chart<'a>(alloc: Global) -> Result<Command<'a>, NoMemory> {
-    let file = file(alloc, "FILE", "A plan, or without a script a journal");
-    let script = Arg::new(alloc, "SCRIPT").help("A script for the plan");
-    let output = Arg::new(alloc, "output")
-        .short('o')
-        .long("output")
-        .value_name("FILE")
-        .help("Where the picture goes, in place of standard output");
     let about = "Draws a run as SVG: that of a plan and a script, or that of a journal";
-    command(alloc, "chart", about, vec![in alloc; file, script, output]?)
+    command(alloc, "chart", about)
+        .arg(file(alloc, "FILE", "A plan, or without a script a journal"))?
+        .arg(script(alloc))?
+        .arg(output(alloc))
+}
+
+fn script<'a>(alloc: Global) -> Arg<'a> {
+    Arg::new(alloc, "SCRIPT").help("A script for the plan")
+}
+
+fn output<'a>(alloc: Global) -> Arg<'a> {
+    option(
+        alloc,
+        "output",
+        "FILE",
+        "Where the picture goes, in place of standard output",
+    )
+    .short('o')
 }
