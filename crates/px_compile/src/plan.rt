@@ -50,8 +50,8 @@ pub fn compile(alloc: Global, bytes: &[u8]) -> Result<Plan, PlanFault>
     core_plan(alloc, &tree)
 }
 
-/// The tree that the bytes of a text spell, exactly where `compile` gives its plan; else the same error. The plan isn't
-/// made.
+/// The tree that the bytes of a text spell, exactly where `compile` gives its plan; else, want of memory apart, the same
+/// error. The plan isn't made.
 pub fn compile_tree(alloc: Global, bytes: &[u8]) -> Result<Compiled, PlanFault>
     requires { length bytes.now ≤ 1048576 }
     ensures tree { IfOk result (λ made. IsSpelled bytes.now (tree_of_surface made.tree)) }

@@ -4,7 +4,7 @@
 //! report; a `Reply` answers the post of an entry, and a `Cond` is what a script waits for. `encode` and `decode` lead to
 //! the bytes of an entry and back, and `push_entry` appends them. `Names` are those of the interfaces that threads post
 //! through; an entry with such a name has its bytes by `encode_named`, `decode_named` and `push_named`. `laws` says what
-//! `==` means, and that no bytes are those of two fit entries.
+//! `==` means, and that no bytes are those of two fit entries, nor of two with their names.
 #![tactic(auto)]
 
 mod bytes;

@@ -13,7 +13,6 @@ use std::marker::Model;
 /// A thread, and the name of the interface through which it posts.
 #[derive(Debug, Drop, PartialEq, Eq)]
 pub struct ThreadName {
-    /// From 1 to 8.
     pub thread: u8,
     /// An identifier.
     pub name: Name,

@@ -89,7 +89,7 @@ pub no_such_escape : (read : Read) (content old new : List ℕ) (c : ℕ) → re
 no_such_escape read content old new c so_far next none =
     so_far ∙ rw (next, unescaped_char c new, none) (with_bytes-none content)
 
-unescaped_small : (c d : ℕ) → unescaped c ≡ Some d → d < 128
+pub unescaped_small : (c d : ℕ) → unescaped c ≡ Some d → d < 128
 unescaped_small c d h = grind (arith, nat_tests)
 
 pub an_escape : (read : Read) (content content' old new : List ℕ) (c d : ℕ) → read ≡ with_bytes content (escape_from old) → old ≡ encode c ++ new → unescaped c ≡ Some d → content' ≡ content ++ encode d → read ≡ with_bytes content' (string_from new)

@@ -12,7 +12,7 @@ use Rattle.std.proofs.lemmas.Str.{IsUtf8-append, IsUtf8-drop, IsUtf8-encode, IsU
 use lib.Utf8.{scalar, scalars, encode, encodes, low_scalar}
 use Rattle.px_value.specs.Text.{unescaped, escape_letter, escaped_as, escaped, quoted}
 use Rattle.px_lex.specs.String.{string_from, escape_from}
-use Rattle.px_lex.proofs.Strings.{with_bytes, plain_char, unescaped_char, the_quote, a_line_end}
+use Rattle.px_lex.proofs.Strings.{with_bytes, plain_char, unescaped_char, unescaped_small, the_quote, a_line_end}
 use Rattle.px_print.proofs.Strings.{content_of, before}
 
 pub ascii_then : (b : ℕ) (bytes : List ℕ) → b < 128 → IsUtf8 bytes → IsUtf8 (b ∷ bytes)
@@ -39,9 +39,6 @@ first_of (b ∷ bytes) read content rest h =
     let same : one.first ≡ b = cc in
     let more = first_of bytes read one.less rest one.read_is in
     (more.0, more.1, one.content_is ∙ (λ i. same i ∷ more.2 i))
-
-escape_small : (c b : ℕ) → unescaped c ≡ Some b → b < 128
-escape_small c b h = grind (arith, nat_tests)
 
 mutual
   content_from : (cs content rest : List ℕ) → scalars cs ≡ true → string_from (encodes cs) ≡ Some (content, rest) → IsUtf8 content
@@ -71,7 +68,7 @@ mutual
   escaped_from [] content rest ok h = cc
   escaped_from (c ∷ cs) content rest ok h =
       let one = before (unescaped c) (string_from (encodes cs)) content rest (sym (unescaped_char c (encodes cs)) ∙ h) in
-      subst IsUtf8 (sym one.content_is) (ascii_then one.first one.less (escape_small c one.first one.byte_is)
+      subst IsUtf8 (sym one.content_is) (ascii_then one.first one.less (unescaped_small c one.first one.byte_is)
       (content_from cs one.less rest (and_parts (scalar c) (scalars cs) ok).1 one.read_is))
 
 -- a string that is read from here

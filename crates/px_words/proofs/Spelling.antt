@@ -5,6 +5,7 @@ use Rattle.std.specs.Str.{bytes_eq}
 use Rattle.std.specs.Str.Parse.{digits_value}
 use Rattle.std.proofs.lemmas.Bool.{cases_Bool, eqb-true, eq-eqb}
 use Rattle.std.proofs.lemmas.Str.{IsUtf8-drop, IsCharBoundary-after_ascii, encodes-chars}
+use Rattle.px_value.proofs.General.{differs_turned}
 use Rattle.px_core.specs.Plan.{is_same}
 use Rattle.clap.specs.Lexer.{has_byte, name_and_value, long_of, short_of}
 use Rattle.px_words.specs.Limited.{is_limit, count_of, behind_text}
@@ -65,12 +66,6 @@ parted_is (c ∷ cs) = elim (cases_Bool (c == 61)) [
   | inr isnt ↦ rw (isnt, one_more, two_more) (ap (λ (p : List ℕ × Option (List ℕ)). (c ∷ p.0, p.1)) (parted_is cs))
 ]
 
-turned : (a b : ℕ) → (a == b) ≡ false → (b == a) ≡ false
-turned a b differs = elim (cases_Bool (b == a)) [
-  | inl is ↦ absurd (true≢false (sym (eq-eqb a b (sym (eqb-true b a is))) ∙ differs))
-  | inr isnt ↦ isnt
-]
-
 parts_or : (a b : Bool) → (a || b) ≡ false → (a ≡ false) × (b ≡ false)
 parts_or true b e = absurd (cc)
 parts_or false b e = (refl, e)
@@ -89,7 +84,7 @@ splits : (text word : List ℕ) → has_byte 61 text ≡ false → Splits text w
 splits [] [] free = (refl, refl)
 splits [] (c ∷ cs) free = elim (cases_Bool (c == 61)) [
   | inl is ↦ let same : c ≡ 61 = eqb-true c 61 is in rw same (refl, refl)
-  | inr isnt ↦ rw (isnt, turned c 61 isnt) (refl, refl)
+  | inr isnt ↦ rw (isnt, differs_turned c 61 isnt) (refl, refl)
 ]
 splits (a ∷ xs) [] free = (refl, refl)
 splits (a ∷ xs) (c ∷ cs) free = elim (cases_Bool (c == 61)) [
@@ -140,7 +135,7 @@ behind_dash c cs text = elim (cases_Bool (c == 45)) [
     option = refl;
     dashes = rw isnt refl;
     named = rw isnt refl;
-    behind = rw (turned c 45 isnt) refl;
+    behind = rw (differs_turned c 45 isnt) refl;
     count = no_count (c ∷ cs);
     long = rw isnt refl;
     flag = c;

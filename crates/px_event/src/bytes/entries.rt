@@ -159,7 +159,6 @@ pub(super) fn source_of(reader: &mut Reader<'_>) -> Result<(u8, u32), DecodeFaul
 }
 
 /// The next event.
-
 #[tactic(auto, unfolding(crate::specs::Reading::event_at, crate::specs::Reading::event_behind))]
 pub(super) fn event_of(alloc: Global, reader: &mut Reader<'_>) -> Result<Event, DecodeFault>
     ensures { Reads (λ event. event) (event_at reader.old) result reader.new }
