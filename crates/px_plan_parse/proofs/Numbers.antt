@@ -7,8 +7,8 @@ use Rattle.px_syntax.specs.declared.expr.Literal.{Literal}
 use Rattle.px_syntax.specs.declared.expr.Literal.TheVariants as literals
 use Rattle.px_syntax.specs.declared.fault.ParseFault.{ParseFault}
 use Rattle.px_syntax.specs.declared.fault.ParseFault.TheVariants as faults
-use Rattle.px_syntax.specs.BlockGrammar.{listed, literal, number, signed}
-use Rattle.px_syntax.specs.Form.{Form, kind_at}
+use Rattle.px_syntax.specs.BlockGrammar.{listed, literal, signed}
+use Rattle.px_syntax.specs.Form.{Form, kind_at, number}
 use Rattle.px_expr_parse.proofs.Completions.{Shortest, begun_as, begun_here}
 use Rattle.px_plan_parse.specs.Part.{Follow, Anything, IsLacking, Lacks}
 use Rattle.px_plan_parse.specs.Tail.{priority, Unless}

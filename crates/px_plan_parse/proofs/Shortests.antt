@@ -9,9 +9,9 @@ use Rattle.px_syntax.specs.declared.word.BlockForm.{BlockForm}
 use Rattle.px_syntax.specs.declared.word.BlockForm.TheVariants as forms
 use Rattle.px_syntax.specs.declared.word.TypeName.TheVariants as types
 use Rattle.px_syntax.specs.Block.{Priority, Braces, NoActions, Branch, NoElseIfs, NoElse, Inner}
-use Rattle.px_syntax.specs.BlockGrammar.{block, body, branch, else_ifs, item, label, literal, number, otherwise, signed}
+use Rattle.px_syntax.specs.BlockGrammar.{block, body, branch, else_ifs, item, label, literal, otherwise, signed}
 use Rattle.px_syntax.specs.ExprGrammar.{expression}
-use Rattle.px_syntax.specs.Form.{Form, identifier}
+use Rattle.px_syntax.specs.Form.{Form, identifier, number}
 use Rattle.px_syntax.specs.Plan.{Command}
 use Rattle.px_syntax.specs.PlanGrammar.{declaration, parameter}
 use Rattle.px_expr_parse.specs.Tail.{closed}

@@ -16,10 +16,10 @@ use Rattle.px_syntax.specs.declared.word.Condition.TheVariants as conditions
 use Rattle.px_syntax.specs.declared.word.TypeName.{TypeName}
 use Rattle.px_syntax.specs.declared.word.TypeName.TheVariants as types
 use Rattle.px_syntax.specs.Block.{InitialData, Value, Listed, VariableData, ItemData, Variables, Conditions, Priority, TargetData, CallData, PairData, BlockTree, Braces, Actions, NoActions, More, ActionTree, Labelled, BranchTree, Branch, GuardedTree, Guarded, ElseIfs, NoElseIfs, ElseIf, ElseTree, NoElse, Else, BodyTree, Inner, Assign, CallInto, Call, Update, If, While, For}
-use Rattle.px_syntax.specs.BlockGrammar.{action, block, body, branch, call, condition_word, each_action, else_ifs, form_word, guarded, initial, item, label, listed, literal, negative, node_list_word, number, otherwise, pair, signed, target, type_word, variable}
+use Rattle.px_syntax.specs.BlockGrammar.{action, block, body, branch, call, condition_word, each_action, else_ifs, form_word, guarded, initial, item, label, listed, literal, negative, node_list_word, otherwise, pair, signed, target, type_word, variable}
 use Rattle.px_syntax.specs.Expr.{Term, Terms}
 use Rattle.px_syntax.specs.ExprGrammar.{literal_kind}
-use Rattle.px_syntax.specs.Form.{Form, each, keyword, maybe, optional, sign, ◌then◌}
+use Rattle.px_syntax.specs.Form.{Form, each, keyword, maybe, optional, sign, ◌then◌, number}
 use Rattle.px_syntax.specs.Plan.{DeclarationData, Command, Lookup, PlanTree}
 use Rattle.px_syntax.specs.PlanGrammar.{declaration, parameter, parameters, plan}
 use Rattle.px_expr_parse.proofs.Spans.{IsLocal, local_arguments, local_between, local_either, local_expression, local_identifier, local_never, local_nothing, local_numbered, local_one, local_sign, local_then}

@@ -14,10 +14,10 @@ use Rattle.px_syntax.specs.declared.plan.Parameter.{Parameter}
 use Rattle.px_syntax.specs.declared.word.BlockForm.{BlockForm}
 use Rattle.px_syntax.specs.declared.word.BlockForm.TheVariants as forms
 use Rattle.px_syntax.specs.Block.{InitialData, VariableData, ItemData, PairData, Actions}
-use Rattle.px_syntax.specs.BlockGrammar.{each_action, form_word, initial, item, listed, number, pair, signed, size_of, variable}
+use Rattle.px_syntax.specs.BlockGrammar.{each_action, form_word, initial, item, listed, pair, signed, size_of, variable}
 use Rattle.px_syntax.specs.ExprGrammar.{expression, literal_kind}
 use Rattle.px_syntax.specs.Expr.{Term}
-use Rattle.px_syntax.specs.Form.{Form, kind_at, identifier, keyword, never, nothing, optional, sign, ◌then◌, maybe, each, with_commas}
+use Rattle.px_syntax.specs.Form.{Form, kind_at, identifier, keyword, never, nothing, optional, sign, ◌then◌, maybe, each, with_commas, number}
 use Rattle.px_syntax.specs.Plan.{DeclarationData}
 use Rattle.px_syntax.specs.PlanGrammar.{declaration, parameter, parameters}
 use Rattle.px_plan_parse.specs.Part.{Follow}

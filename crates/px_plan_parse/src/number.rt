@@ -2,7 +2,8 @@
 ghost use Rattle.std.specs.Prelude.{◌≡◌, ℕ, ◌+◌, ◌≤◌, ◌<◌, ◌^◌, length, IfOk, IfErr};
 ghost use mir.Syntax.{w32};
 ghost use mir.Val.{SFits};
-ghost use Rattle.px_syntax.specs.BlockGrammar.{number, signed};
+ghost use Rattle.px_syntax.specs.BlockGrammar.{signed};
+ghost use Rattle.px_syntax.specs.Form.{number};
 ghost use Rattle.px_plan_parse.specs.Part.{Anything, IsLacking, IsPart};
 
 use px_expr_parse::token::{is_sign, kind_at};

@@ -16,8 +16,8 @@ use Rattle.px_syntax.specs.declared.word.Condition.TheVariants as conditions
 use Rattle.px_syntax.specs.declared.word.TypeName.{TypeName}
 use Rattle.px_syntax.specs.declared.word.TypeName.TheVariants as types
 use Rattle.px_syntax.specs.Block.{InitialData, Value, Listed, VariableData, ItemData, Variables, Conditions, Priority}
-use Rattle.px_syntax.specs.BlockGrammar.{type_word, condition_word, number, signed, literal, listed, initial, size_of, variable, item}
-use Rattle.px_syntax.specs.Form.{Form, sign, ◌then◌, maybe, each}
+use Rattle.px_syntax.specs.BlockGrammar.{type_word, condition_word, signed, literal, listed, initial, size_of, variable, item}
+use Rattle.px_syntax.specs.Form.{Form, sign, ◌then◌, maybe, each, number}
 use Rattle.px_print.specs.ExprLayout.{literal_text}
 use Rattle.px_print.specs.BlockLayout.{type_text, condition_text, size_text, initial_text, first_value_text, variable_text, item_text}
 use Rattle.px_print.specs.Unnumbered.{plain_listed, plain_initial, plain_variable, plain_item}

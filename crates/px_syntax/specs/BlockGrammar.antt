@@ -14,7 +14,7 @@ use Rattle.px_syntax.specs.declared.word.Condition.TheVariants as conditions
 use Rattle.px_syntax.specs.declared.word.TypeName.{TypeName}
 use Rattle.px_syntax.specs.declared.word.TypeName.TheVariants as types
 use Rattle.px_syntax.specs.ExprGrammar.{literal_kind, arguments, expression}
-use Rattle.px_syntax.specs.Form.{Form, one, sign, keyword, numbered, identifier, nothing, ◌then◌, either, optional, maybe, each, with_commas}
+use Rattle.px_syntax.specs.Form.{Form, one, sign, keyword, number, numbered, identifier, nothing, ◌then◌, either, optional, maybe, each, with_commas}
 use Rattle.px_syntax.specs.Block.{InitialData, Value, Listed, VariableData, ItemData, Variables, Conditions, Priority, TargetData, CallData, PairData, BlockTree, Braces, Actions, NoActions, More, ActionTree, Labelled, BranchTree, Branch, GuardedTree, Guarded, ElseIfs, NoElseIfs, ElseIf, ElseTree, NoElse, Else, BodyTree, Inner, Assign, CallInto, Call, Update, If, While, For}
 
 -- ---- items
@@ -35,10 +35,6 @@ condition_word conditions.Pre = either (keyword words.Pre) (keyword words.PreCon
 condition_word conditions.Post = either (keyword words.Post) (keyword words.PostCondition)
 condition_word conditions.Invariant =
     either (keyword words.Invariant) (keyword words.InvariantCondition)
-
--- a number with no sign
-abbrev pub number : ℕ → Form
-number value = one (kinds.Integer (pos value))
 
 -- a minus and the number of which this is the negative
 abbrev pub negative : ℤ → Form

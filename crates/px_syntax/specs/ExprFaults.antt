@@ -5,6 +5,7 @@ use Rattle.px_syntax.specs.declared.expr.Attribute.{Attribute as AttributeWord}
 use Rattle.px_syntax.specs.declared.expr.Attribute.TheVariants as attributes
 use Rattle.px_syntax.specs.declared.expr.Identifier.{Identifier}
 use Rattle.px_syntax.specs.declared.expr.NodeReference.{NodeReference}
+use Rattle.px_syntax.specs.declared.expr.Tolerance.{Tolerance}
 use Rattle.px_syntax.specs.declared.fault.FaultKind.{FaultKind}
 use Rattle.px_syntax.specs.declared.fault.FaultKind.TheVariants.{Undeclared, TypeDiffers, NoSuchNode, ArgCount, TooLarge}
 use Rattle.px_syntax.specs.declared.value_type.ValueType.{ValueType}
@@ -83,6 +84,16 @@ type_named misuse scope name has_index =
 abbrev pub answer_type : Option Global → ValueType
 answer_type known = unwrap_or (option_and_then (λ global. global.answer) known) Any
 
+-- a tolerance of a lookup that gives a Boolean or a String
+abbrev pub tolerance_faults : Option Global → Option Tolerance → List Fault
+tolerance_faults known None = []
+tolerance_faults known (Some tolerance) =
+    fault_where (not (fits (Integer ∷ []) (answer_type known))) TypeDiffers tolerance.token
+
+-- what a lookup is at fault for, its arguments apart
+abbrev pub look_faults : Option Global → Identifier → ℕ → Option Tolerance → List Fault
+look_faults known name count tolerance = count_faults known name count ++ tolerance_faults known tolerance
+
 -- an operand of a type that is not allowed counts as Any
 abbrev pub any_unless_allowed : List ValueType → ValueType → ValueType
 any_unless_allowed allowed given = if fits allowed given then given else Any
@@ -101,7 +112,7 @@ type_of scope (Element array index) = type_named TypeDiffers scope array true
 type_of scope (Attribute node attribute) =
     any_where_faulty (attribute_faults scope node attribute) (attribute_type attribute)
 type_of scope (Look word token name args tolerance) =
-    any_where_faulty (count_faults (declared scope.lookups name.name) name (count_terms args))
+    any_where_faulty (look_faults (declared scope.lookups name.name) name (count_terms args) tolerance)
     (answer_type (declared scope.lookups name.name))
 type_of scope (UnaryCall function token argument) = (unary_function_signature function).gives
 type_of scope (BinaryCall function token first second) =
@@ -139,7 +150,7 @@ abbrev mutual
       ++ expr_faults scope index ++ type_fault (Integer ∷ []) scope index
   expr_faults scope (Attribute node attribute) = attribute_faults scope node attribute
   expr_faults scope (Look word token name args tolerance) =
-      count_faults (declared scope.lookups name.name) name (count_terms args)
+      look_faults (declared scope.lookups name.name) name (count_terms args) tolerance
       ++ argument_faults scope (parameters_of (declared scope.lookups name.name)) args
   expr_faults scope (UnaryCall function token argument) =
       expr_faults scope argument ++ type_fault (unary_function_signature function).takes scope argument

@@ -17,6 +17,7 @@ use Rattle.px_syntax.specs.declared.expr.Literal.{Literal as LiteralValue}
 use Rattle.px_syntax.specs.declared.expr.Literal.TheVariants as literals
 use Rattle.px_syntax.specs.declared.expr.NodeReference.{NodeReference}
 use Rattle.px_syntax.specs.declared.expr.NodeReference.TheVariants as nodes
+use Rattle.px_syntax.specs.declared.expr.Tolerance.{Tolerance}
 use Rattle.px_syntax.specs.declared.operator.BinaryOperator.{BinaryOperator}
 use Rattle.px_syntax.specs.declared.operator.Operator.TheVariants as operators
 use Rattle.px_syntax.specs.declared.operator.TheConstants.{PRIMARY_LEVEL}
@@ -27,7 +28,7 @@ use Rattle.px_syntax.specs.declared.word.LookWord.{LookWord}
 use Rattle.px_syntax.specs.declared.word.LookWord.TheVariants as looks
 use Rattle.px_syntax.specs.declared.word.UnaryFunction.{UnaryFunction}
 use Rattle.px_syntax.specs.declared.word.UnaryFunction.TheVariants as unary_functions
-use Rattle.px_syntax.specs.Form.{Form, kind_at, one, sign, keyword, numbered, identifier, nothing, never, ◌then◌, either, in_pairs}
+use Rattle.px_syntax.specs.Form.{Form, kind_at, one, sign, keyword, number, numbered, identifier, nothing, never, ◌then◌, either, in_pairs}
 use Rattle.px_syntax.specs.Operator.{binary_of, unary_of, level_of}
 use Rattle.px_syntax.specs.Expr.{Term, Terms, Literal, Enumerated, Variable, Element, Attribute, Look, UnaryCall, BinaryCall, Unary, Binary, NoTerms, More}
 
@@ -112,6 +113,18 @@ optional_arguments NoTerms arguments =
 optional_arguments (More first rest) arguments =
     sign signs.OpenParen then arguments then sign signs.CloseParen
 
+-- a tolerance, and the number of its token
+abbrev pub tolerance_number : Tolerance → Form
+tolerance_number tolerance = numbered tolerance.token (number tolerance.distance)
+
+-- What closes a lookup: the parenthesis, with a comma and the tolerance before it where there is one. Only
+-- LookupOnChange may have one.
+abbrev pub look_end : LookWord → Option Tolerance → Form
+look_end which None = sign signs.CloseParen
+look_end looks.LookupOnChange (Some tolerance) =
+    sign signs.Comma then tolerance_number tolerance then sign signs.CloseParen
+look_end which (Some tolerance) = never
+
 abbrev mutual
   -- the tokens of an expression without parentheses round it
   pub bare : Term → Form
@@ -123,11 +136,10 @@ abbrev mutual
       then sign signs.OpenBracket then at_least 0 index (bare index) then sign signs.CloseBracket
   bare (Attribute node attribute) =
       node_reference node then sign signs.Dot then one (kinds.Identifier (attribute_word attribute))
-  bare (Look which token name args None) =
+  bare (Look which token name args tolerance) =
       numbered token (keyword (look_keyword which))
       then sign signs.OpenParen then identifier name
-      then optional_arguments args (arguments args) then sign signs.CloseParen
-  bare (Look which token name args (Some tolerance)) = never
+      then optional_arguments args (arguments args) then look_end which tolerance
   bare (UnaryCall function token argument) =
       numbered token (keyword (unary_keyword function))
       then sign signs.OpenParen then at_least 0 argument (bare argument) then sign signs.CloseParen

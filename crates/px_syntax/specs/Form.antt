@@ -1,6 +1,6 @@
 -- The small forms that the grammar is made of. A form says from which place among the tokens to before which other
 -- place something stands.
-use Rattle.std.specs.Prelude.{◌≡◌, ℕ, zero, suc, ◌+◌, ◌⊎◌, slice_get, List, [], ◌∷◌, Option, Some, None}
+use Rattle.std.specs.Prelude.{◌≡◌, ℕ, zero, suc, ◌+◌, ◌⊎◌, pos, slice_get, List, [], ◌∷◌, Option, Some, None}
 use Rattle.std.specs.Option.{option_map}
 use Rattle.px_lex.specs.declared.keyword.Keyword.{Keyword}
 use Rattle.px_lex.specs.declared.sign.Sign.{Sign}
@@ -26,6 +26,10 @@ sign which = one (kinds.Sign which)
 
 abbrev pub keyword : Keyword → Form
 keyword which = one (kinds.Keyword which)
+
+-- a number with no sign
+abbrev pub number : ℕ → Form
+number value = one (kinds.Integer (pos value))
 
 -- a form whose first token has this number
 abbrev pub numbered : ℕ → Form → Form

@@ -12,4 +12,5 @@ pub mod Fault
 pub mod Scope
 pub mod ExprFaults
 pub mod BlockFaults
+pub mod Tolerances
 pub mod PlanFaults

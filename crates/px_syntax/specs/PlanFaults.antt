@@ -9,6 +9,7 @@ use Rattle.px_syntax.specs.ExprFaults.{over_eight}
 use Rattle.px_syntax.specs.Fault.{Fault, fault_at, in_order}
 use Rattle.px_syntax.specs.Plan.{PlanTree}
 use Rattle.px_syntax.specs.Scope.{Scope, Global, commands_in, lookups_in}
+use Rattle.px_syntax.specs.Tolerances.{block_tolerances, passing_tolerance}
 
 -- ---- declarations
 
@@ -92,4 +93,5 @@ faults plan =
     (global_faults (flat_map commands_in plan.declarations)
     ++ global_faults (flat_map lookups_in plan.declarations)
     ++ block_faults (outermost plan) plan.label plan.root
-    ++ passing_fault 0 (block_cells plan.root))
+    ++ passing_fault 0 (block_cells plan.root)
+    ++ passing_tolerance [] (block_tolerances plan.root))

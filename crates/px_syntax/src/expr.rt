@@ -50,7 +50,7 @@ pub enum Attribute {
     CommandHandle,
 }
 
-/// How far a report must lie from the one before it to count, and the number of its token.
+/// How far a reported Integer must lie from the one that is kept to take its place, and the number of its token.
 #[derive(Clone, Copy, Debug, PartialEq, Eq)]
 pub struct Tolerance {
     pub distance: u32,

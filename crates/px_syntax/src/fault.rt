@@ -30,7 +30,7 @@ pub enum FaultKind {
     /// A second declaration, or a second label, of one name in one place.
     Redeclared = 2,
     /// An expression, an initial value or an answer of another type than is wanted there; an array that is read without
-    /// an index, or a scalar with one.
+    /// an index, or a scalar with one; a tolerance of a lookup that gives a Boolean or a String.
     TypeDiffers = 3,
     /// An array that is written without an index, or a scalar with one.
     NotAssignable = 4,
@@ -40,7 +40,8 @@ pub enum FaultKind {
     ArgCount = 6,
     /// A second one of a block's conditions, or a second priority.
     DoubleCondition = 7,
-    /// More elements, initial values, arguments, parameters, pairs or cells than there may be, or no element.
+    /// More elements, initial values, arguments, parameters, pairs, cells or distinct tolerances than there may be, or
+    /// no element.
     TooLarge = 8,
 }
 
