@@ -13,14 +13,14 @@ use Rattle.px_syntax.specs.Operator.{unary_of}
 use Rattle.px_expr_parse.specs.declared.opening.Opening.{Opening}
 use Rattle.px_expr_parse.specs.declared.opening.Opening.TheVariants as openings
 use Rattle.px_expr_parse.specs.Opening.{opening_of, Begins}
-use Rattle.px_expr_parse.specs.Tail.{closed_arguments, look_arguments}
+use Rattle.px_expr_parse.specs.Tail.{closed_arguments}
 use Rattle.px_expr_parse.specs.Verdict.{Agree, AgreeBefore, GoesOn, IsLongest, IsRead, IsRefused, IsFound, IsMissing, HasSign, LacksSign}
 use Rattle.px_expr_parse.proofs.Chains.{spine}
 use Rattle.px_expr_parse.proofs.Closed.{closer_ends, paren_closes, comma_closes}
-use Rattle.px_expr_parse.proofs.Completions.{before, begun_as, begun_before, begun_here, moved, short_look_arguments, short_token}
+use Rattle.px_expr_parse.proofs.Completions.{before, begun_as, begun_before, begun_here, moved, short_token}
 use Rattle.px_expr_parse.proofs.Openings.{rest_of}
-use Rattle.px_expr_parse.proofs.Parts.{agree_before, behind_sign}
-use Rattle.px_expr_parse.proofs.Spans.{local_closed_arguments, local_expression}
+use Rattle.px_expr_parse.proofs.Parts.{agree_before}
+use Rattle.px_expr_parse.proofs.Spans.{local_expression}
 
 -- arguments in front of others
 abbrev pub in_front : List Term → Terms → Terms
@@ -48,11 +48,6 @@ pub paren_or_comma :
     (tokens : List Token) (place : ℕ) → HasSign tokens place signs.CloseParen → HasSign tokens place signs.Comma → ⊥
 paren_or_comma tokens place a b =
     let e : Some (kinds.Sign signs.CloseParen) ≡ Some (kinds.Sign signs.Comma) = sym a ∙ b in cc
-
-open_or_close :
-    (tokens : List Token) (place : ℕ) → HasSign tokens place signs.OpenParen → HasSign tokens place signs.CloseParen → ⊥
-open_or_close tokens place a b =
-    let e : Some (kinds.Sign signs.OpenParen) ≡ Some (kinds.Sign signs.CloseParen) = sym a ∙ b in cc
 
 -- what stands behind an argument: the parenthesis, or a comma and more
 abbrev pub NextArgument : List Token → ℕ → Terms → ℕ → Type 0
@@ -305,129 +300,3 @@ found_none tokens from inside paren =
     only others there (More first rest) end o =
         let f = first_argument others from first rest end o in
         absurd (no_expression signs.CloseParen closing_opens_nothing closing_is_no_operator others from there first f.0 f.1)
-
--- ---- the arguments of a lookup
-
--- in parentheses, or left out where there are none
-pub data LookArguments (tokens : List Token) (from : ℕ) : Terms → ℕ → Type 0 where
-  left_out : {end : ℕ} → HasSign tokens from signs.CloseParen → end ≡ from + 1 → LookArguments tokens from NoTerms end
-  given :
-      {args : Terms} {end : ℕ} (middle : ℕ) → behind_sign signs.OpenParen closed_arguments args tokens from middle
-      → HasSign tokens middle signs.CloseParen → end ≡ middle + 1 → LookArguments tokens from args end
-
-look_view : (tokens : List Token) (from : ℕ) (args : Terms) (end : ℕ) → look_arguments args tokens from end → LookArguments tokens from args end
-look_view tokens from NoTerms end (middle, inl is, close) =
-    left_out (subst (λ (place : ℕ). HasSign tokens place signs.CloseParen) is close.0) (omega (arith, is, close.1))
-look_view tokens from NoTerms end (middle, inr o, close) = given middle o close.0 close.1
-look_view tokens from (More first rest) end (middle, o, close) = given middle o close.0 close.1
-
-look_back : (tokens : List Token) (from : ℕ) (args : Terms) (middle : ℕ) → behind_sign signs.OpenParen closed_arguments args tokens from middle
-    → HasSign tokens middle signs.CloseParen → look_arguments args tokens from (middle + 1)
-look_back tokens from NoTerms middle o close = (middle, inr o, (close, refl))
-look_back tokens from (More first rest) middle o close = (middle, o, (close, refl))
-
-module _ (tokens : List Token) (from : ℕ) where
-  -- left out
-  pub found_left_out :
-      from < length tokens → HasSign tokens from signs.CloseParen → IsFound look_arguments tokens from NoTerms (from + 1)
-  found_left_out inside paren =
-      record {
-        advances = omega arith;
-        within = omega (arith, inside);
-        only = λ others agree.
-            let there : HasSign others from signs.CloseParen = agree from (omega arith) ∙ paren in
-            record {
-              spelled = (from, inl refl, (there, refl));
-              only = λ other end o. only others there (look_view others from other end o);
-            };
-      }
-    where
-      only :
-          (others : List Token) → HasSign others from signs.CloseParen → {other : Terms} {end : ℕ}
-          → LookArguments others from other end → (other ≡ NoTerms) × (end ≡ from + 1)
-      only others there (left_out close is) = (refl, is)
-      only others there (given middle o close is) = absurd (open_or_close others from o.1.0 there)
-
-  -- neither given nor left out
-  pub missing_look :
-      (fault : ParseFault) → from ≤ length tokens → (HasSign tokens from signs.OpenParen → ⊥)
-      → LacksSign tokens from signs.CloseParen fault → IsMissing look_arguments tokens from fault
-  missing_look fault within no_open lacks =
-      subst (λ (g : ParseFault). IsMissing look_arguments tokens from g) (sym lacks.0)
-      (omega arith, within, λ others agree other end o. none others agree (look_view others from other end o), begun_here short_look_arguments)
-    where
-      none : (others : List Token) → Agree tokens others from → {other : Terms} {end : ℕ} → LookArguments others from other end → ⊥
-      none others agree (left_out close is) = lacks.1 (sym (agree from (omega arith)) ∙ close)
-      none others agree (given middle o close is) = no_open (sym (agree from (omega arith)) ∙ o.1.0)
-
-  module _ (opening : HasSign tokens from signs.OpenParen) where
-    there : (others : List Token) (last : ℕ) → from ≤ last → Agree tokens others last → HasSign others from signs.OpenParen
-    there others last le agree = agree from le ∙ opening
-
-    pub missing_given :
-        (fault : ParseFault) → IsMissing closed_arguments tokens (from + 1) fault → IsMissing look_arguments tokens from fault
-    missing_given (faults.SyntaxFault token) g = (
-      omega (arith, g.0),
-      g.1,
-      λ others agree other end o. none others agree (look_view others from other end o),
-      begun_before (short_token (kinds.Sign signs.CloseParen)) g.3 (λ others agree middle end args close_none o close. (
-        args,
-        subst (λ (p : ℕ). look_arguments args others from p) (sym close.1)
-            (look_back others from args middle (from + 1, (agree from (omega (arith, g.0)) ∙ opening, refl), o) close.0),
-      )),
-    )
-      where
-        none : (others : List Token) → Agree tokens others token → {other : Terms} {end : ℕ} → LookArguments others from other end → ⊥
-        none others agree (left_out close is) = open_or_close others from (there others token (omega (arith, g.0)) agree) close
-        none others agree (given {args = args} middle o close is) =
-            g.2 others agree args middle (subst (λ (place : ℕ). closed_arguments args others place middle) o.1.1 o.2)
-    missing_given (faults.Deep token) g = g
-    missing_given faults.NoMemory g = g
-
-    module _ (args : Terms) (to : ℕ) (found : IsFound closed_arguments tokens (from + 1) args to) where
-      given_is :
-          (others : List Token) → Agree tokens others to → {other : Terms} {end : ℕ} → LookArguments others from other end
-          → (other ≡ args) × HasSign others to signs.CloseParen × (end ≡ to + 1)
-      given_is others agree (left_out close is) =
-          absurd (open_or_close others from (there others to (omega (arith, found.advances)) agree) close)
-      given_is others agree (given {args = other} middle o close is) =
-          let one = (found.only others agree).only other middle
-          (subst (λ (place : ℕ). closed_arguments other others place middle) o.1.1 o.2) in
-          (one.0, subst (λ (place : ℕ). HasSign others place signs.CloseParen) one.1 close, omega (arith, is, one.1))
-
-      pub found_given :
-          to < length tokens → HasSign tokens to signs.CloseParen → IsFound look_arguments tokens from args (to + 1)
-      found_given inside close =
-          record {
-            advances = omega (arith, found.advances);
-            within = omega (arith, inside);
-            only = λ others agree.
-                let agree_to = agree_before tokens others to (to + 1) (omega arith) agree in
-                record {
-                  spelled =
-                      look_back others from args to
-                      (from + 1, (there others to (omega (arith, found.advances)) agree_to, refl), (found.only others agree_to).spelled)
-                      (agree to (omega arith) ∙ close);
-                  only = λ other end o.
-                      let is = given_is others agree_to (look_view others from other end o) in (is.0, is.2);
-                };
-          }
-
-      pub missing_given_close :
-          (fault : ParseFault) → LacksSign tokens to signs.CloseParen fault → IsMissing look_arguments tokens from fault
-      missing_given_close fault lacks =
-          subst (λ (g : ParseFault). IsMissing look_arguments tokens from g) (sym lacks.0) (
-            omega (arith, found.advances),
-            found.within,
-            λ others agree other end o.
-                lacks.1 (sym (agree to (omega arith)) ∙ (given_is others agree (look_view others from other end o)).1),
-            begun_as (begun_here (short_token (kinds.Sign signs.CloseParen))) (λ others agree end none close. (
-              args,
-              subst (λ (p : ℕ). look_arguments args others from p) (sym close.1)
-                  (look_back others from args to (
-                    from + 1,
-                    (agree from (omega (arith, found.advances)) ∙ opening, refl),
-                    moved tokens (local_closed_arguments args) (λ others agree. (found.only others agree).spelled) others agree,
-                  ) close.0),
-            )),
-          )

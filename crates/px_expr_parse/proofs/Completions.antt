@@ -1,5 +1,5 @@
 -- What has been begun is completed by the shortest of what it lacks.
-use Rattle.std.proofs.Common.{◌≡◌, ℕ, zero, suc, ◌+◌, ◌≤◌, inl, refl, sym, subst, List, [], ◌∷◌, ◌++◌, length, map, Some, true, length-append, arith, lit≤}
+use Rattle.std.proofs.Common.{◌≡◌, ℕ, zero, suc, ◌+◌, ◌≤◌, inl, refl, sym, subst, List, [], ◌∷◌, ◌++◌, length, map, pos, Some, None, true, length-append, arith, lit≤}
 use Rattle.std.proofs.lemmas.List.{length-map}
 use Rattle.px_lex.specs.declared.keyword.Keyword.TheVariants as words
 use Rattle.px_lex.specs.declared.sign.Sign.{Sign}
@@ -9,10 +9,11 @@ use Rattle.px_lex.specs.declared.token.TokenKind.{TokenKind}
 use Rattle.px_lex.specs.declared.token.TokenKind.TheVariants as kinds
 use Rattle.px_syntax.specs.declared.expr.Attribute.TheVariants as attributes
 use Rattle.px_syntax.specs.declared.expr.Literal.TheVariants as literals
+use Rattle.px_syntax.specs.declared.word.LookWord.{LookWord}
 use Rattle.px_syntax.specs.Expr.{Literal, NoTerms}
-use Rattle.px_syntax.specs.ExprGrammar.{attribute_word, expression, operand}
+use Rattle.px_syntax.specs.ExprGrammar.{attribute_word, expression, look_end, operand, tolerance_number}
 use Rattle.px_syntax.specs.Form.{Form, identifier, kind_at, one, ◌then◌}
-use Rattle.px_expr_parse.specs.Tail.{attribute, closed, closed_arguments, look_arguments, named}
+use Rattle.px_expr_parse.specs.Tail.{attribute, closed, closed_arguments, look_rest, named}
 use Rattle.px_expr_parse.specs.Verdict.{Agree, AgreeBefore, Stand, IsBegun, BeginsExpression}
 use Rattle.px_expr_parse.proofs.Spans.{IsLocal}
 
@@ -183,8 +184,15 @@ short_named = short_behind (kinds.Sign signs.OpenParen) (short_before (kinds.Sig
 pub short_arguments : Shortest closed_arguments
 short_arguments = in_one (kinds.Sign signs.CloseParen) (λ others place has. (NoTerms, (place, refl, (has, refl))))
 
-pub short_look_arguments : Shortest look_arguments
-short_look_arguments = in_one (kinds.Sign signs.CloseParen) (λ others place has. (NoTerms, (place, inl refl, (has, refl))))
+pub short_tolerance : Shortest tolerance_number
+short_tolerance = in_one (kinds.Integer (pos 0)) (λ others place has. (record { distance = 0; token = place }, (refl, (has, refl))))
+
+pub short_look_end : (word : LookWord) → Shortest (look_end word)
+short_look_end word = in_one (kinds.Sign signs.CloseParen) (λ others place has. (None, (has, refl)))
+
+pub short_look_rest : (word : LookWord) → Shortest (look_rest word)
+short_look_rest word =
+    in_one (kinds.Sign signs.CloseParen) (λ others place has. ((NoTerms, None), (place, inl refl, (has, refl))))
 
 -- ---- tokens that are completed
 

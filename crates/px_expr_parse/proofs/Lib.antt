@@ -8,5 +8,6 @@ pub mod Openings
 pub mod Productions
 pub mod Primaries
 pub mod Arguments
+pub mod Lookups
 pub mod Loops
 pub mod Calls

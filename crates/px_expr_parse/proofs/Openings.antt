@@ -14,6 +14,7 @@ use Rattle.px_syntax.specs.declared.expr.Identifier.{Identifier}
 use Rattle.px_syntax.specs.declared.expr.Literal.{Literal as LiteralValue}
 use Rattle.px_syntax.specs.declared.expr.Literal.TheVariants as literals
 use Rattle.px_syntax.specs.declared.expr.NodeReference.TheVariants as nodes
+use Rattle.px_syntax.specs.declared.expr.Tolerance.{Tolerance}
 use Rattle.px_syntax.specs.declared.operator.Operator.TheVariants as operators
 use Rattle.px_syntax.specs.declared.operator.UnaryOperator.{UnaryOperator}
 use Rattle.px_syntax.specs.declared.word.BinaryFunction.{BinaryFunction}
@@ -245,7 +246,7 @@ Rest openings.Sibling tokens from =
 Rest openings.Child tokens from =
     Produced (λ (parts : Identifier × AttributeWord). Attribute (nodes.Child from parts.0) parts.1) named_attribute tokens from
 Rest (openings.Look word) tokens from =
-    Produced (λ (parts : Identifier × Terms). Look word from parts.0 parts.1 None) look_state tokens from
+    Produced (λ (parts : Identifier × (Terms × Option Tolerance)). Look word from parts.0 parts.1.0 parts.1.1) (look_state word) tokens from
 Rest (openings.UnaryCall function) tokens from =
     Produced (λ (tree : Term). UnaryCall function from tree) argument tokens from
 Rest (openings.BinaryCall function) tokens from =
@@ -359,17 +360,16 @@ module _ (tokens : List Token) (from : ℕ) where
           rest = (o.0, moved (named name) o.1.0 o.0 o.1.1.1.1 o.1.2, o.2);
         };
       })
-  open_bare (Look word token name args None) end tight o =
+  open_bare (Look word token name args tolerance) end tight o =
       inl (record {
         opening = openings.Look word;
         opens = opens_by (kinds.Keyword (look_keyword word)) (openings.Look word) o.1.1.0 (opening_of_look word);
         rest = record {
-          part = (name, args);
-          built = ap (λ (place : ℕ). Look word place name args None) o.1.0;
-          rest = moved (look_state (name, args)) o.0 end o.1.1.1 o.2;
+          part = (name, (args, tolerance));
+          built = ap (λ (place : ℕ). Look word place name args tolerance) o.1.0;
+          rest = moved (look_state word (name, (args, tolerance))) o.0 end o.1.1.1 o.2;
         };
       })
-  open_bare (Look word token name args (Some tolerance)) end tight o = absurd o
   open_bare (UnaryCall function token tree) end tight o =
       inl (record {
         opening = openings.UnaryCall function;

@@ -176,6 +176,39 @@ module _ {A : Type 0} (first : A → Form) (which : Sign) where
   missing_before_sign tokens from (faults.Deep token) f = f
   missing_before_sign tokens from faults.NoMemory f = f
 
+-- Where a part of one form is made of one of another, they are found and missing together.
+module _ {A B : Type 0} (inner : B → Form) (whole : A → Form) (make : B → A) (tokens : List Token) (from : ℕ)
+    (builds : (others : List Token) (b : B) (end : ℕ) → inner b others from end → whole (make b) others from end)
+    (splits : (others : List Token) → Agree tokens others from → (a : A) (end : ℕ) → whole a others from end
+    → (b : B) × (a ≡ make b) × inner b others from end)
+  where
+    pub found_as : (b : B) (to : ℕ) → IsFound inner tokens from b to → IsFound whole tokens from (make b) to
+    found_as b to f =
+        record {
+          advances = f.advances;
+          within = f.within;
+          only = λ others agree.
+              let one = f.only others agree in
+              record {
+                spelled = builds others b to one.spelled;
+                only = λ other end o.
+                    let parts = splits others (agree_before tokens others from to f.advances agree) other end o in
+                    let is = one.only parts.0 end parts.2 in (parts.1 ∙ ap make is.0, is.1);
+              };
+        }
+
+    pub missing_as : (fault : ParseFault) → IsMissing inner tokens from fault → IsMissing whole tokens from fault
+    missing_as (faults.SyntaxFault token) g = (
+      g.0,
+      g.1,
+      λ others agree other end o.
+          let parts = splits others (agree_before tokens others from token g.0 agree) other end o in
+          g.2 others agree parts.0 end parts.2,
+      begun_as g.3 (λ others agree end b o. (make b, builds others b end o)),
+    )
+    missing_as (faults.Deep token) g = g
+    missing_as faults.NoMemory g = g
+
 -- the same tree up to the same place, said in other words
 pub read_as :
     (floor : ℕ) (tokens : List Token) (from : ℕ) (tree other : Term) (to end : ℕ) → other ≡ tree → end ≡ to

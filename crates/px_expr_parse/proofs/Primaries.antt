@@ -1,5 +1,5 @@
 -- Each sort of expression that is no operation between two operands, from what is read behind its first token.
-use Rattle.std.proofs.Common.{◌≡◌, ℕ, suc, ◌+◌, ◌≤◌, ◌<◌, ◌⊎◌, inl, inr, refl, sym, ap, subst, ◌∙◌, List, length, Some, None, true, false, arith, lit≤}
+use Rattle.std.proofs.Common.{◌≡◌, ℕ, suc, ◌+◌, ◌≤◌, ◌<◌, ◌⊎◌, inl, inr, refl, sym, ap, subst, ◌∙◌, List, length, Option, Some, None, true, false, arith, lit≤}
 use Rattle.std.specs.Option.{option_map, option_and_then}
 use Rattle.px_lex.specs.declared.keyword.Keyword.{Keyword}
 use Rattle.px_lex.specs.declared.keyword.Keyword.TheVariants as words
@@ -14,6 +14,7 @@ use Rattle.px_syntax.specs.declared.expr.Identifier.{Identifier}
 use Rattle.px_syntax.specs.declared.expr.Literal.{Literal as LiteralValue}
 use Rattle.px_syntax.specs.declared.expr.Literal.TheVariants as literals
 use Rattle.px_syntax.specs.declared.expr.NodeReference.TheVariants as nodes
+use Rattle.px_syntax.specs.declared.expr.Tolerance.{Tolerance}
 use Rattle.px_syntax.specs.declared.fault.ParseFault.{ParseFault}
 use Rattle.px_syntax.specs.declared.fault.ParseFault.TheVariants as faults
 use Rattle.px_syntax.specs.declared.operator.UnaryOperator.{UnaryOperator}
@@ -176,8 +177,8 @@ module _ (tokens : List Token) (from : ℕ) where
 
   module _ (word : LookWord) (begins : Begins tokens from (openings.Look word)) where
     builds_look :
-        (others : List Token) → kind_at others from ≡ kind_at tokens from → (parts : Identifier × Terms) (end : ℕ)
-        → look_state parts others (from + 1) end → operand 8 (Look word from parts.0 parts.1 None) others from end
+        (others : List Token) → kind_at others from ≡ kind_at tokens from → (parts : Identifier × (Terms × Option Tolerance)) (end : ℕ)
+        → look_state word parts others (from + 1) end → operand 8 (Look word from parts.0 parts.1.0 parts.1.1) others from end
     builds_look others same parts end o =
         let t = token_there tokens from (openings.Look word) begins in (
           0,
@@ -186,17 +187,17 @@ module _ (tokens : List Token) (from : ℕ) where
         )
 
     pub read_look :
-        (parts : Identifier × Terms) (to : ℕ) → IsFound look_state tokens (from + 1) parts to
-        → IsRead 8 tokens from (Look word from parts.0 parts.1 None) to
+        (parts : Identifier × (Terms × Option Tolerance)) (to : ℕ) → IsFound (look_state word) tokens (from + 1) parts to
+        → IsRead 8 tokens from (Look word from parts.0 parts.1.0 parts.1.1) to
     read_look =
-        read_opened (λ (parts : Identifier × Terms). Look word from parts.0 parts.1 None)
-        look_state tokens from (openings.Look word) begins (λ others tree end r. r) builds_look
+        read_opened (λ (parts : Identifier × (Terms × Option Tolerance)). Look word from parts.0 parts.1.0 parts.1.1)
+        (look_state word) tokens from (openings.Look word) begins (λ others tree end r. r) builds_look
 
     pub refuse_look :
-        (fault : ParseFault) → IsMissing look_state tokens (from + 1) fault → IsRefused 8 tokens from fault
+        (fault : ParseFault) → IsMissing (look_state word) tokens (from + 1) fault → IsRefused 8 tokens from fault
     refuse_look =
-        refuse_opened (λ (parts : Identifier × Terms). Look word from parts.0 parts.1 None)
-        look_state tokens from (openings.Look word) begins (λ others tree end r. r) builds_look
+        refuse_opened (λ (parts : Identifier × (Terms × Option Tolerance)). Look word from parts.0 parts.1.0 parts.1.1)
+        (look_state word) tokens from (openings.Look word) begins (λ others tree end r. r) builds_look
 
   module _ (function : UnaryFunction) (begins : Begins tokens from (openings.UnaryCall function)) where
     builds_unary_call :

@@ -1,5 +1,5 @@
 -- Whether a form spans some tokens depends on these alone.
-use Rattle.std.proofs.Common.{ℕ, zero, suc, ◌≤◌, inl, inr, ap, ◌∙◌, List, Some, None, arith}
+use Rattle.std.proofs.Common.{ℕ, zero, suc, ◌≤◌, inl, inr, ap, ◌∙◌, pos, List, Option, Some, None, arith}
 use Rattle.std.specs.Option.{option_and_then}
 use Rattle.px_lex.specs.declared.keyword.Keyword.TheVariants as words
 use Rattle.px_lex.specs.declared.sign.Sign.{Sign}
@@ -12,10 +12,13 @@ use Rattle.px_syntax.specs.declared.expr.Enumerated.{Enumerated as EnumeratedVal
 use Rattle.px_syntax.specs.declared.expr.Identifier.{Identifier}
 use Rattle.px_syntax.specs.declared.expr.NodeReference.{NodeReference}
 use Rattle.px_syntax.specs.declared.expr.NodeReference.TheVariants as nodes
+use Rattle.px_syntax.specs.declared.expr.Tolerance.{Tolerance}
 use Rattle.px_syntax.specs.declared.operator.BinaryOperator.{BinaryOperator}
 use Rattle.px_syntax.specs.declared.operator.UnaryOperator.{UnaryOperator}
+use Rattle.px_syntax.specs.declared.word.LookWord.{LookWord}
+use Rattle.px_syntax.specs.declared.word.LookWord.TheVariants as looks
 use Rattle.px_syntax.specs.Expr.{Term, Terms, Literal, Enumerated, Variable, Element, Attribute, Look, UnaryCall, BinaryCall, Unary, Binary, NoTerms, More}
-use Rattle.px_syntax.specs.ExprGrammar.{arguments, at_least, attribute_word, bare, binary_keyword, binary_operator, enumerated_name, expression, further_arguments, literal_kind, look_keyword, node_reference, operand, optional_arguments, unary_keyword, unary_operator}
+use Rattle.px_syntax.specs.ExprGrammar.{arguments, at_least, attribute_word, bare, binary_keyword, binary_operator, enumerated_name, expression, further_arguments, literal_kind, look_end, look_keyword, node_reference, operand, optional_arguments, tolerance_number, unary_keyword, unary_operator}
 use Rattle.px_syntax.specs.Form.{Form, one, sign, numbered, identifier, nothing, never, ◌then◌, either, in_pairs}
 use Rattle.px_syntax.specs.Operator.{binary_of, unary_of}
 use Rattle.px_expr_parse.specs.Tail.{attribute, closed, closed_arguments, named}
@@ -145,6 +148,15 @@ local_optional : (args : Terms) {form : Form} → IsLocal form → IsLocal (opti
 local_optional NoTerms l = local_either local_nothing (local_between signs.OpenParen signs.CloseParen l)
 local_optional (More first rest) l = local_between signs.OpenParen signs.CloseParen l
 
+pub local_tolerance : (tolerance : Tolerance) → IsLocal (tolerance_number tolerance)
+local_tolerance tolerance = local_numbered tolerance.token (local_one (kinds.Integer (pos tolerance.distance)))
+
+local_look_end : (which : LookWord) (tolerance : Option Tolerance) → IsLocal (look_end which tolerance)
+local_look_end which None = local_sign signs.CloseParen
+local_look_end looks.Lookup (Some tolerance) = local_never
+local_look_end looks.LookupNow (Some tolerance) = local_never
+local_look_end looks.LookupOnChange (Some tolerance) = local_between signs.Comma signs.CloseParen (local_tolerance tolerance)
+
 mutual
   local_bare : (term : Term) → IsLocal (bare term)
   local_bare (Literal value token) = local_numbered token (local_one (literal_kind value))
@@ -154,12 +166,11 @@ mutual
       local_then (local_identifier array)
       (local_between signs.OpenBracket signs.CloseBracket (local_at_least 0 index (local_bare index)))
   local_bare (Attribute node which) = local_then (local_node node) (local_attribute which)
-  local_bare (Look which token name args None) =
+  local_bare (Look which token name args tolerance) =
       local_then (local_numbered token (local_one (kinds.Keyword (look_keyword which))))
       (local_then (local_sign signs.OpenParen)
       (local_then (local_identifier name)
-      (local_then (local_optional args (local_arguments args)) (local_sign signs.CloseParen))))
-  local_bare (Look which token name args (Some tolerance)) = local_never
+      (local_then (local_optional args (local_arguments args)) (local_look_end which tolerance))))
   local_bare (UnaryCall function token argument) =
       local_then (local_numbered token (local_one (kinds.Keyword (unary_keyword function))))
       (local_between signs.OpenParen signs.CloseParen (local_at_least 0 argument (local_bare argument)))

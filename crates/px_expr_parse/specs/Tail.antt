@@ -1,12 +1,14 @@
 -- What stands behind the first token of an expression.
-use Rattle.std.specs.Prelude.{Bool, true, false}
+use Rattle.std.specs.Prelude.{Bool, true, false, Option}
 use Rattle.px_lex.specs.declared.sign.Sign.{Sign}
 use Rattle.px_lex.specs.declared.sign.Sign.TheVariants as signs
 use Rattle.px_lex.specs.declared.token.TokenKind.TheVariants as kinds
 use Rattle.px_syntax.specs.declared.expr.Attribute.{Attribute}
 use Rattle.px_syntax.specs.declared.expr.Identifier.{Identifier}
+use Rattle.px_syntax.specs.declared.expr.Tolerance.{Tolerance}
+use Rattle.px_syntax.specs.declared.word.LookWord.{LookWord}
 use Rattle.px_syntax.specs.Expr.{Term, Terms}
-use Rattle.px_syntax.specs.ExprGrammar.{arguments, attribute_word, expression, optional_arguments}
+use Rattle.px_syntax.specs.ExprGrammar.{arguments, attribute_word, expression, look_end, optional_arguments}
 use Rattle.px_syntax.specs.Form.{Form, identifier, one, sign, ◌then◌}
 
 -- a sign that may stand behind an expression that it closes
@@ -49,10 +51,10 @@ two_arguments parts = sign signs.OpenParen then expression parts.0 then second_a
 abbrev pub closed_arguments : Terms → Form
 closed_arguments args = arguments args then sign signs.CloseParen
 
--- the arguments of a lookup, and the parenthesis that closes the lookup
-abbrev pub look_arguments : Terms → Form
-look_arguments args = optional_arguments args (arguments args) then sign signs.CloseParen
+-- the arguments of a lookup of a word, and what closes the lookup
+abbrev pub look_rest : LookWord → Terms × Option Tolerance → Form
+look_rest word parts = optional_arguments parts.0 (arguments parts.0) then look_end word parts.1
 
--- what a lookup asks for, in parentheses
-abbrev pub look_state : Identifier × Terms → Form
-look_state parts = sign signs.OpenParen then identifier parts.0 then look_arguments parts.1
+-- what a lookup of a word asks for, in parentheses
+abbrev pub look_state : LookWord → Identifier × (Terms × Option Tolerance) → Form
+look_state word parts = sign signs.OpenParen then identifier parts.0 then look_rest word parts.1

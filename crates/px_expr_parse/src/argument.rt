@@ -2,7 +2,7 @@
 ghost use Rattle.std.specs.Prelude.{◌≡◌, ◌+◌, ◌≤◌, ◌<◌, [], length, map, true, IfOk, IfErr};
 ghost use Rattle.px_syntax.specs.Depth.{too_deep};
 ghost use Rattle.px_syntax.specs.Expr.{in_turn, term_of};
-ghost use Rattle.px_expr_parse.specs.Tail.{closed, closed_arguments, is_closer, look_arguments};
+ghost use Rattle.px_expr_parse.specs.Tail.{closed, closed_arguments, is_closer};
 ghost use Rattle.px_expr_parse.specs.Verdict.{IsFound, IsMissing};
 
 use crate::operation::operation;
@@ -97,25 +97,4 @@ pub(crate) fn arguments(
         }
         at = end + 1;
     }
-}
-
-/// [ "(" [ expression { "," expression } ] ")" ] ")"
-#[cycle(expression)]
-pub(crate) fn look_arguments(
-    alloc: Global,
-    tokens: &[Token],
-    from: usize,
-) -> Result<(Vec<SurfaceExpr>, usize), ParseFault>
-    requires { from ≤ length tokens.now }
-    ensures ok { IfOk result (λ read.
-        IsFound look_arguments tokens.now from (in_turn (map term_of read.0.items)) read.1) }
-    ensures fault { IfErr result (λ fault. IsMissing look_arguments tokens.now from fault) }
-{
-    if !is_sign(tokens, from, Sign::OpenParen) {
-        expect(tokens, from, Sign::CloseParen)?;
-        return Ok((Vec::new(alloc), from + 1));
-    }
-    let (args, end) = arguments(alloc, tokens, from + 1)?;
-    expect(tokens, end, Sign::CloseParen)?;
-    Ok((args, end + 1))
 }

@@ -1,10 +1,10 @@
 // Trees, as contracts see them.
-ghost use Rattle.std.specs.Prelude.{◌≡◌, map, None, IfOk};
+ghost use Rattle.std.specs.Prelude.{◌≡◌, map, IfOk};
 ghost use Rattle.px_syntax.specs.Expr.{Attribute as AttributeOf, Binary, BinaryCall, Element, Enumerated as EnumeratedTerm, Literal as LiteralTerm, Look, Unary, UnaryCall, Variable, in_turn, term_of};
 
 use px_syntax::{
     Attribute, BinaryFunction, BinaryOperator, Enumerated, Identifier, Literal, LookWord,
-    NodeReference, SurfaceExpr, UnaryFunction, UnaryOperator,
+    NodeReference, SurfaceExpr, Tolerance, UnaryFunction, UnaryOperator,
 };
 use px_value::NoMemory;
 use std::alloc::Global;
@@ -82,15 +82,16 @@ pub(crate) fn look(
     token: usize,
     name: Identifier,
     args: Vec<SurfaceExpr>,
+    tolerance: Option<Tolerance>,
 ) -> SurfaceExpr
-    ensures { term_of result ≡ Look word token name (in_turn (map term_of args.items)) None }
+    ensures { term_of result ≡ Look word token name (in_turn (map term_of args.items)) tolerance }
 {
     SurfaceExpr::Look {
         word,
         token,
         name,
         args,
-        tolerance: None,
+        tolerance,
     }
 }
 

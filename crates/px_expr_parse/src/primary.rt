@@ -7,8 +7,9 @@ ghost use Rattle.px_syntax.specs.declared.expr.Literal.{Literal as LiteralValue}
 ghost use Rattle.px_expr_parse.specs.Opening.{Begins};
 ghost use Rattle.px_expr_parse.specs.Verdict.{IsRead, IsRefused, unary_at};
 
-use crate::argument::{closed, look_arguments};
+use crate::argument::closed;
 use crate::build;
+use crate::lookup::look_rest;
 use crate::node::{attribute_at, name_in_parens};
 use crate::opening::Opening;
 use crate::operation::operation;
@@ -156,7 +157,7 @@ fn child(alloc: Global, tokens: &[Token], from: usize) -> Result<(SurfaceExpr, u
     Ok((build::attribute(node, attribute), from + 6))
 }
 
-/// look "(" ID [ "(" [ expression { "," expression } ] ")" ] ")"
+/// look "(" ID [ "(" [ expression { "," expression } ] ")" ] [ "," INT ] ")", the INT of LookupOnChange alone
 #[cycle(expression)]
 fn look(
     alloc: Global,
@@ -171,8 +172,8 @@ fn look(
 {
     expect(tokens, from + 1, Sign::OpenParen)?;
     let name = name_at(alloc, tokens, from + 2)?;
-    let (args, end) = look_arguments(alloc, tokens, from + 3)?;
-    Ok((build::look(word, from, name, args), end))
+    let (args, tolerance, end) = look_rest(alloc, tokens, from + 3, word)?;
+    Ok((build::look(word, from, name, args, tolerance), end))
 }
 
 /// function "(" expression ")"

@@ -1,19 +1,23 @@
-use Rattle.std.proofs.Common.{◌≡◌, ◌+◌, refl, sym, ap, subst, ◌∙◌, arith, Some, None, List, [], ◌∷◌, ◌++◌, map}
+use Rattle.std.proofs.Common.{◌≡◌, ◌+◌, refl, sym, ap, subst, ◌∙◌, arith, Option, Some, List, [], ◌∷◌, ◌++◌, map}
 use Rattle.std.proofs.lemmas.Result.{IfErr-weaker, IfOk-weaker, err_from_is_err_and}
 use Rattle.std.proofs.lemmas.Bool.{false≢true}
 use Rattle.px_lex.specs.declared.sign.Sign.TheVariants as signs
 use Rattle.px_syntax.specs.declared.expr.NodeReference.TheVariants as nodes
-use Rattle.px_syntax.specs.Expr.{Attribute, BinaryCall, Element, Enumerated, Look, Term, Unary, UnaryCall, Variable, in_turn, term_of}
+use Rattle.px_syntax.specs.declared.expr.Tolerance.{Tolerance}
+use Rattle.px_syntax.specs.Expr.{Attribute, BinaryCall, Element, Enumerated, Look, Term, Terms, Unary, UnaryCall, Variable, in_turn, term_of}
 use Rattle.px_syntax.specs.Form.{identifier}
+use Rattle.px_syntax.specs.ExprGrammar.{look_end}
+use Rattle.px_syntax.specs.declared.word.LookWord.{LookWord}
 use Rattle.px_syntax.proofs.Levels.{binary_level}
-use Rattle.px_expr_parse.specs.Tail.{closed, closed_arguments, look_arguments, second_argument}
+use Rattle.px_expr_parse.specs.Tail.{closed, closed_arguments, look_rest, second_argument}
 use Rattle.px_expr_parse.specs.Verdict.{IsFound}
-use Rattle.px_expr_parse.proofs.Arguments.{HasArguments, found_given, found_none, last_argument, map_push, missing_given, missing_given_close, missing_last, missing_look, no_arguments, one_more_argument, refuse_argument}
+use Rattle.px_expr_parse.proofs.Arguments.{HasArguments, found_none, last_argument, map_push, missing_last, no_arguments, one_more_argument, refuse_argument}
 use Rattle.px_expr_parse.proofs.Closed.{closed_by, closer_ends, closer_of, comma_closes, found_closed, found_with_sign, missing_close_part, missing_closed, missing_expression, missing_sign_behind}
 use Rattle.px_lex.specs.declared.token.TokenKind.TheVariants as kinds
 use Rattle.px_expr_parse.proofs.Chains.{level}
-use Rattle.px_expr_parse.proofs.Completions.{Shortest, short_behind, short_both, short_closed, short_expression, short_look_arguments, short_name}
-use Rattle.px_expr_parse.proofs.Spans.{local_identifier}
+use Rattle.px_expr_parse.proofs.Completions.{Shortest, short_behind, short_both, short_closed, short_expression, short_look_end, short_look_rest, short_name}
+use Rattle.px_expr_parse.proofs.Lookups.{found_given, found_left_out, missing_given, missing_left_out}
+use Rattle.px_expr_parse.proofs.Spans.{local_closed_arguments, local_identifier}
 use Rattle.px_expr_parse.specs.declared.opening.Opening.TheVariants as openings
 use Rattle.px_expr_parse.proofs.Loops.{HasSpine, loop_begins, loop_ends, loop_goes_on, loop_refused, loop_stops}
 use Rattle.px_expr_parse.proofs.Parts.{IsClosing, both, found_behind_sign, found_both, missing_behind_sign, missing_first, missing_second, missing_sign, read_as}
@@ -33,9 +37,9 @@ short_two : Shortest (closed_by second_argument second_closes)
 short_two =
     short_both short_expression short_second (λ others from middle end first second o r. ((first, second), (middle, o, r)))
 
-short_look : Shortest (both identifier look_arguments)
-short_look =
-    short_both short_name short_look_arguments (λ others from middle end name args o r. ((name, args), (middle, o, r)))
+short_look : (word : LookWord) → Shortest (both identifier (look_rest word))
+short_look word =
+    short_both short_name (short_look_rest word) (λ others from middle end name args o r. ((name, args), (middle, o, r)))
 
 pub argument::arguments-returns-then-is_sign-clause-ok : goal.argument::arguments-returns-then-is_sign-clause-ok
 argument::arguments-returns-then-is_sign-clause-ok t c =
@@ -94,30 +98,46 @@ argument::closed-returns-clause-ok t c =
     found_with_sign c.args.close (closer_of c.args.close c.requires.closer) c.args.tokens.now c.args.from
     c.in_ok-tree.end (term_of c.in_ok-tree.tree) c.in_ok-expect.ensures.ok.0 c.in_ok-tree.ensures.ok c.in_ok-expect.ensures.ok.1
 
-pub argument::look_arguments-returns-in_err-expect-clause-fault : goal.argument::look_arguments-returns-in_err-expect-clause-fault
-argument::look_arguments-returns-in_err-expect-clause-fault t c =
+pub lookup::look_rest-returns-in_err-tolerance-clause-fault : goal.lookup::look_rest-returns-in_err-tolerance-clause-fault
+lookup::look_rest-returns-in_err-tolerance-clause-fault t c =
     let p = err_from_is_err_and c.from_residual.result c.from_residual.ensures.1 in
-    rw (p.1, p.2) (missing_look c.args.tokens.now c.args.from c.in_err-expect.field-0.0 c.requires
-    (λ has. false≢true (c.if-not-is_sign.ensures.answer.1 has)) c.in_err-expect.ensures.fault)
+    rw (p.1, p.2) (missing_left_out c.args.word c.args.tokens.now c.args.from (λ has. false≢true (c.if-not-is_sign.ensures.answer.1 has))
+    c.in_err-tolerance.field-0.0 c.in_err-tolerance.ensures.fault)
 
-pub argument::look_arguments-returns-in_err-args-clause-fault : goal.argument::look_arguments-returns-in_err-args-clause-fault
-argument::look_arguments-returns-in_err-args-clause-fault t c =
+pub lookup::look_rest-returns-then-not-is_sign-clause-ok : goal.lookup::look_rest-returns-then-not-is_sign-clause-ok
+lookup::look_rest-returns-then-not-is_sign-clause-ok t c =
+    rw c.new.ensures.items
+    (found_left_out c.args.word c.args.tokens.now c.args.from (λ has. false≢true (c.if-not-is_sign.ensures.answer.1 has))
+    c.in_ok-tolerance.tolerance c.in_ok-tolerance.end c.in_ok-tolerance.ensures.ok)
+
+pub lookup::look_rest-returns-in_err-args-clause-fault : goal.lookup::look_rest-returns-in_err-args-clause-fault
+lookup::look_rest-returns-in_err-args-clause-fault t c =
     let p = err_from_is_err_and c.from_residual-in_err-args.result c.from_residual-in_err-args.ensures.1 in
-    rw (p.1, p.2) (missing_given c.args.tokens.now c.args.from (c.if-not-is_sign.ensures.answer.0 refl)
-    c.in_err-args.field-0.0 c.in_err-args.ensures.fault)
+    let opening = c.if-not-is_sign.ensures.answer.0 refl in
+    rw (p.1, p.2) (missing_given c.args.word c.args.tokens.now c.args.from opening c.in_err-args.field-0.0
+    (missing_behind_sign signs.OpenParen (both closed_arguments (look_end c.args.word)) c.args.tokens.now c.args.from c.in_err-args.field-0.0 opening
+    (missing_first closed_arguments (look_end c.args.word) c.args.tokens.now (c.args.from + 1) c.in_err-args.field-0.0 (short_look_end c.args.word)
+    c.in_err-args.ensures.fault)))
 
-pub argument::look_arguments-returns-in_err-expect-2-clause-fault : goal.argument::look_arguments-returns-in_err-expect-2-clause-fault
-argument::look_arguments-returns-in_err-expect-2-clause-fault t c =
-    let p = err_from_is_err_and c.from_residual-in_err-expect-2.result c.from_residual-in_err-expect-2.ensures.1 in
-    rw (p.1, p.2) (missing_given_close c.args.tokens.now c.args.from (c.if-not-is_sign.ensures.answer.0 refl)
-    (in_turn (map term_of c.in_ok-args.args.items)) c.in_ok-args.end c.in_ok-args.ensures.ok
-    c.in_err-expect-2.field-0.0 c.in_err-expect-2.ensures.fault)
+pub lookup::look_rest-returns-in_err-tolerance-2-clause-fault : goal.lookup::look_rest-returns-in_err-tolerance-2-clause-fault
+lookup::look_rest-returns-in_err-tolerance-2-clause-fault t c =
+    let p = err_from_is_err_and c.from_residual-in_err-tolerance-2.result c.from_residual-in_err-tolerance-2.ensures.1 in
+    let opening = c.if-not-is_sign.ensures.answer.0 refl in
+    let args = in_turn (map term_of c.in_ok-args.args.items) in
+    rw (p.1, p.2) (missing_given c.args.word c.args.tokens.now c.args.from opening c.in_err-tolerance-2.field-0.0
+    (missing_behind_sign signs.OpenParen (both closed_arguments (look_end c.args.word)) c.args.tokens.now c.args.from c.in_err-tolerance-2.field-0.0 opening
+    (missing_second closed_arguments (look_end c.args.word) c.args.tokens.now (c.args.from + 1) c.in_ok-args.middle args c.in_err-tolerance-2.field-0.0
+    (local_closed_arguments args) c.in_ok-args.ensures.ok c.in_err-tolerance-2.ensures.fault)))
 
-pub argument::look_arguments-returns-clause-ok : goal.argument::look_arguments-returns-clause-ok
-argument::look_arguments-returns-clause-ok t c =
-    found_given c.args.tokens.now c.args.from (c.if-not-is_sign.ensures.answer.0 refl)
-    (in_turn (map term_of c.in_ok-args.args.items)) c.in_ok-args.end c.in_ok-args.ensures.ok
-    c.in_ok-expect-2.ensures.ok.0 c.in_ok-expect-2.ensures.ok.1
+pub lookup::look_rest-returns-clause-ok : goal.lookup::look_rest-returns-clause-ok
+lookup::look_rest-returns-clause-ok t c =
+    let opening = c.if-not-is_sign.ensures.answer.0 refl in
+    let args = in_turn (map term_of c.in_ok-args.args.items) in
+    let parts : Terms × Option Tolerance = (args, c.in_ok-tolerance-2.tolerance) in
+    found_given c.args.word c.args.tokens.now c.args.from opening parts c.in_ok-tolerance-2.end
+    (found_behind_sign signs.OpenParen (both closed_arguments (look_end c.args.word)) c.args.tokens.now c.args.from c.in_ok-tolerance-2.end parts opening
+    (found_both closed_arguments (look_end c.args.word) c.args.tokens.now (c.args.from + 1) c.in_ok-args.middle c.in_ok-tolerance-2.end args
+    c.in_ok-tolerance-2.tolerance c.in_ok-args.ensures.ok c.in_ok-tolerance-2.ensures.ok))
 
 pub operation::operand-returns-in_err-tree-clause-fault : goal.operation::operand-returns-in_err-tree-clause-fault
 operation::operand-returns-in_err-tree-clause-fault t c =
@@ -253,15 +273,15 @@ pub primary::look-returns-in_err-expect-clause-fault : goal.primary::look-return
 primary::look-returns-in_err-expect-clause-fault t c =
     let p = err_from_is_err_and c.from_residual.result c.from_residual.ensures.1 in
     rw (p.1, p.2) (refuse_look c.args.tokens.now c.args.from c.args.word c.requires.begins c.in_err-expect.field-0.0
-    (missing_sign signs.OpenParen (both identifier look_arguments) c.args.tokens.now (c.args.from + 1) c.in_err-expect.field-0.0 (omega (arith, c.requires.place)) short_look c.in_err-expect.ensures.fault))
+    (missing_sign signs.OpenParen (both identifier (look_rest c.args.word)) c.args.tokens.now (c.args.from + 1) c.in_err-expect.field-0.0 (omega (arith, c.requires.place)) (short_look c.args.word) c.in_err-expect.ensures.fault))
 
 pub primary::look-returns-in_err-name-clause-fault : goal.primary::look-returns-in_err-name-clause-fault
 primary::look-returns-in_err-name-clause-fault t c =
     let p = err_from_is_err_and c.from_residual-in_err-name.result c.from_residual-in_err-name.ensures.1 in
     let two : c.args.from + 2 ≡ c.args.from + 1 + 1 = omega arith in
     rw (p.1, p.2) (refuse_look c.args.tokens.now c.args.from c.args.word c.requires.begins c.in_err-name.field-0.0
-    (missing_behind_sign signs.OpenParen (both identifier look_arguments) c.args.tokens.now (c.args.from + 1) c.in_err-name.field-0.0 c.in_ok-expect.ensures.ok.1
-    (missing_first identifier look_arguments c.args.tokens.now (c.args.from + 1 + 1) c.in_err-name.field-0.0 short_look_arguments (rw two at c.in_err-name.ensures.fault))))
+    (missing_behind_sign signs.OpenParen (both identifier (look_rest c.args.word)) c.args.tokens.now (c.args.from + 1) c.in_err-name.field-0.0 c.in_ok-expect.ensures.ok.1
+    (missing_first identifier (look_rest c.args.word) c.args.tokens.now (c.args.from + 1 + 1) c.in_err-name.field-0.0 (short_look_rest c.args.word) (rw two at c.in_err-name.ensures.fault))))
 
 pub primary::look-returns-in_err-args-clause-fault : goal.primary::look-returns-in_err-args-clause-fault
 primary::look-returns-in_err-args-clause-fault t c =
@@ -269,21 +289,21 @@ primary::look-returns-in_err-args-clause-fault t c =
     let two : c.args.from + 2 ≡ c.args.from + 1 + 1 = omega arith in
     let three : c.args.from + 3 ≡ c.args.from + 1 + 1 + 1 = omega arith in
     rw (p.1, p.2) (refuse_look c.args.tokens.now c.args.from c.args.word c.requires.begins c.in_err-args.field-0.0
-    (missing_behind_sign signs.OpenParen (both identifier look_arguments) c.args.tokens.now (c.args.from + 1) c.in_err-args.field-0.0 c.in_ok-expect.ensures.ok.1
-    (missing_second identifier look_arguments c.args.tokens.now (c.args.from + 1 + 1) (c.args.from + 1 + 1 + 1) c.in_ok-name.name c.in_err-args.field-0.0
+    (missing_behind_sign signs.OpenParen (both identifier (look_rest c.args.word)) c.args.tokens.now (c.args.from + 1) c.in_err-args.field-0.0 c.in_ok-expect.ensures.ok.1
+    (missing_second identifier (look_rest c.args.word) c.args.tokens.now (c.args.from + 1 + 1) (c.args.from + 1 + 1 + 1) c.in_ok-name.name c.in_err-args.field-0.0
     (local_identifier c.in_ok-name.name) (rw two at c.in_ok-name.ensures.ok) (rw three at c.in_err-args.ensures.fault))))
 
 pub primary::look-returns-clause-ok : goal.primary::look-returns-clause-ok
 primary::look-returns-clause-ok t c =
     let two : c.args.from + 2 ≡ c.args.from + 1 + 1 = omega arith in
     let three : c.args.from + 3 ≡ c.args.from + 1 + 1 + 1 = omega arith in
-    let args = in_turn (map term_of c.in_ok-args.args.items) in
-    read_as 8 c.args.tokens.now c.args.from (Look c.args.word c.args.from c.in_ok-name.name args None) (term_of c.look.result)
+    let parts : Terms × Option Tolerance = (in_turn (map term_of c.in_ok-args.args.items), c.in_ok-args.tolerance) in
+    read_as 8 c.args.tokens.now c.args.from (Look c.args.word c.args.from c.in_ok-name.name parts.0 parts.1) (term_of c.look.result)
     c.in_ok-args.end c.in_ok-args.end c.look.ensures refl
-    (read_look c.args.tokens.now c.args.from c.args.word c.requires.begins (c.in_ok-name.name, args) c.in_ok-args.end
-    (found_behind_sign signs.OpenParen (both identifier look_arguments) c.args.tokens.now (c.args.from + 1) c.in_ok-args.end (c.in_ok-name.name, args)
+    (read_look c.args.tokens.now c.args.from c.args.word c.requires.begins (c.in_ok-name.name, parts) c.in_ok-args.end
+    (found_behind_sign signs.OpenParen (both identifier (look_rest c.args.word)) c.args.tokens.now (c.args.from + 1) c.in_ok-args.end (c.in_ok-name.name, parts)
     c.in_ok-expect.ensures.ok.1
-    (found_both identifier look_arguments c.args.tokens.now (c.args.from + 1 + 1) (c.args.from + 1 + 1 + 1) c.in_ok-args.end c.in_ok-name.name args
+    (found_both identifier (look_rest c.args.word) c.args.tokens.now (c.args.from + 1 + 1) (c.args.from + 1 + 1 + 1) c.in_ok-args.end c.in_ok-name.name parts
     (rw two at c.in_ok-name.ensures.ok) (rw three at c.in_ok-args.ensures.ok))))
 
 pub primary::named-returns-in_err-name-clause-fault : goal.primary::named-returns-in_err-name-clause-fault

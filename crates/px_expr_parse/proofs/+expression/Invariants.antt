@@ -36,8 +36,8 @@ decreases-argument::closed l = left l.tokens.now l.from 5
 abbrev pub decreases-argument::arguments : goal.decreases-argument::arguments
 decreases-argument::arguments l = left l.tokens.now l.from 5
 
-abbrev pub decreases-argument::look_arguments : goal.decreases-argument::look_arguments
-decreases-argument::look_arguments l = left l.tokens.now l.from 6
+abbrev pub decreases-lookup::look_rest : goal.decreases-lookup::look_rest
+decreases-lookup::look_rest l = left l.tokens.now l.from 6
 
 abbrev pub invariant-argument::arguments-loop-args : goal.invariant-argument::arguments-loop-args
 invariant-argument::arguments-loop-args l =
