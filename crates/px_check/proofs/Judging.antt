@@ -5,12 +5,13 @@ use Rattle.std.proofs.lemmas.List.{drop-drop, length-map}
 use Rattle.std.proofs.Math.ListN.{drop_of_length-le}
 use Rattle.px_value.proofs.General.{cut_at}
 use Rattle.px_syntax.specs.Expr.{Term, Terms, term_of, in_turn, More}
-use Rattle.px_syntax.specs.ExprFaults.{first_token, count_terms, count_faults, any_where_faulty, any_unless_allowed, answer_type, type_of, expr_faults, type_fault, alike_fault, argument_faults, parameters_of}
-use Rattle.px_syntax.specs.Fault.{fault_where}
+use Rattle.px_syntax.specs.ExprFaults.{first_token, count_terms, look_faults, any_where_faulty, any_unless_allowed, answer_type, type_of, expr_faults, type_fault, alike_fault, argument_faults, parameters_of}
+use Rattle.px_syntax.specs.Fault.{Fault, fault_where}
 use Rattle.px_syntax.specs.Scope.{Scope, Global}
 use Rattle.px_syntax.specs.ValueType.{Signature, fits, differ}
 use Rattle.px_syntax.specs.declared.expr.Identifier.{Identifier}
 use Rattle.px_syntax.specs.declared.expr.SurfaceExpr.{SurfaceExpr}
+use Rattle.px_syntax.specs.declared.expr.Tolerance.{Tolerance}
 use Rattle.px_syntax.specs.declared.fault.FaultKind.TheVariants.{TypeDiffers}
 use Rattle.px_syntax.specs.declared.value_type.ValueType.{ValueType}
 use Rattle.px_syntax.specs.declared.value_type.ValueType.TheVariants.{Any}
@@ -100,29 +101,30 @@ arguments_done scope args parameters place found past =
     ∙ ap (λ left. noted found (argument_faults scope (drop place parameters) (in_turn (map term_of left))))
     (sym (drop_of_length-le args past))
 
--- ---- lookups
+-- ---- calls and lookups
 
-pub look_noted : (scope : Scope) (name : Identifier) (args items : List SurfaceExpr) (declared known : Option Global)
-    (parameters : List ValueType) (count : ℕ) (found between new : Sought)
+-- what a call is at fault for by itself, and its arguments
+pub call_noted : (own : Option Global → ℕ → List Fault) (scope : Scope) (args items : List SurfaceExpr)
+    (declared known : Option Global) (parameters : List ValueType) (count : ℕ) (found between new : Sought)
     → known ≡ declared → count ≡ length args → items ≡ args → parameters ≡ parameters_of known
-    → between ≡ noted found (count_faults known name count)
+    → between ≡ noted found (own known count)
     → new ≡ noted between (argument_faults scope parameters (in_turn (map term_of items)))
-    → new ≡ noted found (count_faults declared name (count_terms (in_turn (map term_of args)))
+    → new ≡ noted found (own declared (count_terms (in_turn (map term_of args)))
     ++ argument_faults scope (parameters_of declared) (in_turn (map term_of args)))
-look_noted scope name args items declared known parameters count found between new known_is count_is items_is parameters_is first second =
+call_noted own scope args items declared known parameters count found between new known_is count_is items_is parameters_is first second =
     let counted = counted_args args count count_is in
     let types = parameters_is ∙ ap parameters_of known_is in
-    noted_then found between new (count_faults declared name (count_terms (in_turn (map term_of args))))
+    noted_then found between new (own declared (count_terms (in_turn (map term_of args))))
     (argument_faults scope (parameters_of declared) (in_turn (map term_of args)))
-    (first ∙ (λ i. noted found (count_faults (known_is i) name (counted i))))
+    (first ∙ (λ i. noted found (own (known_is i) (counted i))))
     (second ∙ (λ i. noted between (argument_faults scope (types i) (in_turn (map term_of (items_is i))))))
 
-pub look_type : (name : Identifier) (args : List SurfaceExpr) (declared known : Option Global) (count : ℕ)
+pub look_type : (name : Identifier) (args : List SurfaceExpr) (declared known : Option Global) (count : ℕ) (tolerance : Option Tolerance)
     (is_right : Bool) (given : ValueType) → known ≡ declared → count ≡ length args
-    → ((own : ValueType) → any_where_faulty (count_faults known name count) own ≡ (if is_right then own else Any))
+    → ((own : ValueType) → any_where_faulty (look_faults known name count tolerance) own ≡ (if is_right then own else Any))
     → given ≡ (if is_right then answer_type known else Any)
-    → given ≡ any_where_faulty (count_faults declared name (count_terms (in_turn (map term_of args)))) (answer_type declared)
-look_type name args declared known count is_right given known_is count_is right given_is =
+    → given ≡ any_where_faulty (look_faults declared name (count_terms (in_turn (map term_of args))) tolerance) (answer_type declared)
+look_type name args declared known count tolerance is_right given known_is count_is right given_is =
     let counted = counted_args args count count_is in
     given_is ∙ sym (right (answer_type known))
-    ∙ (λ i. any_where_faulty (count_faults (known_is i) name (counted i)) (answer_type (known_is i)))
+    ∙ (λ i. any_where_faulty (look_faults (known_is i) name (counted i) tolerance) (answer_type (known_is i)))

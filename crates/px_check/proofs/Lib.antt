@@ -13,4 +13,5 @@ pub mod Seeing
 pub mod Blocks
 pub mod Declaring
 pub mod Passing
+pub mod Meeting
 pub mod Behind

@@ -8,4 +8,5 @@ pub mod Arguments
 pub mod Once
 pub mod Repeats
 pub mod Cells
+pub mod Tolerances
 pub mod Checked

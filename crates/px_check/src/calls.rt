@@ -2,7 +2,7 @@
 ghost use Rattle.std.specs.Prelude.{◌≡◌, ◌==◌, true, false, drop, length, option_map, if◌then◌else◌};
 ghost use Rattle.std.specs.Option.{option_map_or};
 ghost use Rattle.px_syntax.specs.BlockFaults.{is_without};
-ghost use Rattle.px_syntax.specs.ExprFaults.{count_faults, any_where_faulty, answer_type, parameters_of};
+ghost use Rattle.px_syntax.specs.ExprFaults.{count_faults, tolerance_faults, look_faults, any_where_faulty, answer_type, parameters_of};
 ghost use Rattle.px_syntax.specs.declared.value_type.ValueType.{ValueType as TypeOfValue};
 ghost use Rattle.px_syntax.specs.declared.value_type.ValueType.TheVariants.{Any};
 ghost use Rattle.px_check.specs.Arguments.{allowed_next};
@@ -13,7 +13,7 @@ ghost use Rattle.px_check.specs.Types.{types_of};
 use crate::found::Found;
 use crate::globals::Callable;
 use crate::types::{Allowed, named_type};
-use px_syntax::{FaultKind, Identifier, Parameter, ValueType};
+use px_syntax::{FaultKind, Identifier, Parameter, Tolerance, ValueType};
 
 /// The most arguments, parameters and pairs.
 pub const ARGUMENT_LIMIT: usize = 8;
@@ -46,6 +46,48 @@ pub fn note_count(
     found.note_where(!is_right, FaultKind::ArgCount, name.token);
     found.note_where(ARGUMENT_LIMIT < count, FaultKind::TooLarge, name.token);
     is_right && count <= ARGUMENT_LIMIT
+}
+
+// Notes a tolerance of a lookup that gives a Boolean or a String. Answers whether it is none such.
+#[tactic(auto, using(crate::proofs::Noting::noting))]
+fn note_tolerance(
+    callable: Option<Callable>,
+    tolerance: Option<Tolerance>,
+    found: &mut Found,
+) -> bool
+    ensures found { found.new
+        ≡ noted found.old (tolerance_faults (option_map callable_data callable.entry) tolerance) }
+    ensures right { (own : TypeOfValue)
+        → any_where_faulty (tolerance_faults (option_map callable_data callable.entry) tolerance) own
+        ≡ (if result then own else Any) }
+{
+    let Some(tolerance) = tolerance else {
+        return true;
+    };
+    let is_right = Allowed::Only(ValueType::Integer).fits(answer_type(callable));
+    found.note_where(!is_right, FaultKind::TypeDiffers, tolerance.token);
+    is_right
+}
+
+/// Notes where a lookup has not as many arguments as are declared, or too many, and where it has a tolerance that it may
+/// not have. Answers whether it is at fault for none of these.
+#[tactic(auto, using(crate::proofs::Noting::noting))]
+pub fn note_look(
+    callable: Option<Callable>,
+    name: &Identifier,
+    count: usize,
+    tolerance: Option<Tolerance>,
+    found: &mut Found,
+) -> bool
+    ensures found { found.new
+        ≡ noted found.old (look_faults (option_map callable_data callable.entry) name.now count tolerance) }
+    ensures right { (own : TypeOfValue)
+        → any_where_faulty (look_faults (option_map callable_data callable.entry) name.now count tolerance) own
+        ≡ (if result then own else Any) }
+{
+    let is_counted = note_count(callable, name, count, found);
+    let is_tolerated = note_tolerance(callable, tolerance, found);
+    is_counted && is_tolerated
 }
 
 /// What a call gives, if that is known.

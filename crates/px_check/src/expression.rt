@@ -9,7 +9,7 @@ ghost use Rattle.px_check.specs.Found.{noted};
 ghost use Rattle.px_check.specs.Globals.{parameter_types};
 ghost use Rattle.px_check.specs.Types.{types_of};
 
-use crate::calls::{allowed_at, answer_type, note_count, parameters_of};
+use crate::calls::{allowed_at, answer_type, note_look, parameters_of};
 use crate::found::{Found, Misfit};
 use crate::scope::Scope;
 use crate::token::{first_token, reference_token};
@@ -122,9 +122,14 @@ impl<'a> Scope<'a> {
                 of_type
             }
             SurfaceExpr::Attribute { node, attribute } => self.attribute(node, *attribute, found),
-            SurfaceExpr::Look { name, args, .. } => {
+            SurfaceExpr::Look {
+                name,
+                args,
+                tolerance,
+                ..
+            } => {
                 let callable = self.lookup(&name.name);
-                let is_right = note_count(callable, name, args.len(), found);
+                let is_right = note_look(callable, name, args.len(), *tolerance, found);
                 self.arguments(args, parameters_of(callable), found);
                 if is_right {
                     answer_type(callable)

@@ -5,7 +5,8 @@
 //! `declarations` looks at what stands before the root, and `globals` keeps it. `block` walks blocks with what stands in
 //! them (`heads`, `items`, `actions`, `branches`, `calls`); `scope` keeps what is visible there, variables in `scoped` and
 //! nodes in `nodes`, and `entering` goes into a block and back. `expression` judges expressions by the tables of `types`,
-//! and `token` has their first tokens. `once` and `repeats` find what is said twice, and `cells` counts declared cells.
+//! and `token` has their first tokens. `once` and `repeats` find what is said twice, `cells` counts declared cells, and
+//! `tolerances` distinct tolerances.
 #![tactic(auto)]
 
 mod actions;
@@ -26,6 +27,7 @@ mod repeats;
 mod scope;
 mod scoped;
 mod token;
+mod tolerances;
 mod types;
 mod whole;
 

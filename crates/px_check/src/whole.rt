@@ -4,6 +4,7 @@ ghost use Rattle.px_syntax.specs.Block.{block_of};
 ghost use Rattle.px_syntax.specs.BlockFaults.{block_faults};
 ghost use Rattle.px_syntax.specs.Plan.{tree_of_surface};
 ghost use Rattle.px_syntax.specs.PlanFaults.{faults, outermost, block_cells, passing_fault};
+ghost use Rattle.px_syntax.specs.Tolerances.{block_tolerances, passing_tolerance};
 ghost use Rattle.px_check.specs.Checked.{IsFirst, all_faults};
 ghost use Rattle.px_check.specs.Found.{fault_of, behind, noted};
 
@@ -12,6 +13,7 @@ use crate::declarations::note_declarations;
 use crate::found::{Found, Spot};
 use crate::globals::Globals;
 use crate::scope::Scope;
+use crate::tolerances::Tolerances;
 use px_syntax::{Block, CheckFault, Surface};
 use px_value::NoMemory;
 use std::alloc::Global;
@@ -52,6 +54,7 @@ fn note_tree(alloc: Global, tree: &Surface, found: &mut Found) -> Result<(), NoM
     note_declarations(alloc, &tree.declarations, found)?;
     note_blocks(alloc, tree, found)?;
     note_cells(&tree.root, found);
+    note_tolerances(&tree.root, found);
     Ok(())
 }
 
@@ -70,4 +73,12 @@ fn note_cells(root: &Block, found: &mut Found)
     let mut cells = CellCount::new();
     cells.block(root);
     cells.note(found);
+}
+
+fn note_tolerances(root: &Block, found: &mut Found)
+    ensures { found.new ≡ noted found.old (passing_tolerance [] (block_tolerances (block_of root.now))) }
+{
+    let mut tolerances = Tolerances::new();
+    tolerances.block(root);
+    tolerances.note(found);
 }

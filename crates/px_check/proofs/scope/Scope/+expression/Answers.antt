@@ -1,11 +1,11 @@
 use Rattle.std.proofs.Common.{◌≡◌, length, ap, sym, ◌∙◌, refl, rules, option_map, [], ◌∷◌, if◌then◌else◌}
 use Rattle.px_syntax.specs.Expr.{Term, term_of}
-use Rattle.px_syntax.specs.ExprFaults.{expr_faults, type_of, answer_type}
+use Rattle.px_syntax.specs.ExprFaults.{expr_faults, look_faults, type_of, answer_type}
 use Rattle.px_syntax.specs.ValueType.{Signature, UnarySignature}
 use Rattle.px_syntax.specs.declared.value_type.ValueType.TheVariants.{Integer, Any}
 use Rattle.px_check.specs.Found.{noted}
 use Rattle.px_check.specs.Globals.{callable_data, parameter_types}
-use Rattle.px_check.proofs.Judging.{part_noted, type_noted, alike_noted, argument_noted, arguments_done, look_noted, look_type}
+use Rattle.px_check.proofs.Judging.{part_noted, type_noted, alike_noted, argument_noted, arguments_done, call_noted, look_type}
 use Rattle.px_check.proofs.Noting.{noted_then, noted_none}
 use Rattle.px_check.proofs.Terms as terms
 use Rattle.px_check.proofs.scope.Scope.+expression.Goals as goal
@@ -45,31 +45,31 @@ type_of-returns-in-Element-clause-found t c =
 pub type_of-returns-then-is_right-clause-of_type : goal.type_of-returns-then-is_right-clause-of_type
 type_of-returns-then-is_right-clause-of_type t c =
     let count : c.len.result ≡ length c.in-Look.args.items = search rules in
-    look_type c.in-Look.name c.in-Look.args.items _ _ c.len.result c.note_count-is_right.result _ c.lookup-callable.ensures
-    count c.note_count-is_right.ensures.right
+    look_type c.in-Look.name c.in-Look.args.items _ _ c.len.result c.in-Look.tolerance c.note_look-is_right.result _ c.lookup-callable.ensures
+    count c.note_look-is_right.ensures.right
     (c.answer_type.ensures ∙ ap (λ right. if right then answer_type (option_map callable_data c.lookup-callable.result) else Any) (sym c.if-is_right.true))
     ∙ ap (λ (term : Term). type_of c.args.self.now term) (sym (ap term_of c.in-Look.is ∙ terms.look c.in-Look.word c.in-Look.token c.in-Look.name c.in-Look.args c.in-Look.tolerance))
 
 pub type_of-returns-then-is_right-clause-found : goal.type_of-returns-then-is_right-clause-found
 type_of-returns-then-is_right-clause-found t c =
     let count : c.len.result ≡ length c.in-Look.args.items = search rules in
-    look_noted c.args.self.now c.in-Look.name c.in-Look.args.items _ _ _ _ _ _ _ _ c.lookup-callable.ensures count
-    c.deref-in-Look.ensures.value c.parameters_of.ensures c.note_count-is_right.ensures.found c.arguments.ensures
+    call_noted (λ known count. look_faults known c.in-Look.name count c.in-Look.tolerance) c.args.self.now c.in-Look.args.items _ _ _ _ _ _ _ _ c.lookup-callable.ensures count
+    c.deref-in-Look.ensures.value c.parameters_of.ensures c.note_look-is_right.ensures.found c.arguments.ensures
     ∙ ap (λ (term : Term). noted c.args.found.now (expr_faults c.args.self.now term)) (sym (ap term_of c.in-Look.is ∙ terms.look c.in-Look.word c.in-Look.token c.in-Look.name c.in-Look.args c.in-Look.tolerance))
 
 pub type_of-returns-else-is_right-clause-of_type : goal.type_of-returns-else-is_right-clause-of_type
 type_of-returns-else-is_right-clause-of_type t c =
     let count : c.len.result ≡ length c.in-Look.args.items = search rules in
-    look_type c.in-Look.name c.in-Look.args.items _ _ c.len.result c.note_count-is_right.result _ c.lookup-callable.ensures
-    count c.note_count-is_right.ensures.right
+    look_type c.in-Look.name c.in-Look.args.items _ _ c.len.result c.in-Look.tolerance c.note_look-is_right.result _ c.lookup-callable.ensures
+    count c.note_look-is_right.ensures.right
     (ap (λ right. if right then answer_type (option_map callable_data c.lookup-callable.result) else Any) (sym c.if-is_right.false))
     ∙ ap (λ (term : Term). type_of c.args.self.now term) (sym (ap term_of c.in-Look.is ∙ terms.look c.in-Look.word c.in-Look.token c.in-Look.name c.in-Look.args c.in-Look.tolerance))
 
 pub type_of-returns-else-is_right-clause-found : goal.type_of-returns-else-is_right-clause-found
 type_of-returns-else-is_right-clause-found t c =
     let count : c.len.result ≡ length c.in-Look.args.items = search rules in
-    look_noted c.args.self.now c.in-Look.name c.in-Look.args.items _ _ _ _ _ _ _ _ c.lookup-callable.ensures count
-    c.deref-in-Look.ensures.value c.parameters_of.ensures c.note_count-is_right.ensures.found c.arguments.ensures
+    call_noted (λ known count. look_faults known c.in-Look.name count c.in-Look.tolerance) c.args.self.now c.in-Look.args.items _ _ _ _ _ _ _ _ c.lookup-callable.ensures count
+    c.deref-in-Look.ensures.value c.parameters_of.ensures c.note_look-is_right.ensures.found c.arguments.ensures
     ∙ ap (λ (term : Term). noted c.args.found.now (expr_faults c.args.self.now term)) (sym (ap term_of c.in-Look.is ∙ terms.look c.in-Look.word c.in-Look.token c.in-Look.name c.in-Look.args c.in-Look.tolerance))
 
 pub type_of-returns-in-UnaryCall-clause-found : goal.type_of-returns-in-UnaryCall-clause-found
