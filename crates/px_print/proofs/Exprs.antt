@@ -1,9 +1,9 @@
 -- Expressions are printed, where some tokens that a text can have spell them.
-use Rattle.std.proofs.Common.{◌≡◌, ℕ, ◌+◌, ◌<◌, ◌≤◌, ◌^◌, true, false, List, [], ◌∷◌, ◌++◌, Some, None, refl, sym, ap, ◌∙◌, subst, arith, append_assoc, inl}
-use Rattle.std.specs.Prelude.{codes, decimal, nat_eq, zero, suc, length}
+use Rattle.std.proofs.Common.{◌≡◌, ℕ, ◌+◌, ◌<◌, ◌≤◌, ◌^◌, true, false, List, [], ◌∷◌, ◌++◌, Option, Some, None, refl, sym, ap, ◌∙◌, subst, arith, append_assoc, inl}
+use Rattle.std.specs.Prelude.{codes, decimal, nat_eq, pos, zero, suc, length}
 use Rattle.std.specs.Fmt.{signed_decimal}
 use Rattle.std.specs.List.{list_all}
-use Rattle.std.specs.Option.{option_and_then}
+use Rattle.std.specs.Option.{option_and_then, option_map}
 use Rattle.std.proofs.lemmas.Bool.{and_parts}
 use Rattle.std.proofs.lemmas.Bool.Decides.{nat_tests}
 use Rattle.std.proofs.lemmas.Fmt.{decimal_nonempty}
@@ -26,6 +26,7 @@ use Rattle.px_syntax.specs.declared.expr.Literal.{Literal as LiteralValue}
 use Rattle.px_syntax.specs.declared.expr.Literal.TheVariants as literals
 use Rattle.px_syntax.specs.declared.expr.NodeReference.{NodeReference}
 use Rattle.px_syntax.specs.declared.expr.NodeReference.TheVariants as nodes
+use Rattle.px_syntax.specs.declared.expr.Tolerance.{Tolerance}
 use Rattle.px_syntax.specs.declared.operator.BinaryOperator.{BinaryOperator}
 use Rattle.px_syntax.specs.declared.operator.BinaryOperator.TheVariants as binary
 use Rattle.px_syntax.specs.declared.operator.Operator.TheVariants as operators
@@ -38,12 +39,12 @@ use Rattle.px_syntax.specs.declared.word.LookWord.TheVariants as looks
 use Rattle.px_syntax.specs.declared.word.UnaryFunction.{UnaryFunction}
 use Rattle.px_syntax.specs.declared.word.UnaryFunction.TheVariants as unary_functions
 use Rattle.px_syntax.specs.Expr.{Term, Terms, Literal, Enumerated, Variable, Element, Attribute, Look, UnaryCall, BinaryCall, Unary, Binary, NoTerms, More}
-use Rattle.px_syntax.specs.ExprGrammar.{literal_kind, enumerated_keyword, attribute_word, look_keyword, unary_keyword, binary_keyword, binary_operator, unary_operator, node_reference, term_level, at_least, bare, arguments, further_arguments, expression}
-use Rattle.px_syntax.specs.Form.{Form, one, sign, identifier, in_pairs}
+use Rattle.px_syntax.specs.ExprGrammar.{literal_kind, enumerated_keyword, attribute_word, look_end, look_keyword, unary_keyword, binary_keyword, binary_operator, unary_operator, node_reference, term_level, at_least, bare, arguments, further_arguments, expression}
+use Rattle.px_syntax.specs.Form.{Form, one, sign, identifier, in_pairs, number}
 use Rattle.px_syntax.specs.Operator.{binary_of, unary_of, level_of}
 use Rattle.px_syntax.proofs.Levels.{binary_level, unary_level}
-use Rattle.px_print.specs.ExprLayout.{literal_text, enumerated_text, look_text, unary_function_text, binary_function_text, unary_sign, binary_sign, node_text, term_text, arguments_text, further_text, operand_text}
-use Rattle.px_print.specs.Unnumbered.{plain_name, plain_node, plain_term, plain_terms}
+use Rattle.px_print.specs.ExprLayout.{literal_text, enumerated_text, look_text, unary_function_text, binary_function_text, unary_sign, binary_sign, node_text, tolerance_text, term_text, arguments_text, further_text, operand_text}
+use Rattle.px_print.specs.Unnumbered.{plain_name, plain_node, plain_tolerance, plain_term, plain_terms}
 use Rattle.px_print.proofs.Printing.{Prints, follow, prints_as, prints_then, prints_nothing, prints_behind}
 use Rattle.px_print.proofs.Tokens.{AllCan, IsName, Ends, Stops, decimal_digits, prints_keyword, prints_sign, prints_any, prints_word, prints_integer, prints_string}
 
@@ -249,6 +250,35 @@ module _ {source : List ℕ} (given : List Token) (all : AllCan source given) wh
         (r.0, (refl, r.1), (r.2.0, r.2.1, (r.2.2.0, r.2.2.1.2, r.2.2.2))),
       ))
 
+  number_small : (value : ℕ) (from to : ℕ) → number value given from to → value < 2 ^ 31
+  number_small value from to h =
+      let size = all from (kinds.Integer (pos value)) h.0 in
+      let same : value ≡ size.0 = cc in
+      subst (λ n. n < 2 ^ 31) (sym same) size.2
+
+  pub prints_number : (value : ℕ) (from to : ℕ) → number value given from to → (rest : List ℕ) → Stops rest
+      → Prints source (number value) (decimal value) rest
+  prints_number value from to h rest stops = prints_integer value rest (number_small value from to h) stops
+
+  -- what closes a lookup
+  prints_end : (which : LookWord) (tolerance : Option Tolerance) (from to : ℕ) → look_end which tolerance given from to → (rest : List ℕ)
+      → Prints source (Alike (look_end which) (option_map plain_tolerance) tolerance) (tolerance_text tolerance ++ codes ")") rest
+  prints_end which None from to h rest = prints_as (prints_close rest) (λ tokens from to r. (None, refl, r))
+  prints_end looks.Lookup (Some tolerance) from to h rest = absurd h
+  prints_end looks.LookupNow (Some tolerance) from to h rest = absurd h
+  prints_end looks.LookupOnChange (Some tolerance) from to h rest =
+      let close = prints_close rest in
+      let inside = prints_then close (prints_number tolerance.distance h.0 h.2.0 h.2.1.1 (follow close) (refl, refl)) in
+      let gap = prints_behind (codes " ") refl inside in
+      prints_as (prints_then gap (prints_any signs.Comma (codes ",") (follow gap) refl (λ c cs. refl)))
+      (λ tokens from to r.
+      (Some (record { distance = tolerance.distance; token = r.0 }), refl, (r.0, r.1, (r.2.0, (refl, r.2.1), r.2.2))))
+
+  -- the name before it ends there
+  end_ends : (tolerance : Option Tolerance) (rest : List ℕ) → Ends ((tolerance_text tolerance ++ codes ")") ++ rest)
+  end_ends None rest = refl
+  end_ends (Some tolerance) rest = refl
+
   pub prints_literal : (value : LiteralValue) (from to : ℕ) → one (literal_kind value) given from to → (rest : List ℕ) → Stops rest
       → Prints source (one (literal_kind value)) (literal_text value) rest
   prints_literal (literals.Integer value) from to h rest stops =
@@ -333,34 +363,35 @@ module _ {source : List ℕ} (given : List Token) (all : AllCan source given) wh
         let dot = prints_then word (prints_any signs.Dot (codes ".") (follow word) refl (λ c cs. refl)) in
         prints_as (prints_then dot (prints_node node from h.0 h.1 (follow dot) refl))
         (λ tokens from to r. (Attribute r.1.0 attribute, ap (λ n. Attribute n attribute) r.1.1, (r.0, r.1.2, r.2)))
-    prints_term (Look which token name NoTerms None) from to h rest stops =
-        let close = prints_close rest in
-        let inside = prints_then close (prints_name name h.2.0 h.2.2.0 h.2.2.1 (follow close) refl) in
+    prints_term (Look which token name NoTerms tolerance) from to h rest stops =
+        let end = prints_end which tolerance h.2.2.2.0 to h.2.2.2.2 rest in
+        let inside = prints_then end (prints_name name h.2.0 h.2.2.0 h.2.2.1 (follow end) (end_ends tolerance rest)) in
         let opened = prints_then inside (prints_open (follow inside)) in
         prints_as (prints_then opened (prints_keyword (look_keyword which) (look_text which) (follow opened) (look_is which) refl))
         (λ tokens from to r. (
-          Look which from r.2.2.1.0 NoTerms None,
-          ap (λ n. Look which 0 n NoTerms None) r.2.2.1.1,
-          (r.0, (refl, r.1), (r.2.0, r.2.1, (r.2.2.0, r.2.2.1.2, (r.2.2.0, inl refl, r.2.2.2)))),
+          Look which from r.2.2.1.0 NoTerms r.2.2.2.0,
+          (λ i. Look which 0 (r.2.2.1.1 i) NoTerms (r.2.2.2.1 i)),
+          (r.0, (refl, r.1), (r.2.0, r.2.1, (r.2.2.0, r.2.2.1.2, (r.2.2.0, inl refl, r.2.2.2.2)))),
         ))
-    prints_term (Look which token name (More first others) None) from to h rest stops =
+    prints_term (Look which token name (More first others) tolerance) from to h rest stops =
         let args = h.2.2.2.1.2.1 in
         let inner = stripped first h.2.2.2.1.0 args.0 args.1 in
-        let close = prints_close rest in
-        let inner_close = prints_close (follow close) in
-        let further = prints_further others args.0 h.2.2.2.1.2.0 args.2 (follow inner_close) (refl, refl) in
+        let end = prints_end which tolerance h.2.2.2.0 to h.2.2.2.2 rest in
+        let close = prints_close (follow end) in
+        let further = prints_further others args.0 h.2.2.2.1.2.0 args.2 (follow close) (refl, refl) in
         let start = prints_then further (prints_expression first (prints_term first inner.0 inner.1 inner.2) (follow further)
-        (further_stops others (follow inner_close) (refl, refl))) in
-        let inside = prints_then inner_close start in
-        let list = prints_then close (prints_then inside (prints_open (follow inside))) in
+        (further_stops others (follow close) (refl, refl))) in
+        let inside = prints_then close start in
+        let list = prints_then end (prints_then inside (prints_open (follow inside))) in
         let named = prints_then list (prints_name name h.2.0 h.2.2.0 h.2.2.1 (follow list) refl) in
         let opened = prints_then named (prints_open (follow named)) in
         prints_as (prints_then opened (prints_keyword (look_keyword which) (look_text which) (follow opened) (look_is which) refl))
         (λ tokens from to r.
         let l = r.2.2.2.1 in
-        let a = l.2.1 in (
-          Look which from r.2.2.1.0 (More a.1.0 a.2.0) None,
-          (λ i. Look which 0 (r.2.2.1.1 i) (More (a.1.1 i) (a.2.1 i)) None),
+        let a = l.2.1 in
+        let end = r.2.2.2.2 in (
+          Look which from r.2.2.1.0 (More a.1.0 a.2.0) end.0,
+          (λ i. Look which 0 (r.2.2.1.1 i) (More (a.1.1 i) (a.2.1 i)) (end.1 i)),
           (
             r.0,
             (refl, r.1),
@@ -373,13 +404,12 @@ module _ {source : List ℕ} (given : List Token) (all : AllCan source given) wh
                 (
                   r.2.2.2.0,
                   (l.0, l.1, (l.2.0, (a.0, a.1.2, a.2.2), l.2.2)),
-                  r.2.2.2.2,
+                  end.2,
                 ),
               ),
             ),
           ),
         ))
-    prints_term (Look which token name args (Some tolerance)) from to h rest stops = absurd h
     prints_term (UnaryCall function token argument) from to h rest stops =
         let inner = stripped argument h.2.0 h.2.2.0 h.2.2.1 in
         let close = prints_close rest in

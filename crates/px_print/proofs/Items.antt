@@ -1,6 +1,6 @@
 -- The items of blocks are printed.
-use Rattle.std.proofs.Common.{◌≡◌, ℕ, ℤ, ◌<◌, ◌^◌, List, [], ◌∷◌, ◌++◌, map, Option, Some, None, refl, sym, ap, subst, inl, inr}
-use Rattle.std.specs.Prelude.{codes, decimal, pos, neg_ℤ, zero, suc}
+use Rattle.std.proofs.Common.{ℕ, ℤ, List, [], ◌∷◌, ◌++◌, map, Option, Some, None, refl, sym, ap, subst, inl, inr}
+use Rattle.std.specs.Prelude.{codes, pos, neg_ℤ, zero, suc}
 use Rattle.std.specs.Fmt.{signed_decimal}
 use Rattle.std.specs.List.{join_by}
 use Rattle.std.specs.Option.{option_map}
@@ -21,7 +21,7 @@ use Rattle.px_syntax.specs.Form.{Form, sign, ◌then◌, maybe, each, number}
 use Rattle.px_print.specs.ExprLayout.{literal_text}
 use Rattle.px_print.specs.BlockLayout.{type_text, condition_text, size_text, initial_text, first_value_text, variable_text, item_text}
 use Rattle.px_print.specs.Unnumbered.{plain_listed, plain_initial, plain_variable, plain_item}
-use Rattle.px_print.proofs.Exprs.{Alike, prints_close, prints_name, prints_literal, prints_whole}
+use Rattle.px_print.proofs.Exprs.{Alike, prints_close, prints_name, prints_number, prints_literal, prints_whole}
 use Rattle.px_print.proofs.Lists.{prints_each, next_each, prints_commas}
 use Rattle.px_print.proofs.Printing.{Prints, follow, prints_as, prints_then, prints_nothing, prints_behind}
 use Rattle.px_print.proofs.Tokens.{AllCan, Ends, Stops, prints_keyword, prints_sign, prints_any, prints_integer}
@@ -51,21 +51,11 @@ prints_condition conditions.Post rest ends = prints_as (prints_keyword words.Pos
 prints_condition conditions.Invariant rest ends = prints_as (prints_keyword words.Invariant (codes "Invariant") rest refl ends) (λ tokens from to r. inl r)
 
 module _ {source : List ℕ} (given : List Token) (all : AllCan source given) where
-  number_small : (value : ℕ) (from to : ℕ) → number value given from to → value < 2 ^ 31
-  number_small value from to h =
-      let size = all from (kinds.Integer (pos value)) h.0 in
-      let same : value ≡ size.0 = cc in
-      subst (λ n. n < 2 ^ 31) (sym same) size.2
-
-  pub prints_number : (value : ℕ) (from to : ℕ) → number value given from to → (rest : List ℕ) → Stops rest
-      → Prints source (number value) (decimal value) rest
-  prints_number value from to h rest stops = prints_integer value rest (number_small value from to h) stops
-
   negated : (size : ℕ) (from to : ℕ) → number size given from to → (rest : List ℕ) → Stops rest
       → Prints source (signed (neg_ℤ (pos size))) (signed_decimal (neg_ℤ (pos size))) rest
-  negated zero from to h rest stops = prints_as (prints_number zero from to h rest stops) (λ tokens from to r. inl r)
+  negated zero from to h rest stops = prints_as (prints_number given all zero from to h rest stops) (λ tokens from to r. inl r)
   negated (suc size) from to h rest stops =
-      let behind = prints_number (suc size) from to h rest stops in
+      let behind = prints_number given all (suc size) from to h rest stops in
       prints_as (prints_then behind (prints_any signs.Minus (codes "-") (follow behind) refl (λ c cs. refl)))
       (λ tokens from to r. inr (suc size, refl, r))
 
@@ -130,7 +120,7 @@ module _ {source : List ℕ} (given : List Token) (all : AllCan source given) wh
   prints_size None from to h rest = prints_nothing rest
   prints_size (Some size) from to h rest =
       let close = prints_any signs.CloseBracket (codes "]") rest refl (λ c cs. refl) in
-      let inside = prints_then close (prints_number size h.0 h.2.0 h.2.1 (follow close) (refl, refl)) in
+      let inside = prints_then close (prints_number given all size h.0 h.2.0 h.2.1 (follow close) (refl, refl)) in
       prints_then inside (prints_any signs.OpenBracket (codes "[") (follow inside) refl (λ c cs. refl))
 
   variable_ends : (size : Option ℕ) (value : Option InitialData) (rest : List ℕ) → Stops rest
@@ -172,6 +162,6 @@ module _ {source : List ℕ} (given : List Token) (all : AllCan source given) wh
       ))
   prints_item (Priority token priority) from to h rest =
       let end = prints_semicolon rest in
-      let gap = prints_behind (codes " ") refl (prints_then end (prints_number priority h.2.0 h.2.2.0 h.2.2.1 (follow end) (refl, refl))) in
+      let gap = prints_behind (codes " ") refl (prints_then end (prints_number given all priority h.2.0 h.2.2.0 h.2.2.1 (follow end) (refl, refl))) in
       prints_as (prints_then gap (prints_keyword words.Priority (codes "Priority") (follow gap) refl refl))
       (λ tokens from to r. (Priority from priority, refl, (r.0, (refl, r.1), (r.0, inl refl, r.2))))
