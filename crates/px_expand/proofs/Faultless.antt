@@ -1,8 +1,13 @@
 -- What a tree without faults has none of.
 use Rattle.std.proofs.Common.{◌≡◌, ℕ, Bool, true, false, List, [], ◌∷◌, ◌++◌, cond, refl}
-use Rattle.std.specs.List.{fold}
+use Rattle.std.specs.List.{fold, flat_map}
 use Rattle.px_syntax.specs.declared.fault.FaultKind.{FaultKind}
+use Rattle.px_syntax.specs.BlockFaults.{block_faults}
 use Rattle.px_syntax.specs.Fault.{Fault, fault_where, is_before, placed, in_order}
+use Rattle.px_syntax.specs.Plan.{PlanTree}
+use Rattle.px_syntax.specs.PlanFaults.{faults, global_faults, block_cells, passing_fault, outermost}
+use Rattle.px_syntax.specs.Scope.{commands_in, lookups_in}
+use Rattle.px_syntax.specs.Tolerances.{block_tolerances, passing_tolerance}
 
 pub neither : {X : Type 0} (xs ys : List X) → xs ++ ys ≡ [] → (xs ≡ []) × (ys ≡ [])
 neither [] ys none = (refl, none)
@@ -34,3 +39,21 @@ order_some (fault ∷ faults) known some none =
 pub in_order_none : (faults : List Fault) → in_order faults ≡ [] → faults ≡ []
 in_order_none [] none = refl
 in_order_none (fault ∷ faults) none = absurd (order_some faults (placed [] fault) (placed_some [] fault) none)
+
+-- ---- the whole
+
+-- what a tree has none of
+pub record HasNone (tree : PlanTree) : Type 0 where
+  pub blocks : block_faults (outermost tree) tree.label tree.root ≡ []
+  pub cells : passing_fault 0 (block_cells tree.root) ≡ []
+
+pub has_none : (tree : PlanTree) → faults tree ≡ [] → HasNone tree
+has_none tree none =
+    let commands = global_faults (flat_map commands_in tree.declarations) in
+    let lookups = global_faults (flat_map lookups_in tree.declarations) in
+    let blocks = block_faults (outermost tree) tree.label tree.root in
+    let cells = passing_fault 0 (block_cells tree.root) in
+    let tolerances = passing_tolerance [] (block_tolerances tree.root) in
+    let all = in_order_none (commands ++ lookups ++ blocks ++ cells ++ tolerances) none in
+    let before = neither (commands ++ lookups ++ blocks) cells (neither (commands ++ lookups ++ blocks ++ cells) tolerances all).0 in
+    record { blocks = (neither (commands ++ lookups) blocks before.0).1; cells = before.1 }

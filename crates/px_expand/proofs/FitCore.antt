@@ -1,12 +1,10 @@
 -- THE CORE PLAN OF A TREE WITHOUT FAULTS IS FIT, where it is not too large, and its values are of the types of their variables.
-use Rattle.std.proofs.Common.{◌≡◌, Bool, true, false, not, List, [], ◌∷◌, ◌++◌, refl, arith}
+use Rattle.std.proofs.Common.{◌≡◌, Bool, true, false, not, List, [], ◌∷◌, refl, arith}
 use Rattle.std.specs.Prelude.{nat_lt}
-use Rattle.std.specs.List.{list_all, flat_map}
+use Rattle.std.specs.List.{list_all}
 use Rattle.std.proofs.lemmas.Bool.{and_from, and_parts, or_parts, ltb-false, not-false}
-use Rattle.px_syntax.specs.BlockFaults.{block_faults}
 use Rattle.px_syntax.specs.Plan.{PlanTree}
-use Rattle.px_syntax.specs.PlanFaults.{faults, global_faults, block_cells, passing_fault, outermost}
-use Rattle.px_syntax.specs.Scope.{commands_in, lookups_in}
+use Rattle.px_syntax.specs.PlanFaults.{faults}
 use Rattle.px_core.specs.Fit.{IsFit, path_is_there, variable_is_there, paths_are_there, variables_are_there, owns_its_targets, references_of_site, has_short_path}
 use Rattle.px_core.specs.Plan.{Site, sites, count_of}
 use Rattle.px_expand.specs.Bound.{is_too_large}
@@ -16,7 +14,7 @@ use Rattle.px_expand.specs.Typed.{has_typed_values}
 use Rattle.px_expand.proofs.AllFitting.{core_fits}
 use Rattle.px_expand.proofs.CellSums.{core_cells}
 use Rattle.px_expand.proofs.Counts.{core_count}
-use Rattle.px_expand.proofs.Faultless.{neither, in_order_none}
+use Rattle.px_expand.proofs.Faultless.{has_none}
 use Rattle.px_expand.proofs.Fitting.{fits}
 use Rattle.px_expand.proofs.Mentions.{is_there}
 use Rattle.px_expand.proofs.Sound.{core_sound}
@@ -28,20 +26,6 @@ weaker strong weak passes [] all = refl
 weaker strong weak passes (x ∷ xs) all =
     let parts = and_parts (strong x) (list_all strong xs) all in
     and_from _ _ (passes x parts.0) (weaker strong weak passes xs parts.1)
-
--- what a tree has none of
-record HasNone (tree : PlanTree) : Type 0 where
-  pub blocks : block_faults (outermost tree) tree.label tree.root ≡ []
-  pub cells : passing_fault 0 (block_cells tree.root) ≡ []
-
-has_none : (tree : PlanTree) → faults tree ≡ [] → HasNone tree
-has_none tree none =
-    let commands = global_faults (flat_map commands_in tree.declarations) in
-    let lookups = global_faults (flat_map lookups_in tree.declarations) in
-    let blocks = block_faults (outermost tree) tree.label tree.root in
-    let cells = passing_fault 0 (block_cells tree.root) in
-    let parts = neither (commands ++ lookups ++ blocks) cells (in_order_none (commands ++ lookups ++ blocks ++ cells) none) in
-    record { blocks = (neither (commands ++ lookups) blocks parts.0).1; cells = parts.1 }
 
 spoken : (whole : List Site) (site : Site) → fits whole site ≡ true → paths_are_there whole site ≡ true
 spoken whole site all =

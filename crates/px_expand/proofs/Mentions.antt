@@ -19,7 +19,7 @@ use Rattle.px_syntax.specs.declared.word.Condition.TheVariants as which
 use Rattle.px_syntax.specs.Block.{ItemData, Variables, Conditions, Priority, TargetData, CallData, PairData, Assign, CallInto, Call, Update}
 use Rattle.px_syntax.specs.BlockFaults.{target_faults, target_types, assign_faults, call_faults, call_into_faults, update_faults, result_fault, item_faults}
 use Rattle.px_syntax.specs.Expr as expr
-use Rattle.px_syntax.specs.ExprFaults.{name_faults, is_misused, attribute_faults, over_eight, count_faults, count_terms, parameters_of, expr_faults, argument_faults, type_fault, alike_fault, faults_as}
+use Rattle.px_syntax.specs.ExprFaults.{name_faults, is_misused, attribute_faults, over_eight, count_faults, look_faults, count_terms, parameters_of, expr_faults, argument_faults, type_fault, alike_fault, faults_as}
 use Rattle.px_syntax.specs.Fault.{fault_at}
 use Rattle.px_syntax.specs.Scope as seen
 use Rattle.px_syntax.specs.Scope.{Visible, Head, Global, variable_named, declared, reference_token, is_simple}
@@ -142,7 +142,7 @@ module _ (whole : List Site) where
           (term_there index own.1)
       term_there (expr.Attribute node attribute) none = attribute_there node attribute none
       term_there (expr.Look word token name args tolerance) none =
-          let parts = neither (count_faults (declared outer.lookups name.name) name (count_terms args))
+          let parts = neither (look_faults (declared outer.lookups name.name) name (count_terms args) tolerance)
           (argument_faults outer (parameters_of (declared outer.lookups name.name)) args) none in
           in_turn_speak (resolved_each scope args)
           (terms_there (parameters_of (declared outer.lookups name.name)) args parts.1)

@@ -1,6 +1,5 @@
 -- How far the paths of actions and of `else if`s reach, one after another.
-use Rattle.std.proofs.Common.{◌≡◌, ℕ, zero, suc, ◌+◌, ◌<◌, ◌≤◌, max, min, List, [], ◌∷◌, map, drop, length, get_or, Option, Some, None, Global, option_map, sym, ap, ◌∙◌, add-one, arith}
-use Rattle.std.specs.declared.vec.Vec.{Vec}
+use Rattle.std.proofs.Common.{◌≡◌, ℕ, zero, suc, ◌+◌, ◌<◌, ◌≤◌, max, min, List, [], ◌∷◌, map, drop, length, get_or, sym, ap, ◌∙◌, add-one, arith}
 use Rattle.px_value.specs.Name.{generated_name}
 use Rattle.px_value.proofs.General.{cut_at}
 use Rattle.px_syntax.specs.declared.block.Action.{Action, out-Action}

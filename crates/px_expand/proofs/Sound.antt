@@ -1,7 +1,7 @@
 -- THE NODES OF A CORE PLAN ARE SOUND EACH BY ITSELF: what a node has is of its kind, its children differ in name, and so do its
 -- variables, which have right sizes and values of their types.
 use Rattle.std.proofs.Common.{◌≡◌, ℕ, suc, ◌≤◌, Bool, true, false, not, List, [], ◌∷◌, ◌++◌, Option, Some, None, refl, sym, ap, ◌∙◌, arith}
-use Rattle.std.specs.List.{list_any, flat_map}
+use Rattle.std.specs.List.{list_any}
 use Rattle.std.specs.Option.{option_to_list, is_some}
 use Rattle.std.proofs.lemmas.Bool.{and_from, and_parts, cond_both, or_from, or_parts, not-true, not_from_false}
 use Rattle.std.proofs.lemmas.List.Folds.{list_all-append}
@@ -14,7 +14,7 @@ use Rattle.px_syntax.specs.BlockFaults.{redeclared, items_faults, action_labels,
 use Rattle.px_syntax.specs.ExprFaults.{faults_as}
 use Rattle.px_syntax.specs.Fault.{Fault}
 use Rattle.px_syntax.specs.Plan.{PlanTree}
-use Rattle.px_syntax.specs.PlanFaults.{faults, global_faults, block_cells, passing_fault, outermost}
+use Rattle.px_syntax.specs.PlanFaults.{faults, outermost}
 use Rattle.px_syntax.specs.Scope as seen
 use Rattle.px_syntax.specs.Scope.{own_action, is_simple, commands_in, lookups_in}
 use Rattle.px_value.specs.Name.{is_identifier}
@@ -36,7 +36,7 @@ use Rattle.px_expand.specs.Size.{block_nodes, actions_nodes, body_nodes, guarded
 use Rattle.px_expand.specs.Typed.{is_typed}
 use Rattle.px_expand.proofs.Apart.{all_apart}
 use Rattle.px_expand.proofs.Declaring.{IsDeclared, items_declared}
-use Rattle.px_expand.proofs.Faultless.{neither, in_order_none}
+use Rattle.px_expand.proofs.Faultless.{neither, has_none}
 use Rattle.px_expand.proofs.Naming.{are_identifiers, hash_from_named, named_from_hash, names_from, actions_differ}
 use Rattle.px_expand.proofs.Sizes.{actions_some, actions_few}
 
@@ -408,11 +408,5 @@ mutual
 pub core_sound : (tree : PlanTree) → faults tree ≡ [] → has_identifiers tree ≡ true → block_nodes tree.root ≤ 4096
     → AreSound (core tree)
 core_sound tree none labels few =
-    let commands = global_faults (flat_map commands_in tree.declarations) in
-    let lookups = global_faults (flat_map lookups_in tree.declarations) in
-    let blocks = block_faults (outermost tree) tree.label tree.root in
-    let cells = passing_fault 0 (block_cells tree.root) in
-    let all = in_order_none (commands ++ lookups ++ blocks ++ cells) none in
-    let own = neither (commands ++ lookups) blocks (neither (commands ++ lookups ++ blocks) cells all).0 in
     block_sound (outermost tree) tree.label [] (root_place tree.label) tree.root
-    (record { none = own.1; labels = (both_labels (option_to_list tree.label) (block_labels tree.root) labels).1; few = few })
+    (record { none = (has_none tree none).blocks; labels = (both_labels (option_to_list tree.label) (block_labels tree.root) labels).1; few = few })
