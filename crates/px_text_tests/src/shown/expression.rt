@@ -3,7 +3,7 @@ use super::literal::{push_literal, push_name, push_numbered};
 use super::word::{
     attribute_word, binary_sign, binary_word, enumerated_word, look_word, unary_sign, unary_word,
 };
-use px_syntax::{Identifier, NodeReference, SurfaceExpr};
+use px_syntax::{Identifier, NodeReference, SurfaceExpr, Tolerance};
 use px_value::NoMemory;
 use std::alloc::Global;
 
@@ -16,11 +16,16 @@ pub(crate) fn push_expr(
     push_head(alloc, tree, out)?;
     match tree {
         SurfaceExpr::Element { index, .. } => push_expr(alloc, index, out)?,
-        SurfaceExpr::Look { args, .. } => {
+        SurfaceExpr::Look {
+            args,
+            tolerance,
+            ..
+        } => {
             for arg in args {
                 out.push_str(" ")?;
                 push_expr(alloc, arg, out)?;
             }
+            push_tolerance(alloc, *tolerance, out)?;
         }
         SurfaceExpr::UnaryCall { argument, .. } => push_expr(alloc, argument, out)?,
         SurfaceExpr::BinaryCall { first, second, .. } => {
@@ -99,6 +104,17 @@ fn end_of(tree: &SurfaceExpr) -> &'static str {
         SurfaceExpr::Binary { .. } => ")",
         _ => "",
     }
+}
+
+fn push_tolerance(
+    alloc: Global,
+    tolerance: Option<Tolerance>,
+    out: &mut String,
+) -> Result<(), NoMemory> {
+    let Some(Tolerance { distance, token }) = tolerance else {
+        return Ok(());
+    };
+    out.push_str(format!(in alloc; "~{distance}@{token}")?.as_str())
 }
 
 fn push_function(
