@@ -1,23 +1,42 @@
 -- What an event does to a quiet world, before any micro step.
-use Rattle.std.specs.Prelude.{ℕ, Bool, true, false, ◌&&◌, ◌||◌, List, [], ◌∷◌, map, Option, Some, None, if◌then◌else◌}
+use Rattle.std.specs.Prelude.{ℕ, ◌-ℤ◌, unsigned_abs, nat_le, Bool, true, false, ◌&&◌, ◌||◌, List, [], ◌∷◌, map, Option, Some, None, if◌then◌else◌}
 use Rattle.std.specs.List.{zip}
 use Rattle.std.specs.Option.{option_map}
 use Rattle.px_value.specs.declared.enums.Handle.{Handle}
 use Rattle.px_value.specs.declared.value.Value.{Value}
+use Rattle.px_value.specs.declared.value.Value.TheVariants as values
 use Rattle.px_core.specs.Plan.{Site, BodyData, Command, Update, TargetData, VariableData, is_same, site_at}
 use Rattle.px_core.specs.Expr.{Term}
 use Rattle.px_event.specs.declared.event.Event.{Event}
 use Rattle.px_event.specs.declared.event.Event.TheVariants as events
-use Rattle.px_sem.specs.World.{World, NodeRecord, Action, Commanded, Updated, AbortDone, Place, Whole, Element, LookState, is_same_state, record_at, state_at}
+use Rattle.px_sem.specs.World.{World, NodeRecord, Action, Commanded, Updated, AbortDone, Place, Whole, Element, LookState, Report, is_same_state, record_at, state_at}
 use Rattle.px_sem.specs.Conflicts.{target_of}
 use Rattle.px_sem.specs.Guards.{is_active, is_executing, is_failing, is_finishing}
 use Rattle.px_sem.specs.Effects.{Write, write_at, written}
+use Rattle.px_sem.specs.Tolerances.{tolerances}
 
--- a report in the place of the last one of its state, or after all others
-abbrev pub reported : LookState → Value → List (LookState × Value) → List (LookState × Value)
-reported state value [] = (state, value) ∷ []
-reported state value (report ∷ reports) =
-    if is_same_state report.0 state then (report.0, value) ∷ reports else report ∷ reported state value reports
+-- the first report of a state, which each tolerance latches
+abbrev pub first_report : List ℕ → Value → Report
+first_report tolerances given = record { last = given; latched = map (λ tolerance. (tolerance, given)) tolerances }
+
+-- a value takes the place of a latched one where one of them is no Integer, or where they differ by at least the tolerance
+abbrev pub is_latched : ℕ → Value → Value → Bool
+is_latched tolerance (values.Integer old) (values.Integer given) = nat_le tolerance (unsigned_abs (old -ℤ given))
+is_latched tolerance old given = true
+
+-- the report of a state after one more, whose value is the last one, and is latched or not by each tolerance
+abbrev pub next_report : Report → Value → Report
+next_report report given = record { last = given; latched = map latch report.latched }
+  where
+    latch : ℕ × Value → ℕ × Value
+    latch kept = (kept.0, if is_latched kept.0 kept.1 given then given else kept.1)
+
+-- a value reported of a state, in the place of the state's report or after all others
+abbrev pub reported : List ℕ → LookState → Value → List (LookState × Report) → List (LookState × Report)
+reported tolerances state given [] = (state, first_report tolerances given) ∷ []
+reported tolerances state given (report ∷ reports) =
+    if is_same_state report.0 state then (report.0, next_report report.1 given) ∷ reports
+    else report ∷ reported tolerances state given reports
 
 -- the world with another record of one node
 abbrev pub with_record : World → List ℕ → NodeRecord → World
@@ -102,7 +121,7 @@ counts plan world (events.Acknowledged node) =
 -- what an event that counts changes
 abbrev pub changed : List Site → World → Event → World
 changed plan world (events.Report name args given) =
-    record world { reports = reported (record { name = name; args = args }) given world.reports }
+    record world { reports = reported (tolerances plan) (record { name = name; args = args }) given world.reports }
 changed plan world (events.Handle node handle) = with_action world node (with_handle handle (action_at world node))
 changed plan world (events.Return node given) =
     with_write plan world (returned plan (target_of (body_at plan node)) (action_at world node) given)

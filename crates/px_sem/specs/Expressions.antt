@@ -18,7 +18,7 @@ use Rattle.px_core.specs.declared.expr.BinaryOp.{BinaryOp}
 use Rattle.px_core.specs.declared.expr.BinaryOp.TheVariants as binary
 use Rattle.px_core.specs.Plan.{Site}
 use Rattle.px_core.specs.Expr.{Term, Terms, Literal, Var, Cell, StateOf, OutcomeOf, FailureOf, HandleOf, Acknowledged, Look, Unary, Binary, NoTerms, More}
-use Rattle.px_sem.specs.World.{World, Action, Commanded, Updated, record_at, state_at, cells_at, last_report}
+use Rattle.px_sem.specs.World.{World, Action, Commanded, Updated, LookState, Report, record_at, state_at, cells_at, last_report, latched_report}
 
 -- what there may be none of, as a value
 abbrev pub outcome_value : Option Outcome → Value
@@ -51,12 +51,17 @@ element cells at = there (value_index cells at)
     there None = values.Unknown
     there (Some place) = get_or cells place values.Unknown
 
--- The last report of the state that a name and arguments make (PLEXIL reference manual, "Lookups"). A state that was never
--- reported, and an argument that is UNKNOWN, give UNKNOWN.
-abbrev pub looked_up : World → List ℕ → List Value → Value
-looked_up world name args =
+-- what a lookup reads of a state: the value that its tolerance has latched, and without one the value last reported
+abbrev pub read_report : List (LookState × Report) → LookState → Option ℕ → Option Value
+read_report reports state None = last_report reports state
+read_report reports state (Some tolerance) = latched_report reports state tolerance
+
+-- The value of a lookup of the state that a name and arguments make (PLEXIL reference manual, "Lookups"). A state that was
+-- never reported, and an argument that is UNKNOWN, give UNKNOWN.
+abbrev pub looked_up : World → List ℕ → List Value → Option ℕ → Value
+looked_up world name args tolerance =
     if list_any (λ arg. not (is_known arg)) args then values.Unknown
-    else unwrap_or (last_report world.reports (record { name = name; args = args })) values.Unknown
+    else unwrap_or (read_report world.reports (record { name = name; args = args }) tolerance) values.Unknown
 
 -- the number of bytes of a text
 abbrev pub value_length : Value → Value
@@ -93,7 +98,7 @@ abbrev mutual
   value plan world (FailureOf path) = failure_value (record_at world path).failure
   value plan world (HandleOf path) = handle_value (handle_of (record_at world path).action)
   value plan world (Acknowledged path) = values.Boolean (is_acknowledged (record_at world path).action)
-  value plan world (Look word name args tolerance) = looked_up world name (value_of_each plan world args)
+  value plan world (Look word name args tolerance) = looked_up world name (value_of_each plan world args) tolerance
   value plan world (Unary op arg) = unary_value op (value plan world arg)
   value plan world (Binary op left right) = binary_value op (value plan world left) (value plan world right)
 

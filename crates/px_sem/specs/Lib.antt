@@ -11,4 +11,5 @@ pub mod Step
 pub mod Stepper
 pub mod Table
 pub mod Text
+pub mod Tolerances
 pub mod World

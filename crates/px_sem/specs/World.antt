@@ -1,9 +1,9 @@
 -- The world: what is so of each node, and what was reported of the outside.
-use Rattle.std.specs.Prelude.{ℕ, ℤ, Bool, List, [], ◌∷◌, map, replicate, ◌&&◌, Option, Some, None}
+use Rattle.std.specs.Prelude.{ℕ, ℤ, Bool, List, [], ◌∷◌, map, replicate, ◌&&◌, nat_eq, Option, Some, None}
 use Rattle.std.specs.Cmp.Lexicographic.{pointwise}
 use Rattle.std.specs.List.{zip, find}
 use Rattle.std.specs.Map.{lookup}
-use Rattle.std.specs.Option.{option_map, unwrap_or}
+use Rattle.std.specs.Option.{option_map, option_and_then, unwrap_or}
 use Rattle.px_value.specs.declared.enums.NodeState.{NodeState}
 use Rattle.px_value.specs.declared.enums.NodeState.TheVariants as states
 use Rattle.px_value.specs.declared.enums.Outcome.{Outcome}
@@ -56,11 +56,16 @@ pub record LookState : Type 0 where
   pub name : List ℕ
   pub args : List Value
 
--- A finite map from the path of each node to its record, in preorder, and one from each reported state to its last
--- value, in the order in which the states were first reported.
+-- what was reported of a state: the value last reported, and a latched value for each tolerance of the plan, rising
+pub record Report : Type 0 where
+  pub last : Value
+  pub latched : List (ℕ × Value)
+
+-- A finite map from the path of each node to its record, in preorder, and one from each reported state to its report, in
+-- the order in which the states were first reported.
 pub record World : Type 0 where
   pub nodes : List (List ℕ × NodeRecord)
-  pub reports : List (LookState × Value)
+  pub reports : List (LookState × Report)
 
 -- a node that has not begun
 abbrev pub initial_record : Head → NodeRecord
@@ -133,9 +138,22 @@ integer_at plan world owner name = of_declared (variable_at plan owner name)
 abbrev pub is_same_state : LookState → LookState → Bool
 is_same_state a b = is_same a.name b.name && pointwise value_eq a.args b.args
 
+-- the report of a state
+abbrev pub report_at : List (LookState × Report) → LookState → Option Report
+report_at reports state = lookup (λ key. is_same_state key state) reports
+
 -- the last value reported of a state
-abbrev pub last_report : List (LookState × Value) → LookState → Option Value
-last_report reports state = lookup (λ key. is_same_state key state) reports
+abbrev pub last_report : List (LookState × Report) → LookState → Option Value
+last_report reports state = option_map (λ report. report.last) (report_at reports state)
+
+-- the value that a tolerance has latched in a report
+abbrev pub latched_at : Report → ℕ → Option Value
+latched_at report tolerance = lookup (nat_eq tolerance) report.latched
+
+-- the value that a tolerance has latched in the report of a state
+abbrev pub latched_report : List (LookState × Report) → LookState → ℕ → Option Value
+latched_report reports state tolerance =
+    option_and_then (λ report. latched_at report tolerance) (report_at reports state)
 
 -- Whether a plan has finished, and how: by the record of its root. A node that has finished has an outcome.
 abbrev pub standing_of : List Site → World → Standing
