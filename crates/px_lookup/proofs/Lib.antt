@@ -1,2 +1,3 @@
 pub mod Reporting
+mod Staying
 pub mod Taking

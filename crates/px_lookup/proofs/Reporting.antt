@@ -1,31 +1,50 @@
 -- What a report does to the reports, and how changes are taken back.
 use Rattle.std.proofs.Common.{◌≡◌, ℕ, zero, suc, ◌+◌, ◌-◌, ◌≤◌, Bool, true, false, not, cond, List, [], ◌∷◌, ◌++◌}
-use Rattle.std.proofs.Common.{length, take, refl, ap, ◌∙◌, arith, Some, None, if◌then◌else◌, length-append}
+use Rattle.std.proofs.Common.{length, take, refl, ap, ◌∙◌, arith, Option, Some, None, if◌then◌else◌, length-append}
 use Rattle.std.specs.List.{position_or_len}
 use Rattle.std.specs.Map.{keys_of, lookup}
 use Rattle.std.proofs.Math.Seq.{take-append_seam}
 use Rattle.indexmap.specs.IndexMap.{IndexMap, get, insert_entry, set_value_at}
 use Rattle.indexmap.proofs.CallerLemmas.{insert_entry-new}
 use Rattle.px_value.specs.declared.value.Value.{Value}
-use Rattle.px_sem.specs.World.{LookState, is_same_state, last_report}
-use Rattle.px_sem.specs.Events.{reported}
+use Rattle.px_sem.specs.World.{LookState, Report, is_same_state, report_at}
+use Rattle.px_sem.specs.Events.{is_latched, next_report, reported}
 use Rattle.px_lookup.specs.declared.reports.Change.{Change}
-use Rattle.px_lookup.specs.Undoing.{undone, undone_each}
+use Rattle.px_lookup.specs.Undoing.{report_after, undone, undone_each}
 use Rattle.px_lookup.specs.contracts.look_state.LookStateEq.TheImpl.Laws as same_states
 
 -- Either way round: the map asks of the state that is looked up, and the semantics of the one that was reported.
 is_same_state-symm : (a b : LookState) → is_same_state a b ≡ is_same_state b a
 is_same_state-symm = same_states.laws-law.symm
 
-pub lookup-last_report : (state : LookState) (xs : List (LookState × Value))
-    → lookup (is_same_state state) xs ≡ last_report xs state
-lookup-last_report state xs i = lookup (λ key. is_same_state-symm state key i) xs
+pub lookup-report_at : (state : LookState) (xs : List (LookState × Report))
+    → lookup (is_same_state state) xs ≡ report_at xs state
+lookup-report_at state xs i = lookup (λ key. is_same_state-symm state key i) xs
 
-pub insert_entry-reported : (state : LookState) (value : Value) (xs : List (LookState × Value))
-    → insert_entry is_same_state xs state value ≡ reported state value xs
-insert_entry-reported state value [] = refl
-insert_entry-reported state value (x ∷ xs) = λ i.
-    if is_same_state-symm state x.0 i then (x.0, value) ∷ xs else x ∷ insert_entry-reported state value xs i
+-- what a tolerance keeps after one more report
+abbrev pub latched_then : Value → ℕ × Value → ℕ × Value
+latched_then given kept = (kept.0, if is_latched kept.0 kept.1 given then given else kept.1)
+
+pub insert_entry-reported : (tolerances : List ℕ) (state : LookState) (given : Value) (xs : List (LookState × Report))
+    → insert_entry is_same_state xs state (report_after tolerances (report_at xs state) given)
+    ≡ reported tolerances state given xs
+insert_entry-reported tolerances state given [] = refl
+insert_entry-reported tolerances state given (x ∷ xs) =
+    (λ i. if is_same_state-symm state x.0 i then (x.0, now) ∷ xs else x ∷ insert_entry is_same_state xs state now)
+    ∙ by (is_same_state x.0 state) (insert_entry-reported tolerances state given xs)
+  where
+    after : Option Report → Report
+    after old = report_after tolerances old given
+
+    now : Report
+    now = after (report_at (x ∷ xs) state)
+
+    by : (same : Bool) → insert_entry is_same_state xs state (after (report_at xs state)) ≡ reported tolerances state given xs
+        → (if same then (x.0, after (cond same (Some x.1) (report_at xs state))) ∷ xs
+        else x ∷ insert_entry is_same_state xs state (after (cond same (Some x.1) (report_at xs state))))
+        ≡ (if same then (x.0, next_report x.1 given) ∷ xs else x ∷ reported tolerances state given xs)
+    by true rest = refl
+    by false rest = ap (λ ys. x ∷ ys) rest
 
 module _ {K X : Type 0} where
   -- an old value put back where a new one took its place
@@ -67,16 +86,16 @@ module _ {K X : Type 0} where
 -- ---- changes taken back
 
 -- one change more is undone first
-pub undone-push : (changes : List Change) (change : Change) (reports : List (LookState × Value))
+pub undone-push : (changes : List Change) (change : Change) (reports : List (LookState × Report))
     → undone_each (changes ++ change ∷ []) reports ≡ undone_each changes (undone change reports)
 undone-push [] change reports = refl
 undone-push (first ∷ changes) change reports = ap (undone first) (undone-push changes change reports)
 
 -- the mark stays as a report is noted
-pub kept_mark : (is_marked : Bool) (changes noted : List Change) (change : Change)
-    (before after : List (LookState × Value)) → noted ≡ changes ++ change ∷ [] → undone change after ≡ before
+pub kept_mark : (is_marked : Bool) (changes noted : List Change) (change : Change) (before after : List (LookState × Report))
+    → noted ≡ (if is_marked then changes ++ change ∷ [] else changes) → undone change after ≡ before
     → (if is_marked then Some (undone_each noted after) else None)
     ≡ (if is_marked then Some (undone_each changes before) else None)
-kept_mark is_marked changes noted change before after is back =
-    ap (λ reports. if is_marked then Some reports else None)
-    (ap (λ noted. undone_each noted after) is ∙ undone-push changes change after ∙ ap (undone_each changes) back)
+kept_mark true changes noted change before after is back =
+    ap Some (ap (λ noted. undone_each noted after) is ∙ undone-push changes change after ∙ ap (undone_each changes) back)
+kept_mark false changes noted change before after is back = refl

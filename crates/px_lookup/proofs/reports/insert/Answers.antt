@@ -2,29 +2,25 @@ use Rattle.std.proofs.Common.{◌≡◌, Some, None, ap, sym, ◌∙◌}
 use Rattle.px_sem.specs.World.{is_same_state}
 use Rattle.indexmap.specs.IndexMap.{get, insert_entry, set_value_at}
 use Rattle.px_lookup.specs.Undoing.{undone}
-use Rattle.px_lookup.proofs.Reporting.{insert_entry-reported, set_value_at-insert_entry, take-insert_entry}
+use Rattle.px_lookup.proofs.Reporting.{set_value_at-insert_entry, take-insert_entry}
 use Rattle.px_lookup.proofs.reports.insert.Goals as goal
 use Rattle.px_lookup.proofs.reports.insert.Goals.{in-Some, in-None}
-
-pub returns-clause-ok : goal.returns-clause-ok
-returns-clause-ok c =
-    c.in_ok-at.ensures.entries ∙ insert_entry-reported c.args.state c.args.value c.args.values.now.entries
 
 pub returns-clause-undone : goal.returns-clause-undone
 returns-clause-undone c =
     let state = c.args.state in
-    let value = c.args.value in
+    let report = c.args.report in
     let entries = c.args.values.now.entries in
     elim c.match-old.branch [
       | in-Some w ↦
           let found : get is_same_state c.args.values.now state ≡ Some w.in-Some.old =
           sym c.in_ok-at.ensures.old ∙ w.in-Some.is in
           (λ i. undone (w.result-is i) (c.in_ok-at.ensures.entries i))
-          ∙ ap (λ at. set_value_at (insert_entry is_same_state entries state value) at w.in-Some.old)
+          ∙ ap (λ at. set_value_at (insert_entry is_same_state entries state report) at w.in-Some.old)
           c.in_ok-at.ensures.index
-          ∙ set_value_at-insert_entry is_same_state state value w.in-Some.old entries found
+          ∙ set_value_at-insert_entry is_same_state state report w.in-Some.old entries found
       | in-None w ↦
           let none : get is_same_state c.args.values.now state ≡ None = sym c.in_ok-at.ensures.old ∙ w.in-None.is in
           (λ i. undone (w.result-is i) (c.in_ok-at.ensures.entries i))
-          ∙ take-insert_entry is_same_state c.args.values.now state value none
+          ∙ take-insert_entry is_same_state c.args.values.now state report none
     ]

@@ -1,19 +1,31 @@
-use Rattle.std.proofs.Common.{◌≡◌, ◌++◌, ◌∷◌, [], ap, ◌∙◌, rules}
+use Rattle.std.proofs.Common.{◌≡◌, rules, ap, ◌∙◌}
+use Rattle.std.specs.Option.{option_copied}
+use Rattle.indexmap.specs.IndexMap.{insert_entry}
+use Rattle.px_sem.specs.Events.{reported}
+use Rattle.px_sem.specs.World.{LookState, is_same_state, report_at}
 use Rattle.px_lookup.specs.Reports.{ReportsData}
-use Rattle.px_lookup.proofs.Reporting.{kept_mark}
+use Rattle.px_lookup.specs.Undoing.{report_after}
+use Rattle.px_lookup.proofs.Reporting.{insert_entry-reported, kept_mark, lookup-report_at}
 use Rattle.px_lookup.proofs.reports.Reports.report.Goals as goal
-use Rattle.px_lookup.proofs.reports.Reports.report.Goals.{in-Err+in-Replaced+in-Text-1, in-Err+in-Replaced+in-Unknown-1, in-Err+in-Added-1, in-Ok-1}
 
-pub returns-then-self-clause-marked : goal.returns-then-self-clause-marked
-returns-then-self-clause-marked c =
-    let changes = c.self.inside.changes.items in
-    let noted : c.push.new.self.items ≡ changes ++ c.in_ok-change.change ∷ [] = search rules in
-    let kept = kept_mark c.self.inside.is_marked changes c.push.new.self.items c.in_ok-change.change
-    c.self.inside.values.entries c.insert.new.values.entries noted c.in_ok-change.ensures.undone
-    ∙ ap (λ (held : ReportsData). held.marked) c.self.view_is in
-    elim c.match-push.branch [
-      | in-Err+in-Replaced+in-Text-1 w ↦ ap (λ (held : ReportsData). held.marked) w.self-is ∙ kept
-      | in-Err+in-Replaced+in-Unknown-1 w ↦ ap (λ (held : ReportsData). held.marked) w.self-is ∙ kept
-      | in-Err+in-Added-1 w ↦ ap (λ (held : ReportsData). held.marked) w.self-is ∙ kept
-      | in-Ok-1 w ↦ ap (λ (held : ReportsData). held.marked) w.self-is ∙ kept
-    ]
+pub returns-clause-ok : goal.returns-clause-ok
+returns-clause-ok c =
+    let entries = c.self.inside.values.entries in
+    let given = c.args.value.now in
+    let made = c.new-state.result in
+    let state : LookState = record { name = c.args.name.now; args = c.args.args.now } in
+    let is : made ≡ state = search rules in
+    let old : option_copied c.get-old.result ≡ report_at entries made =
+    c.get-old.ensures.value ∙ lookup-report_at made entries in
+    c.in_ok-change.ensures.ok
+    ∙ ap (insert_entry is_same_state entries made)
+    (c.in_ok-report.ensures ∙ (λ i. report_after (c.deref.ensures.value i) (old i) given))
+    ∙ insert_entry-reported c.self.inside.tolerances.items made given entries
+    ∙ ap (λ state. reported c.self.inside.tolerances.items state given entries) is
+    ∙ ap (λ (held : ReportsData). reported held.tolerances state given held.reports) c.self.view_is
+
+pub returns-clause-marked : goal.returns-clause-marked
+returns-clause-marked c =
+    kept_mark c.self.inside.is_marked c.self.inside.changes.items c.note.new.changes.items c.in_ok-change.change
+    c.self.inside.values.entries c.insert.new.values.entries (search rules) c.in_ok-change.ensures.undone
+    ∙ ap (λ (held : ReportsData). held.marked) c.self.view_is

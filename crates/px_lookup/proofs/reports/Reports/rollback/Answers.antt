@@ -10,7 +10,10 @@ loop-change-preserved c =
     let change = c.in-Some.change in
     let earlier = c.pop.new.self.items in
     let popped : changes ≡ earlier ++ change ∷ [] = search rules in
-    ap (λ entries. Some (undone_each earlier entries)) c.undo.ensures
-    ∙ ap Some (sym (undone-push earlier change entries))
-    ∙ ap (λ changes. Some (undone_each changes entries)) (sym popped)
-    ∙ c.loop-change.invariant
+    record {
+      marked = ap (λ entries. Some (undone_each earlier entries)) c.undo.ensures
+          ∙ ap Some (sym (undone-push earlier change entries))
+          ∙ ap (λ changes. Some (undone_each changes entries)) (sym popped)
+          ∙ c.loop-change.invariant.marked;
+      tolerances = c.loop-change.invariant.tolerances;
+    }

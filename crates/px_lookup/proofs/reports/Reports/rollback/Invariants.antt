@@ -3,8 +3,10 @@ use Rattle.px_lookup.specs.Undoing.{undone_each}
 use Rattle.px_lookup.proofs.reports.Reports.rollback.Given as goal
 
 abbrev pub invariant-loop-change : goal.invariant-loop-change
-invariant-loop-change l =
-    Some (undone_each l.self-inside.changes.items l.self-inside.values.entries) ≡ l.fn.self.marked
+invariant-loop-change l = record {
+  marked : Some (undone_each l.self-inside.changes.items l.self-inside.values.entries) ≡ l.fn.self.marked;
+  tolerances : l.self-inside.tolerances.items ≡ l.fn.self.tolerances;
+}
 
 abbrev pub decreases-loop-change : goal.decreases-loop-change
 decreases-loop-change l = length l.self-inside.changes.items
