@@ -8,7 +8,7 @@ use Rattle.px_core.specs.Fit.{cells_of, AreDistinct}
 use Rattle.px_core.specs.Plan.{Site, VariableData, is_same}
 use Rattle.px_core.proofs.Paths.{same-self, same-other}
 use Rattle.px_sem.specs.Events.{with_record}
-use Rattle.px_sem.specs.World.{World, NodeRecord, LookState}
+use Rattle.px_sem.specs.World.{World, NodeRecord, LookState, Report}
 use Rattle.px_flat.specs.declared.act.Act.{Act}
 use Rattle.px_flat.specs.Parts.{values_in, record_in, world_of}
 use Rattle.px_flat.specs.Row.{site_in}
@@ -73,7 +73,7 @@ one_changed (site ∷ plan) f g first (suc node) distinct within same =
     ∙ ap (λ n. with_entry own (g n) (entries f (first + 1) plan)) there)
 
 -- Where cells and acts change, and the records of all other nodes stay, the world changes by the record of one node.
-pub world_of-changed : (plan : List Site) (cells new_cells : List Value) (reports : List (LookState × Value))
+pub world_of-changed : (plan : List Site) (cells new_cells : List Value) (reports : List (LookState × Report))
     (acts new_acts : List Act) (node : ℕ) → AreDistinct plan → node < length plan
     → ((other : ℕ) → other < length plan → other ≢ node
     → record_in plan new_cells new_acts other ≡ record_in plan cells acts other)

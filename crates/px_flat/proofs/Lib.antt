@@ -20,6 +20,7 @@ pub mod Sums
 pub mod Tables
 pub mod Targets
 pub mod Terms
+pub mod Tolerating
 pub mod Trees
 pub mod VariableValues
 pub mod Variables

@@ -1,26 +1,53 @@
--- Lookup names that are added one after another.
-use Rattle.std.proofs.Common.{◌≡◌, ℕ, ◌+◌, ◌<◌, List, [], ◌∷◌, ◌++◌, length, get_or, take, fold, refl, ap, ◌∙◌, append-nil}
-use Rattle.std.specs.List.{flat_map}
+-- Lookup names and tolerances that are added one after another.
+use Rattle.std.proofs.Common.{◌≡◌, ℕ, ◌+◌, ◌<◌, List, [], ◌∷◌, ◌++◌, length, get_or, take, fold, Option, Some, None, refl, ap, ◌∙◌, append-nil}
+use Rattle.std.specs.List.{cons_option, flat_map}
 use Rattle.std.proofs.lemmas.Grind.{flat_map-append}
 use Rattle.std.proofs.lemmas.List.{take_more}
 use Rattle.std.proofs.lemmas.List.Sums.{fold-append}
 use Rattle.px_core.specs.Expr.{Term, in_turn}
+use Rattle.px_sem.specs.Tolerances.{tolerances_in, tolerances_in_each, with_tolerance}
 use Rattle.px_flat.specs.Lookups.{with_name, lookups_in, lookups_in_each}
 
 pub names_then : (names one more : List (List ℕ))
     → fold with_name names (one ++ more) ≡ fold with_name (fold with_name names one) more
 names_then names one more = fold-append with_name names one more
 
+pub tolerances_then : (tolerances one more : List ℕ)
+    → fold with_tolerance tolerances (one ++ more) ≡ fold with_tolerance (fold with_tolerance tolerances one) more
+tolerances_then tolerances one more = fold-append with_tolerance tolerances one more
+
 pub each_lookup : (terms : List Term) → lookups_in_each (in_turn terms) ≡ flat_map lookups_in terms
 each_lookup [] = refl
 each_lookup (term ∷ terms) = ap (λ rest. lookups_in term ++ rest) (each_lookup terms)
 
+pub each_tolerance : (terms : List Term) → tolerances_in_each (in_turn terms) ≡ flat_map tolerances_in terms
+each_tolerance [] = refl
+each_tolerance (term ∷ terms) = ap (λ rest. tolerances_in term ++ rest) (each_tolerance terms)
+
+-- a lookup's own tolerance, and then those of its arguments
+pub own_then : (tolerances : List ℕ) (own : Option ℕ) (more : List ℕ)
+    → fold with_tolerance (fold with_tolerance tolerances (cons_option own [])) more
+    ≡ fold with_tolerance tolerances (cons_option own more)
+own_then tolerances None more = refl
+own_then tolerances (Some own) more = refl
+
 -- those of one thing more
+module _ {X Y Z : Type 0} (with_one : Z → Y → Z) (f : X → List Y) (start : Z) where
+  pub one_more : (xs : List X) (i : ℕ) (d : X) → i < length xs
+      → fold with_one start (flat_map f (take (i + 1) xs))
+      ≡ fold with_one (fold with_one start (flat_map f (take i xs))) (f (get_or xs i d))
+  one_more xs i d within =
+      ap (λ front. fold with_one start (flat_map f front)) (take_more xs i d within)
+      ∙ ap (fold with_one start) (flat_map-append f (take i xs) (get_or xs i d ∷ []))
+      ∙ fold-append with_one start (flat_map f (take i xs)) (f (get_or xs i d) ++ [])
+      ∙ ap (fold with_one (fold with_one start (flat_map f (take i xs)))) (append-nil (f (get_or xs i d)))
+
 pub looked_more : {X : Type 0} (f : X → List (List ℕ)) (names : List (List ℕ)) (xs : List X) (i : ℕ) (d : X) → i < length xs
     → fold with_name names (flat_map f (take (i + 1) xs))
     ≡ fold with_name (fold with_name names (flat_map f (take i xs))) (f (get_or xs i d))
-looked_more f names xs i d within =
-    ap (λ front. fold with_name names (flat_map f front)) (take_more xs i d within)
-    ∙ ap (fold with_name names) (flat_map-append f (take i xs) (get_or xs i d ∷ []))
-    ∙ names_then names (flat_map f (take i xs)) (f (get_or xs i d) ++ [])
-    ∙ ap (fold with_name (fold with_name names (flat_map f (take i xs)))) (append-nil (f (get_or xs i d)))
+looked_more f names xs i d within = one_more with_name f names xs i d within
+
+pub tolerated_more : {X : Type 0} (f : X → List ℕ) (tolerances : List ℕ) (xs : List X) (i : ℕ) (d : X) → i < length xs
+    → fold with_tolerance tolerances (flat_map f (take (i + 1) xs))
+    ≡ fold with_tolerance (fold with_tolerance tolerances (flat_map f (take i xs))) (f (get_or xs i d))
+tolerated_more f tolerances xs i d within = one_more with_tolerance f tolerances xs i d within

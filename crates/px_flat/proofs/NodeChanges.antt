@@ -6,7 +6,7 @@ use Rattle.px_value.specs.declared.value.Value.TheVariants as values
 use Rattle.px_core.specs.Fit.{cells_of_site, AreDistinct}
 use Rattle.px_core.specs.Plan.{Site, no_site}
 use Rattle.px_sem.specs.Events.{with_record}
-use Rattle.px_sem.specs.World.{NodeRecord, LookState, record_at}
+use Rattle.px_sem.specs.World.{NodeRecord, LookState, Report, record_at}
 use Rattle.px_flat.specs.declared.act.Act.{Act}
 use Rattle.px_flat.specs.declared.act.Act.TheVariants as under_way
 use Rattle.px_flat.specs.Layout.{variable_cells, first_cell, node_cell, state_cell, outcome_cell, failure_cell, handle_cell, acknowledgement_cell, all_cells}
@@ -51,7 +51,7 @@ others_stay plan cells acts node part value small other within apart =
     }
 
 -- where the record of a node changes so by a write of one of its cells, the world does
-written_field : (plan : List Site) (cells : List Value) (reports : List (LookState × Value)) (acts : List Act)
+written_field : (plan : List Site) (cells : List Value) (reports : List (LookState × Report)) (acts : List Act)
     (node part : ℕ) (value : Value) (change : NodeRecord → NodeRecord) → AreDistinct plan → node < length plan → part < 5
     → record_in plan (set cells (node_cell plan node + part) value) acts node ≡ change (record_in plan cells acts node)
     → world_of plan (set cells (node_cell plan node + part) value) reports acts
@@ -83,7 +83,7 @@ written_there plan cells node part value within small all =
     get_or-set_same cells (node_cell plan node + part) value values.Unknown (omega arith)
 
 -- the state
-pub state_written : (plan : List Site) (cells : List Value) (reports : List (LookState × Value)) (acts : List Act)
+pub state_written : (plan : List Site) (cells : List Value) (reports : List (LookState × Report)) (acts : List Act)
     (node : ℕ) (value : Value) → AreDistinct plan → node < length plan → length cells ≡ all_cells plan
     → world_of plan (set cells (state_cell plan node) value) reports acts
     ≡ with_record (world_of plan cells reports acts) (site_in plan node).path
@@ -103,7 +103,7 @@ state_written plan cells reports acts node value distinct within all =
     })
 
 -- the outcome
-pub outcome_written : (plan : List Site) (cells : List Value) (reports : List (LookState × Value)) (acts : List Act)
+pub outcome_written : (plan : List Site) (cells : List Value) (reports : List (LookState × Report)) (acts : List Act)
     (node : ℕ) (value : Value) → AreDistinct plan → node < length plan → length cells ≡ all_cells plan
     → world_of plan (set cells (outcome_cell plan node) value) reports acts
     ≡ with_record (world_of plan cells reports acts) (site_in plan node).path
@@ -120,7 +120,7 @@ outcome_written plan cells reports acts node value distinct within all =
     })
 
 -- the failure
-pub failure_written : (plan : List Site) (cells : List Value) (reports : List (LookState × Value)) (acts : List Act)
+pub failure_written : (plan : List Site) (cells : List Value) (reports : List (LookState × Report)) (acts : List Act)
     (node : ℕ) (value : Value) → AreDistinct plan → node < length plan → length cells ≡ all_cells plan
     → world_of plan (set cells (failure_cell plan node) value) reports acts
     ≡ with_record (world_of plan cells reports acts) (site_in plan node).path
@@ -137,7 +137,7 @@ failure_written plan cells reports acts node value distinct within all =
     })
 
 -- the handle, which is in the action
-pub handle_written : (plan : List Site) (cells : List Value) (reports : List (LookState × Value)) (acts : List Act)
+pub handle_written : (plan : List Site) (cells : List Value) (reports : List (LookState × Report)) (acts : List Act)
     (node : ℕ) (value : Value) → AreDistinct plan → node < length plan → length cells ≡ all_cells plan
     → world_of plan (set cells (handle_cell plan node) value) reports acts
     ≡ with_record (world_of plan cells reports acts) (site_in plan node).path
@@ -156,7 +156,7 @@ handle_written plan cells reports acts node value distinct within all =
     })
 
 -- the acknowledgement, which is in the action
-pub acknowledgement_written : (plan : List Site) (cells : List Value) (reports : List (LookState × Value))
+pub acknowledgement_written : (plan : List Site) (cells : List Value) (reports : List (LookState × Report))
     (acts : List Act) (node : ℕ) (value : Value) → AreDistinct plan → node < length plan → length cells ≡ all_cells plan
     → world_of plan (set cells (acknowledgement_cell plan node) value) reports acts
     ≡ with_record (world_of plan cells reports acts) (site_in plan node).path
@@ -175,7 +175,7 @@ acknowledgement_written plan cells reports acts node value distinct within all =
     })
 
 -- what is under way
-pub act_put : (plan : List Site) (cells : List Value) (reports : List (LookState × Value)) (acts : List Act)
+pub act_put : (plan : List Site) (cells : List Value) (reports : List (LookState × Report)) (acts : List Act)
     (node : ℕ) (act : Act) → AreDistinct plan → node < length plan → length acts ≡ length plan
     → world_of plan cells reports (set acts node act)
     ≡ with_record (world_of plan cells reports acts) (site_in plan node).path

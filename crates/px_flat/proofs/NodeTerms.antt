@@ -6,7 +6,7 @@ use Rattle.px_value.specs.declared.value.Value.{Value}
 use Rattle.px_core.specs.Expr.{Term}
 use Rattle.px_core.specs.Fit.{Reference, Array, references, references_of_target, terms_of, terms_of_conditions, targets_of}
 use Rattle.px_core.specs.Plan.{Site, Head, TargetData}
-use Rattle.px_sem.specs.World.{LookState}
+use Rattle.px_sem.specs.World.{LookState, Report}
 use Rattle.px_flat.specs.declared.act.Act.{Act}
 use Rattle.px_flat.specs.Lookups.{lookups_in, lookups_in_target, lookups_in_body}
 use Rattle.px_flat.specs.Parts.{IsParts}
@@ -37,7 +37,7 @@ each_index plan (target ∷ targets) known (suc k) d within =
     (flat_map lookups_in_target targets) known)
     k d (omega arith)
 
-pub have_values : (plan : List Site) (cells : List Value) (reports : List (LookState × Value)) (acts : List Act) (node : ℕ)
+pub have_values : (plan : List Site) (cells : List Value) (reports : List (LookState × Report)) (acts : List Act) (node : ℕ)
     → IsSound plan → node < length plan → IsParts plan cells acts
     → HaveValues plan cells reports acts (site_in plan node).head
 have_values plan cells reports acts node sound within parts =

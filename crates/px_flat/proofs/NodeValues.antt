@@ -6,7 +6,7 @@ use Rattle.px_core.specs.Expr as terms
 use Rattle.px_core.specs.Fit.{Node, CommandNode, UpdateNode, path_is_there, is_command, is_update, AreDistinct}
 use Rattle.px_core.specs.Plan.{Site}
 use Rattle.px_sem.specs.Expressions.{value, outcome_value, failure_value, handle_value, handle_of, is_acknowledged}
-use Rattle.px_sem.specs.World.{NodeRecord, LookState, record_at}
+use Rattle.px_sem.specs.World.{NodeRecord, LookState, Report, record_at}
 use Rattle.px_flat.specs.declared.act.Act.{Act}
 use Rattle.px_flat.specs.Layout.{state_cell, outcome_cell, failure_cell, handle_cell, acknowledgement_cell}
 use Rattle.px_flat.specs.Numbered.{numbered, numbered_value, node_of, held}
@@ -17,7 +17,7 @@ use Rattle.px_flat.proofs.Worlds.{state_value-state_in, outcome_value-outcome_in
 use Rattle.px_flat.proofs.Worlds.{handle_value-action_in, is_acknowledged-action_in}
 
 -- what is so of a node that is there, by its record and by its number
-by_number : (plan : List Site) (cells : List Value) (reports : List (LookState × Value)) (acts : List Act)
+by_number : (plan : List Site) (cells : List Value) (reports : List (LookState × Report)) (acts : List Act)
     (path : List ℕ) (node : ℕ) → AreDistinct plan → node < length plan → (site_in plan node).path ≡ path
     → (node_of plan path ≡ node) × (record_at (world_of plan cells reports acts) path ≡ record_in plan cells acts node)
 by_number plan cells reports acts path node distinct within is = (
@@ -26,7 +26,7 @@ by_number plan cells reports acts path node distinct within is = (
       ∙ record_at-world_of plan cells reports acts node distinct within,
 )
 
-pub state_value : (plan : List Site) (cells : List Value) (reports : List (LookState × Value)) (acts : List Act)
+pub state_value : (plan : List Site) (cells : List Value) (reports : List (LookState × Report)) (acts : List Act)
     (path : List ℕ) → AreDistinct plan → IsParts plan cells acts → path_is_there plan (Node path) ≡ true
     → numbered_value plan cells reports (numbered plan (terms.StateOf path))
     ≡ value plan (world_of plan cells reports acts) (terms.StateOf path)
@@ -37,7 +37,7 @@ state_value plan cells reports acts path distinct parts there =
     ∙ sym (state_value-state_in (held cells (state_cell plan found.node)) (parts.nodes found.node found.within).state)
     ∙ ap (λ (r : NodeRecord). values.State r.state) (sym both.1)
 
-pub outcome_of_value : (plan : List Site) (cells : List Value) (reports : List (LookState × Value)) (acts : List Act)
+pub outcome_of_value : (plan : List Site) (cells : List Value) (reports : List (LookState × Report)) (acts : List Act)
     (path : List ℕ) → AreDistinct plan → IsParts plan cells acts → path_is_there plan (Node path) ≡ true
     → numbered_value plan cells reports (numbered plan (terms.OutcomeOf path))
     ≡ value plan (world_of plan cells reports acts) (terms.OutcomeOf path)
@@ -49,7 +49,7 @@ outcome_of_value plan cells reports acts path distinct parts there =
     (parts.nodes found.node found.within).outcome)
     ∙ ap (λ (r : NodeRecord). outcome_value r.outcome) (sym both.1)
 
-pub failure_of_value : (plan : List Site) (cells : List Value) (reports : List (LookState × Value)) (acts : List Act)
+pub failure_of_value : (plan : List Site) (cells : List Value) (reports : List (LookState × Report)) (acts : List Act)
     (path : List ℕ) → AreDistinct plan → IsParts plan cells acts → path_is_there plan (Node path) ≡ true
     → numbered_value plan cells reports (numbered plan (terms.FailureOf path))
     ≡ value plan (world_of plan cells reports acts) (terms.FailureOf path)
@@ -61,7 +61,7 @@ failure_of_value plan cells reports acts path distinct parts there =
     (parts.nodes found.node found.within).failure)
     ∙ ap (λ (r : NodeRecord). failure_value r.failure) (sym both.1)
 
-pub handle_of_value : (plan : List Site) (cells : List Value) (reports : List (LookState × Value)) (acts : List Act)
+pub handle_of_value : (plan : List Site) (cells : List Value) (reports : List (LookState × Report)) (acts : List Act)
     (path : List ℕ) → AreDistinct plan → IsParts plan cells acts → path_is_there plan (CommandNode path) ≡ true
     → numbered_value plan cells reports (numbered plan (terms.HandleOf path))
     ≡ value plan (world_of plan cells reports acts) (terms.HandleOf path)
@@ -73,7 +73,7 @@ handle_of_value plan cells reports acts path distinct parts there =
     (held cells (acknowledgement_cell plan found.node)) (parts.nodes found.node found.within).handle)
     ∙ ap (λ (r : NodeRecord). handle_value (handle_of r.action)) (sym both.1)
 
-pub acknowledged_value : (plan : List Site) (cells : List Value) (reports : List (LookState × Value)) (acts : List Act)
+pub acknowledged_value : (plan : List Site) (cells : List Value) (reports : List (LookState × Report)) (acts : List Act)
     (path : List ℕ) → AreDistinct plan → IsParts plan cells acts → path_is_there plan (UpdateNode path) ≡ true
     → numbered_value plan cells reports (numbered plan (terms.Acknowledged path))
     ≡ value plan (world_of plan cells reports acts) (terms.Acknowledged path)

@@ -9,7 +9,7 @@ use Rattle.px_core.specs.Expr.{Term, Terms, NoTerms, More}
 use Rattle.px_core.specs.Fit.{Reference, Node, CommandNode, UpdateNode, Scalar, Array, references, references_of_each, path_is_there, variable_is_there, has_right_variables, declares_scalar, declares_array, is_array}
 use Rattle.px_core.specs.Plan.{Site, VariableData, no_site, is_same}
 use Rattle.px_sem.specs.Expressions.{value, value_of_each, element, looked_up, unary_value, binary_value}
-use Rattle.px_sem.specs.World.{LookState, cells_at}
+use Rattle.px_sem.specs.World.{LookState, Report, cells_at}
 use Rattle.px_flat.specs.declared.act.Act.{Act}
 use Rattle.px_flat.specs.Layout.{first_cell}
 use Rattle.px_flat.specs.Numbered.{numbered, each_numbered, numbered_value, numbered_values, reported_of}
@@ -35,7 +35,7 @@ first_variable plan mention more names known =
     (and_parts (is_there plan mention) (list_all (is_there plan) more) known.mentioned).0).1
 
 -- a variable that is declared stands at its place
-variable_at : (plan : List Site) (cells : List Value) (reports : List (LookState × Value)) (acts : List Act)
+variable_at : (plan : List Site) (cells : List Value) (reports : List (LookState × Report)) (acts : List Act)
     (owner name : List ℕ) (form : VariableData → Bool) → IsSound plan
     → IsThere plan owner (λ site. list_any (λ variable. is_same variable.name name && form variable) site.head.variables)
     → IsPlaced plan cells reports acts owner name
@@ -45,7 +45,7 @@ variable_at plan cells reports acts owner name form sound there =
     (AllPass-from_list_all has_right_variables plan sound.arrays there.node no_site there.within) there.is)
 
 mutual
-  pub numbered_value-numbered : (plan : List Site) (cells : List Value) (reports : List (LookState × Value))
+  pub numbered_value-numbered : (plan : List Site) (cells : List Value) (reports : List (LookState × Report))
       (acts : List Act) (term : Term) → IsSound plan → IsParts plan cells acts
       → AreKnown plan (references term) (lookups_in term)
       → numbered_value plan cells reports (numbered plan term) ≡ value plan (world_of plan cells reports acts) term
@@ -77,9 +77,9 @@ mutual
       (list_all (λ name. list_any (is_same name) (lookups_of plan)) (lookups_in_each args)) known.looked_up) in
       let rest : AreKnown plan (references_of_each args) (lookups_in_each args) =
       record { mentioned = known.mentioned; looked_up = named.1 } in
-      ap (λ name. reported_of reports name (numbered_values plan cells reports (each_numbered plan args)))
+      ap (λ name. reported_of reports name (numbered_values plan cells reports (each_numbered plan args)) tolerance)
       (name_at (lookups_of plan) name named.0)
-      ∙ ap (looked_up (world_of plan cells reports acts) name)
+      ∙ ap (λ values. looked_up (world_of plan cells reports acts) name values tolerance)
       (numbered_values-numbered plan cells reports acts args sound parts rest)
   numbered_value-numbered plan cells reports acts (terms.Unary op arg) sound parts known =
       ap (unary_value op) (numbered_value-numbered plan cells reports acts arg sound parts known)
@@ -91,7 +91,7 @@ mutual
       (numbered_value-numbered plan cells reports acts right sound parts
       (back plan (references left) (references right) (lookups_in left) (lookups_in right) known))
 
-  pub numbered_values-numbered : (plan : List Site) (cells : List Value) (reports : List (LookState × Value))
+  pub numbered_values-numbered : (plan : List Site) (cells : List Value) (reports : List (LookState × Report))
       (acts : List Act) (args : Terms) → IsSound plan → IsParts plan cells acts
       → AreKnown plan (references_of_each args) (lookups_in_each args)
       → numbered_values plan cells reports (each_numbered plan args)

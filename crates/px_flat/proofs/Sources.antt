@@ -66,9 +66,9 @@ module _ (plan : List Site) (one other : Present) (long : length one.cells ≡ l
     same_value (Acknowledged node) all = cell (acknowledgement_cell plan node) all
     same_value (Look lookup args tolerance) all =
         let sources = sources_in_each plan args in
-        ap (reported_of one.reports (get_or (lookups_of plan) lookup []))
-        (same_values args (All-tail (IsSame plan one other) (Reports lookup) sources all))
-        ∙ All-head (IsSame plan one other) (Reports lookup) sources all (numbered_values plan other.cells other.reports args)
+        ap (λ values. reported_of one.reports (get_or (lookups_of plan) lookup []) values tolerance)
+        (same_values args (All-tail (IsSame plan one other) (Reports lookup tolerance) sources all))
+        ∙ All-head (IsSame plan one other) (Reports lookup tolerance) sources all (numbered_values plan other.cells other.reports args)
     same_value (Unary op arg) all = ap (unary_value op) (same_value arg all)
     same_value (Binary op left right) all =
         (λ i. binary_value op

@@ -10,7 +10,7 @@ use Rattle.px_value.specs.declared.value.Value.{Value}
 use Rattle.px_value.specs.declared.value.Value.TheVariants.{Unknown}
 use Rattle.px_core.specs.Fit.{cells_of, has_right_cells, has_right_size, AreDistinct}
 use Rattle.px_core.specs.Plan.{Site, VariableData, is_same}
-use Rattle.px_sem.specs.World.{LookState, NodeRecord, record_at, cells_at, of_variable}
+use Rattle.px_sem.specs.World.{LookState, Report, NodeRecord, record_at, cells_at, of_variable}
 use Rattle.px_flat.specs.declared.act.Act.{Act}
 use Rattle.px_flat.specs.Layout.{Place, place_from, first_cell}
 use Rattle.px_flat.specs.Numbered.{place_of, held}
@@ -93,14 +93,14 @@ place_of-node plan owner name node distinct within path_is has =
     ∙ ap (λ place. unwrap_or place (record { first = 0; size = 0 })) has.is
 
 -- what stands at the place of a variable
-pub record IsPlaced (plan : List Site) (cells : List Value) (reports : List (LookState × Value)) (acts : List Act)
+pub record IsPlaced (plan : List Site) (cells : List Value) (reports : List (LookState × Report)) (acts : List Act)
     (owner name : List ℕ) : Type 0 where
   pub values_are : cells_at plan (world_of plan cells reports acts) owner name
       ≡ take (place_of plan owner name).size (drop (place_of plan owner name).first cells)
   pub first_is : held cells (place_of plan owner name).first
       ≡ get_or (cells_at plan (world_of plan cells reports acts) owner name) 0 Unknown
 
-pub placed : (plan : List Site) (cells : List Value) (reports : List (LookState × Value)) (acts : List Act)
+pub placed : (plan : List Site) (cells : List Value) (reports : List (LookState × Report)) (acts : List Act)
     (owner name : List ℕ) (node : ℕ) → AreDistinct plan → node < length plan → (site_in plan node).path ≡ owner
     → HasPlace (first_cell plan node) (site_in plan node).head.variables name
     → IsPlaced plan cells reports acts owner name

@@ -12,7 +12,7 @@ use Rattle.px_core.specs.Fit.{cells_of, has_site, AreDistinct}
 use Rattle.px_core.specs.Plan.{Site, VariableData, is_same}
 use Rattle.px_core.proofs.Paths.{same-self, same-other}
 use Rattle.px_sem.specs.Expressions.{outcome_value, failure_value, handle_value, handle_of, is_acknowledged}
-use Rattle.px_sem.specs.World.{NodeRecord, LookState, no_record, record_at, of_variable}
+use Rattle.px_sem.specs.World.{NodeRecord, LookState, Report, no_record, record_at, of_variable}
 use Rattle.px_flat.specs.declared.act.Act.{Act}
 use Rattle.px_flat.specs.declared.act.Act.TheVariants as under_way
 use Rattle.px_flat.specs.Layout.{Place, place_from}
@@ -47,7 +47,7 @@ found_among (site ∷ plan) f first (suc i) distinct within =
     ∙ ap (λ n. Some (f n)) there
 
 -- the record of the node with a number
-pub record_at-world_of : (plan : List Site) (cells : List Value) (reports : List (LookState × Value)) (acts : List Act)
+pub record_at-world_of : (plan : List Site) (cells : List Value) (reports : List (LookState × Report)) (acts : List Act)
     (node : ℕ) → AreDistinct plan → node < length plan
     → record_at (world_of plan cells reports acts) (site_in plan node).path ≡ record_in plan cells acts node
 record_at-world_of plan cells reports acts node distinct within =

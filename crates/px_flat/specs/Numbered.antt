@@ -12,7 +12,7 @@ use Rattle.px_core.specs.Plan.{Site, Head, VariableData, ConditionTerms, TargetD
 use Rattle.px_core.specs.Expr as terms
 use Rattle.px_core.specs.Expr.{Term, Terms, NoTerms, More}
 use Rattle.px_sem.specs.Expressions.{element, looked_up, unary_value, binary_value}
-use Rattle.px_sem.specs.World.{LookState, of_variable}
+use Rattle.px_sem.specs.World.{LookState, Report, of_variable}
 use Rattle.px_flat.specs.Layout.{Place, place_at, state_cell, outcome_cell, failure_cell, handle_cell, acknowledgement_cell}
 use Rattle.px_flat.specs.Lookups.{lookups_of}
 use Rattle.px_flat.specs.Row.{site_in, number_at}
@@ -72,13 +72,13 @@ abbrev mutual
 abbrev pub held : List Value → ℕ → Value
 held cells cell = slice_index_or cells cell Unknown
 
--- the last report of the state that a name and arguments make, as the semantics has it of a world
-abbrev pub reported_of : List (LookState × Value) → List ℕ → List Value → Value
-reported_of reports name args = looked_up (record { nodes = []; reports = reports }) name args
+-- the value of a lookup of the state that a name and arguments make, as the semantics has it of a world
+abbrev pub reported_of : List (LookState × Report) → List ℕ → List Value → Option ℕ → Value
+reported_of reports name args tolerance = looked_up (record { nodes = []; reports = reports }) name args tolerance
 
 -- the value of a numbered expression, and of each of a lookup's arguments
 abbrev mutual
-  pub numbered_value : List Site → List Value → List (LookState × Value) → Numbered → Value
+  pub numbered_value : List Site → List Value → List (LookState × Report) → Numbered → Value
   numbered_value plan cells reports (Literal value) = value
   numbered_value plan cells reports (Variable cell) = held cells cell
   numbered_value plan cells reports (Element first size index) =
@@ -89,12 +89,12 @@ abbrev mutual
   numbered_value plan cells reports (HandleOf node) = held cells (handle_cell plan node)
   numbered_value plan cells reports (Acknowledged node) = held cells (acknowledgement_cell plan node)
   numbered_value plan cells reports (Look lookup args tolerance) =
-      reported_of reports (slice_index_or (lookups_of plan) lookup []) (numbered_values plan cells reports args)
+      reported_of reports (slice_index_or (lookups_of plan) lookup []) (numbered_values plan cells reports args) tolerance
   numbered_value plan cells reports (Unary op arg) = unary_value op (numbered_value plan cells reports arg)
   numbered_value plan cells reports (Binary op left right) =
       binary_value op (numbered_value plan cells reports left) (numbered_value plan cells reports right)
 
-  pub numbered_values : List Site → List Value → List (LookState × Value) → EachNumbered → List Value
+  pub numbered_values : List Site → List Value → List (LookState × Report) → EachNumbered → List Value
   numbered_values plan cells reports NoneNumbered = []
   numbered_values plan cells reports (MoreNumbered first rest) =
       numbered_value plan cells reports first ∷ numbered_values plan cells reports rest

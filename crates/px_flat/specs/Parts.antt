@@ -11,7 +11,7 @@ use Rattle.px_value.specs.declared.value.Value.TheVariants as values
 use Rattle.px_core.specs.Fit.{cells_of}
 use Rattle.px_core.specs.Plan.{Site, VariableData, TargetData, BodyData, Assign, Command, Update}
 use Rattle.px_sem.specs.World as world
-use Rattle.px_sem.specs.World.{World, NodeRecord, Action, NoAction, Assigned, Commanded, LookState}
+use Rattle.px_sem.specs.World.{World, NodeRecord, Action, NoAction, Assigned, Commanded, LookState, Report}
 use Rattle.px_flat.specs.declared.act.Abort.{Abort}
 use Rattle.px_flat.specs.declared.act.Abort.TheVariants as aborts
 use Rattle.px_flat.specs.declared.act.Act.{Act}
@@ -81,7 +81,7 @@ record_in plan cells acts node = record {
 }
 
 -- the world that cells, reports and acts stand for
-abbrev pub world_of : List Site → List Value → List (LookState × Value) → List Act → World
+abbrev pub world_of : List Site → List Value → List (LookState × Report) → List Act → World
 world_of plan cells reports acts = record {
   nodes = map (λ entry. (entry.1.path, record_in plan cells acts entry.0)) (enumerate_from 0 plan);
   reports = reports;

@@ -1,16 +1,17 @@
--- What the value of an expression is read from: cells, those of an array as one source, and lookup names.
-use Rattle.std.specs.Prelude.{◌≡◌, ℕ, ◌+◌, ◌<◌, List, [], ◌∷◌, ◌++◌, length, slice_index_or, All}
+-- What the value of an expression is read from: cells, those of an array as one source, and lookup names, for each tolerance
+-- and for none.
+use Rattle.std.specs.Prelude.{◌≡◌, ℕ, ◌+◌, ◌<◌, List, [], ◌∷◌, ◌++◌, length, slice_index_or, Option, All}
 use Rattle.px_value.specs.declared.value.Value.{Value}
 use Rattle.px_core.specs.Plan.{Site}
-use Rattle.px_sem.specs.World.{LookState}
+use Rattle.px_sem.specs.World.{LookState, Report}
 use Rattle.px_flat.specs.Layout.{state_cell, outcome_cell, failure_cell, handle_cell, acknowledgement_cell}
 use Rattle.px_flat.specs.Lookups.{lookups_of}
 use Rattle.px_flat.specs.Numbered.{Numbered, EachNumbered, NoneNumbered, MoreNumbered, Literal, Variable, Element, StateOf, OutcomeOf, FailureOf, HandleOf, Acknowledged, Look, Unary, Binary, held, reported_of, numbered_value}
 
--- the cells of a variable or the one of a node, and what is reported under a lookup name
+-- the cells of a variable or the one of a node, and what is last reported or latched under a lookup name
 pub data Source : Type 0 where
   Cells : (first size : ℕ) → Source
-  Reports : (lookup : ℕ) → Source
+  Reports : (lookup : ℕ) (tolerance : Option ℕ) → Source
 
 -- the sources of an expression, from left to right, whatever its value
 abbrev mutual
@@ -23,7 +24,7 @@ abbrev mutual
   sources_in plan (FailureOf node) = Cells (failure_cell plan node) 1 ∷ []
   sources_in plan (HandleOf node) = Cells (handle_cell plan node) 1 ∷ []
   sources_in plan (Acknowledged node) = Cells (acknowledgement_cell plan node) 1 ∷ []
-  sources_in plan (Look lookup args tolerance) = Reports lookup ∷ sources_in_each plan args
+  sources_in plan (Look lookup args tolerance) = Reports lookup tolerance ∷ sources_in_each plan args
   sources_in plan (Unary op arg) = sources_in plan arg
   sources_in plan (Binary op left right) = sources_in plan left ++ sources_in plan right
 
@@ -34,18 +35,18 @@ abbrev mutual
 -- the cells and reports in which an expression has its value
 pub record Present : Type 0 where
   pub cells : List Value
-  pub reports : List (LookState × Value)
+  pub reports : List (LookState × Report)
 
 abbrev pub value_in : List Site → Present → Numbered → Value
 value_in plan present expr = numbered_value plan present.cells present.reports expr
 
--- a source is the same in both: each of its cells holds the same, or each state of its name has the same last report
+-- a source is the same in both: each of its cells holds the same, or each state of its name reads the same
 abbrev pub IsSame : List Site → Present → Present → Source → Type 0
 IsSame plan one other (Cells first size) =
     (k : ℕ) → k < size → held one.cells (first + k) ≡ held other.cells (first + k)
-IsSame plan one other (Reports lookup) = (args : List Value)
-    → reported_of one.reports (slice_index_or (lookups_of plan) lookup []) args
-    ≡ reported_of other.reports (slice_index_or (lookups_of plan) lookup []) args
+IsSame plan one other (Reports lookup tolerance) = (args : List Value)
+    → reported_of one.reports (slice_index_or (lookups_of plan) lookup []) args tolerance
+    ≡ reported_of other.reports (slice_index_or (lookups_of plan) lookup []) args tolerance
 
 -- Of so many cells each expression has the same value in both where each of its sources is the same.
 abbrev pub ReadOnlySources : List Site → Type 0

@@ -7,18 +7,18 @@ use Rattle.px_core.specs.Expr.{Term}
 use Rattle.px_core.specs.Fit.{terms_of, terms_of_conditions, targets_of}
 use Rattle.px_core.specs.Plan.{Site, Head}
 use Rattle.px_sem.specs.Expressions.{value}
-use Rattle.px_sem.specs.World.{LookState}
+use Rattle.px_sem.specs.World.{LookState, Report}
 use Rattle.px_flat.specs.declared.act.Act.{Act}
 use Rattle.px_flat.specs.Numbered.{numbered, numbered_value}
 use Rattle.px_flat.specs.Parts.{world_of}
 
 -- with numbers in place of names, an expression has the value that it has in the world that the parts stand for
-abbrev pub HasValue : List Site → List Value → List (LookState × Value) → List Act → Term → Type 0
+abbrev pub HasValue : List Site → List Value → List (LookState × Report) → List Act → Term → Type 0
 HasValue plan cells reports acts term =
     numbered_value plan cells reports (numbered plan term) ≡ value plan (world_of plan cells reports acts) term
 
 -- each condition of a node has, each expression of its body, and the index of each of its targets
-pub record HaveValues (plan : List Site) (cells : List Value) (reports : List (LookState × Value)) (acts : List Act)
+pub record HaveValues (plan : List Site) (cells : List Value) (reports : List (LookState × Report)) (acts : List Act)
     (head : Head) : Type 0 where
   pub conditions : All (HasValue plan cells reports acts) (terms_of_conditions head.conditions)
   pub body : All (HasValue plan cells reports acts) (terms_of head.body)

@@ -2,6 +2,7 @@
 ghost use Rattle.std.specs.Prelude.{◌≡◌, ◌<◌, ◌≤◌, [], length, position, slice_index_or, IfOk, IfSome};
 ghost use Rattle.px_core.specs.Fit.{IsFit};
 ghost use Rattle.px_core.specs.Plan.{tree_of, sites, is_same};
+ghost use Rattle.px_sem.specs.Tolerances.{tolerances};
 ghost use Rattle.px_flat.specs.Extents.{AreBelow, extent_of};
 ghost use Rattle.px_flat.specs.Layout as layout;
 ghost use Rattle.px_flat.specs.Lookups.{lookups_of};
@@ -127,6 +128,13 @@ impl Flat {
             Some(lookup) => Some(lookup as u32),
             None => None,
         }
+    }
+
+    /// The distinct tolerances of the plan's lookups, rising.
+    pub fn tolerances(&self) -> &[u32]
+        ensures { result.now ≡ tolerances (plan_of self.now) }
+    {
+        &self.names.tolerances
     }
 
     /// How many cells the plan's variables have, at most 131,072. They are the first cells of all.

@@ -1,7 +1,8 @@
 //! Flat tables of a plan: its nodes by number in preorder, and the layout of the cells of what runs it.
 //!
 //! `laying` lays the nodes out row by row (`row`), `ends` finds where the descendants of each end, `extents` which cells
-//! are whose, `slots` where each variable stands, and `lookups` which names are looked up. `names` keeps all this and says
+//! are whose, `slots` where each variable stands, `lookups` which names are looked up, and `tolerances` with which
+//! tolerances. `names` keeps all this and says
 //! what each name stands for; `numbering` puts numbers in the place of names (`numbered`); both read the conditions and
 //! bodies of the plan's own nodes, which `nodes` lists. `flat` is what callers see, and `making` has `flatten`. `act` is
 //! what a node has under way.
@@ -25,6 +26,7 @@ mod numbered;
 mod numbering;
 mod row;
 mod slots;
+mod tolerances;
 
 pub use act::{Abort, Act};
 pub use flat::Flat;

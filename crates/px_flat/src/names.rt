@@ -2,6 +2,7 @@
 ghost use Rattle.std.specs.Prelude.{◌≡◌, ◌<◌, ◌^◌, length, IfOk};
 ghost use Rattle.px_core.specs.Fit.{IsFit};
 ghost use Rattle.px_core.specs.Plan.{tree_of, sites};
+ghost use Rattle.px_sem.specs.Tolerances.{tolerances as tolerances_of};
 ghost use Rattle.px_flat.specs.Extents.{AreExtents};
 ghost use Rattle.px_flat.specs.FitPlan.{IsFitPlan};
 ghost use Rattle.px_flat.specs.Laying.{heads_in, heads_of};
@@ -16,6 +17,7 @@ use crate::laying::lay;
 use crate::lookups::lookups;
 use crate::row::{Extent, Row};
 use crate::slots::{Slot, Slots};
+use crate::tolerances::tolerances;
 use indexmap::IndexSet;
 use px_core::{CoreNode, Plan, VarKind};
 use px_value::{Name, NoMemory, Path};
@@ -29,6 +31,8 @@ pub struct Names {
     pub paths: IndexSet<Path>,
     pub slots: Vec<Slots>,
     pub lookups: IndexSet<Name>,
+    /// The distinct tolerances of lookups, rising.
+    pub tolerances: Vec<u32>,
     ghost laid: { IsLaid rows.items },
     ghost fit: { ∥ IsFitPlan (sites_of rows.items) ∥₁ },
     ghost extended: { AreExtents (sites_of rows.items) extents.items },
@@ -36,6 +40,7 @@ pub struct Names {
     ghost declared: { AreSlots (sites_of rows.items) slots.items },
     ghost looked: { lookups.keys ≡ lookups_of (sites_of rows.items) },
     ghost few: { length lookups.keys < 2 ^ 32 },
+    ghost allowed: { tolerances.items ≡ tolerances_of (sites_of rows.items) },
 }
 
 // The paths of the rows, in their order.
@@ -82,12 +87,14 @@ impl Names {
         let paths = paths_of(alloc, &rows)?;
         let slots = slots_of(alloc, &rows, &extents)?;
         let lookups = lookups(alloc, nodes)?;
+        let tolerances = tolerances(alloc, nodes)?;
         Ok(Names {
             rows,
             extents,
             paths,
             slots,
             lookups,
+            tolerances,
         })
     }
 

@@ -19,11 +19,11 @@ pub enum NumberedExpr {
     FailureOf(u32),
     HandleOf(u32),
     Acknowledged(u32),
-    /// The last report of the state that the name of this number and the arguments' values make.
+    /// What is reported of the state that the name of this number and the arguments' values make.
     Look {
         lookup: u32,
         args: Vec<NumberedExpr>,
-        /// How far a report must lie from the one before it to count; None where each one counts.
+        /// The tolerance whose latched value it reads; None where it reads the value last reported.
         tolerance: Option<u32>,
     },
     Unary {

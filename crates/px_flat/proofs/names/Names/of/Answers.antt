@@ -2,6 +2,7 @@ use Rattle.std.proofs.Common.{◌<◌, [], length, get_or, fold, ap, sym, ◌∙
 use Rattle.std.specs.List.{flat_map}
 use Rattle.std.proofs.lemmas.List.Folds.{flat_map-map}
 use Rattle.px_core.specs.Plan.{Site, Tree, tree_of, count_of}
+use Rattle.px_sem.specs.Tolerances.{tolerances_in_head, with_tolerance}
 use Rattle.px_flat.specs.Row.{after_last, paths_of}
 use Rattle.px_flat.specs.Extents.{AreExtents}
 use Rattle.px_flat.specs.Lookups.{lookups_in_head, with_name}
@@ -73,4 +74,8 @@ invariant_of-result c =
           (heads_are c.args.nodes.now tree (sites_of rows) c.requires.nodes c.in_ok-rows.ensures.sites)
           ∙ ap (fold with_name []) (flat_map-map lookups_in_head (λ (site : Site). site.head) (sites_of rows));
       few = c.in_ok-lookups.ensures.few;
+      allowed = c.in_ok-tolerances.ensures
+          ∙ ap (λ heads. fold with_tolerance [] (flat_map tolerances_in_head heads))
+          (heads_are c.args.nodes.now tree (sites_of rows) c.requires.nodes c.in_ok-rows.ensures.sites)
+          ∙ ap (fold with_tolerance []) (flat_map-map tolerances_in_head (λ (site : Site). site.head) (sites_of rows));
     }
