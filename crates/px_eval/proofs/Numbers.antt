@@ -3,7 +3,7 @@ use Rattle.std.proofs.Common.{◌≡◌, ℕ, zero, suc, ◌+◌, ◌<◌, List,
 use Rattle.std.specs.List.{All}
 use Rattle.px_value.specs.declared.value.Value.{Value}
 use Rattle.px_core.specs.Plan.{Site}
-use Rattle.px_sem.specs.World.{LookState}
+use Rattle.px_sem.specs.World.{LookState, Report}
 use Rattle.px_flat.specs.declared.flat.Flat.{Flat}
 use Rattle.px_flat.specs.declared.numbered.NumberedExpr.{NumberedExpr}
 use Rattle.px_flat.specs.Flat.{plan_of}
@@ -27,7 +27,7 @@ within_each plan (expr ∷ exprs) within =
     (within 0 expr (omega arith), within_each plan exprs (λ k d inside. within (suc k) d (omega (arith, inside))))
 
 -- and have their values in turn
-pub values_in_turn : (plan : List Site) (cells : List Value) (reports : List (LookState × Value)) (exprs : List Numbered)
+pub values_in_turn : (plan : List Site) (cells : List Value) (reports : List (LookState × Report)) (exprs : List Numbered)
     → map (numbered_value plan cells reports) exprs ≡ numbered_values plan cells reports (in_turn exprs)
 values_in_turn plan cells reports [] = refl
 values_in_turn plan cells reports (expr ∷ exprs) =
@@ -38,7 +38,7 @@ pub few_cells : (flat : Flat) (first size : ℕ) (index : Numbered) → IsWithin
     → first + size < 4294967296
 few_cells flat first size index within = omega (arith, within.0.within, (flat_sound flat).cells)
 
-pub meaning : (flat : Flat) (cells : List Value) (reports : List (LookState × Value)) (expr : Numbered)
+pub meaning : (flat : Flat) (cells : List Value) (reports : List (LookState × Report)) (expr : Numbered)
     → Means (plan_of flat) cells reports expr (numbered_value (plan_of flat) cells reports expr)
 meaning flat cells reports expr term acts known is parts =
     ap (numbered_value (plan_of flat) cells reports) is

@@ -6,7 +6,7 @@ use Rattle.px_core.specs.Expr.{Term}
 use Rattle.px_core.specs.Fit.{Reference, references, path_is_there, variable_is_there}
 use Rattle.px_core.specs.Plan.{Site, is_same}
 use Rattle.px_sem.specs.Expressions.{value}
-use Rattle.px_sem.specs.World.{LookState}
+use Rattle.px_sem.specs.World.{LookState, Report}
 use Rattle.px_flat.specs.declared.act.Act.{Act}
 use Rattle.px_flat.specs.Lookups.{lookups_in, lookups_of}
 use Rattle.px_flat.specs.Numbered.{Numbered, numbered}
@@ -23,6 +23,6 @@ pub record IsKnown (plan : List Site) (term : Term) : Type 0 where
 
 -- An expression of the plan that has these numbers has this value in the world that the parts stand for, whatever the
 -- nodes have under way.
-abbrev pub Means : List Site → List Value → List (LookState × Value) → Numbered → Value → Type 0
+abbrev pub Means : List Site → List Value → List (LookState × Report) → Numbered → Value → Type 0
 Means plan cells reports expr given = (term : Term) (acts : List Act) → IsKnown plan term → expr ≡ numbered plan term
     → IsParts plan cells acts → given ≡ value plan (world_of plan cells reports acts) term

@@ -1,6 +1,6 @@
 //! The value of an expression in present cells and reports.
 //!
-//! `operators` has the operations, `arrays` an element of an array, `lookups` the last report of a state of the
+//! `operators` has the operations, `arrays` an element of an array, `lookups` what was reported of a state of the
 //! outside, and `values` puts them together. A value that a cell, a report or the expression itself holds is lent and
 //! not copied (`lent`), so a comparison of texts copies none.
 //!

@@ -49,9 +49,13 @@ fn lent_value<'a>(
         NumberedExpr::Acknowledged(node) => {
             Cow::Borrowed(cells.get(flat.acknowledgement_cell(*node)))
         }
-        NumberedExpr::Look { lookup, args, .. } => {
+        NumberedExpr::Look {
+            lookup,
+            args,
+            tolerance,
+        } => {
             let args = each_value(alloc, flat, cells, reports, args)?;
-            looked_up(alloc, reports, flat.lookup_name(*lookup), args)?
+            looked_up(alloc, reports, flat.lookup_name(*lookup), args, *tolerance)?
         }
         NumberedExpr::Unary { op, arg } => {
             let arg = lent_value(alloc, flat, cells, reports, arg)?;

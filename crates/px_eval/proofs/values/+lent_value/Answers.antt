@@ -90,10 +90,10 @@ lent_value-returns t c =
       | lent_value-in-Look+in_ok-args-in-Look+in_ok-looked_up-in-Look w ↦
           let args : w.in_ok-args-in-Look.args ≡ map worth (map expr_data w.in-Look.args.items) = search rules in
           let found : cow_value w.in_ok-looked_up-in-Look.field-0
-          ≡ reported_of c.args.reports.now.reports w.lookup_name.result.now w.in_ok-args-in-Look.args = search rules in
+          ≡ reported_of c.args.reports.now.reports w.lookup_name.result.now w.in_ok-args-in-Look.args w.in-Look.tolerance = search rules in
           ap cow_value w.result-is ∙ found
-          ∙ ap (λ name. reported_of c.args.reports.now.reports name w.in_ok-args-in-Look.args) w.lookup_name.ensures
-          ∙ ap (reported_of c.args.reports.now.reports (slice_index_or (lookups_of plan) w.in-Look.lookup []))
+          ∙ ap (λ name. reported_of c.args.reports.now.reports name w.in_ok-args-in-Look.args w.in-Look.tolerance) w.lookup_name.ensures
+          ∙ ap (λ args. reported_of c.args.reports.now.reports (slice_index_or (lookups_of plan) w.in-Look.lookup []) args w.in-Look.tolerance)
           (args ∙ values_in_turn plan cells c.args.reports.now.reports (map expr_data w.in-Look.args.items))
           ∙ ap worth (sym (made.look w.in-Look.lookup w.in-Look.args w.in-Look.tolerance))
           ∙ ap (λ e. worth (expr_data e)) (sym w.in-Look.is)
