@@ -297,7 +297,7 @@ module _ (plan : List Site) (sound : IsSound plan) (cell : ℕ) where
     begin_each (terms.Look word name args tolerance) known =
         let rest : AreKnown plan (references_of_each args) (lookups_in_each args) =
         back plan [] (references_of_each args) (name ∷ []) (lookups_in_each args) known in
-        All-cons Begins (Reports _) (sources_in_each plan (each_numbered plan args)) (λ in_it. absurd in_it)
+        All-cons Begins (Reports _ tolerance) (sources_in_each plan (each_numbered plan args)) (λ in_it. absurd in_it)
         (begin_all args rest)
     begin_each (terms.Unary op arg) known = begin_each arg known
     begin_each (terms.Binary op left right) known =

@@ -8,5 +8,6 @@ pub mod Marking
 pub mod OneList
 pub mod Pushing
 pub mod Refreshing
+pub mod Reported
 pub mod Seeing
 pub mod Sending

@@ -1,6 +1,6 @@
 -- Readers one after another, and listeners to which they are added.
 use Rattle.std.specs.List.{list_any}
-use Rattle.std.proofs.Common.{◌≡◌, ℕ, ◌+◌, ◌<◌, ◌≤◌, Bool, true, false, nat_eq, ◌||◌, List, [], ◌∷◌, ◌++◌, length, get_or, refl, ap, sym, ◌∙◌, subst, arith, inl, inr, All, if◌then◌else◌}
+use Rattle.std.proofs.Common.{◌≡◌, ℕ, ◌+◌, ◌<◌, ◌≤◌, Bool, true, false, nat_eq, List, [], ◌∷◌, ◌++◌, length, get_or, refl, ap, sym, ◌∙◌, subst, arith, inl, inr, All, if◌then◌else◌}
 use Rattle.std.proofs.lemmas.Bool.{cases_lt, eq-eqb, or_left, or_right}
 use Rattle.std.proofs.lemmas.Bool.Decides.{eqb_tells}
 use Rattle.std.proofs.lemmas.List.{get_or_append_left, get_or-append-add, get_or-set_same, get_or-set_other, get_or-map, length-append, length-map, length-set}
@@ -8,7 +8,8 @@ use Rattle.std.proofs.lemmas.List.Elements.{All-append, All-map, All-nil, All-pu
 use Rattle.std.proofs.lemmas.List.Folds.{list_any-append}
 use Rattle.std.proofs.lemmas.List.Sums.{sum_by-set}
 use Rattle.px_core.specs.Plan.{Site}
-use Rattle.px_flat.specs.Layout.{state_cell, outcome_cell, failure_cell, handle_cell, acknowledgement_cell}
+use Rattle.px_flat.specs.Layout.{all_cells, state_cell, outcome_cell, failure_cell, handle_cell, acknowledgement_cell}
+use Rattle.px_flat.specs.Lookups.{lookups_of}
 use Rattle.px_flat.specs.Numbered.{Numbered, EachNumbered, NoneNumbered, MoreNumbered, Literal, Variable, Element, StateOf, OutcomeOf, FailureOf, HandleOf, Acknowledged, Look, Unary, Binary}
 use Rattle.px_flat.specs.NumberedData.{expr_data}
 use Rattle.px_flat.specs.Sources.{Source, Cells, Reports, sources_in, sources_in_each}
@@ -21,12 +22,19 @@ use Rattle.px_cached.specs.Conditions.{all_sources, source_number}
 use Rattle.px_cached.specs.Laying.{IsRead}
 use Rattle.px_cached.specs.Network.{part_at}
 use Rattle.px_cached.specs.Reading.{AreListening, AreReadersBelow, IsAmong, reader_of, readers_of, sources_at}
+use Rattle.px_cached.proofs.Reported.{report_there}
 
 -- ---- the sources of what lies within the tables have numbers among those of sources
 
 module _ (plan : List Site) where
-  abbrev IsThere : Source → Type 0
-  IsThere source = source_number plan source < all_sources plan
+  -- a cell of the plan comes first in it, or its lookup name is one of the plan's
+  abbrev pub IsThere : Source → Type 0
+  IsThere (Cells first size) = first < all_cells plan
+  IsThere (Reports lookup tolerance) = lookup < length (lookups_of plan)
+
+  pub number_there : (source : Source) → IsThere source → source_number plan source < all_sources plan
+  number_there (Cells first size) there = omega (arith, there)
+  number_there (Reports lookup tolerance) there = report_there plan lookup tolerance there
 
   one : (source : Source) → IsThere source → All IsThere (source ∷ [])
   one source there = All-push IsThere [] source (All-nil IsThere) there
@@ -44,8 +52,8 @@ module _ (plan : List Site) where
     sources_there (HandleOf node) within = one (Cells (handle_cell plan node) 1) (omega (arith, within))
     sources_there (Acknowledged node) within = one (Cells (acknowledgement_cell plan node) 1) (omega (arith, within))
     sources_there (Look lookup args tolerance) within =
-        All-append IsThere (Reports lookup ∷ []) (sources_in_each plan args)
-        (one (Reports lookup) (omega (arith, within.0))) (each_there args within.1)
+        All-append IsThere (Reports lookup tolerance ∷ []) (sources_in_each plan args)
+        (one (Reports lookup tolerance) within.0) (each_there args within.1)
     sources_there (Unary op arg) within = sources_there arg within
     sources_there (Binary op left right) within =
         All-append IsThere (sources_in plan left) (sources_in plan right)
@@ -106,7 +114,7 @@ module _ (plan : List Site) (network : List Part) where
     ];
     within = All-append IsFine readers (readers_of plan part sources) before.within
         (All-map IsFine (reader_of plan part) sources
-        (λ k d inside. (part_there plan (part_at network part) read k d inside, there)));
+        (λ k d inside. (number_there plan (get_or sources k d) (part_there plan (part_at network part) read k d inside), there)));
   }
 
 -- ---- one pair more

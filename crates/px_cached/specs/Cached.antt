@@ -1,14 +1,15 @@
 -- What kept conditions are to contracts.
-use Rattle.std.specs.Prelude.{◌≡◌, ℕ, ◌<◌, Bool, true, false, not, List, length, slice_index_or, Option, Some, None, All, ◌⊎◌}
+use Rattle.std.specs.Prelude.{◌≡◌, ℕ, ◌<◌, ◌≤◌, Bool, true, false, not, List, length, slice_index_or, Option, Some, None, All, ◌⊎◌}
 use Rattle.px_core.specs.declared.conditions.ConditionKind.{ConditionKind}
 use Rattle.px_core.specs.Plan.{Site}
 use Rattle.px_cells.specs.Cells.{CellsData}
 use Rattle.px_flat.specs.declared.flat.Flat.{Flat}
 use Rattle.px_flat.specs.Flat.{plan_of}
+use Rattle.px_flat.specs.Layout.{all_cells}
 use Rattle.px_flat.specs.Sources.{Present, IsSame, sources_in}
 use Rattle.px_links.specs.Links.{LinksData, holder_of, is_absent, SameCounts}
 use Rattle.px_lookup.specs.Reports.{ReportsData}
-use Rattle.px_cached.specs.Conditions.{condition_in, number_of, source_number, truth_in}
+use Rattle.px_cached.specs.Conditions.{all_sources, condition_in, number_of, source_number, truth_in}
 use Rattle.px_cached.specs.Firsts.{HasCell}
 
 -- the plan's tables, the truth of each condition as it is kept, the cells and reports in which it was last looked at, and
@@ -45,6 +46,15 @@ abbrev pub IsTouchedAt : CachedData → ℕ → Type 0
 IsTouchedAt cached cell = (node : ℕ) (kind : ConditionKind) → node < length (plan_in cached)
     → All (λ source. HasCell source cell → is_touched cached (source_number (plan_in cached) source) ≡ true)
     (sources_in (plan_in cached) (condition_in (plan_in cached) node kind))
+
+-- all that is reported is touched, and each source that was
+pub record HasTouchedReports (old new : CachedData) : Type 0 where
+  pub flat : new.flat ≡ old.flat
+  pub truths : new.truths ≡ old.truths
+  pub seen : new.seen ≡ old.seen
+  pub all : (source : ℕ) → all_cells (plan_in old) ≤ source → source < all_sources (plan_in old)
+      → is_touched new source ≡ true
+  pub others : (source : ℕ) → is_touched old source ≡ true → is_touched new source ≡ true
 
 -- the source that has the cell is touched, and each that was
 pub record HasTouchedCell (old new : CachedData) (cell : ℕ) : Type 0 where

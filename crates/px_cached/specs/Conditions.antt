@@ -1,9 +1,11 @@
 -- The conditions of a plan's nodes by number, and the sources of all by number.
-use Rattle.std.specs.Prelude.{ℕ, ◌+◌, ◌*◌, ◌/◌, ◌%◌, Bool, List, length, slice_index_or, Option}
+use Rattle.std.specs.Prelude.{ℕ, ◌+◌, ◌*◌, ◌/◌, ◌%◌, Bool, nat_eq, List, length, slice_index_or, Option, Some, None}
+use Rattle.std.specs.List.{position_or_len}
 use Rattle.px_value.specs.Truth.{truth_of}
 use Rattle.px_core.specs.declared.conditions.ConditionKind.{ConditionKind}
 use Rattle.px_core.specs.declared.conditions.ConditionKind.TheVariants as which
 use Rattle.px_core.specs.Plan.{Site, condition_of}
+use Rattle.px_sem.specs.Tolerances.{tolerances}
 use Rattle.px_flat.specs.Layout.{all_cells}
 use Rattle.px_flat.specs.Lookups.{lookups_of}
 use Rattle.px_flat.specs.Numbered.{Numbered, ConditionsNumbered, numbered}
@@ -50,11 +52,17 @@ of_kind conditions which.Invariant = conditions.invariant
 abbrev pub truth_in : List Site → Present → Numbered → Option Bool
 truth_in plan present expr = truth_of (value_in plan present expr)
 
--- A source's number: that of its first cell, and behind all cells that of a lookup name.
+-- the place of a tolerance among others; behind them all that of none, and of one that is not among them
+abbrev pub place_among : List ℕ → Option ℕ → ℕ
+place_among tolerances None = length tolerances
+place_among tolerances (Some tolerance) = position_or_len (nat_eq tolerance) tolerances
+
+-- A source's number: that of its first cell, and behind all cells that of a lookup name, by the places of its tolerances.
 abbrev pub source_number : List Site → Source → ℕ
 source_number plan (Cells first size) = first
-source_number plan (Reports lookup) = all_cells plan + lookup
+source_number plan (Reports lookup tolerance) =
+    all_cells plan + (place_among (tolerances plan) tolerance * length (lookups_of plan) + lookup)
 
 -- how many numbers of sources there are
 abbrev pub all_sources : List Site → ℕ
-all_sources plan = all_cells plan + length (lookups_of plan)
+all_sources plan = all_cells plan + (length (tolerances plan) + 1) * length (lookups_of plan)

@@ -9,7 +9,7 @@ use Rattle.px_flat.specs.Sources.{Source, Cells, Reports}
 -- a source has this cell
 abbrev pub HasCell : Source → ℕ → Type 0
 HasCell (Cells first size) cell = (first ≤ cell) × (cell < first + size)
-HasCell (Reports lookup) cell = ⊥
+HasCell (Reports lookup tolerance) cell = ⊥
 
 -- of variables that stand one after another from a cell on: for each of their cells the first of its variable's
 abbrev pub firsts_from : ℕ → List VariableData → List ℕ

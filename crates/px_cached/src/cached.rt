@@ -2,14 +2,17 @@
 ghost use Rattle.std.specs.Prelude.{◌≡◌, ◌<◌, ◌≤◌, ◌^◌, length, IfOk, OnOk};
 ghost use Rattle.px_flat.specs.Flat.{plan_of};
 ghost use Rattle.px_flat.specs.Layout.{all_cells};
-ghost use Rattle.px_cached.specs.Cached.{AreFresh, HasTouchedCell, IsSeen, IsSeenBut, IsTouched, TellsChanged, kept_truth, plan_in, present_in};
-ghost use Rattle.px_cached.specs.Conditions.{all_sources};
+ghost use Rattle.px_flat.specs.Lookups.{lookups_of};
+ghost use Rattle.px_flat.specs.Sources as sources;
+ghost use Rattle.px_cached.specs.Cached.{AreFresh, HasTouchedCell, HasTouchedReports, IsSeen, IsSeenBut, IsTouched, TellsChanged, kept_truth, plan_in, present_in};
+ghost use Rattle.px_cached.specs.Conditions.{all_sources, source_number};
 
 use crate::firsts::{first_cells, source_of};
 use crate::kinds::place_of;
 use crate::looking::Kept;
 use crate::noticing::{NOTED, notice};
 use crate::reading::listeners;
+use crate::sources::{report_source, source_count};
 use px_cells::Cells;
 use px_core::ConditionKind;
 use px_flat::Flat;
@@ -17,7 +20,7 @@ use px_links::Links;
 use px_listen::Listeners;
 use px_lookup::Reports;
 use px_value::NoMemory;
-use std::alloc::Global;
+use std::alloc::{AllocError, Global};
 use std::marker::Model;
 use std::snapshot::Snapshot;
 
@@ -69,7 +72,10 @@ impl Cached {
     {
         let kept = Kept::of(alloc, flat)?;
         let listeners = listeners(alloc, flat, &kept.network.parts)?;
-        let touched = Links::new(alloc, flat.all_cells() + flat.lookups(), 1)?;
+        let Some(count) = source_count(flat) else {
+            return Err(AllocError);
+        };
+        let touched = Links::new(alloc, count, 1)?;
         let firsts = first_cells(alloc, flat)?;
         Ok(Cached {
             flat: Snapshot::of(flat),
@@ -82,8 +88,8 @@ impl Cached {
         })
     }
 
-    /// From now on the source is touched: the first cell of a variable, a cell of a node, or, numbered behind all cells, a
-    /// lookup name.
+    /// From now on the source is touched: the first cell of a variable, a cell of a node, or, numbered behind all cells, what
+    /// is reported under a lookup name.
     pub fn touch(&mut self, source: u32)
         requires { source < all_sources (plan_in self.old) }
         ensures { IsTouched self.old self.new source }
@@ -99,6 +105,30 @@ impl Cached {
     {
         let source = source_of(&self.firsts, cell);
         self.touch(source);
+    }
+
+    /// From now on what is reported under a lookup name is touched, as it is read with this tolerance, or with none.
+    pub fn touch_report(&mut self, flat: &Flat, lookup: u32, tolerance: Option<u32>)
+        requires plan { plan_of flat.now ≡ plan_in self.old }
+        requires lookup { lookup < length (lookups_of (plan_in self.old)) }
+        requires few { all_sources (plan_in self.old) < 2 ^ 32 }
+        ensures { IsTouched self.old self.new (source_number (plan_in self.old) (sources.Reports lookup tolerance)) }
+    {
+        self.touch(report_source(flat, lookup, tolerance));
+    }
+
+    /// From now on all that is reported is touched.
+    pub fn touch_reports(&mut self, flat: &Flat)
+        requires plan { plan_of flat.now ≡ plan_in self.old }
+        requires few { all_sources (plan_in self.old) < 2 ^ 32 }
+        ensures { HasTouchedReports self.old self.new }
+    {
+        let Some(count) = source_count(flat) else {
+            return;
+        };
+        for number in flat.all_cells()..count {
+            self.touch(number);
+        }
     }
 
     /// Looks again at what reads a touched source, and at the way up as far as something changes. Each node with a condition

@@ -2,7 +2,7 @@
 //!
 //! A condition is made of parts (`part`): what is evaluated whole, and `&&`, `||` or a negated `||` over two parts.
 //! `laying` lays the parts of all conditions (`kinds` numbers these, `copies` copies what is evaluated whole), those in a
-//! part before it; `reading` lists which parts read which sources; `noticing` notes what depends on touched sources,
+//! part before it; `sources` numbers the sources, and `reading` lists which parts read which; `noticing` notes what depends on touched sources,
 //! `looking` looks at it again, and `carrying` carries a truth that changed up as far as something changes; `firsts` tells
 //! the source that has a cell. `cached` is the table.
 //!
@@ -21,5 +21,6 @@ mod looking;
 mod noticing;
 mod part;
 mod reading;
+mod sources;
 
 pub use cached::Cached;

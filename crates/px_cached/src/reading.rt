@@ -10,6 +10,7 @@ ghost use Rattle.px_cached.specs.Network.{part_at};
 ghost use Rattle.px_cached.specs.Reading.{AreListening, AreReadersBelow, readers_of, sources_at};
 
 use crate::part::Part;
+use crate::sources::{report_source, source_count};
 use px_flat::{Flat, NumberedExpr};
 use px_listen::Listeners;
 use px_value::NoMemory;
@@ -57,8 +58,12 @@ fn push_sources(
         NumberedExpr::Acknowledged(node) => {
             push(flat.acknowledgement_cell(*node), part, readers)
         }
-        NumberedExpr::Look { lookup, args, .. } => {
-            push(flat.all_cells() + lookup, part, readers)?;
+        NumberedExpr::Look {
+            lookup,
+            args,
+            tolerance,
+        } => {
+            push(report_source(flat, *lookup, *tolerance), part, readers)?;
             push_each(flat, args, part, readers)
         }
         NumberedExpr::Unary { arg, .. } => push_sources(flat, arg, part, readers),
@@ -128,7 +133,7 @@ pub(crate) fn listeners(alloc: Global, flat: &Flat, network: &[Part]) -> Result<
     ensures listening { IfOk result (AreListening (plan_of flat.now) network.now) }
     ensures few { IfOk result (λ _. all_sources (plan_of flat.now) < 2 ^ 32) }
 {
-    let Some(sources) = flat.all_cells().checked_add(flat.lookups()) else {
+    let Some(sources) = source_count(flat) else {
         return Err(AllocError);
     };
     let readers = readers(alloc, flat, network)?;

@@ -1,4 +1,4 @@
-use Rattle.std.proofs.Common.{ℕ, ◌+◌, ◌<◌, ◌^◌, List, [], length, ap, sym, ◌∙◌, subst}
+use Rattle.std.proofs.Common.{ℕ, ◌<◌, ◌^◌, List, [], length, ap, sym, ◌∙◌, subst}
 use Rattle.std.proofs.lemmas.List.{length-replicate}
 use Rattle.px_cells.specs.Cells.{CellsData}
 use Rattle.px_flat.specs.declared.flat.Flat.{Flat}
@@ -38,7 +38,7 @@ invariant_of-result c =
           (subst (λ parts. AreListening (plan_of c.args.flat.now) parts c.in_ok-listeners.listeners) c.deref.ensures.value
           c.in_ok-listeners.ensures.listening);
       touched_cells = ap (λ (links : LinksData). links.cells) made
-          ∙ (λ i. c.all_cells.ensures.cells i + c.lookups.ensures i)
+          ∙ c.in-Some.ensures.1
           ∙ ap (λ (flat : Flat). all_sources (plan_of flat)) flat_is;
       firsts = c.in_ok-firsts.ensures ∙ ap (λ (flat : Flat). firsts_of (plan_of flat)) flat_is;
       touched_lists = ap (λ (links : LinksData). length links.lists) made ∙ length-replicate {A = List ℕ} 1 [];
