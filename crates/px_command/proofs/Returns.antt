@@ -15,7 +15,7 @@ use Rattle.px_sem.specs.Effects.{as_kind, write_at, cell_of}
 use Rattle.px_sem.specs.Events.{with_write, returned, result_place, body_at, has_result, changed, take}
 use Rattle.px_sem.specs.Guards.{is_executing, is_finishing}
 use Rattle.px_sem.specs.World as world
-use Rattle.px_sem.specs.World.{LookState, Action, variable_at}
+use Rattle.px_sem.specs.World.{LookState, Report, Action, variable_at}
 use Rattle.px_flat.specs.declared.act.Act.{Act}
 use Rattle.px_flat.specs.declared.act.Act.TheVariants as under_way
 use Rattle.px_flat.specs.declared.flat.Flat.{Flat}
@@ -116,7 +116,7 @@ slot_result plan (Update pairs) act slot is = absurd (cc)
 
 -- ---- the row of the table
 
-pub return_early : (plan : List Site) (cells : List Value) (reports : List (LookState × Value)) (acts : List Act) (node : ℕ)
+pub return_early : (plan : List Site) (cells : List Value) (reports : List (LookState × Report)) (acts : List Act) (node : ℕ)
     (given : Value) → IsSound plan → node < length plan
     → (is_executing (state_in (held cells (state_cell plan node))) || is_finishing (state_in (held cells (state_cell plan node))))
     ≡ false
@@ -131,7 +131,7 @@ return_early plan cells reports acts node given sound within early =
     has = has_node plan cells reports acts node sound within
 
 -- what is changed where a command has a result
-changes : (plan : List Site) (cells : List Value) (reports : List (LookState × Value)) (acts : List Act) (node : ℕ)
+changes : (plan : List Site) (cells : List Value) (reports : List (LookState × Report)) (acts : List Act) (node : ℕ)
     (given : Value) → IsSound plan → node < length plan → (of : HasTarget (site_in plan node).head.body)
     → changed plan (world_of plan cells reports acts) (events.Return (site_in plan node).path given)
     ≡ with_write plan (world_of plan cells reports acts)
@@ -142,7 +142,7 @@ changes plan cells reports acts node given sound within of =
     λ i. with_write plan (world_of plan cells reports acts)
     (returned plan (target_of ((has.body_is ∙ of.is) i)) (has.action_is i) given)
 
-pub return_nowhere : (plan : List Site) (cells : List Value) (reports : List (LookState × Value)) (acts : List Act) (node : ℕ)
+pub return_nowhere : (plan : List Site) (cells : List Value) (reports : List (LookState × Report)) (acts : List Act) (node : ℕ)
     (given : Value) → IsSound plan → node < length plan
     → result_slot (numbered_body plan (site_in plan node).head.body) (act_of acts node) ≡ None
     → take plan (world_of plan cells reports acts) (events.Return (site_in plan node).path given)
@@ -206,7 +206,7 @@ slot_within plan cells acts node slot sound within parts is =
       cells_within plan result.declared.node result.declared.within,
     )
 
-pub return_taken : (plan : List Site) (cells : List Value) (reports : List (LookState × Value)) (acts : List Act) (node : ℕ)
+pub return_taken : (plan : List Site) (cells : List Value) (reports : List (LookState × Report)) (acts : List Act) (node : ℕ)
     (given : Value) (slot : ℕ × VarKind) → IsSound plan → AllDiffer plan → node < length plan → IsParts plan cells acts
     → (is_executing (state_in (held cells (state_cell plan node))) || is_finishing (state_in (held cells (state_cell plan node))))
     ≡ true

@@ -11,7 +11,7 @@ use Rattle.px_event.specs.declared.event.Event.TheVariants as events
 use Rattle.px_sem.specs.Events.{with_record, with_action, with_handle, with_abort_done, body_at, action_at, is_command, is_update, counts, changed, take}
 use Rattle.px_sem.specs.Guards.{is_active, is_executing, is_failing}
 use Rattle.px_sem.specs.World as world
-use Rattle.px_sem.specs.World.{World, NodeRecord, Action, LookState, record_at, state_at}
+use Rattle.px_sem.specs.World.{World, NodeRecord, Action, LookState, Report, record_at, state_at}
 use Rattle.px_flat.specs.declared.act.Act.{Act}
 use Rattle.px_flat.specs.declared.act.Act.TheVariants as under_way
 use Rattle.px_flat.specs.Layout.{node_cell, state_cell, handle_cell, acknowledgement_cell}
@@ -29,7 +29,7 @@ use Rattle.px_command.proofs.Nodes.{elsewhere, cell_kept, act_kept}
 
 -- ---- what the world has of a node
 
-pub record HasNode (plan : List Site) (cells : List Value) (reports : List (LookState × Value)) (acts : List Act) (node : ℕ)
+pub record HasNode (plan : List Site) (cells : List Value) (reports : List (LookState × Report)) (acts : List Act) (node : ℕ)
     : Type 0 where
   pub body_is : body_at plan (site_in plan node).path ≡ (site_in plan node).head.body
   pub state_is : state_at (world_of plan cells reports acts) (site_in plan node).path
@@ -40,7 +40,7 @@ pub record HasNode (plan : List Site) (cells : List Value) (reports : List (Look
   pub same_action : with_action (world_of plan cells reports acts) (site_in plan node).path
       (action_at (world_of plan cells reports acts) (site_in plan node).path) ≡ world_of plan cells reports acts
 
-pub has_node : (plan : List Site) (cells : List Value) (reports : List (LookState × Value)) (acts : List Act) (node : ℕ)
+pub has_node : (plan : List Site) (cells : List Value) (reports : List (LookState × Report)) (acts : List Act) (node : ℕ)
     → IsSound plan → node < length plan → HasNode plan cells reports acts node
 has_node plan cells reports acts node sound within =
     let record_is = record_at-world_of plan cells reports acts node sound.distinct within in
@@ -150,7 +150,7 @@ acknowledgement_of_aborted (under_way.Element index old) a is = is
 acknowledgement_of_aborted under_way.Updated a is = is
 
 -- a handle counts where a command is under way and the node is at work
-pub handle_ignored : (plan : List Site) (cells : List Value) (reports : List (LookState × Value)) (acts : List Act) (node : ℕ)
+pub handle_ignored : (plan : List Site) (cells : List Value) (reports : List (LookState × Report)) (acts : List Act) (node : ℕ)
     (handle : Handle) → IsSound plan → node < length plan
     → (is_active (state_in (held cells (state_cell plan node))) && is_sent (act_of acts node)) ≡ false
     → take plan (world_of plan cells reports acts) (events.Handle (site_in plan node).path handle)
@@ -170,7 +170,7 @@ handle_ignored plan cells reports acts node handle sound within fails =
     has : HasNode plan cells reports acts node
     has = has_node plan cells reports acts node sound within
 
-pub handle_taken : (plan : List Site) (cells : List Value) (reports : List (LookState × Value)) (acts : List Act) (node : ℕ)
+pub handle_taken : (plan : List Site) (cells : List Value) (reports : List (LookState × Report)) (acts : List Act) (node : ℕ)
     (handle : Handle) → IsSound plan → node < length plan → IsParts plan cells acts
     → (is_active (state_in (held cells (state_cell plan node))) && is_sent (act_of acts node)) ≡ true
     → world_of plan (set cells (handle_cell plan node) (values.Handle handle)) reports acts
@@ -221,7 +221,7 @@ handle_parts plan cells acts node handle within parts sent =
     old = parts.nodes node within
 
 -- the abort of a command is done where one is under way and the node fails
-pub abort_ignored : (plan : List Site) (cells : List Value) (reports : List (LookState × Value)) (acts : List Act) (node : ℕ)
+pub abort_ignored : (plan : List Site) (cells : List Value) (reports : List (LookState × Report)) (acts : List Act) (node : ℕ)
     → IsSound plan → node < length plan
     → (is_failing (state_in (held cells (state_cell plan node))) && is_sent (act_of acts node)) ≡ false
     → take plan (world_of plan cells reports acts) (events.AbortDone (site_in plan node).path)
@@ -241,7 +241,7 @@ abort_ignored plan cells reports acts node sound within fails =
     has : HasNode plan cells reports acts node
     has = has_node plan cells reports acts node sound within
 
-pub abort_taken : (plan : List Site) (cells : List Value) (reports : List (LookState × Value)) (acts : List Act) (node : ℕ)
+pub abort_taken : (plan : List Site) (cells : List Value) (reports : List (LookState × Report)) (acts : List Act) (node : ℕ)
     → IsSound plan → node < length plan → IsParts plan cells acts
     → (is_failing (state_in (held cells (state_cell plan node))) && is_sent (act_of acts node)) ≡ true
     → world_of plan cells reports (set acts node (aborted (act_of acts node)))
@@ -308,7 +308,7 @@ with_record-twice before path first second =
     over (entry ∷ nodes) = λ i. (entry.0, one entry.0 entry.1 (is_same entry.0 path) i) ∷ over nodes i
 
 -- an acknowledgement counts where the node is an update that is at work or fails
-pub acknowledged_ignored : (plan : List Site) (cells : List Value) (reports : List (LookState × Value)) (acts : List Act)
+pub acknowledged_ignored : (plan : List Site) (cells : List Value) (reports : List (LookState × Report)) (acts : List Act)
     (node : ℕ) → IsSound plan → node < length plan
     → (is_update (site_in plan node).head.body
     && (is_executing (state_in (held cells (state_cell plan node))) || is_failing (state_in (held cells (state_cell plan node)))))
@@ -322,7 +322,7 @@ acknowledged_ignored plan cells reports acts node sound within fails =
     has : HasNode plan cells reports acts node
     has = has_node plan cells reports acts node sound within
 
-pub acknowledged_taken : (plan : List Site) (cells : List Value) (reports : List (LookState × Value)) (acts : List Act)
+pub acknowledged_taken : (plan : List Site) (cells : List Value) (reports : List (LookState × Report)) (acts : List Act)
     (node : ℕ) → IsSound plan → node < length plan → IsParts plan cells acts
     → (is_update (site_in plan node).head.body
     && (is_executing (state_in (held cells (state_cell plan node))) || is_failing (state_in (held cells (state_cell plan node)))))

@@ -14,7 +14,7 @@ use Rattle.px_sem.specs.Effects.{as_kind}
 use Rattle.px_sem.specs.Events as semantics
 use Rattle.px_sem.specs.Events.{take}
 use Rattle.px_sem.specs.Guards.{is_executing, is_failing}
-use Rattle.px_sem.specs.World.{World, LookState}
+use Rattle.px_sem.specs.World.{World, LookState, Report}
 use Rattle.px_cells.specs.Marked.{Contents, written}
 use Rattle.px_flat.specs.declared.act.Act.{Act}
 use Rattle.px_flat.specs.declared.act.Act.TheVariants as under_way
@@ -37,7 +37,7 @@ use Rattle.px_command.proofs.Rows.{handle_ignored, handle_taken, handle_parts, a
 -- nothing changes
 pub unchanged : (plan : List Site) (event : Event) (cells : Contents Value) (acts : Contents Act)
     → IsParts plan cells.values acts.values
-    → ((reports : List (LookState × Value)) → take plan (world_of plan cells.values reports acts.values) event
+    → ((reports : List (LookState × Report)) → take plan (world_of plan cells.values reports acts.values) event
     ≡ world_of plan cells.values reports acts.values)
     → IsTaken plan event cells acts cells acts
 unchanged plan event cells acts parts same = record {
@@ -53,7 +53,7 @@ both_written : (plan : List Site) (event : Event) (cells new_cells : Contents Va
     → new_cells.values ≡ new_values → new_acts.values ≡ new_under_way
     → new_cells.marked ≡ cells.marked → new_acts.marked ≡ acts.marked
     → IsParts plan new_values new_under_way
-    → ((reports : List (LookState × Value)) → world_of plan new_values reports new_under_way
+    → ((reports : List (LookState × Report)) → world_of plan new_values reports new_under_way
     ≡ take plan (world_of plan cells.values reports acts.values) event)
     → IsTaken plan event cells acts new_cells new_acts
 both_written plan event cells new_cells acts new_acts new_values new_under_way values_are acts_are cells_marked acts_marked parts taken =

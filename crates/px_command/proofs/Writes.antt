@@ -13,7 +13,7 @@ use Rattle.px_core.specs.Plan.{Site, VariableData, no_site, is_same}
 use Rattle.px_sem.specs.Effects.{cell_of}
 use Rattle.px_sem.specs.Events.{with_record, with_write}
 use Rattle.px_sem.specs.World as world
-use Rattle.px_sem.specs.World.{NodeRecord, LookState, record_at}
+use Rattle.px_sem.specs.World.{NodeRecord, LookState, Report, record_at}
 use Rattle.px_flat.specs.declared.act.Act.{Act}
 use Rattle.px_flat.specs.Layout.{Place, place_from, first_cell, node_cell, state_cell, variable_cells}
 use Rattle.px_flat.specs.Numbered.{held}
@@ -164,7 +164,7 @@ pub record IsCellOf (plan : List Site) (owner name : List ℕ) (place : world.Pl
   pub inside : cell_of place < declared.has.place.size
   pub is : cell ≡ declared.has.place.first + cell_of place
 
-pub variable_written : (plan : List Site) (cells : List Value) (reports : List (LookState × Value)) (acts : List Act)
+pub variable_written : (plan : List Site) (cells : List Value) (reports : List (LookState × Report)) (acts : List Act)
     (owner name : List ℕ) (place : world.Place) (cell : ℕ) (value : Value) → IsSound plan
     → IsCellOf plan owner name place cell
     → world_of plan (set cells cell value) reports acts

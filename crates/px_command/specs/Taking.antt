@@ -5,14 +5,14 @@ use Rattle.px_core.specs.Plan.{Site}
 use Rattle.px_event.specs.declared.event.Event.{Event}
 use Rattle.px_event.specs.declared.event.Event.TheVariants as events
 use Rattle.px_sem.specs.Events.{take}
-use Rattle.px_sem.specs.World.{LookState}
+use Rattle.px_sem.specs.World.{LookState, Report}
 use Rattle.px_cells.specs.Marked.{Contents}
 use Rattle.px_flat.specs.declared.act.Act.{Act}
 use Rattle.px_flat.specs.Parts.{IsParts, world_of}
 
 -- the nodes of the world are those after the event, whatever was reported
 abbrev pub HasTaken : List Site → Event → List Value → List Act → List Value → List Act → Type 0
-HasTaken plan event cells acts new_cells new_acts = (reports : List (LookState × Value))
+HasTaken plan event cells acts new_cells new_acts = (reports : List (LookState × Report))
     → (world_of plan new_cells reports new_acts).nodes ≡ (take plan (world_of plan cells reports acts) event).nodes
 
 -- the parts have taken an event and stand for a world again; what is marked stays
