@@ -121,7 +121,10 @@ tables_send =
           search (sendable, crosses, sets.the_send, paths.the_send) depth 12,
           (
             search (sendable, crosses, slots.the_send) depth 12,
-            (search (sendable, crosses, sets.the_send, names.the_send) depth 12, tt),
+            (
+              search (sendable, crosses, sets.the_send, names.the_send) depth 12,
+              (search (sendable, crosses) depth 12, tt),
+            ),
           ),
         ),
       ),

@@ -65,10 +65,11 @@ impl Parts {
     {
         let flat = flatten(alloc, plan)?;
         let values = first_cells(alloc, &flat)?;
+        let tolerances = Vec::from_slice(alloc, flat.tolerances())?;
         Ok(Parts {
             actions: Actions::new(alloc, &flat)?,
             cells: Cells::new(alloc, values)?,
-            reports: Reports::new(alloc, Vec::new(alloc)),
+            reports: Reports::new(alloc, tolerances),
             moves: Vec::new(alloc),
             flat,
         })

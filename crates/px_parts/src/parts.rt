@@ -1,4 +1,8 @@
 // What a micro step works on.
+ghost use Rattle.std.specs.Prelude.{◌≡◌};
+ghost use Rattle.px_sem.specs.Tolerances.{tolerances};
+ghost use Rattle.px_flat.specs.Flat.{plan_of};
+
 use px_cells::Cells;
 use px_command::Actions;
 use px_flat::Flat;
@@ -16,4 +20,5 @@ pub struct Parts {
     pub actions: Actions,
     /// The moves of the last step, in preorder.
     pub moves: Vec<Move>,
+    ghost latching: { reports.tolerances ≡ tolerances (plan_of flat) },
 }

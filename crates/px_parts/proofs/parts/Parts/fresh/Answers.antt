@@ -17,7 +17,7 @@ pub returns-clause-world : goal.returns-clause-world
 returns-clause-world c =
     let plan = plan_of c.in_ok-flat.flat in
     (λ i. world_of plan ((ap (λ contents. contents.values) c.in_ok-new-2.ensures.contents ∙ c.in_ok-values.ensures) i)
-    (c.new-4.ensures i).reports ((c.in_ok-new.ensures.contents i).values))
+    (c.new-3.ensures i).reports ((c.in_ok-new.ensures.contents i).values))
     ∙ world_at_rest plan
 
 pub returns-clause-stand : goal.returns-clause-stand
