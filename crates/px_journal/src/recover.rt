@@ -53,7 +53,7 @@ impl<D: Disk> Journal<D> {
             → ForSome (D.content disk) (λ told. IsTrue (is_nothing told)) }
         ensures damaged { (at : ℕ) → IsNotRecovered result (whys.Damaged at)
             → ForSome (D.content disk) (λ told. IsFalse (is_nothing told) × Damaged told at) }
-        ensures never_whole { (at : ℕ) → IsNotRecovered result (whys.Damaged at)
+        ensures never_undamaged { (at : ℕ) → IsNotRecovered result (whys.Damaged at)
             → ForSome (D.content disk) (λ _. IsUndamaged D.Disk disk → ⊥) }
 
         ensures writes_nothing { IsUnwritten D.Disk disk (disk_recovered result) }

@@ -7,7 +7,5 @@
 
 mod cell;
 mod links;
-#[cfg(test)]
-mod tests;
 
 pub use links::Links;

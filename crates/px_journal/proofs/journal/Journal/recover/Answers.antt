@@ -7,8 +7,8 @@ use Rattle.px_journal.proofs.journal.Journal.recover.Goals as goal
 pub returns-in-Err-clause-damaged : goal.returns-in-Err-clause-damaged
 returns-in-Err-clause-damaged g c = λ at why told is. c.in-Err.ensures.damaged at (ap Err why) told is
 
-pub returns-in-Err-clause-never_whole : goal.returns-in-Err-clause-never_whole
-returns-in-Err-clause-never_whole g c = λ at why told is whole.
+pub returns-in-Err-clause-never_undamaged : goal.returns-in-Err-clause-never_undamaged
+returns-in-Err-clause-never_undamaged g c = λ at why told is whole.
     let damaged = returns-in-Err-clause-damaged g c at why told is in
     ⊎_elim (λ nothing. nothing_or_not (is_nothing told) nothing (damaged.0))
     (λ stands. undamaged told (stands.0) (stands.1) (stands.2) at (damaged.1))
