@@ -1,4 +1,4 @@
--- WHAT `expand` PROMISES.
+-- WHAT `expand` PROMISES, and `check_size`, which refuses as it does.
 use Rattle.std.specs.Prelude.{◌≡◌, true, false, [], IsTrue}
 use Rattle.px_syntax.specs.declared.fault.ExpandFault.{ExpandFault}
 use Rattle.px_syntax.specs.declared.fault.ExpandFault.TheVariants.{TooMany, NoMemory}

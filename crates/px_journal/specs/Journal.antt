@@ -57,11 +57,12 @@ pub record WereRead (content : Told) (version : Version) (text : List ℕ) (hist
   pub few : length named ≤ 100000
   pub stands : ForSome content (λ told. StandsAs version told text named)
 
--- the entry with the name that the next append gives it: in the second version that of its thread, where it has one
+-- the name that the next append gives an entry of this thread: in the second version that of the thread, where it has one
 abbrev pub name_given : Version → List ThreadName → ℕ → Option (List ℕ)
 name_given versions.One names thread = None
 name_given versions.Two names thread = name_of thread names
 
+-- an entry with that name
 abbrev pub with_name : {D : Type 0} → Journal D → Entry → NamedEntry
 with_name journal entry =
     record { name = name_given journal.version journal.names entry.thread; entry = entry }
