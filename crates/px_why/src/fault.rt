@@ -107,6 +107,13 @@ impl<'a> Seen<'a> {
     }
 
     fn too_large(&self, alloc: Global, token: usize) -> Result<Words, NoMemory> {
+        if self.is_number(token) {
+            return Words::fixed(
+                alloc,
+                "this plan has 16 other tolerances already",
+                "let lookups share a tolerance where they can",
+            );
+        }
         let name = self.name(token);
         if name.is_empty() {
             return Words::fixed(

@@ -49,10 +49,18 @@ impl<'a> Seen<'a> {
         }
     }
 
-    /// What is said where an array stands without an index, a scalar with one, or a single value in place of a list.
+    /// What is said where an array stands without an index, a scalar with one, a single value in place of a list, or a
+    /// tolerance where there can be none.
     pub fn misuse(&self, alloc: Global, token: usize) -> Result<Words, NoMemory> {
         let name = self.name(token);
         let next = self.sign(token.saturating_add(1));
+        if self.is_number(token) && next == Some(Sign::CloseParen) {
+            return Words::fixed(
+                alloc,
+                "a tolerance stands here, and the lookup is not declared as Integer",
+                "leave it away with the comma before it, or declare the lookup as Integer",
+            );
+        }
         if name.is_empty() {
             return self.misplaced_initial(alloc, token);
         }

@@ -60,6 +60,11 @@ impl<'a> Seen<'a> {
         }
     }
 
+    /// Whether a number stands at a token, as a tolerance is one.
+    pub fn is_number(&self, token: usize) -> bool {
+        matches!(self.kind(token), Some(TokenKind::Integer(_)))
+    }
+
     /// The first declaration of a name that is of this sort.
     pub fn first_of(&self, like: What, name: &str) -> Option<Declared<'a>> {
         self.names
