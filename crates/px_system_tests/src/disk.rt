@@ -181,8 +181,8 @@ fn is_counted<R: Files<File = File> + Copy>(
     fails(&rt, &mut disk, name, folder, moved) && disk.faults() == 4
 }
 
-// Behind the end nothing is read, and at a place that no file has nothing is written. A new file's folder can't be synced
-// where it is gone, and behind that the disk isn't trusted, although the folder is there again.
+// Behind the end nothing is read, and at a place that no file has nothing is written. The folder of the new file can't be
+// synced where it is gone, nor is the disk trusted when it can again.
 fn fails<R: Files<File = File>>(
     rt: &R,
     disk: &mut StdDisk<R>,
