@@ -9,8 +9,10 @@ use Rattle.std.proofs.lemmas.List.Sums.{fold-append}
 use Rattle.px_value.specs.declared.value.Value.{Value}
 use Rattle.px_sem.specs.declared.moves.Move.{Move}
 use Rattle.px_sem.specs.Step.{move_of}
+use Rattle.px_sem.specs.Tolerances.{tolerances}
 use Rattle.px_cells.specs.Marked.{MarkedData}
 use Rattle.px_flat.specs.declared.act.Act.{Act}
+use Rattle.px_flat.specs.Flat.{plan_of}
 use Rattle.px_flat.specs.Row.{site_in}
 use Rattle.px_micro.specs.declared.effects.CellWrite.{CellWrite}
 use Rattle.px_parts.specs.declared.parts.Parts.{Parts}
@@ -56,17 +58,27 @@ moves_then parts tells going one old new before added =
 
 -- ---- what the turns are does not change with the room
 
--- parts with other room
-abbrev pub with_room : Parts → MarkedData Value → MarkedData Act → Parts
-with_room parts cells acts =
-    record { flat = parts.flat; cells = cells; reports = parts.reports; actions = acts; moves = parts.moves }
+-- reports latch by the tolerances of the plan
+abbrev Latches : Parts → Type 0
+Latches parts = parts.reports.tolerances ≡ tolerances (plan_of parts.flat)
 
-pub turns_stay : (parts : Parts) (cells : MarkedData Value) (acts : MarkedData Act) (going : List Going) (made : Turns)
-    → cells.contents ≡ parts.cells.contents → acts.contents ≡ parts.actions.contents → AreTurns parts going made
-    → AreTurns (with_room parts cells acts) going made
-turns_stay parts cells acts going made cells_same acts_same are =
+-- parts with other room
+abbrev pub with_room : (parts : Parts) → Latches parts → MarkedData Value → MarkedData Act → Parts
+with_room parts latching cells acts = record {
+  flat = parts.flat;
+  cells = cells;
+  reports = parts.reports;
+  actions = acts;
+  moves = parts.moves;
+  latching = latching;
+}
+
+pub turns_stay : (parts : Parts) (latching : Latches parts) (cells : MarkedData Value) (acts : MarkedData Act)
+    (going : List Going) (made : Turns) → cells.contents ≡ parts.cells.contents → acts.contents ≡ parts.actions.contents → AreTurns parts going made
+    → AreTurns (with_room parts latching cells acts) going made
+turns_stay parts latching cells acts going made cells_same acts_same are =
     subst (λ parts. AreTurns parts going made)
-    (λ i. with_room parts (record cells { contents = sym cells_same i }) (record acts { contents = sym acts_same i }))
+    (λ i. with_room parts latching (record cells { contents = sym cells_same i }) (record acts { contents = sym acts_same i }))
     (record {
       writes = are.writes;
       initial = are.initial;

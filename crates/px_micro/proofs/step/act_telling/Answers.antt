@@ -17,7 +17,7 @@ pub apply-requires-clause-turns : goal.apply-requires-clause-turns
 apply-requires-clause-turns c =
     let parts = c.args.parts.now in
     let made = c.in_ok-turns.turns in
-    turns_stay parts c.reserve.new.self c.reserve-2.new.self (map (λ (turn : Turn). turn.going) made.turns.items) made
+    turns_stay parts _ c.reserve.new.self c.reserve-2.new.self (map (λ (turn : Turn). turn.going) made.turns.items) made
     c.reserve.ensures.contents c.reserve-2.ensures.contents
     (subst (λ ones. AreTurns parts ones made) (sym c.in_ok-turns.ensures.turns.goers) c.in_ok-turns.ensures.turns)
 
