@@ -14,6 +14,7 @@ use Rattle.px_script.specs.Remainder.{rest}
 use Rattle.px_script.specs.Soak.{soak_threads}
 use Rattle.px_script.proofs.Soaks.{soak_never_stalls}
 use Rattle.px_script.specs.declared.script.Script.{Script}
+use Rattle.px_script.specs.declared.todo.Todo.{Todo}
 use Rattle.px_sem.specs.Log.{events_of}
 use Rattle.px_sem.specs.Run.{run, started}
 use Rattle.px_sem.specs.World.{World}

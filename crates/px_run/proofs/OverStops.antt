@@ -126,7 +126,7 @@ module _ {D : Type 0} (members : Disk.Ghosts D) (read_left : ReadsAreLeft member
   new_sound telling plan text limit spelled _ _ same (NewCalls.made session due nothing (so, behind)) =
       λ leaves. fronts (λ image. IsTrue (is_nothing image)) session (λ image is. is)
       (longest_sound script fit plan text [] limit session (sound_empty script.threads) (subst (λ (t : List Todo). IsSession plan text [] limit (rest t []) session) same so))
-      (leaves.1.0)
+      (leaves.1)
   new_sound telling plan text limit spelled _ _ same NewCalls.no_memory = untouched_sound
 
   run_sound : (telling : Telling) (plan : List Site) (text : List ℕ) (limit : ℕ) (spelled : Script) (course : Course) (due : Due) (found : Option (World × ℕ))
@@ -167,7 +167,7 @@ module _ {D : Type 0} (members : Disk.Ghosts D) (read_left : ReadsAreLeft member
   names_sound _ _ NamesCalls.no_memory = λ leaves. unwritten (leaves.0).unwritten
   names_sound _ _ (NamesCalls.disk_fails rose) = unwritten
   names_sound _ _ (NamesCalls.no_journal_there ending none) = λ leaves. unwritten (leaves.0).unwritten
-  names_sound _ _ (NamesCalls.named text found told) = taken_up_sound text (entries found)
+  names_sound _ _ (NamesCalls.named text found here) = taken_up_sound text (entries found)
 
   -- ---- whatever the command
 
@@ -194,7 +194,7 @@ module _ {D : Type 0} (members : Disk.Ghosts D) (read_left : ReadsAreLeft member
         (λ text first tree stands next. after_file Script (script_file (sites tree)) name (TakenUp text first) _ course due (taken_up_sound text first)
         (λ spelled read (session, naming, is, found, (so, behind)) leaves.
         goes_on_sound (sites tree) text first limit spelled.threads session (only.0 name asks (sites tree) spelled read) stands so
-        ((subst (λ (c : Course). Leaves members old new c) is leaves).1.0)) next) calls
+        ((subst (λ (c : Course). Leaves members old new c) is leaves).1)) next) calls
 
     calls_sound : (asked : Option Command) (course : Course) (due : Due) → command words ≡ asked → CommandCallsFor members asked before now old new course due
         → LeavesSound course

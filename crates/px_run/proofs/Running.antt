@@ -162,7 +162,7 @@ module _ {D : Type 0} (members : Disk.Ghosts D) where
       performs = performs_more before now (DueBehind members telling (plan_of runs exec) threads finished.session exec.opening.journal.disk carried.disk)
           (NewCalls members telling plan text limit script old carried.disk (Made finished.session naming)) carried.result
           (λ due behind. NewCalls.made finished.session due made.was_nothing (session, behind_here due behind)) finished.performs;
-      leaves = λ tells. ((finished.leaves (made.tells ∙ tells)).now, (fronts tells, names tells));
+      leaves = λ tells. ((finished.leaves (made.tells ∙ tells)).now, fronts tells, names tells);
       bound = inl (finished.goes.stays.bound ∙ made.bound);
       back = record {
         tells = finished.goes.tells ∙ made.tells;
@@ -232,7 +232,7 @@ module _ {D : Type 0} (members : Disk.Ghosts D) where
     not_made creating.NoMemory new starts (inr (nothing, history, stands)) fault = record {
       course = Made (unposted text []) naming;
       performs = inr (NewCalls.made (unposted text []) None nothing (session, DueBehind.no_memory refl), refl);
-      leaves = λ tells. (history, (fronts_of_none text old new tells (fault.tells ∙ tells) fault.leaves history, names_of_none text script.names old new tells fault.leaves stands));
+      leaves = λ tells. (history, fronts_of_none text old new tells (fault.tells ∙ tells) fault.leaves history, names_of_none text script.names old new tells fault.leaves stands);
       bound = fault.bound;
       back = record { tells = fault.tells; kept = λ other. fault.faults.kept (λ same. absurd (cc)) };
     }

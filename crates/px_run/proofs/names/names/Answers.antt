@@ -1,15 +1,7 @@
-use Rattle.std.proofs.Common.{length, ap, sym, arith, ◌∙◌}
-use Rattle.px_journal.proofs.Ready.{ready_few}
+use Rattle.std.proofs.Common.{sym, ◌∙◌}
 use Rattle.px_output.specs.View.{view}
-use Rattle.px_session.proofs.TakenUp.{read_ready}
 use Rattle.px_run.proofs.ReadNames.{none_read, names_printed, names_broken_off}
 use Rattle.px_run.proofs.names.names.Goals as goal
-
-pub print_names-requires-clause-within : goal.print_names-requires-clause-within
-print_names-requires-clause-within g c =
-    let read = c.in-Ok.recovered in
-    let few = ready_few _ _ _ _ (read_ready g.D.Disk c.args.journal.now c.args.disk read c.in-Ok.ensures.read) in
-    omega (arith, few, ap length c.deref.ensures.value)
 
 pub returns-in-Err-clause-names : goal.returns-in-Err-clause-names
 returns-in-Err-clause-names g c =
