@@ -1,6 +1,6 @@
 -- Where nodes go by what is kept is where they go in the world, once all is seen and caught up: from the six inputs of a node
 -- to its destination.
-use Rattle.std.proofs.Common.{◌≡◌, ℕ, ◌+◌, ◌<◌, [], length, Option, ap, sym, ◌∙◌, arith}
+use Rattle.std.proofs.Common.{◌≡◌, ℕ, ◌+◌, ◌<◌, length, Option, ap, sym, ◌∙◌, arith}
 use Rattle.px_sem.specs.declared.guards.Arrival.{Arrival}
 use Rattle.px_sem.specs.Conflicts.{destination}
 use Rattle.px_sem.specs.Table.{dest}

@@ -15,7 +15,7 @@ use Rattle.px_parts.specs.declared.parts.Parts.{Parts}
 use Rattle.px_parts.specs.Parts.{plan_in}
 use Rattle.px_micro.specs.Above.{asks_in}
 use Rattle.px_machine.specs.declared.kept.Kept.{Kept}
-use Rattle.px_machine.specs.Kept.{IsOfPlan, kept_truths, own_seen, parent_state}
+use Rattle.px_machine.specs.Kept.{IsOfPlan, own_seen, parent_state}
 use Rattle.px_machine.specs.Queue.{IsBehind}
 use Rattle.px_machine.specs.Right.{IsRight}
 use Rattle.px_machine.specs.Told.{Agrees, IsCaughtUp}

@@ -1,8 +1,8 @@
 -- Which reports an event changes: those of the name that is heard of, at most.
-use Rattle.std.proofs.Common.{◌≡◌, ◌≢◌, ℕ, ◌+◌, ◌<◌, Bool, true, false, not, ◌&&◌, nat_lt, cond, [], ◌∷◌, ◌++◌, fold, position, List, length, get_or, Option, Some, None, AllPairs, refl, ap, sym, ◌∙◌, subst, arith, inl, inr, if◌then◌else◌}
+use Rattle.std.proofs.Common.{◌≡◌, ◌≢◌, ℕ, ◌<◌, Bool, true, false, not, ◌&&◌, nat_lt, cond, [], ◌∷◌, ◌++◌, fold, position, List, length, get_or, Option, Some, None, AllPairs, refl, ap, sym, ◌∙◌, subst, arith, inl, inr, if◌then◌else◌}
 use Rattle.std.specs.Cmp.Lexicographic.{pointwise, same_text}
 use Rattle.std.specs.List.{flat_map, list_any, position_or_len}
-use Rattle.std.specs.Option.{unwrap_or}
+use Rattle.std.specs.Option.{option_and_then, option_map, unwrap_or}
 use Rattle.std.proofs.lemmas.Bool.{and_parts, cases_lt, false_from_ne_true, false≢true, ltb-false}
 use Rattle.std.proofs.lemmas.List.Folds.{list_any_at}
 use Rattle.std.proofs.lemmas.List.Quantifiers.{all_pairs_push, position-Some}
@@ -16,13 +16,16 @@ use Rattle.px_core.proofs.Paths.{same-self}
 use Rattle.px_event.specs.declared.event.Event.{Event}
 use Rattle.px_event.specs.declared.event.Event.TheVariants as events
 use Rattle.px_event.specs.Values.{value_eq}
-use Rattle.px_sem.specs.Events.{reported}
-use Rattle.px_sem.specs.World.{LookState, is_same_state, last_report}
-use Rattle.px_flat.specs.Layout.{all_cells}
+use Rattle.px_sem.specs.Events.{first_report, next_report, reported}
+use Rattle.px_sem.specs.Expressions.{read_report}
+use Rattle.px_sem.specs.Tolerances.{tolerances}
+use Rattle.px_sem.specs.World.{LookState, Report, is_same_state, latched_at, report_at}
 use Rattle.px_flat.specs.Lookups.{lookups_in_head, lookups_of, with_name}
 use Rattle.px_flat.specs.Numbered.{reported_of}
+use Rattle.px_flat.specs.Sources.{Reports}
 use Rattle.px_cached.specs.Cached.{CachedData, is_touched}
-use Rattle.px_lookup.specs.Reports.{reports_after}
+use Rattle.px_cached.specs.Conditions.{source_number}
+use Rattle.px_lookup.specs.Reports.{HasStayed, ReportsData, reports_after}
 use Rattle.px_parts.specs.declared.parts.Parts.{Parts}
 use Rattle.px_parts.specs.Parts.{plan_in}
 use Rattle.px_machine.specs.Hearing.{heard_by}
@@ -78,60 +81,81 @@ number_is plan name number within same = by (position (is_same name) names) refl
 -- ---- reports
 
 -- a report of another name is no matter
-last_elsewhere : (state : LookState) (value : Value) (reports : List (LookState × Value)) (other : LookState)
-    → is_same state.name other.name ≡ false
-    → last_report (reported state value reports) other ≡ last_report reports other
-last_elsewhere state value [] other apart =
-    ap (λ same. cond (same && pointwise value_eq state.args other.args) (Some value) None) apart
-last_elsewhere state value (report ∷ reports) other apart =
-    by (is_same_state report.0 state) refl (last_elsewhere state value reports other apart)
+report_elsewhere : (tolerances : List ℕ) (state : LookState) (given : Value) (reports : List (LookState × Report))
+    (other : LookState) → is_same state.name other.name ≡ false
+    → report_at (reported tolerances state given reports) other ≡ report_at reports other
+report_elsewhere tolerances state given [] other apart =
+    ap (λ same. cond (same && pointwise value_eq state.args other.args) (Some (first_report tolerances given)) None) apart
+report_elsewhere tolerances state given (report ∷ reports) other apart =
+    by (is_same_state report.0 state) refl (report_elsewhere tolerances state given reports other apart)
   where
     by : (same : Bool) → is_same_state report.0 state ≡ same
-        → last_report (reported state value reports) other ≡ last_report reports other
-        → last_report (if same then (report.0, value) ∷ reports else report ∷ reported state value reports) other
-        ≡ last_report (report ∷ reports) other
+        → report_at (reported tolerances state given reports) other ≡ report_at reports other
+        → report_at (if same then (report.0, next_report report.1 given) ∷ reports
+        else report ∷ reported tolerances state given reports) other
+        ≡ report_at (report ∷ reports) other
     by false is rest = λ i. cond (is_same_state report.0 other) (Some report.1) (rest i)
     by true is rest =
         let both = and_parts (is_same report.0.name state.name) (pointwise value_eq report.0.args state.args) is in
         let name : report.0.name ≡ state.name = same_text report.0.name state.name (sym both.0) in
         let differs : is_same report.0.name other.name ≡ false = ap (λ name. is_same name other.name) name ∙ apart in
-        ap (λ same. cond (same && pointwise value_eq report.0.args other.args) (Some value) (last_report reports other)) differs
-        ∙ sym (ap (λ same. cond (same && pointwise value_eq report.0.args other.args) (Some report.1) (last_report reports other)) differs)
+        ap (λ same. cond (same && pointwise value_eq report.0.args other.args) (Some (next_report report.1 given)) (report_at reports other)) differs
+        ∙ sym (ap (λ same. cond (same && pointwise value_eq report.0.args other.args) (Some report.1) (report_at reports other)) differs)
 
-reported_elsewhere : (state : LookState) (value : Value) (reports : List (LookState × Value)) (name : List ℕ) (args : List Value)
-    → is_same state.name name ≡ false → reported_of (reported state value reports) name args ≡ reported_of reports name args
-reported_elsewhere state value reports name args apart i =
+-- the same report reads the same
+read_alike : (one other : List (LookState × Report)) (state : LookState) (tolerance : Option ℕ)
+    → report_at one state ≡ report_at other state → read_report one state tolerance ≡ read_report other state tolerance
+read_alike one other state None same = ap (option_map (λ (report : Report). report.last)) same
+read_alike one other state (Some tolerance) same =
+    ap (option_and_then (λ (report : Report). latched_at report tolerance)) same
+
+reported_elsewhere : (tolerances : List ℕ) (state : LookState) (given : Value) (reports : List (LookState × Report))
+    (name : List ℕ) (args : List Value) (tolerance : Option ℕ) → is_same state.name name ≡ false
+    → reported_of (reported tolerances state given reports) name args tolerance ≡ reported_of reports name args tolerance
+reported_elsewhere tolerances state given reports name args tolerance apart i =
     if list_any (λ arg. not (is_known arg)) args then Unknown
-    else unwrap_or (last_elsewhere state value reports (record { name = name; args = args }) apart i) Unknown
+    else unwrap_or (read_alike (reported tolerances state given reports) reports (record { name = name; args = args }) tolerance
+    (report_elsewhere tolerances state given reports (record { name = name; args = args }) apart) i) Unknown
+
+-- what a tolerance has latched reads the same where it has stayed
+pub stayed_reads : (plan : List Site) (held : ReportsData) (lookup tolerance : ℕ) → HasStayed held tolerance
+    → IsSameReport plan (unwrap_or held.marked []) held.reports lookup (Some tolerance)
+stayed_reads plan held lookup tolerance stayed args i =
+    if list_any (λ arg. not (is_known arg)) args then Unknown
+    else unwrap_or (stayed (record { name = get_or (lookups_of plan) lookup []; args = args }) i) Unknown
 
 -- an event that is no report changes none; a report those of its own name
-pub others_stay : (plan : List Site) (event : Event) (reports : List (LookState × Value)) (number : ℕ) → number < length (lookups_of plan)
-    → heard_by plan event ≢ Some number → IsSameReport plan reports (reports_after event reports) number
-others_stay plan (events.Report name args value) reports number within other given =
-    sym (reported_elsewhere (record { name = name; args = args }) value reports (get_or (lookups_of plan) number []) given
+pub others_stay : (plan : List Site) (event : Event) (reports : List (LookState × Report)) (number : ℕ) (tolerance : Option ℕ)
+    → number < length (lookups_of plan) → heard_by plan event ≢ Some number
+    → IsSameReport plan reports (reports_after (tolerances plan) event reports) number tolerance
+others_stay plan (events.Report name args value) reports number tolerance within other given =
+    sym (reported_elsewhere (tolerances plan) (record { name = name; args = args }) value reports (get_or (lookups_of plan) number []) given tolerance
     (false_from_ne_true (is_same name (get_or (lookups_of plan) number [])) (λ same. other (number_is plan name number within same))))
-others_stay plan (events.Handle node handle) reports number within other given = refl
-others_stay plan (events.Return node value) reports number within other given = refl
-others_stay plan (events.AbortDone node) reports number within other given = refl
-others_stay plan (events.Acknowledged node) reports number within other given = refl
+others_stay plan (events.Handle node handle) reports number tolerance within other given = refl
+others_stay plan (events.Return node value) reports number tolerance within other given = refl
+others_stay plan (events.AbortDone node) reports number tolerance within other given = refl
+others_stay plan (events.Acknowledged node) reports number tolerance within other given = refl
 
 -- ---- what was seen stays what was seen, as the world goes on and back
 
--- The cells that were seen are the same, and so are the reports of each name that isn't touched.
+-- The cells that were seen are the same, and so is what is read of reports where it isn't touched.
 pub seen_then : (old new : Parts) (before after : CachedData) → IsSeen old before → new.cells.seen ≡ old.cells.seen
     → plan_in new ≡ plan_in old → after.seen ≡ before.seen
     → ((source : ℕ) → is_touched before source ≡ true → is_touched after source ≡ true)
-    → ((number : ℕ) → number < length (lookups_of (plan_in old)) → is_touched after (all_cells (plan_in old) + number) ≡ false
-    → IsSameReport (plan_in old) old.reports.reports new.reports.reports number)
+    → ((number : ℕ) (tolerance : Option ℕ) → number < length (lookups_of (plan_in old))
+    → is_touched after (source_number (plan_in old) (Reports number tolerance)) ≡ false
+    → IsSameReport (plan_in old) old.reports.reports new.reports.reports number tolerance)
     → IsSeen new after
 seen_then old new before after seen cells plan same touched others = record {
   cells = (λ i. (same i).cells) ∙ seen.cells ∙ sym cells;
-  reports = subst (λ (sites : List Site). (number : ℕ) → number < length (lookups_of sites)
-      → is_touched after (all_cells sites + number) ≡ false
-      → IsSameReport sites after.seen.reports new.reports.reports number) (sym plan) (λ number within untouched args.
-      (λ i. reported_of (same i).reports (get_or (lookups_of (plan_in old)) number []) args)
-      ∙ seen.reports number within (was_untouched (all_cells (plan_in old) + number) untouched) args
-      ∙ others number within untouched args);
+  reports = subst (λ (sites : List Site). (number : ℕ) (tolerance : Option ℕ) → number < length (lookups_of sites)
+      → is_touched after (source_number sites (Reports number tolerance)) ≡ false
+      → IsSameReport sites after.seen.reports new.reports.reports number tolerance) (sym plan)
+      (λ number tolerance within untouched args.
+      (λ i. reported_of (same i).reports (get_or (lookups_of (plan_in old)) number []) args tolerance)
+      ∙ seen.reports number tolerance within
+      (was_untouched (source_number (plan_in old) (Reports number tolerance)) untouched) args
+      ∙ others number tolerance within untouched args);
 }
   where
     was_untouched : (source : ℕ) → is_touched after source ≡ false → is_touched before source ≡ false

@@ -5,6 +5,7 @@ pub mod Changing
 pub mod Choosing
 pub mod Framing
 pub mod Gone
+mod Heard
 pub mod Hearing
 pub mod Looks
 pub mod News

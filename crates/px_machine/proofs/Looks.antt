@@ -11,9 +11,9 @@ use Rattle.px_sem.specs.Conflicts.{destination, is_loser, transition}
 use Rattle.px_core.specs.Plan.{Site}
 use Rattle.px_sem.specs.World.{World}
 use Rattle.px_flat.specs.Row.{parent_number, site_in}
-use Rattle.px_links.specs.Links.{holder_of, is_absent}
+use Rattle.px_links.specs.Links.{is_absent}
 use Rattle.px_links.specs.Lists.{has, nth}
-use Rattle.px_assign.specs.Conflicts.{is_loser_in, is_writer}
+use Rattle.px_assign.specs.Conflicts.{is_writer}
 use Rattle.px_claims.specs.Claims.{ClaimsData}
 use Rattle.px_parts.specs.declared.parts.Parts.{Parts}
 use Rattle.px_parts.specs.Parts.{AreStanding, plan_in, world_in}

@@ -1,5 +1,5 @@
 -- News that is noted: what isn't noted is as it was seen.
-use Rattle.std.proofs.Common.{◌≡◌, ◌⊎◌, ℕ, ◌+◌, ◌*◌, ◌/◌, ◌<◌, Bool, true, false, [], ◌∷◌, ◌++◌, length, List, Contains, All, get_or, None, slice_get, nat_eq, refl, ap, sym, ◌∙◌, subst, arith, inl, inr}
+use Rattle.std.proofs.Common.{◌≡◌, ◌⊎◌, ℕ, ◌+◌, ◌/◌, ◌<◌, Bool, true, false, [], ◌∷◌, ◌++◌, length, List, Contains, All, get_or, None, slice_get, nat_eq, refl, ap, sym, ◌∙◌, subst, arith, inl, inr}
 use Rattle.std.specs.Cmp.{nat_eq_equiv}
 use Rattle.std.specs.List.{list_any}
 use Rattle.std.specs.Option.{unwrap_or}
@@ -26,10 +26,10 @@ use Rattle.px_links.specs.Links.{is_absent}
 use Rattle.px_claims.specs.Claims.{AreOf}
 use Rattle.px_cached.specs.Cached.{CachedData, HasTouchedCell, IsTouchedAt, TellsChanged, is_touched, kept_truth, present_in}
 use Rattle.px_cached.specs.Cached as cached
-use Rattle.px_cached.specs.Conditions.{all_sources, condition_in, number_of, source_number}
+use Rattle.px_cached.specs.Conditions.{condition_in, number_of, source_number}
 use Rattle.px_cached.specs.Firsts.{HasCell}
 use Rattle.px_cached.proofs.Conditions.{kind_of_node, within_kind}
-use Rattle.px_cached.proofs.Listening.{sources_there}
+use Rattle.px_cached.proofs.Listening.{IsThere, sources_there}
 use Rattle.px_parts.specs.declared.parts.Parts.{Parts}
 use Rattle.px_parts.specs.Parts.{AreSame, AreStanding, plan_in}
 use Rattle.px_parts.specs.Seen.{AreAllSeen}
@@ -244,7 +244,7 @@ module _ (old new : Parts) (before middle after : Kept) (stand : AreStanding old
       by true is = absurd (cc (sym ((λ i. is_touched (acts.conditions i) source) ∙ cells.before source is) ∙ untouched))
 
   -- a source that isn't touched holds what it held
-  source_same : (source : Source) → source_number plan source < all_sources plan
+  source_same : (source : Source) → IsThere plan source
       → ((cell : ℕ) → HasCell source cell → Contains old.cells.news cell
       → is_touched after.conditions (source_number plan source) ≡ true)
       → is_touched after.conditions (source_number plan source) ≡ false
@@ -257,11 +257,11 @@ module _ (old new : Parts) (before middle after : Kept) (stand : AreStanding old
         | inr among ↦ absurd (cc (sym (touches (first + k) (omega arith, omega (arith, few)) among) ∙ untouched))
       ])
       ∙ (λ i. held (sym same.cells i).values (first + k))
-  source_same (Reports lookup) there touches untouched = λ args.
-      (λ i. reported_of (acts.conditions i).seen.reports (get_or (lookups_of plan) lookup []) args)
-      ∙ (λ i. reported_of (cells.same.seen i).reports (get_or (lookups_of plan) lookup []) args)
-      ∙ seen.reports lookup (omega (arith, there)) (was_untouched (all_cells plan + lookup) untouched) args
-      ∙ (λ i. reported_of (sym same.reports i).reports (get_or (lookups_of plan) lookup []) args)
+  source_same (Reports lookup tolerance) there touches untouched = λ args.
+      (λ i. reported_of (acts.conditions i).seen.reports (get_or (lookups_of plan) lookup []) args tolerance)
+      ∙ (λ i. reported_of (cells.same.seen i).reports (get_or (lookups_of plan) lookup []) args tolerance)
+      ∙ seen.reports lookup tolerance there (was_untouched (source_number plan (Reports lookup tolerance)) untouched) args
+      ∙ (λ i. reported_of (sym same.reports i).reports (get_or (lookups_of plan) lookup []) args tolerance)
 
   seen_in : SeenIn plan
   seen_in node kind here k d inside =
@@ -338,6 +338,6 @@ pub seen_again : (parts : Parts) (kept : Kept) → AreAllSeen parts → cached.I
     → IsSeen parts kept.conditions
 seen_again parts kept all seen = record {
   cells = ap (λ (present : Present). present.cells) seen.seen ∙ sym all.cells.0;
-  reports = λ lookup within untouched args.
-      ap (λ (present : Present). reported_of present.reports (get_or (lookups_of (plan_in parts)) lookup []) args) seen.seen;
+  reports = λ lookup tolerance within untouched args.
+      ap (λ (present : Present). reported_of present.reports (get_or (lookups_of (plan_in parts)) lookup []) args tolerance) seen.seen;
 }

@@ -1,12 +1,11 @@
 -- Once all is seen and caught up, what is kept of a node is what is so of it.
-use Rattle.std.proofs.Common.{◌≡◌, ℕ, ◌<◌, [], List, length, Option, Bool, refl, ap, ◌∙◌, arith, inl, inr}
+use Rattle.std.proofs.Common.{◌≡◌, ℕ, ◌<◌, [], List, length, refl, ap, ◌∙◌, arith, inl, inr}
 use Rattle.px_core.specs.declared.conditions.ConditionKind.{ConditionKind}
 use Rattle.px_core.specs.declared.conditions.ConditionKind.TheVariants as which
 use Rattle.px_core.specs.Plan.{Site}
 use Rattle.px_sem.specs.World.{NodeRecord, parent_state as parent_state_at}
 use Rattle.px_flat.specs.Numbered.{numbered_conditions}
 use Rattle.px_flat.specs.Row.{site_in, parent_number}
-use Rattle.px_flat.specs.Sources.{Present}
 use Rattle.px_cached.specs.Cached.{kept_truth, present_in}
 use Rattle.px_cached.specs.Conditions.{condition_in, truth_in}
 use Rattle.px_parts.specs.declared.parts.Parts.{Parts}

@@ -1,26 +1,30 @@
 -- What is kept stays ready as the world goes on and back, and a mark stays where an event is begun.
-use Rattle.std.proofs.Common.{◌≡◌, ◌≢◌, ℕ, ◌+◌, ◌<◌, Bool, true, false, List, [], length, get_or, Option, Some, None, IfSome, IsNone, IsSome, ◌∷◌, refl, ap, sym, ◌∙◌, subst, arith}
+use Rattle.std.proofs.Common.{◌≡◌, ◌≢◌, ℕ, ◌<◌, ◌≤◌, Bool, true, false, List, [], length, get_or, Option, Some, None, IfSome, IsNone, IsSome, ◌∷◌, refl, ap, sym, ◌∙◌, subst, arith, inl, inr}
+use Rattle.std.specs.Coded.{codes}
 use Rattle.std.specs.Option.{unwrap_or}
-use Rattle.std.proofs.lemmas.Bool.{false≢true}
+use Rattle.std.proofs.lemmas.Bool.{cases_eq, false≢true}
 use Rattle.px_value.specs.declared.value.Value.{Value}
 use Rattle.px_core.specs.Plan.{Site}
 use Rattle.px_event.specs.declared.event.Event.{Event}
 use Rattle.px_sem.specs.Conflicts.{is_quiet}
 use Rattle.px_sem.specs.Events.{take}
 use Rattle.px_sem.specs.Step.{micro}
-use Rattle.px_sem.specs.World.{LookState, World}
+use Rattle.px_sem.specs.Tolerances.{tolerances}
+use Rattle.px_sem.specs.World.{LookState, Report, World}
 use Rattle.px_sem.specs.Stepper as stepper
 use Rattle.px_flat.specs.declared.act.Act.{Act}
 use Rattle.px_flat.specs.Flat.{plan_of}
 use Rattle.px_flat.specs.Layout.{all_cells}
 use Rattle.px_flat.specs.Lookups.{lookups_of}
 use Rattle.px_flat.specs.Numbered.{reported_of}
+use Rattle.px_flat.specs.Sources.{Reports}
 use Rattle.px_flat.specs.Parts.{IsParts, world_of}
 use Rattle.px_links.specs.Links.{LinksData}
 use Rattle.px_lookup.specs.Reports.{reports_after}
 use Rattle.px_lookup.proofs.Taking.{reports-take}
-use Rattle.px_cached.specs.Cached.{CachedData, IsTouched, is_touched}
-use Rattle.px_cached.specs.Conditions.{number_of}
+use Rattle.px_cached.specs.Cached.{CachedData, HasTouchedReports, is_touched}
+use Rattle.px_cached.specs.Conditions.{all_sources, number_of, source_number}
+use Rattle.px_cached.proofs.Reported.{report_behind, report_there}
 use Rattle.px_parts.specs.declared.parts.Parts.{Parts}
 use Rattle.px_parts.specs.Marks.{AreMarked, AreUnmarked, marked_world}
 use Rattle.px_parts.specs.Parts.{AreOfOnePlan, AreSame, AreStanding, plan_in, world_in}
@@ -30,7 +34,7 @@ use Rattle.px_machine.specs.declared.begun.Begun.{Begun}
 use Rattle.px_machine.specs.declared.begun.Begun.TheVariants as begun
 use Rattle.px_machine.specs.declared.kept.Kept.{Kept}
 use Rattle.px_machine.specs.Begun.{IsMarkedFor, IsUnderWay, begun_in, heard_of, is_event}
-use Rattle.px_machine.specs.Hearing.{HasHeardAll, heard_by}
+use Rattle.px_machine.specs.Hearing.{HasHeard, heard_by}
 use Rattle.px_machine.specs.Kept.{own_in}
 use Rattle.px_machine.specs.Queue.{HaveGone, HaveRested}
 use Rattle.px_machine.specs.Right.{IsRight}
@@ -39,6 +43,31 @@ use Rattle.px_machine.specs.Stepping.{HasChosen, IsReady}
 use Rattle.px_machine.proofs.Framing.{right_framed}
 use Rattle.px_machine.proofs.Hearing.{others_stay, seen_then}
 use Rattle.px_machine.proofs.Requeueing.{right_after_going, right_after_rest, with_queue}
+
+-- ---- parts
+
+-- the same, by another proof that reports latch by the tolerances of the plan
+abbrev pub latched_by : (parts : Parts) → parts.reports.tolerances ≡ tolerances (plan_in parts) → Parts
+latched_by parts latching = record {
+  flat = parts.flat;
+  cells = parts.cells;
+  reports = parts.reports;
+  actions = parts.actions;
+  moves = parts.moves;
+  latching = latching;
+}
+
+numbers_set : IsSet (List ℕ)
+numbers_set = hlevel codes
+
+same_latching : (parts : Parts) (one other : parts.reports.tolerances ≡ tolerances (plan_in parts)) → one ≡ other
+same_latching parts one other = numbers_set parts.reports.tolerances (tolerances (plan_in parts)) one other
+
+-- what is said of parts is said of these
+pub relatched : (P : Parts → Type 0) (parts : Parts) (latching : parts.reports.tolerances ≡ tolerances (plan_in parts))
+    → P parts → P (latched_by parts latching)
+relatched P parts latching holds =
+    subst (λ latching. P (latched_by parts latching)) (same_latching parts parts.latching latching) holds
 
 -- ---- what is kept
 
@@ -52,7 +81,7 @@ pub record TouchesMore (old new : CachedData) : Type 0 where
 pub touches_none : (conditions : CachedData) → TouchesMore conditions conditions
 touches_none conditions = record { flat = refl; truths = refl; seen = refl; others = λ source was. was }
 
-pub touches_all : (old new : CachedData) → HasHeardAll old new → TouchesMore old new
+pub touches_all : (old new : CachedData) → HasTouchedReports old new → TouchesMore old new
 touches_all old new heard = record { flat = heard.flat; truths = heard.truths; seen = heard.seen; others = heard.others }
 
 abbrev pub with_conditions : Kept → CachedData → Kept
@@ -62,8 +91,9 @@ with_conditions kept conditions = record kept { conditions = conditions }
 -- hold, where each name is touched under which reports have changed.
 pub ready_then : (old new : Parts) (kept : Kept) (conditions : CachedData) → IsReady old kept → plan_in new ≡ plan_in old
     → AreSeenAsBefore old new → AreStanding new → TouchesMore kept.conditions conditions
-    → ((number : ℕ) → number < length (lookups_of (plan_in old)) → is_touched conditions (all_cells (plan_in old) + number) ≡ false
-    → IsSameReport (plan_in old) old.reports.reports new.reports.reports number)
+    → ((number : ℕ) (tolerance : Option ℕ) → number < length (lookups_of (plan_in old))
+    → is_touched conditions (source_number (plan_in old) (Reports number tolerance)) ≡ false
+    → IsSameReport (plan_in old) old.reports.reports new.reports.reports number tolerance)
     → IsReady new (with_conditions kept conditions)
 ready_then old new kept conditions ready plan seen stand touched others =
     let is = ready.right.of_plan in
@@ -96,43 +126,53 @@ ready_then old new kept conditions ready plan seen stand touched others =
       }) ready.right;
     }
 
-same_reports : (plan : List Site) (one other : List (LookState × Value)) → other ≡ one → (number : ℕ) → IsSameReport plan one other number
-same_reports plan one other same number args i = reported_of (sym same i) (get_or (lookups_of plan) number []) args
+same_reports : (plan : List Site) (one other : List (LookState × Report)) → other ≡ one → (number : ℕ) (tolerance : Option ℕ)
+    → IsSameReport plan one other number tolerance
+same_reports plan one other same number tolerance args i =
+    reported_of (sym same i) (get_or (lookups_of plan) number []) args tolerance
 
 -- the reports are the same, and so is what is kept
 pub ready_still : (old new : Parts) (kept : Kept) → IsReady old kept → plan_in new ≡ plan_in old → AreSeenAsBefore old new
     → AreStanding new → new.reports.reports ≡ old.reports.reports → IsReady new kept
 ready_still old new kept ready plan seen stand reports =
     ready_then old new kept kept.conditions ready plan seen stand (touches_none kept.conditions)
-    (λ number within untouched. same_reports (plan_in old) old.reports.reports new.reports.reports reports number)
+    (λ number tolerance within untouched.
+    same_reports (plan_in old) old.reports.reports new.reports.reports reports number tolerance)
 
--- all names are touched
+-- all that is reported is touched
 pub ready_anew : (old new : Parts) (kept : Kept) (conditions : CachedData) → IsReady old kept → plan_in new ≡ plan_in old
-    → AreSeenAsBefore old new → AreStanding new → HasHeardAll kept.conditions conditions → IsReady new (with_conditions kept conditions)
+    → AreSeenAsBefore old new → AreStanding new → HasTouchedReports kept.conditions conditions
+    → IsReady new (with_conditions kept conditions)
 ready_anew old new kept conditions ready plan seen stand heard =
-    ready_then old new kept conditions ready plan seen stand (touches_all kept.conditions conditions heard) (λ number within untouched.
-    absurd (false≢true (sym untouched
-    ∙ subst (λ (sites : List Site). (lookup : ℕ) → lookup < length (lookups_of sites) → is_touched conditions (all_cells sites + lookup) ≡ true)
-    ready.right.of_plan.conditions heard.all number within)))
+    ready_then old new kept conditions ready plan seen stand (touches_all kept.conditions conditions heard)
+    (λ number tolerance within untouched.
+    let all = subst (λ (sites : List Site). (source : ℕ) → all_cells sites ≤ source → source < all_sources sites
+    → is_touched conditions source ≡ true) ready.right.of_plan.conditions heard.all in
+    absurd (false≢true (sym untouched ∙ all (source_number (plan_in old) (Reports number tolerance))
+    (report_behind (plan_in old) number tolerance) (report_there (plan_in old) number tolerance within))))
 
--- the name that was heard is touched, and reports of no other have changed
+-- what was heard is touched where it reads another value, and reports of no other name have changed
 pub ready_heard : (old new : Parts) (kept : Kept) (conditions : CachedData) (heard : Option ℕ) → IsReady old kept
     → plan_in new ≡ plan_in old → AreSeenAsBefore old new → AreStanding new
-    → IfSome heard (λ lookup. IsTouched kept.conditions conditions (all_cells (plan_in new) + lookup))
+    → IfSome heard (λ lookup. TouchesMore kept.conditions conditions × ((tolerance : Option ℕ)
+    → is_touched conditions (source_number (plan_in old) (Reports lookup tolerance)) ≡ false
+    → IsSameReport (plan_in old) old.reports.reports new.reports.reports lookup tolerance))
     → (IsNone heard → conditions ≡ kept.conditions)
-    → ((number : ℕ) → number < length (lookups_of (plan_in old)) → heard ≢ Some number
-    → IsSameReport (plan_in old) old.reports.reports new.reports.reports number)
+    → ((number : ℕ) (tolerance : Option ℕ) → number < length (lookups_of (plan_in old)) → heard ≢ Some number
+    → IsSameReport (plan_in old) old.reports.reports new.reports.reports number tolerance)
     → IsReady new (with_conditions kept conditions)
 ready_heard old new kept conditions None ready plan seen stand some none others =
     subst (λ conditions. IsReady new (with_conditions kept conditions)) (sym (none refl))
     (ready_then old new kept kept.conditions ready plan seen stand (touches_none kept.conditions)
-    (λ number within untouched. others number within (λ same. absurd (cc same))))
+    (λ number tolerance within untouched. others number tolerance within (λ same. absurd (cc same))))
 ready_heard old new kept conditions (Some lookup) ready plan seen stand some none others =
-    ready_then old new kept conditions ready plan seen stand
-    (record { flat = some.flat; truths = some.truths; seen = some.seen; others = some.others }) (λ number within untouched.
-    others number within (λ same.
-    let one : lookup ≡ number = (cc same) in
-    false≢true (sym untouched ∙ (λ i. is_touched conditions (all_cells (sym plan i) + sym one i)) ∙ some.this)))
+    ready_then old new kept conditions ready plan seen stand some.0 (λ number tolerance within untouched.
+    elim (cases_eq lookup number) [
+      | inl one ↦
+          subst (λ number. is_touched conditions (source_number (plan_in old) (Reports number tolerance)) ≡ false
+          → IsSameReport (plan_in old) old.reports.reports new.reports.reports number tolerance) one (some.1 tolerance) untouched
+      | inr apart ↦ others number tolerance within (λ same. apart (cc same))
+    ])
 
 -- ---- after a step
 
@@ -201,11 +241,12 @@ under_way_after : (old new : Parts) (heard : Option ℕ) → IsUnderWay old hear
 under_way_after old new heard is one reports = record {
   marked = marked_after old new is.marked one;
   name = subst (λ (plan : List Site). IfSome heard (λ lookup. lookup < length (lookups_of plan))) (sym one.plan) is.name;
-  only = subst (λ (plan : List Site). (lookup : ℕ) → lookup < length (lookups_of plan) → heard ≢ Some lookup
-      → IsSameReport plan (unwrap_or new.reports.marked []) new.reports.reports lookup) (sym one.plan) (λ lookup within other args.
-      (λ i. reported_of (unwrap_or (one.reports i) []) (get_or (lookups_of (plan_in old)) lookup []) args)
-      ∙ is.only lookup within other args
-      ∙ (λ i. reported_of (sym reports i) (get_or (lookups_of (plan_in old)) lookup []) args));
+  only = subst (λ (plan : List Site). (lookup : ℕ) (tolerance : Option ℕ) → lookup < length (lookups_of plan) → heard ≢ Some lookup
+      → IsSameReport plan (unwrap_or new.reports.marked []) new.reports.reports lookup tolerance) (sym one.plan)
+      (λ lookup tolerance within other args.
+      (λ i. reported_of (unwrap_or (one.reports i) []) (get_or (lookups_of (plan_in old)) lookup []) args tolerance)
+      ∙ is.only lookup tolerance within other args
+      ∙ (λ i. reported_of (sym reports i) (get_or (lookups_of (plan_in old)) lookup []) args tolerance));
 }
 
 -- as a step leaves it
@@ -291,35 +332,66 @@ module _ (old middle new : Parts) (event : Event) (marked : AreMarked middle) (k
       (λ i. unwrap_or (one.reports i) []) ∙ ap (λ (world : World). world.reports) kept
 
   module _ (taken : world_in new ≡ take (plan_in middle) (world_in middle) event) where
-    now_reports : new.reports.reports ≡ reports_after event old.reports.reports
+    now_reports : new.reports.reports ≡ reports_after (tolerances (plan_in old)) event old.reports.reports
     now_reports =
         ap (λ (world : World). world.reports) taken ∙ reports-take (plan_in middle) (world_in middle) event
-        ∙ ap (λ (world : World). reports_after event world.reports) world
+        ∙ (λ i. reports_after (tolerances (plan i)) event (world i).reports)
 
-    pub only_heard : (number : ℕ) → number < length (lookups_of (plan_in old)) → heard_by (plan_in old) event ≢ Some number
-        → IsSameReport (plan_in old) old.reports.reports new.reports.reports number
-    only_heard number within other args =
-        others_stay (plan_in old) event old.reports.reports number within other args
-        ∙ (λ i. reported_of (sym now_reports i) (get_or (lookups_of (plan_in old)) number []) args)
+    pub only_heard : (number : ℕ) (tolerance : Option ℕ) → number < length (lookups_of (plan_in old))
+        → heard_by (plan_in old) event ≢ Some number
+        → IsSameReport (plan_in old) old.reports.reports new.reports.reports number tolerance
+    only_heard number tolerance within other args =
+        others_stay (plan_in old) event old.reports.reports number tolerance within other args
+        ∙ (λ i. reported_of (sym now_reports i) (get_or (lookups_of (plan_in old)) number []) args tolerance)
 
     pub under_way : (heard : Option ℕ) → heard ≡ heard_by (plan_in new) event
         → IfSome heard (λ lookup. lookup < length (lookups_of (plan_in new))) → IsUnderWay new heard
     under_way heard is name = record {
       marked = marked_after middle new marked one;
       name = name;
-      only = subst (λ (sites : List Site). (lookup : ℕ) → lookup < length (lookups_of sites) → heard ≢ Some lookup
-          → IsSameReport sites (unwrap_or new.reports.marked []) new.reports.reports lookup) (sym (one.plan ∙ plan))
-          (λ lookup within other args.
-          (λ i. reported_of (marked_reports i) (get_or (lookups_of (plan_in old)) lookup []) args)
-          ∙ only_heard lookup within (λ same. other (is ∙ ap (λ (sites : List Site). heard_by sites event) (one.plan ∙ plan) ∙ same)) args);
+      only = subst (λ (sites : List Site). (lookup : ℕ) (tolerance : Option ℕ) → lookup < length (lookups_of sites)
+          → heard ≢ Some lookup
+          → IsSameReport sites (unwrap_or new.reports.marked []) new.reports.reports lookup tolerance) (sym (one.plan ∙ plan))
+          (λ lookup tolerance within other args.
+          (λ i. reported_of (marked_reports i) (get_or (lookups_of (plan_in old)) lookup []) args tolerance)
+          ∙ only_heard lookup tolerance within
+          (λ same. other (is ∙ ap (λ (sites : List Site). heard_by sites event) (one.plan ∙ plan) ∙ same)) args);
     }
+
+  -- what was heard is touched where it reads another value than before
+  pub heard_now : (latching : new.reports.tolerances ≡ tolerances (plan_in new)) (before after : CachedData) (lookup : ℕ)
+      → HasHeard (latched_by new latching) before after lookup
+      → TouchesMore before after × ((tolerance : Option ℕ)
+      → is_touched after (source_number (plan_in old) (Reports lookup tolerance)) ≡ false
+      → IsSameReport (plan_in old) old.reports.reports new.reports.reports lookup tolerance)
+  heard_now latching before after lookup heard = (
+    record { flat = heard.flat; truths = heard.truths; seen = heard.seen; others = heard.others },
+    subst (λ (sites : List Site). (tolerance : Option ℕ)
+        → is_touched after (source_number sites (Reports lookup tolerance)) ≡ false
+        → IsSameReport sites old.reports.reports new.reports.reports lookup tolerance) (one.plan ∙ plan)
+        (λ tolerance untouched args.
+        (λ i. reported_of (sym marked_reports i) (get_or (lookups_of (plan_in new)) lookup []) args tolerance)
+        ∙ heard.stayed tolerance untouched args),
+  )
 
 -- ---- an event is given up
 
 -- reports have changed under its name at most, and go back
 pub back_heard : (old new : Parts) (heard : Option ℕ) → IsUnderWay old heard → world_in new ≡ marked_world old
-    → (number : ℕ) → number < length (lookups_of (plan_in old)) → heard ≢ Some number
-    → IsSameReport (plan_in old) old.reports.reports new.reports.reports number
-back_heard old new heard is world number within other args =
-    sym (is.only number within other args)
-    ∙ (λ i. reported_of ((sym world i).reports) (get_or (lookups_of (plan_in old)) number []) args)
+    → (number : ℕ) (tolerance : Option ℕ) → number < length (lookups_of (plan_in old)) → heard ≢ Some number
+    → IsSameReport (plan_in old) old.reports.reports new.reports.reports number tolerance
+back_heard old new heard is world number tolerance within other args =
+    sym (is.only number tolerance within other args)
+    ∙ (λ i. reported_of ((sym world i).reports) (get_or (lookups_of (plan_in old)) number []) args tolerance)
+
+-- what is heard once more is touched where it read another value than at the mark
+pub heard_back : (old new : Parts) (before after : CachedData) (lookup : ℕ) → world_in new ≡ marked_world old
+    → HasHeard old before after lookup → TouchesMore before after × ((tolerance : Option ℕ)
+    → is_touched after (source_number (plan_in old) (Reports lookup tolerance)) ≡ false
+    → IsSameReport (plan_in old) old.reports.reports new.reports.reports lookup tolerance)
+heard_back old new before after lookup world heard = (
+  record { flat = heard.flat; truths = heard.truths; seen = heard.seen; others = heard.others },
+  (λ tolerance untouched args.
+      sym (heard.stayed tolerance untouched args)
+      ∙ (λ i. reported_of ((sym world i).reports) (get_or (lookups_of (plan_in old)) lookup []) args tolerance)),
+)

@@ -1,5 +1,5 @@
 -- What is kept, with another queue: what speaks of no queue stays.
-use Rattle.std.proofs.Common.{◌≡◌, ℕ, ◌<◌, Bool, true, false, List, [], length, Some, is_none, refl, ap, sym, ◌∙◌, subst, arith, inl, inr}
+use Rattle.std.proofs.Common.{◌≡◌, ℕ, ◌<◌, Bool, true, false, List, [], length, is_none, refl, ap, sym, ◌∙◌, subst, arith, inl, inr}
 use Rattle.std.proofs.lemmas.Bool.{cases_eq}
 use Rattle.px_core.specs.Plan.{Site}
 use Rattle.px_links.specs.Links.{LinksData, is_absent, SameCounts}

@@ -23,8 +23,9 @@ heard_of (begun.Event heard) = heard
 
 -- since the mark reports have changed under this name at most
 abbrev pub HaveHeardOnly : Parts → Option ℕ → Type 0
-HaveHeardOnly parts heard = (lookup : ℕ) → lookup < length (lookups_of (plan_in parts)) → heard ≢ Some lookup
-    → IsSameReport (plan_in parts) (unwrap_or parts.reports.marked []) parts.reports.reports lookup
+HaveHeardOnly parts heard = (lookup : ℕ) (tolerance : Option ℕ) → lookup < length (lookups_of (plan_in parts))
+    → heard ≢ Some lookup
+    → IsSameReport (plan_in parts) (unwrap_or parts.reports.marked []) parts.reports.reports lookup tolerance
 
 -- an event is begun behind a mark: its name is one of the plan's, and no other's reports have changed
 pub record IsUnderWay (parts : Parts) (heard : Option ℕ) : Type 0 where

@@ -7,7 +7,6 @@ use Rattle.px_cells.specs.Marked.{MarkedData}
 use Rattle.px_cached.specs.Cached.{IsTouchedAt, is_touched, present_in}
 use Rattle.px_cached.specs.Cached as cached
 use Rattle.px_parts.specs.declared.parts.Parts.{Parts}
-use Rattle.px_parts.specs.Parts.{plan_in}
 use Rattle.px_parts.specs.Seen.{AreAllSeen}
 use Rattle.px_machine.specs.declared.kept.Kept.{Kept}
 use Rattle.px_machine.specs.Queue.{FallBehind, NobodyIsWoken}

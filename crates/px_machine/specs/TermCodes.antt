@@ -1,6 +1,6 @@
 -- Terms are told apart by their labels in postorder, from which they are built again: so an equation of plans has one proof at
 -- most.
-use Rattle.std.specs.Prelude.{ℕ, List, [], ◌∷◌, Option, Some, None}
+use Rattle.std.specs.Prelude.{ℕ, List, [], ◌∷◌, Option}
 use Rattle.std.specs.Coded.{Coded, codes, code_by}
 use Rattle.std.proofs.Common.{◌≡◌, refl, ap, ◌∙◌}
 use Rattle.px_value.specs.declared.value.Value.{Value}

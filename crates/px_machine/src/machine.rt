@@ -7,7 +7,7 @@ ghost use Rattle.px_machine.specs.TermCodes.{term_code};
 
 use crate::begun::Begun;
 use crate::kept::Kept;
-use crate::noticing::{hear, hear_all, heard_by};
+use crate::noticing::{hear, heard_by};
 use crate::queue::{have_gone, rest};
 use crate::stepping::goers;
 use px_core::Plan;
@@ -72,7 +72,7 @@ impl Stepper for Machine {
 
     fn rewind(&mut self) {
         self.parts.rewind();
-        hear_all(&self.parts.flat, &mut self.kept.conditions);
+        self.kept.conditions.touch_reports(&self.parts.flat);
         self.begun = Begun::Start;
     }
 
@@ -83,7 +83,7 @@ impl Stepper for Machine {
             return Err(fault);
         }
         let heard = heard_by(&self.parts.flat, event);
-        hear(&self.parts.flat, &mut self.kept.conditions, heard);
+        hear(&self.parts, &mut self.kept.conditions, heard);
         self.begun = Begun::Event { heard };
         Ok(())
     }
@@ -128,13 +128,9 @@ impl Stepper for Machine {
     }
 
     fn give_up(&mut self) {
-        self.parts.rollback();
         // What was reported goes back, so it is news once more.
-        hear(
-            &self.parts.flat,
-            &mut self.kept.conditions,
-            self.begun.heard(),
-        );
+        hear(&self.parts, &mut self.kept.conditions, self.begun.heard());
+        self.parts.rollback();
         self.begun = Begun::Nothing;
     }
 

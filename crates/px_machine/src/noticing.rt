@@ -1,14 +1,14 @@
 // The news of the world, noted: what reads it is to be looked at again, and the nodes of which it is fall behind.
 // It takes no memory.
-ghost use Rattle.std.specs.Prelude.{◌≡◌, ◌+◌, ◌<◌, ◌^◌, ℕ, false, length, OnOk, IfSome, IsNone};
+ghost use Rattle.std.specs.Prelude.{◌≡◌, ◌<◌, ◌^◌, ℕ, false, length, OnOk, IfSome, IsNone, IsSome};
 ghost use Rattle.px_flat.specs.Flat.{plan_of};
 ghost use Rattle.px_flat.specs.Layout.{all_cells, variable_cells};
 ghost use Rattle.px_flat.specs.Lookups.{lookups_of};
-ghost use Rattle.px_cached.specs.Cached.{AreFresh, HasTouchedCell, IsTouched, plan_in as plan_of_conditions, present_in};
+ghost use Rattle.px_cached.specs.Cached.{AreFresh, HasTouchedCell, plan_in as plan_of_conditions, present_in};
 ghost use Rattle.px_cached.specs.Conditions.{all_sources};
 ghost use Rattle.px_links.specs.Links.{is_absent};
 ghost use Rattle.px_parts.specs.Parts.{AreSame, AreStanding, plan_in};
-ghost use Rattle.px_machine.specs.Hearing.{HasHeardAll, heard_by};
+ghost use Rattle.px_machine.specs.Hearing.{HasHeard, HasHeardLatched, heard_by};
 ghost use Rattle.px_machine.specs.Kept.{IsOfPlan};
 ghost use Rattle.px_machine.specs.Noticing.{HaveNotedActs, HaveNotedCells, IsCellOf, IsNoticed, IsRefreshed, IsSeenBut};
 ghost use Rattle.px_machine.specs.Queue.{FallBehind, NobodyIsWoken};
@@ -127,27 +127,45 @@ pub(crate) fn heard_by(flat: &Flat, event: &Event) -> Option<u32>
     }
 }
 
-/// What reads a lookup name is to be looked at again.
-pub(crate) fn hear(flat: &Flat, conditions: &mut Cached, heard: Option<u32>)
-    requires plan { plan_of_conditions conditions.old ≡ plan_of flat.now }
-    requires few { all_sources (plan_of flat.now) < 2 ^ 32 }
-    requires within { IfSome heard (λ lookup. lookup < length (lookups_of (plan_of flat.now))) }
-    ensures heard { IfSome heard (λ lookup.
-        IsTouched conditions.old conditions.new (all_cells (plan_of flat.now) + lookup)) }
-    ensures none { IsNone heard → conditions.new ≡ conditions.old }
+// What reads a lookup name with this tolerance is to be looked at again, where a state of it may read another value than at
+// the mark.
+fn hear_latched(parts: &Parts, conditions: &mut Cached, lookup: u32, tolerance: u32)
+    requires plan { plan_of_conditions conditions.old ≡ plan_in parts.now }
+    requires few { all_sources (plan_in parts.now) < 2 ^ 32 }
+    requires within { lookup < length (lookups_of (plan_in parts.now)) }
+    requires marked { IsSome parts.now.reports.marked }
+    ensures { HasHeardLatched parts.now conditions.old conditions.new lookup tolerance }
 {
-    if let Some(lookup) = heard {
-        conditions.touch(flat.all_cells() + lookup);
+    if parts.reports.has_moved(tolerance) {
+        conditions.touch_report(&parts.flat, lookup, Some(tolerance));
     }
 }
 
-/// The same for all lookup names.
-pub(crate) fn hear_all(flat: &Flat, conditions: &mut Cached)
-    requires plan { plan_of_conditions conditions.old ≡ plan_of flat.now }
-    requires few { all_sources (plan_of flat.now) < 2 ^ 32 }
-    ensures { HasHeardAll conditions.old conditions.new }
+// The same with each tolerance, and with none.
+fn hear_name(parts: &Parts, conditions: &mut Cached, lookup: u32)
+    requires plan { plan_of_conditions conditions.old ≡ plan_in parts.now }
+    requires few { all_sources (plan_in parts.now) < 2 ^ 32 }
+    requires within { lookup < length (lookups_of (plan_in parts.now)) }
+    requires marked { IsSome parts.now.reports.marked }
+    ensures { HasHeard parts.now conditions.old conditions.new lookup }
 {
-    for lookup in 0..flat.lookups() {
-        conditions.touch(flat.all_cells() + lookup);
+    conditions.touch_report(&parts.flat, lookup, None);
+    let tolerances = parts.flat.tolerances();
+    for tolerance in tolerances {
+        hear_latched(parts, conditions, lookup, *tolerance);
+    }
+}
+
+/// What reads a lookup name is to be looked at again, where a state of it may read another value than at the mark.
+pub(crate) fn hear(parts: &Parts, conditions: &mut Cached, heard: Option<u32>)
+    requires plan { plan_of_conditions conditions.old ≡ plan_in parts.now }
+    requires few { all_sources (plan_in parts.now) < 2 ^ 32 }
+    requires within { IfSome heard (λ lookup. lookup < length (lookups_of (plan_in parts.now))) }
+    requires marked { IsSome parts.now.reports.marked }
+    ensures heard { IfSome heard (HasHeard parts.now conditions.old conditions.new) }
+    ensures none { IsNone heard → conditions.new ≡ conditions.old }
+{
+    if let Some(lookup) = heard {
+        hear_name(parts, conditions, lookup);
     }
 }

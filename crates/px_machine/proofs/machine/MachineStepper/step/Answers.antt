@@ -1,6 +1,5 @@
 use Rattle.std.proofs.Common.{◌≡◌, [], true, false, length, refl, ap, sym, ◌∙◌, subst, arith}
 use Rattle.std.proofs.lemmas.Bool.{eqb-true}
-use Rattle.px_parts.specs.declared.parts.Parts.{Parts}
 use Rattle.px_parts.specs.Parts.{plan_in, world_in}
 use Rattle.px_sem.specs.Stepper as stepper
 use Rattle.px_sem.specs.World.{World}
@@ -12,22 +11,21 @@ use Rattle.px_machine.proofs.Readying.{marked_still, no_items, one_both, ready_g
 use Rattle.px_machine.proofs.machine.MachineStepper.step.Goals as goal
 
 -- none goes
-pub invariant_of-self-then-is_empty : goal.invariant_of-self-then-is_empty
-invariant_of-self-then-is_empty c =
+pub invariant_of-self-then-is_empty-2 : goal.invariant_of-self-then-is_empty-2
+invariant_of-self-then-is_empty-2 c =
     let machine = c.args.self.now in
     let middle = c.goers.new.parts in
-    let new : Parts = record middle { moves = c.clear.new.self } in
     let going = c.in_ok-going.going in
     let same = c.goers.ensures.same in
     let none : going.items ≡ [] =
     no_items going.items (omega (arith, eqb-true going.len 0 (sym c.is_empty.ensures ∙ c.if-is_empty.true), going.ok.0)) in
     record {
       ready =
-          ready_rested middle new c.goers.new.kept c.rest.new.queue c.goers.ensures.ready
+          ready_rested middle _ c.goers.new.kept c.rest.new.queue c.goers.ensures.ready
           (subst (HasChosen middle c.goers.new.kept) none c.in_ok-going.ensures.chosen) c.rest.ensures refl
           (record { cells = refl; actions = refl }) c.goers.ensures.ready.stand refl;
-      marked = marked_still machine.begun machine.parts new machine.marked
-          (same_is_one machine.parts new (record { plan = same.plan; cells = same.cells; reports = same.reports; actions = same.actions }))
+      marked = marked_still machine.begun machine.parts _ machine.marked
+          (same_is_one machine.parts _ (record { plan = same.plan; cells = same.cells; reports = same.reports; actions = same.actions }))
           (λ i. (same.reports i).reports);
     }
 
