@@ -1,4 +1,3 @@
-use Rattle.std.proofs.Common.{List}
 use Rattle.px_core.specs.Plan.{Tree, tree_of, sites}
 use Rattle.px_output.specs.View.{view}
 use Rattle.px_script.specs.declared.script.Script.{Script}

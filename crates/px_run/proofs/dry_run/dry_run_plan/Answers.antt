@@ -1,4 +1,4 @@
-use Rattle.std.proofs.Common.{Ok, Err, List, refl, ap, ◌∙◌}
+use Rattle.std.proofs.Common.{Ok, Err, refl, ap, ◌∙◌}
 use Rattle.px_core.specs.Plan.{tree_of, sites}
 use Rattle.px_sem.proofs.Logs.{fit_accepted}
 use Rattle.px_sem.specs.Stepper.{State}
