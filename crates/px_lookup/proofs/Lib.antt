@@ -1,3 +1,4 @@
+mod Latching
 pub mod Reporting
 mod Staying
 pub mod Taking

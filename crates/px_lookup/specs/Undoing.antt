@@ -1,5 +1,6 @@
 -- How reports keep those of the mark: by what each report since has changed.
-use Rattle.std.specs.Prelude.{◌≡◌, ℕ, ◌-◌, false, List, [], ◌∷◌, length, take, slice_get, Option, Some, None, if◌then◌else◌}
+use Rattle.std.specs.Prelude.{◌≡◌, ℕ, ◌-◌, false, List, [], ◌∷◌, length, take, slice_get, Option, Some, None, All, if◌then◌else◌}
+use Rattle.std.specs.Map.{keys_of, values_of}
 use Rattle.std.specs.Option.{ForSome}
 use Rattle.indexmap.specs.IndexMap.{set_value_at}
 use Rattle.px_value.specs.declared.value.Value.{Value}
@@ -38,6 +39,17 @@ reports_data r = record {
   marked = if r.is_marked then Some (undone_each r.changes.items r.values.entries) else None;
 }
 
--- nothing is kept where no mark stands
-abbrev pub IsKept : Inside → Type 0
-IsKept r = r.is_marked ≡ false → r.changes.items ≡ []
+-- each of these tolerances has latched a value in a report, and no other
+abbrev pub LatchEach : List ℕ → Report → Type 0
+LatchEach tolerances report = keys_of report.latched ≡ tolerances
+
+-- each has in the one that a change replaced
+abbrev pub HadLatchedEach : List ℕ → Change → Type 0
+HadLatchedEach tolerances (changes.Replaced at old) = LatchEach tolerances old
+HadLatchedEach tolerances changes.Added = Unit {0}
+
+-- nothing is kept where no mark stands, and each tolerance has latched a value of each state, now and before each change
+pub record IsKept (r : Inside) : Type 0 where
+  pub nothing : r.is_marked ≡ false → r.changes.items ≡ []
+  pub latching : All (LatchEach r.tolerances.items) (values_of r.values.entries)
+  pub before : All (HadLatchedEach r.tolerances.items) r.changes.items

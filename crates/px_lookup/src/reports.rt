@@ -1,12 +1,14 @@
 // What was reported of the outside, and how it goes back to a mark.
-ghost use Rattle.std.specs.Prelude.{◌≡◌, ◌<◌, ◌++◌, ◌∷◌, [], length, if◌then◌else◌, Some, IsSome, IsNone, IsTrue, IsFalse, IfOk, OnOk, OnErr};
+ghost use Rattle.std.specs.Prelude.{◌≡◌, ℕ, List, All, ◌<◌, ◌&&◌, ◌++◌, ◌∷◌, [], is_some, length, nat_eq, if◌then◌else◌, Some, IsSome, IsNone, IsTrue, IsFalse, IfOk, OnOk, OnErr};
+ghost use Rattle.std.specs.List.{list_any};
+ghost use Rattle.std.specs.Map.{values_of};
 ghost use Rattle.std.specs.Option.{option_copied};
 ghost use Rattle.std.specs.Vec.{vec_capacity};
 ghost use Rattle.indexmap.specs.IndexMap.{insert_entry};
 ghost use Rattle.px_sem.specs.World.{is_same_state, last_report, latched_report, report_at};
 ghost use Rattle.px_sem.specs.Events.{reported};
 ghost use Rattle.px_lookup.specs.Reports.{HasStayed, unmarked, with_mark, rolled_back, committed, taken};
-ghost use Rattle.px_lookup.specs.Undoing.{IsAsLatched, report_after, undone};
+ghost use Rattle.px_lookup.specs.Undoing.{HadLatchedEach, IsAsLatched, LatchEach, report_after, undone};
 
 use crate::look_state::LookState;
 use crate::report::Report;
@@ -76,6 +78,8 @@ fn insert(
 ) -> Result<Change, NoMemory>
     ensures ok { OnOk result (values.new.entries ≡ insert_entry is_same_state values.old.entries state report) }
     ensures undone { IfOk result (λ change. undone change values.new.entries ≡ values.old.entries) }
+    ensures old { IfOk result (λ change. (tolerances : List ℕ)
+        → All (LatchEach tolerances) (values_of values.old.entries) → HadLatchedEach tolerances change) }
     ensures err { OnErr result (values.new.entries ≡ values.old.entries) }
 {
     let (at, old) = values.insert_full(state, report)?;
@@ -163,7 +167,9 @@ impl Reports {
     /// The value of a state that a tolerance has latched; None exactly where the state was never reported, and where the
     /// tolerance is none of those that latch. It takes no memory.
     pub fn latched(&self, state: &LookState, tolerance: u32) -> Option<&Value>
-        ensures { option_copied result ≡ latched_report self.now.reports state.now tolerance }
+        ensures value { option_copied result ≡ latched_report self.now.reports state.now tolerance }
+        ensures there { is_some result
+            ≡ (is_some (report_at self.now.reports state.now) && list_any (nat_eq tolerance) self.now.tolerances) }
     {
         match self.values.get(state) {
             Some(report) => report.latched(tolerance),

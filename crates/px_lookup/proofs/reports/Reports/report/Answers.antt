@@ -1,10 +1,12 @@
-use Rattle.std.proofs.Common.{◌≡◌, rules, ap, ◌∙◌}
+use Rattle.std.proofs.Common.{◌≡◌, rules, All, ap, sym, subst, ◌∙◌}
+use Rattle.std.specs.Map.{values_of}
 use Rattle.std.specs.Option.{option_copied}
 use Rattle.indexmap.specs.IndexMap.{insert_entry}
 use Rattle.px_sem.specs.Events.{reported}
 use Rattle.px_sem.specs.World.{LookState, is_same_state, report_at}
 use Rattle.px_lookup.specs.Reports.{ReportsData}
-use Rattle.px_lookup.specs.Undoing.{report_after}
+use Rattle.px_lookup.specs.Undoing.{HadLatchedEach, LatchEach, report_after}
+use Rattle.px_lookup.proofs.Latching.{after_latches, found_latches, inserted_all, noted_all}
 use Rattle.px_lookup.proofs.Reporting.{insert_entry-reported, kept_mark, lookup-report_at}
 use Rattle.px_lookup.proofs.reports.Reports.report.Goals as goal
 
@@ -29,3 +31,23 @@ returns-clause-marked c =
     kept_mark c.self.inside.is_marked c.self.inside.changes.items c.note.new.changes.items c.in_ok-change.change
     c.self.inside.values.entries c.insert.new.values.entries (search rules) c.in_ok-change.ensures.undone
     ∙ ap (λ (held : ReportsData). held.marked) c.self.view_is
+
+pub invariant_of-self-2 : goal.invariant_of-self-2
+invariant_of-self-2 c =
+    let tolerances = c.self.inside.tolerances.items in
+    let entries = c.self.inside.values.entries in
+    let given = c.args.value.now in
+    let made = c.new-state.result in
+    let old = option_copied c.get-old.result in
+    let report_is : c.in_ok-report.report ≡ report_after tolerances old given =
+    c.in_ok-report.ensures ∙ ap (λ tolerances. report_after tolerances old given) c.deref.ensures.value in
+    record {
+      nothing = search rules;
+      latching = subst (λ entries. All (LatchEach tolerances) (values_of entries)) (sym c.in_ok-change.ensures.ok)
+          (inserted_all (LatchEach tolerances) made c.in_ok-report.report entries c.self.invariant.latching
+          (subst (LatchEach tolerances) (sym report_is)
+          (after_latches tolerances old given
+          (found_latches tolerances made entries old c.self.invariant.latching c.get-old.ensures.value))));
+      before = noted_all (HadLatchedEach tolerances) c.self.inside.is_marked c.self.inside.changes.items c.note.new.changes.items
+          c.in_ok-change.change (search rules) c.self.invariant.before (c.in_ok-change.ensures.old tolerances c.self.invariant.latching);
+    }

@@ -1,0 +1,93 @@
+-- Each tolerance has latched a value in each report, whatever is reported and taken back.
+use Rattle.std.proofs.Common.{◌≡◌, ℕ, zero, suc, ◌-◌, Bool, true, false, List, [], ◌∷◌, ◌++◌, length, map, take, Option, Some, None, IfSome, is_some, nat_eq, All, refl, ap, sym, subst, ◌∙◌, if◌then◌else◌}
+use Rattle.std.specs.Borrow.{Bor}
+use Rattle.std.specs.List.{list_any}
+use Rattle.std.specs.Map.{keys_of, lookup, values_of}
+use Rattle.std.specs.Option.{option_copied}
+use Rattle.std.proofs.lemmas.List.Elements.{All-cons, All-head, All-nil, All-push, All-tail}
+use Rattle.std.proofs.lemmas.Map.Made.{is_some-lookup}
+use Rattle.std.proofs.lemmas.Map.Views.{IfSome-lookup_from_All}
+use Rattle.indexmap.specs.IndexMap.{insert_entry, set_value_at}
+use Rattle.px_value.specs.declared.value.Value.{Value}
+use Rattle.px_sem.specs.World.{LookState, Report, is_same_state, latched_at}
+use Rattle.px_lookup.specs.declared.reports.Change.{Change}
+use Rattle.px_lookup.specs.declared.reports.Change.TheVariants as changes
+use Rattle.px_lookup.specs.Undoing.{HadLatchedEach, LatchEach, report_after, undone}
+use Rattle.px_lookup.proofs.Reporting.{latched_then}
+
+first_each : (tolerances : List ℕ) (given : Value) → keys_of (map (λ tolerance. (tolerance, given)) tolerances) ≡ tolerances
+first_each [] given = refl
+first_each (tolerance ∷ tolerances) given = ap (λ rest. tolerance ∷ rest) (first_each tolerances given)
+
+next_each : (latched : List (ℕ × Value)) (given : Value) → keys_of (map (latched_then given) latched) ≡ keys_of latched
+next_each [] given = refl
+next_each (kept ∷ latched) given = ap (λ rest. kept.0 ∷ rest) (next_each latched given)
+
+-- in the report of a state after one more, or in its first
+pub after_latches : (tolerances : List ℕ) (old : Option Report) (given : Value) → IfSome old (LatchEach tolerances)
+    → LatchEach tolerances (report_after tolerances old given)
+after_latches tolerances None given latches = first_each tolerances given
+after_latches tolerances (Some report) given latches = next_each report.latched given ∙ latches
+
+module _ (P : Report → Type 0) where
+  pub inserted_all : (state : LookState) (report : Report) (es : List (LookState × Report)) → All P (values_of es) → P report
+      → All P (values_of (insert_entry is_same_state es state report))
+  inserted_all state report [] all holds = All-cons P report [] holds (All-nil P)
+  inserted_all state report (e ∷ es) all holds =
+      by (is_same_state state e.0) (inserted_all state report es (All-tail P e.1 (values_of es) all) holds)
+    where
+      by : (same : Bool) → All P (values_of (insert_entry is_same_state es state report))
+          → All P (values_of (if same then (e.0, report) ∷ es else e ∷ insert_entry is_same_state es state report))
+      by true rest = All-cons P report (values_of es) holds (All-tail P e.1 (values_of es) all)
+      by false rest = All-cons P e.1 (values_of (insert_entry is_same_state es state report)) (All-head P e.1 (values_of es) all) rest
+
+  set_all : (es : List (LookState × Report)) (at : ℕ) (old : Report) → All P (values_of es) → P old
+      → All P (values_of (set_value_at es at old))
+  set_all [] at old all holds = All-nil P
+  set_all (e ∷ es) zero old all holds = All-cons P old (values_of es) holds (All-tail P e.1 (values_of es) all)
+  set_all (e ∷ es) (suc at) old all holds =
+      All-cons P e.1 (values_of (set_value_at es at old)) (All-head P e.1 (values_of es) all)
+      (set_all es at old (All-tail P e.1 (values_of es) all) holds)
+
+  front_all : (count : ℕ) (es : List (LookState × Report)) → All P (values_of es) → All P (values_of (take count es))
+  front_all zero es all = All-nil P
+  front_all (suc count) [] all = All-nil P
+  front_all (suc count) (e ∷ es) all =
+      All-cons P e.1 (values_of (take count es)) (All-head P e.1 (values_of es) all)
+      (front_all count es (All-tail P e.1 (values_of es) all))
+
+pub undone_latches : (tolerances : List ℕ) (change : Change) (es : List (LookState × Report))
+    → All (LatchEach tolerances) (values_of es) → HadLatchedEach tolerances change
+    → All (LatchEach tolerances) (values_of (undone change es))
+undone_latches tolerances (changes.Replaced at old) es all had = set_all (LatchEach tolerances) es at old all had
+undone_latches tolerances changes.Added es all had = front_all (LatchEach tolerances) (length es - 1) es all
+
+-- all but the last, and the last
+pub all_parts : (P : Change → Type 0) (earlier : List Change) (change : Change) → All P (earlier ++ change ∷ [])
+    → All P earlier × P change
+all_parts P [] change all = (All-nil P, All-head P change [] all)
+all_parts P (first ∷ earlier) change all =
+    let rest = all_parts P earlier change (All-tail P first (earlier ++ change ∷ []) all) in
+    (All-cons P first earlier (All-head P first (earlier ++ change ∷ []) all) rest.0, rest.1)
+
+-- the changes so far, and one more where it is kept
+pub noted_all : (P : Change → Type 0) (is_kept : Bool) (changes noted : List Change) (change : Change)
+    → noted ≡ (if is_kept then changes ++ change ∷ [] else changes) → All P changes → P change → All P noted
+noted_all P true changes noted change is all holds = subst (All P) (sym is) (All-push P changes change all holds)
+noted_all P false changes noted change is all holds = subst (All P) (sym is) all
+
+-- in a report that is found
+pub found_latches : (tolerances : List ℕ) (state : LookState) (es : List (LookState × Report)) (found : Option Report)
+    → All (LatchEach tolerances) (values_of es) → found ≡ lookup (is_same_state state) es → IfSome found (LatchEach tolerances)
+found_latches tolerances state es found all is =
+    subst (λ found. IfSome found (LatchEach tolerances)) (sym is)
+    (IfSome-lookup_from_All (LatchEach tolerances) (is_same_state state) es all)
+
+pub copied_some : {X : Type 0} (lent : Option (Bor X)) → is_some lent ≡ is_some (option_copied lent)
+copied_some None = refl
+copied_some (Some x) = refl
+
+pub latched_some : (tolerances : List ℕ) (report : Report) (tolerance : ℕ) → LatchEach tolerances report
+    → is_some (latched_at report tolerance) ≡ list_any (nat_eq tolerance) tolerances
+latched_some tolerances report tolerance latches =
+    is_some-lookup (nat_eq tolerance) report.latched ∙ ap (list_any (nat_eq tolerance)) latches
