@@ -1,13 +1,12 @@
 // An executive whose disk has failed in a post.
 ghost use Rattle.std.specs.Prelude.{◌≡◌, None, IfOk};
 
-use px_compile::compile;
+use crate::opening::opened;
 use px_event::Event;
 use px_exec::{Exec, PostFault};
 use px_naive::Naive;
-use px_ports::MemDisk;
-use px_sem::start;
-use px_session::create;
+use px_ports::{Disk, MemDisk};
+use px_sem::Stepper;
 use px_value::{Handle, Path};
 use std::alloc::Global;
 use std::process::Abort;
@@ -33,28 +32,33 @@ fn failing_disk(alloc: Global) -> Result<MemDisk, Fail>
 }
 
 // The first post fails with the disk, and the second is told so.
-fn posts_fail(rt: &impl Abort, alloc: Global, mut exec: Exec<Naive, MemDisk>, event: &Event) {
+fn posts_fail<S: Stepper, D: Disk + Drop, R: Abort>(
+    rt: &R,
+    alloc: Global,
+    exec: &mut Exec<S, D>,
+) -> Result<(), Fail> {
+    let event = completion(alloc)?;
     assert!(rt; event.is_fit());
-    let first = exec.post(alloc, 1, 1, event);
+    let first = exec.post(alloc, 1, 1, &event);
     assert!(rt; matches!(first, Err(PostFault::DiskFault)));
-    let second = exec.post(alloc, 1, 1, event);
+    let second = exec.post(alloc, 1, 1, &event);
     assert!(rt; matches!(second, Err(PostFault::Closed { faults: 1 })));
+    Ok(())
+}
+
+fn posts_fail_over<S: Stepper, D: Disk + Drop, R: Abort>(
+    rt: &R,
+    alloc: Global,
+    disk: D,
+) -> Result<(), Fail>
+    requires unbound { D.bound_to disk ≡ None }
+{
+    let mut exec = opened::<S, D, R>(rt, alloc, PLAN, disk);
+    posts_fail(rt, alloc, &mut exec)
 }
 
 #[test]
 fn a_closed_executive_answers_its_count(rt: HostRuntime) -> Result<(), Fail> {
-    let alloc = rt.alloc();
-    let event = completion(alloc)?;
-    let disk = failing_disk(alloc)?;
-    let Ok(plan) = compile(alloc, PLAN) else {
-        panic!(rt; "the plan is fit");
-    };
-    let Ok(stepper) = start::<Naive>(alloc, &plan) else {
-        panic!(rt; "the plan starts");
-    };
-    let Ok(exec) = create(alloc, disk, "J", PLAN, stepper, 10) else {
-        panic!(rt; "the journal is made");
-    };
-    posts_fail(&rt, alloc, exec, &event);
-    Ok(())
+    let disk = failing_disk(rt.alloc())?;
+    posts_fail_over::<Naive, MemDisk, HostRuntime>(&rt, rt.alloc(), disk)
 }

@@ -7,6 +7,8 @@
 #[cfg(test)]
 mod closed;
 #[cfg(test)]
+mod opening;
+#[cfg(test)]
 mod turns;
 #[cfg(test)]
 mod two_seats;
