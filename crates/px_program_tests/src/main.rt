@@ -2,11 +2,11 @@
 //!
 //! The rows are the file `stdin`, in tables: the transitions in the order of their rows, the conflicts of writers, the
 //! effects of moves, the values of expressions, the events, scripts, whole runs, refusals, sessions over a journal, the
-//! bytes of its entries, command words, scripts of several threads and their waits, the faults of plans with a sound plan
-//! beside each, operators, syntax, depth, tokens, numbers of nodes, values, the names of paths, layouts, soaks, events that
-//! don't settle within 100,000 micro steps, files and texts as large as may be or larger by one, and bytes that are no text.
-//! All texts and bytes in it were worked out by hand, from the tables of docs/LANGUAGE.md and docs/SEMANTICS.md and the
-//! forms of docs/FORMATS.md. A row is
+//! names of its interfaces, the bytes of its entries, command words, scripts of several threads and their waits, the
+//! faults of plans with a sound plan beside each, operators, syntax, depth, tokens, numbers of nodes, values, the names
+//! of paths, layouts, soaks, events that don't settle within 100,000 micro steps, files and texts as large as may be or
+//! larger by one, and bytes that are no text. All texts and bytes in it were worked out by hand, from the tables of
+//! docs/LANGUAGE.md and docs/SEMANTICS.md and the forms of docs/FORMATS.md. A row is
 //!
 //! ```text
 //! NAME
