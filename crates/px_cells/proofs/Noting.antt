@@ -9,6 +9,7 @@ use Rattle.std.proofs.lemmas.List.Quantifiers.{all_pairs_push}
 use Rattle.std.proofs.lemmas.Map.Views.{Contains-from_any}
 use Rattle.std.proofs.Math.Nat.{mul-le-mul_right}
 use Rattle.px_cells.specs.Marks.{AreNoted, NoneKept, at_mark}
+use Rattle.px_cells.proofs.Flagging.{or_last}
 use Rattle.px_cells.proofs.Marking.{at_mark-back, at_mark-slice}
 
 module _ {T : Type 0} where
@@ -59,16 +60,10 @@ module _ {T : Type 0} where
         ap is_some (get_or-set_other olds at k (Some value) None other.1) ∙ noted k ∙ sym (last false other.0)
   ]
     where
-      is_or : (a b : Bool) → (a || (b || false)) ≡ (if b then true else a)
-      is_or true true = refl
-      is_or true false = refl
-      is_or false true = refl
-      is_or false false = refl
-
       last : (answer : Bool) → nat_eq k at ≡ answer
           → list_any (nat_eq k) (changed ++ at ∷ []) ≡ (if answer then true else list_any (nat_eq k) changed)
       last answer is =
-          list_any-append (nat_eq k) changed (at ∷ []) ∙ is_or (list_any (nat_eq k) changed) (nat_eq k at)
+          list_any-append (nat_eq k) changed (at ∷ []) ∙ or_last (list_any (nat_eq k) changed) (nat_eq k at)
           ∙ ap (λ b. if b then true else list_any (nat_eq k) changed) is
 
   -- each cell once

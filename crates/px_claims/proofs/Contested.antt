@@ -5,6 +5,7 @@ use Rattle.std.proofs.lemmas.Bool.{cases_eq, cases_lt, cond-false, cond-true, eq
 use Rattle.std.proofs.lemmas.List.{get_or-replicate, get_or-set_other, get_or_past, length-replicate}
 use Rattle.px_value.proofs.General.{same_bool}
 use Rattle.px_links.specs.Links.{LinksData, holder_of, HoldsOthersAsBefore}
+use Rattle.px_links.proofs.Empty.{replicate-same}
 use Rattle.px_tally.specs.Tally.{TallyData, marked, nobody, total}
 use Rattle.px_tally.proofs.Counting.{none-count, count-none}
 use Rattle.px_claims.specs.Keeping.{HoldsContested, is_contested}
@@ -78,11 +79,4 @@ none_contested groups variables holding links absent variable =
     absent variable
     ∙ ap (λ none. holder_for (not none && is_nobody holding variable))
     (sym (eq-eqb (total (nobody groups variables) variable) 0
-    (count-none variable variables (replicate (length variables) false) (λ node of. uncounted node))))
-  where
-    uncounted : (node : ℕ) → get_or (replicate (length variables) false) node false ≡ false
-    uncounted node = elim (cases_lt node (length variables)) [
-      | inl below ↦ get_or-replicate (length variables) node false false below
-      | inr past ↦ get_or_past (replicate (length variables) false) node false
-          (omega (arith, past, length-replicate {A = Bool} (length variables) false))
-    ]
+    (count-none variable variables (replicate (length variables) false) (λ node of. replicate-same (length variables) node false))))

@@ -1,10 +1,11 @@
 -- A write of a cell of a variable is a write of the variable in the world that the parts stand for. (This could as well stand
 -- in px_flat.)
-use Rattle.std.proofs.Common.{◌≡◌, ◌≢◌, ℕ, zero, suc, ◌+◌, ◌-◌, ◌<◌, ◌≤◌, Bool, true, false, not, List, [], ◌∷◌, length, map, set, take, drop, refl, ap, sym, ◌∙◌, subst, arith, inl, inr, Some, if◌then◌else◌}
+use Rattle.std.proofs.Common.{◌≡◌, ◌≢◌, ℕ, ◌+◌, ◌-◌, ◌<◌, ◌≤◌, Bool, true, false, not, List, [], ◌∷◌, length, map, set, take, drop, refl, ap, sym, ◌∙◌, subst, arith, inl, inr, Some, if◌then◌else◌}
 use Rattle.std.specs.List.{list_any, zip}
 use Rattle.std.specs.Cmp.Lexicographic.{same_text}
 use Rattle.std.proofs.lemmas.Bool.{and_parts, not-true, or_parts, cases_lt}
 use Rattle.std.proofs.lemmas.Cmp.{nat_list_eq_equiv}
+use Rattle.std.proofs.Math.Seq.{take-set-lt}
 use Rattle.std.proofs.lemmas.List.{take-set-le, drop-set-lt, drop-set-add, get_or-set_other}
 use Rattle.px_value.specs.declared.value.Value.{Value}
 use Rattle.px_value.specs.declared.value.Value.TheVariants as values
@@ -47,12 +48,6 @@ untouched name place value (variable ∷ variables) cells none =
     ∙ ap (λ rest. (if is_same variable.name name then set own (cell_of place) value else own) ∷ rest)
     (untouched name place value variables rest parts.1)
 
-take-set_within : {A : Type 0} (n : ℕ) (l : List A) (i : ℕ) (a : A) → i < n → take n (set l i a) ≡ set (take n l) i a
-take-set_within zero l i a within = absurd (omega arith)
-take-set_within (suc n) [] i a within = refl
-take-set_within (suc n) (x ∷ l) zero a within = refl
-take-set_within (suc n) (x ∷ l) (suc i) a within = ap (λ rest. x ∷ rest) (take-set_within n l i a (omega arith))
-
 -- one of them has it
 values_in-write : (name : List ℕ) (place : world.Place) (value : Value) (variables : List VariableData) (cells : List Value)
     (from k : ℕ) (slot : Place) → place_from from variables name ≡ Some slot
@@ -89,7 +84,7 @@ values_in-write name place value (variable ∷ variables) cells from k slot at d
         let named : variable.name ≡ name = same_text variable.name name (sym is) in
         let others : list_any (is_same name) (map (λ variable. variable.name) variables) ≡ false =
         subst (λ name. list_any (is_same name) (map (λ variable. variable.name) variables) ≡ false) named (not-true _ parts.0) in
-        ap (λ front. front ∷ values_in variables (drop size (set cells k value))) (take-set_within size cells k value inside)
+        ap (λ front. front ∷ values_in variables (drop size (set cells k value))) (take-set-lt size cells k value inside)
         ∙ ap (λ behind. set (take size cells) k value ∷ values_in variables behind) (drop-set-lt size cells k value inside)
         ∙ ap (λ n. set (take size cells) n value ∷ values_in variables (drop size cells)) k_is
         ∙ ap (λ b. (if b then set (take size cells) (cell_of place) value else take size cells) ∷ values_in variables (drop size cells))

@@ -2,6 +2,7 @@
 use Rattle.std.proofs.Common.{◌≡◌, ◌≢◌, ℕ, List, [], ◌∷◌, Some, None, true, false, refl, sym, ap, subst, ◌∙◌}
 use Rattle.std.specs.List.{slice_get}
 use Rattle.std.specs.Str.{is_utf8}
+use Rattle.std.proofs.lemmas.Bool.{both_ways}
 use Rattle.std.proofs.lemmas.Str.{utf8_valid_len-IsValidUpTo}
 use Rattle.px_lex.specs.declared.fault.LexFault.{LexFault}
 use Rattle.px_lex.specs.declared.fault.LexFault.TheVariants as lex_faults
@@ -43,9 +44,6 @@ pub one_plan : (bytes : List ℕ) (a b : Tree) → IsCompiled bytes a → IsComp
 one_plan bytes a b s t = s.expanded ∙ ap core (one_tree bytes s.tree t.tree s.spelled t.spelled) ∙ sym t.expanded
 
 -- ---- what one stage refuses no later stage takes
-
-no_text : (bytes : List ℕ) → is_utf8 bytes ≡ false → is_utf8 bytes ≡ true → ⊥
-no_text bytes fails holds = let both : false ≡ true = sym fails ∙ holds in cc
 
 no_split :
     (bytes : List ℕ) (fault : LexFault) (tokens : List Token) → fault ≢ lex_faults.NoMemory → FirstFault bytes fault
@@ -93,7 +91,7 @@ not_large tree expand_faults.NoMemory some refused within = absurd (some refl)
 pub no_refusal :
     (bytes : List ℕ) (plan : Tree) (fault : PlanFault) → fault ≢ answers.NoMemory → IsCompiled bytes plan
     → IsRefused bytes fault → ⊥
-no_refusal bytes plan (answers.NotText at) some made refused = no_text bytes refused.0 made.spelled.split.text
+no_refusal bytes plan (answers.NotText at) some made refused = both_ways (is_utf8 bytes) refused.0 made.spelled.split.text
 no_refusal bytes plan (answers.Lex fault) some made refused =
     no_split bytes fault made.spelled.tokens refused.0 refused.2 made.spelled.split
 no_refusal bytes plan (answers.Parse fault) some made refused =
@@ -152,24 +150,24 @@ pub one_refusal :
 one_refusal bytes (answers.NotText m) (answers.NotText n) hf hg a b =
     ap (λ at. answers.NotText at)
     (sym (utf8_valid_len-IsValidUpTo bytes m a.1) ∙ utf8_valid_len-IsValidUpTo bytes n b.1)
-one_refusal bytes (answers.NotText m) (answers.Lex g) hf hg a b = absurd (no_text bytes a.0 b.1)
-one_refusal bytes (answers.NotText m) (answers.Parse g) hf hg a b = absurd (no_text bytes a.0 b.2.text)
-one_refusal bytes (answers.NotText m) (answers.Check g) hf hg a b = absurd (no_text bytes a.0 b.2.split.text)
-one_refusal bytes (answers.NotText m) (answers.Expand g) hf hg a b = absurd (no_text bytes a.0 b.2.split.text)
-one_refusal bytes (answers.Lex f) (answers.NotText n) hf hg a b = absurd (no_text bytes b.0 a.1)
+one_refusal bytes (answers.NotText m) (answers.Lex g) hf hg a b = absurd (both_ways (is_utf8 bytes) a.0 b.1)
+one_refusal bytes (answers.NotText m) (answers.Parse g) hf hg a b = absurd (both_ways (is_utf8 bytes) a.0 b.2.text)
+one_refusal bytes (answers.NotText m) (answers.Check g) hf hg a b = absurd (both_ways (is_utf8 bytes) a.0 b.2.split.text)
+one_refusal bytes (answers.NotText m) (answers.Expand g) hf hg a b = absurd (both_ways (is_utf8 bytes) a.0 b.2.split.text)
+one_refusal bytes (answers.Lex f) (answers.NotText n) hf hg a b = absurd (both_ways (is_utf8 bytes) b.0 a.1)
 one_refusal bytes (answers.Lex f) (answers.Lex g) hf hg a b =
     ap (λ fault. answers.Lex fault) (one_fault bytes f g a.0 b.0 a.2 b.2)
 one_refusal bytes (answers.Lex f) (answers.Parse g) hf hg a b = absurd (no_split bytes f b.0 a.0 a.2 b.2)
 one_refusal bytes (answers.Lex f) (answers.Check g) hf hg a b = absurd (no_split bytes f b.2.tokens a.0 a.2 b.2.split)
 one_refusal bytes (answers.Lex f) (answers.Expand g) hf hg a b = absurd (no_split bytes f b.2.tokens a.0 a.2 b.2.split)
-one_refusal bytes (answers.Parse f) (answers.NotText n) hf hg a b = absurd (no_text bytes b.0 a.2.text)
+one_refusal bytes (answers.Parse f) (answers.NotText n) hf hg a b = absurd (both_ways (is_utf8 bytes) b.0 a.2.text)
 one_refusal bytes (answers.Parse f) (answers.Lex g) hf hg a b = absurd (no_split bytes g a.0 b.0 b.2 a.2)
 one_refusal bytes (answers.Parse f) (answers.Parse g) hf hg a b =
     ap (λ fault. answers.Parse fault) (same_parse b.0 f g a.1 b.1
     (subst (λ (tokens : List Token). parsing.IsRefused tokens f) (one_split bytes a.0 b.0 a.2 b.2) a.3) b.3)
 one_refusal bytes (answers.Parse f) (answers.Check g) hf hg a b = absurd (no_tree bytes a.0 f b.0 a.1 a.2 a.3 b.2)
 one_refusal bytes (answers.Parse f) (answers.Expand g) hf hg a b = absurd (no_tree bytes a.0 f b.0 a.1 a.2 a.3 b.2)
-one_refusal bytes (answers.Check f) (answers.NotText n) hf hg a b = absurd (no_text bytes b.0 a.2.split.text)
+one_refusal bytes (answers.Check f) (answers.NotText n) hf hg a b = absurd (both_ways (is_utf8 bytes) b.0 a.2.split.text)
 one_refusal bytes (answers.Check f) (answers.Lex g) hf hg a b = absurd (no_split bytes g a.2.tokens b.0 b.2 a.2.split)
 one_refusal bytes (answers.Check f) (answers.Parse g) hf hg a b = absurd (no_tree bytes b.0 g a.0 b.1 b.2 b.3 a.2)
 one_refusal bytes (answers.Check f) (answers.Check g) hf hg a b =
@@ -177,7 +175,7 @@ one_refusal bytes (answers.Check f) (answers.Check g) hf hg a b =
     (subst (λ (tree : PlanTree). IsFirst (faults tree) f) (one_tree bytes a.0 b.0 a.2 b.2) a.3) b.3)
 one_refusal bytes (answers.Check f) (answers.Expand g) hf hg a b =
     absurd (no_faults bytes a.0 b.0 f a.1 a.2 a.3 b.2 b.3)
-one_refusal bytes (answers.Expand f) (answers.NotText n) hf hg a b = absurd (no_text bytes b.0 a.2.split.text)
+one_refusal bytes (answers.Expand f) (answers.NotText n) hf hg a b = absurd (both_ways (is_utf8 bytes) b.0 a.2.split.text)
 one_refusal bytes (answers.Expand f) (answers.Lex g) hf hg a b = absurd (no_split bytes g a.2.tokens b.0 b.2 a.2.split)
 one_refusal bytes (answers.Expand f) (answers.Parse g) hf hg a b = absurd (no_tree bytes b.0 g a.0 b.1 b.2 b.3 a.2)
 one_refusal bytes (answers.Expand f) (answers.Check g) hf hg a b =

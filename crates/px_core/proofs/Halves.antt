@@ -1,19 +1,14 @@
 -- Terms joined in halves: the term that joins them is there, and it is one.
-use Rattle.std.proofs.Common.{◌≡◌, Bool, ℕ, zero, suc, ◌+◌, ◌-◌, ◌/◌, ◌≤◌, List, [], ◌∷◌, ◌++◌, length, take, drop, refl, sym, ap, ◌∙◌, subst, arith, length-append}
+use Rattle.std.proofs.Common.{◌≡◌, Bool, ℕ, zero, suc, ◌+◌, ◌/◌, ◌≤◌, List, [], ◌∷◌, ◌++◌, length, take, drop, refl, sym, ap, ◌∙◌, subst, arith, length-append}
+use Rattle.std.proofs.Math.Nat.{div-le_self}
 use Rattle.std.proofs.Math.Seq.{take-append_seam, drop-append_seam}
 use Rattle.std.proofs.lemmas.List.{length-take-le, length-drop, take-append-drop}
 use Rattle.px_core.specs.declared.expr.BinaryOp.{BinaryOp}
 use Rattle.px_core.specs.Expr.{Term, Binary}
 use Rattle.px_core.specs.Joined.{Joins, joined_within, joined}
 
-pub half_within : (n : ℕ) → n / 2 ≤ n
-half_within n = omega arith
-
 pub front_half : (terms : List Term) → length (take (length terms / 2) terms) ≡ length terms / 2
-front_half terms = length-take-le (length terms / 2) terms (half_within (length terms))
-
-back_half : (terms : List Term) → length (drop (length terms / 2) terms) ≡ length terms - length terms / 2
-back_half terms = length-drop (length terms / 2) terms
+front_half terms = length-take-le (length terms / 2) terms (div-le_self (length terms) 2)
 
 -- joined halves of several terms
 pub joins_halves : (op : BinaryOp) (none : Bool) (terms : List Term) (left right : Term) → 2 ≤ length terms
@@ -37,7 +32,7 @@ joins_within op none (suc bound) (one ∷ other ∷ more) h =
     joins_halves op none terms (joined_within op none bound (take half terms)) (joined_within op none bound (drop half terms))
     (omega arith)
     (joins_within op none bound (take half terms) (omega (arith, front_half terms)))
-    (joins_within op none bound (drop half terms) (omega (arith, back_half terms)))
+    (joins_within op none bound (drop half terms) (omega (arith, length-drop half terms)))
 
 pub joins : (op : BinaryOp) (none : Bool) (terms : List Term) → Joins op none terms (joined op none terms)
 unfolding joined

@@ -1,10 +1,10 @@
 -- Texts that are the same or not, and sites whose paths differ.
-use Rattle.std.proofs.Common.{◌≡◌, ◌≢◌, ℕ, suc, true, false, List, ◌∷◌, sym, arith}
+use Rattle.std.proofs.Common.{◌≡◌, ◌≢◌, ℕ, zero, suc, ◌<◌, true, false, List, [], ◌∷◌, length, get_or, find, Some, refl, sym, arith}
 use Rattle.std.specs.Cmp.Lexicographic.{same_text}
 use Rattle.std.proofs.lemmas.Bool.{false_from_ne_true}
 use Rattle.std.proofs.lemmas.Cmp.{nat_list_eq_equiv}
 use Rattle.px_core.specs.Fit.{AreDistinct}
-use Rattle.px_core.specs.Plan.{Site, is_same}
+use Rattle.px_core.specs.Plan.{Site, no_site, is_same}
 
 pub same-self : (a : List ℕ) → is_same a a ≡ true
 same-self a = nat_list_eq_equiv.refl a
@@ -16,3 +16,17 @@ same-other a b differ = false_from_ne_true (is_same a b) (λ same. differ (same_
 pub distinct_behind : (site : Site) (plan : List Site) → AreDistinct (site ∷ plan) → AreDistinct plan
 distinct_behind site plan distinct i j hi hj same =
     let e : suc i ≡ suc j = distinct (suc i) (suc j) (omega arith) (omega arith) same in omega arith
+
+pub head_differs : (site : Site) (plan : List Site) (i : ℕ) → AreDistinct (site ∷ plan) → i < length plan
+    → is_same site.path (get_or plan i no_site).path ≡ false
+head_differs site plan i distinct within = same-other _ _ (λ same.
+    let e : 0 ≡ suc i = distinct 0 (suc i) (omega arith) (omega arith) same in absurd (omega arith))
+
+-- each site is the one at its path
+pub found_itself : (plan : List Site) (i : ℕ) → AreDistinct plan → i < length plan
+    → find (λ site. is_same site.path (get_or plan i no_site).path) plan ≡ Some (get_or plan i no_site)
+found_itself [] i distinct within = absurd (omega arith)
+found_itself (site ∷ plan) zero distinct within = rw (same-self site.path) refl
+found_itself (site ∷ plan) (suc i) distinct within =
+    let inside : i < length plan = omega arith in
+    rw (head_differs site plan i distinct inside) (found_itself plan i (distinct_behind site plan distinct) inside)

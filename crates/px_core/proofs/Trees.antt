@@ -14,9 +14,10 @@ nodes_of node = count_of (tree_of_node node)
 abbrev pub trees : List CoreNode → Tree
 trees nodes = in_order (map (fold-CoreNode (Tree → Tree) branch) nodes)
 
-before_rest : (node : CoreNode) (rest : Tree)
+-- a node before others
+pub node_tree : (node : CoreNode) (rest : Tree)
     → fold-CoreNode (Tree → Tree) branch node rest ≡ Branch (head_of (out-CoreNode node)) (trees (out-CoreNode node).children.items) rest
-before_rest node rest = ap (λ (f : Tree → Tree). f rest) (fold_out-CoreNode (Tree → Tree) branch node)
+node_tree node rest = ap (λ (f : Tree → Tree). f rest) (fold_out-CoreNode (Tree → Tree) branch node)
 
 -- a tree before others
 abbrev before : Tree → Tree → Tree
@@ -28,7 +29,7 @@ side_by_side [] = NoNode
 side_by_side (tree ∷ more) = before tree (side_by_side more)
 
 first_tree : (node : CoreNode) (rest : Tree) → fold-CoreNode (Tree → Tree) branch node rest ≡ before (tree_of_node node) rest
-first_tree node rest = before_rest node rest ∙ ap (λ tree. before tree rest) (sym (before_rest node NoNode))
+first_tree node rest = node_tree node rest ∙ ap (λ tree. before tree rest) (sym (node_tree node NoNode))
 
 -- nodes side by side are known from the tree of each
 trees_by_each : (nodes : List CoreNode) → trees nodes ≡ side_by_side (map tree_of_node nodes)
@@ -46,10 +47,10 @@ same_node made node head children =
     ap (λ (f : Tree → Tree). f NoNode) (fold-roll-CoreNode (Tree → Tree) branch made)
     ∙ ap (λ head. Branch head (trees made.children.items) NoNode) head
     ∙ ap (λ children. Branch (head_of (out-CoreNode node)) children NoNode) (same_trees made.children.items (out-CoreNode node).children.items children)
-    ∙ sym (before_rest node NoNode)
+    ∙ sym (node_tree node NoNode)
 
 count_first : (node : CoreNode) (rest : Tree) → count_of (fold-CoreNode (Tree → Tree) branch node rest) ≡ nodes_of node + count_of rest
-count_first node rest = omega (arith, ap count_of (before_rest node rest), ap count_of (before_rest node NoNode))
+count_first node rest = omega (arith, ap count_of (node_tree node rest), ap count_of (node_tree node NoNode))
 
 count_trees : (nodes : List CoreNode) → count_of (trees nodes) ≡ sum (map nodes_of nodes)
 count_trees [] = refl
@@ -57,4 +58,4 @@ count_trees (node ∷ nodes) = omega (arith, count_first node (trees nodes), cou
 
 -- a node and those below it
 pub node_count : (node : CoreNode) → nodes_of node ≡ 1 + sum (map nodes_of (out-CoreNode node).children.items)
-node_count node = omega (arith, ap count_of (before_rest node NoNode), count_trees (out-CoreNode node).children.items)
+node_count node = omega (arith, ap count_of (node_tree node NoNode), count_trees (out-CoreNode node).children.items)

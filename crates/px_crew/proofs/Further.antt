@@ -3,7 +3,7 @@ use Rattle.std.proofs.Common.{◌≡◌, ◌≢◌, ℕ, ◌≤◌, List, ◌++�
 use Rattle.std.specs.List.{slice_get, filter_map}
 use Rattle.std.proofs.lemmas.List.{append_assoc, length-take, take-take, take-append-drop, drop-append-le}
 use Rattle.std.proofs.lemmas.List.Elements.{filter_map-append}
-use Rattle.std.proofs.lemmas.Option.{same_Some}
+use Rattle.std.proofs.lemmas.Option.{none-some, same_Some}
 use Rattle.px_event.specs.declared.entry.Entry.{Entry}
 use Rattle.px_event.specs.declared.event.Event.{Event}
 use Rattle.px_script.specs.Order.{entry_of, thread_entries}
@@ -57,10 +57,6 @@ between_then todo from at to before after within =
     ap (filter_map (entry_of todo.thread)) (lines_then todo.lines from at to before after within)
     ∙ filter_map-append (entry_of todo.thread) (drop from (take at todo.lines)) (drop at (take to todo.lines))
 
--- nothing is something
-none_some : (entry : Entry) → ◌≡◌ {A = Option Entry} None (Some entry) → ⊥
-none_some entry is = cc
-
 abbrev entry_by : ℕ → ℕ → Event → Entry
 entry_by thread line event = record { thread = thread; line = line; event = event }
 
@@ -103,8 +99,8 @@ seen_at todo at old new (Err stops.NoMemory) ends broken = absurd (cc)
 -- where one of its own has failed, it was the post of its next line
 pub next_at : (todo : Todo) (at : ℕ) (old new : Board) (end : Result Unit Stop) (entry : Entry) → EndsAt todo at old new end → old.broke ≡ None → new.broke ≡ Some entry
     → (todo.thread ≡ entry.thread) × (slice_get todo.lines at ≡ Some (line_at entry.line (whats.Post entry.event)))
-next_at todo at old new (Ok done) entry ends unbroken broken = absurd (none_some entry (sym (ends.1 ∙ unbroken) ∙ broken))
-next_at todo at old new (Err stops.Waits) entry ends unbroken broken = absurd (none_some entry (sym (ends.4.2.broke ∙ ends.3 ∙ unbroken) ∙ broken))
+next_at todo at old new (Ok done) entry ends unbroken broken = absurd (none-some entry (sym (ends.1 ∙ unbroken) ∙ broken))
+next_at todo at old new (Err stops.Waits) entry ends unbroken broken = absurd (none-some entry (sym (ends.4.2.broke ∙ ends.3 ∙ unbroken) ∙ broken))
 next_at todo at old new (Err stops.Disk) entry ends unbroken broken =
     let line = ends.0 in
     let stopped = ends.4 in
@@ -113,12 +109,13 @@ next_at todo at old new (Err stops.Disk) entry ends unbroken broken =
           let same : entry_by todo.thread line.number stopped.0 ≡ entry = same_Some (entry_by todo.thread line.number stopped.0) entry (sym mine.broke ∙ broken) in
           subst (λ (entry : Entry). (todo.thread ≡ entry.thread) × (slice_get todo.lines at ≡ Some (line_at entry.line (whats.Post entry.event)))) same
           (refl, ends.2 ∙ ap (λ (what : What). Some (line_at line.number what)) stopped.1)
-      | inr finds ↦ absurd (none_some entry (sym (finds.looked.broke ∙ ends.3 ∙ unbroken) ∙ broken))
+      | inr finds ↦ absurd (none-some entry (sym (finds.looked.broke ∙ ends.3 ∙ unbroken) ∙ broken))
     ]
-next_at todo at old new (Err stops.NoMemory) entry ends unbroken broken = absurd (none_some entry (sym (ends.4.0.broke ∙ ends.3 ∙ unbroken) ∙ broken))
+next_at todo at old new (Err stops.NoMemory) entry ends unbroken broken = absurd (none-some entry (sym (ends.4.0.broke ∙ ends.3 ∙ unbroken) ∙ broken))
 
-apart : works.Going ≡ works.Disk → ⊥
-apart is = cc
+-- a walk that goes on was not ended by the disk
+pub going_on : works.Going ≡ works.Disk → ⊥
+going_on is = cc
 
 pub walking_of : (todo : Todo) (from : ℕ) (old new : Board) (reach : Reach) → Walked todo from old new reach → work_end reach.end ≡ works.Going
     → Walking todo from reach.at old new
@@ -126,7 +123,7 @@ walking_of todo from old new reach w goes = record {
   within = w.within;
   later = w.later;
   made = w.made;
-  broke = unbroken_at todo reach.at old new reach.end w.ends (λ broken. absurd (apart (sym goes ∙ broken)));
+  broke = unbroken_at todo reach.at old new reach.end w.ends (λ broken. absurd (going_on (sym goes ∙ broken)));
   walks = w.walks;
 }
 

@@ -38,7 +38,7 @@ use Rattle.px_crew.specs.Seat.{entry_in}
 use Rattle.px_crew.specs.Standstill.{wait_of, wait_at, waits_of, IsHeld}
 use Rattle.px_crew.specs.Work.{board, places_of, HaveWorked, AreHeld, ComesTo}
 use Rattle.px_crew.proofs.Composing.{some_of, composed, unbroken_at, broken_one, seen_failed}
-use Rattle.px_crew.proofs.Further.{seen_at, next_at}
+use Rattle.px_crew.proofs.Further.{seen_at, next_at, going_on}
 use Rattle.px_crew.proofs.Further.{unbroken_at as walk_unbroken}
 use Rattle.px_crew.proofs.Passing.{walks_same}
 use Rattle.px_crew.proofs.Standing.{no_wait}
@@ -61,9 +61,6 @@ follows_nothing plan first log threads fresh = rw fresh (record {
 some_entry : (failed : Option Failed) → IsSome (entry_in failed) → (f : Failed) × (failed ≡ Some f)
 some_entry None some = absurd (cc)
 some_entry (Some f) some = (f, refl)
-
-going_on : works.Going ≡ works.Disk → ⊥
-going_on is = cc
 
 waits_at : (plan : List Site) (first : List Entry) (log : Log) (todo : Todo) (place : ℕ) → IsHeld plan first log todo place → IsWaiting todo place
 waits_at plan first log todo place (inl all) = inl all

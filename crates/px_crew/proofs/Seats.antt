@@ -9,7 +9,7 @@ use Rattle.px_exec.specs.declared.fault.PostFault.{PostFault}
 use Rattle.px_exec.specs.declared.fault.PostFault.TheVariants as faults
 use Rattle.px_exec.specs.declared.receipt.Receipt.{Receipt}
 use Rattle.px_sem.specs.Log.{Log, posted_in}
-use Rattle.px_turn.specs.Histories.{IsFront, stamped, items, positions}
+use Rattle.px_turn.specs.Histories.{stamped, items, positions}
 use Rattle.px_turn.specs.declared.view.Stamped.{Stamped}
 use Rattle.px_turn.proofs.Positions.{items-append, positions_own}
 use Rattle.px_desk.specs.Listing.{Start, log_in, failed_in, IsLegalList, HasFailed, Answers}
@@ -17,20 +17,18 @@ use Rattle.px_desk.specs.Seating.{Seating, Adds, HasMade}
 use Rattle.px_desk.specs.Seating.{IsLooked as HasLooked}
 use Rattle.px_desk.specs.declared.listing.Listing.{Listing}
 use Rattle.px_desk.specs.declared.listing.Listing.TheVariants as listings
+use Rattle.px_desk.proofs.Dealing.{front_trans}
 use Rattle.px_crew.specs.Board.{IsLooked, IsAnswered, IsBroken, Posts}
 use Rattle.px_crew.specs.Seat.{own, entry_in, board_of, HasGoneOn}
 use Rattle.px_crew.proofs.Listings.{log_in-append, failed_in-answered, failed_in-behind, clear_front, clear_before, own-append, own_stays, clear_own}
 
 -- ---- seats that have seen more
 
-pub front_then : {A : Type 0} (xs ys zs : List A) → IsFront xs ys → IsFront ys zs → IsFront xs zs
-front_then {A = A} xs ys zs a b = (a.0 ++ b.0, b.1 ∙ ap (λ (l : List A). l ++ b.0) a.1 ∙ append_assoc xs a.0 b.0)
-
 pub gone_none : {s : Seating} → HasMade s → HasGoneOn s s
 gone_none {s} made = record { number = refl; seen = ([], sym (append-nil s.seen)); made = made }
 
 pub gone_then : {old mid new : Seating} → HasGoneOn old mid → HasGoneOn mid new → HasGoneOn old new
-gone_then {old} {mid} {new} a b = record { number = b.number ∙ a.number; seen = front_then old.seen mid.seen new.seen a.seen b.seen; made = b.made }
+gone_then {old} {mid} {new} a b = record { number = b.number ∙ a.number; seen = front_trans old.seen mid.seen new.seen a.seen b.seen; made = b.made }
 
 -- ---- what a call does to a board
 

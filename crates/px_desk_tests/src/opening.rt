@@ -7,6 +7,7 @@ ghost use Rattle.px_sem.specs.Stepper.{Pending};
 
 use px_compile::compile;
 use px_core::Plan;
+use px_event::Names;
 use px_exec::Exec;
 use px_ports::Disk;
 use px_sem::{Stepper, start};
@@ -25,7 +26,7 @@ pub(super) fn opened<S: Stepper, D: Disk + Drop, R: Abort>(
     requires unbound { D.bound_to disk ≡ None }
 {
     let stepper = started(rt, alloc, text);
-    match create(alloc, disk, "J", text, stepper, 10) {
+    match create(alloc, disk, "J", text, stepper, 10, Names::new(alloc)) {
         Ok(exec) => exec,
         Err(_) => panic!(rt; "the journal is made"),
     }

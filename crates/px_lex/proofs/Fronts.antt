@@ -6,8 +6,9 @@ use Rattle.std.specs.Str.{bytes_eq}
 use Rattle.std.proofs.Math.Seq.{take-append_seam, drop-append_seam}
 use Rattle.std.proofs.lemmas.Bool.{and_parts, and_from, or_parts, or_left, cases_Bool, false≢true, lt-ltb, le-ltb, le-leb, eqb-true, not-true, ne_eqb}
 use Rattle.std.proofs.lemmas.Bool.Decides.{nat_tests}
+use Rattle.std.proofs.lemmas.Option.{none-some}
 use Rattle.px_value.specs.Name.{is_digit, begins_identifier, continues_identifier}
-use Rattle.px_value.proofs.General.{none_from}
+use Rattle.px_value.proofs.General.{none_from, is_none-None}
 use Rattle.px_lex.specs.declared.keyword.Keyword.{Keyword}
 use Rattle.px_lex.specs.declared.sign.Sign.{Sign}
 use Rattle.px_lex.specs.declared.token.TokenKind.{TokenKind}
@@ -192,28 +193,21 @@ fault_is_no_keyword word kind h = keyword_is (λ w. is_none (word_fault w)) refl
 
 -- ---- signs
 
-sign_of-all : (p : List ℕ → Bool) → list_all (λ (row : List ℕ × Sign). p row.0) sign_rows ≡ true → (spelling : List ℕ) (sign : Sign) → sign_of spelling ≡ Some sign → p spelling ≡ true
-sign_of-all p each spelling sign found = row_of-all p sign_rows spelling sign each found
-
 opens_two : (a : ℕ) → opens_comment (a ∷ []) ≡ false
 opens_two a = grind (arith, nat_tests)
 
-is_none_none : {K : Type 0} (o : Option K) → is_none o ≡ true → o ≡ None
-is_none_none None h = refl
-is_none_none (Some k) h = cc
-
 front_sign : (spelling rest : List ℕ) (sign : Sign) → sign_of spelling ≡ Some sign → ends_sign spelling rest ≡ true → front (spelling ++ rest) ≡ piece (Some (kinds.Sign sign)) rest
-front_sign [] rest sign h ends = absurd (false≢true (sign_of-all (λ s. begins is_other s) refl [] sign h))
+front_sign [] rest sign h ends = absurd (false≢true (row_of-all (λ s. begins is_other s) sign_rows [] sign refl h))
 front_sign (a ∷ []) [] sign h ends =
-    let first : is_other a ≡ true = sign_of-all (λ s. begins is_other s) refl (a ∷ []) sign h in
+    let first : is_other a ≡ true = row_of-all (λ s. begins is_other s) sign_rows (a ∷ []) sign refl h in
     rw (class_other (a ∷ []) first (opens_two a), h)
 front_sign (a ∷ []) (b ∷ cs) sign h ends =
-    let first : is_other a ≡ true = sign_of-all (λ s. begins is_other s) refl (a ∷ []) sign h in
+    let first : is_other a ≡ true = row_of-all (λ s. begins is_other s) sign_rows (a ∷ []) sign refl h in
     let parts : (is_none (sign_of (a ∷ b ∷ [])) ≡ true) × (not (opens_comment (a ∷ b ∷ [])) ≡ true) = and_parts (is_none (sign_of (a ∷ b ∷ []))) (not (opens_comment (a ∷ b ∷ []))) ends in
-    rw (class_other (a ∷ b ∷ cs) first (not-true (opens_comment (a ∷ b ∷ [])) parts.1), is_none_none (sign_of (a ∷ b ∷ [])) parts.0, h)
+    rw (class_other (a ∷ b ∷ cs) first (not-true (opens_comment (a ∷ b ∷ [])) parts.1), is_none-None (sign_of (a ∷ b ∷ [])) parts.0, h)
 front_sign (a ∷ b ∷ []) rest sign h ends =
-    let first : is_other a ≡ true = sign_of-all (λ s. begins is_other s) refl (a ∷ b ∷ []) sign h in
-    let closed : opens_comment (a ∷ b ∷ []) ≡ false = not-true (opens_comment (a ∷ b ∷ [])) (sign_of-all (λ s. not (opens_comment s)) refl (a ∷ b ∷ []) sign h) in
+    let first : is_other a ≡ true = row_of-all (λ s. begins is_other s) sign_rows (a ∷ b ∷ []) sign refl h in
+    let closed : opens_comment (a ∷ b ∷ []) ≡ false = not-true (opens_comment (a ∷ b ∷ [])) (row_of-all (λ s. not (opens_comment s)) sign_rows (a ∷ b ∷ []) sign refl h) in
     rw (class_other (a ∷ b ∷ rest) first closed, h)
 front_sign (a ∷ b ∷ c ∷ cs) rest sign h ends = let short : length (a ∷ b ∷ c ∷ cs) ≤ 2 = sign_is_short (a ∷ b ∷ c ∷ cs) sign h in absurd (omega arith)
 
@@ -223,11 +217,8 @@ read_quote : (text : List ℕ) (read : List ℕ × List ℕ) → read_string tex
 read_quote [] read h = cc
 read_quote (c ∷ cs) read h = elim (cases_Bool (c == 34)) [
   | inl quote ↦ quote
-  | inr other ↦ absurd (nothing_read read (rw other at h))
+  | inr other ↦ absurd (none-some read (rw other at h))
 ]
-  where
-    nothing_read : (read : List ℕ × List ℕ) → ◌≡◌ {A = Option (List ℕ × List ℕ)} None (Some read) → ⊥
-    nothing_read read h = cc
 
 string_is : (text content rest : List ℕ) → read_string text ≡ Some (content, rest) → front text ≡ string_front (Some (content, rest))
 string_is text content rest h = rw (class_quote text (read_quote text (content, rest) h), h)

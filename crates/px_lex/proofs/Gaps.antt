@@ -6,6 +6,7 @@ use Rattle.std.specs.List.{prefix_len}
 use Rattle.std.specs.Str.{IsUtf8, IsCharBoundary}
 use Rattle.std.proofs.lemmas.Bool.{cases_Bool, and_parts, not-false, eqb-true}
 use Rattle.std.proofs.lemmas.Bool.Decides.{nat_tests}
+use Rattle.std.proofs.lemmas.Option.{none-some}
 use Rattle.std.proofs.lemmas.Str.{IsCharBoundary-end, IsCharBoundary-before_ascii, IsCharBoundary-after_ascii}
 use Rattle.std.proofs.Math.Seq.{take-length, drop-append_seam, get_or-append_seam}
 use Rattle.px_lex.specs.Gap.{begins, is_white_space, is_in_line, after_close, blank, line_comment, comment}
@@ -52,9 +53,6 @@ line_begins text tail rest e r =
     }
 
 -- /* up to its */
-nothing : (rest : List ℕ) → None ≡ Some rest → ⊥
-nothing rest h = cc
-
 pub behind_opening : (text tail : List ℕ) → text ≡ codes "/*" ++ tail → take (length text - 2) (drop 2 text) ≡ tail
 behind_opening text tail e =
     ap (λ t. take (length t - 2) (drop 2 t)) e ∙ (let n : length (codes "/*" ++ tail) - 2 ≡ length tail = omega arith in ap (λ n. take n tail) n ∙ take-length tail)
@@ -62,8 +60,8 @@ behind_opening text tail e =
 pub closing : (tail rest : List ℕ) → after_close tail ≡ Some rest → (front : List ℕ) × (tail ≡ front ++ (47 ∷ rest))
 closing [] rest h = cc
 closing (c ∷ []) rest h = absurd (elim (cases_Bool (c == 42)) [
-  | inl star ↦ nothing rest (rw star at h)
-  | inr other ↦ nothing rest (rw other at h)
+  | inl star ↦ none-some rest (rw star at h)
+  | inr other ↦ none-some rest (rw other at h)
 ])
 closing (c ∷ d ∷ cs) rest h = elim (cases_Bool ((c == 42) && (d == 47))) [
   | inl here ↦ let end : Some cs ≡ Some rest = rw here at h in

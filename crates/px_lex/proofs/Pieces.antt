@@ -12,14 +12,17 @@ pub record SoFar (text rest : List ℕ) (tokens : List Token) : Type 0 where
   pub stand : AllStand pieces rest
   pub listed : tokens ≡ tokens_from 0 pieces
 
-spelled-push : (pieces : List Piece) (p : Piece) → spelled (pieces ++ (p ∷ [])) ≡ spelled pieces ++ p.spelling
-spelled-push [] p = append-nil p.spelling
-spelled-push (q ∷ qs) p = ap (λ t. q.spelling ++ t) (spelled-push qs p) ∙ sym (append_assoc q.spelling (spelled qs) p.spelling)
+-- pieces, one list behind another
+pub spelled-append : (ps qs : List Piece) → spelled (ps ++ qs) ≡ spelled ps ++ spelled qs
+spelled-append [] qs = refl
+spelled-append (p ∷ ps) qs = ap (λ t. p.spelling ++ t) (spelled-append ps qs) ∙ sym (append_assoc p.spelling (spelled ps) (spelled qs))
 
-stand_push : (pieces : List Piece) (p : Piece) (rest : List ℕ) → AllStand pieces (p.spelling ++ rest) → Stands p.kind p.spelling rest → AllStand (pieces ++ (p ∷ [])) rest
-stand_push [] p rest stand last = (last, tt)
-stand_push (q ∷ qs) p rest stand last =
-    (subst (λ t. Stands q.kind q.spelling t) (sym (append_assoc (spelled qs) p.spelling rest) ∙ ap (λ t. t ++ rest) (sym (spelled-push qs p))) stand.0, stand_push qs p rest stand.1 last)
+pub stand-append : (ps qs : List Piece) (rest : List ℕ) → AllStand ps (spelled qs ++ rest) → AllStand qs rest → AllStand (ps ++ qs) rest
+stand-append [] qs rest first second = second
+stand-append (p ∷ ps) qs rest first second = (
+  subst (Stands p.kind p.spelling) (sym (append_assoc (spelled ps) (spelled qs) rest) ∙ ap (λ t. t ++ rest) (sym (spelled-append ps qs))) first.0,
+  stand-append ps qs rest first.1 second,
+)
 
 tokens_from-push : (at : ℕ) (pieces : List Piece) (p : Piece) → tokens_from at (pieces ++ (p ∷ [])) ≡ tokens_from at pieces ++ token_at (at + length (spelled pieces)) p.kind
 tokens_from-push at [] p = append-nil (token_at at p.kind) ∙ (let same : at ≡ at + 0 = omega arith in ap (λ n. token_at n p.kind) same)
@@ -37,11 +40,12 @@ place text rest tokens s = omega (arith, ap length s.whole, length-append (spell
 pub step : (text rest behind : List ℕ) (tokens : List Token) (kind : Option TokenKind) → SoFar text rest tokens → Begins kind rest behind → SoFar text behind (tokens ++ token_at (length text - length rest) kind)
 step text rest behind tokens kind s b =
     let p : Piece = record { kind = kind; spelling = b.spelling } in
+    let spelling : spelled (p ∷ []) ≡ b.spelling = append-nil b.spelling in
     let there : length text - length rest ≡ 0 + length (spelled s.pieces) = omega (arith, place text rest tokens s) in
     record {
       pieces = s.pieces ++ (p ∷ []);
-      whole = s.whole ∙ ap (λ t. spelled s.pieces ++ t) b.split ∙ sym (append_assoc (spelled s.pieces) b.spelling behind) ∙ ap (λ t. t ++ behind) (sym (spelled-push s.pieces p));
-      stand = stand_push s.pieces p behind (subst (AllStand s.pieces) b.split s.stand) b.stands;
+      whole = s.whole ∙ ap (λ t. spelled s.pieces ++ t) b.split ∙ sym (append_assoc (spelled s.pieces) b.spelling behind) ∙ ap (λ t. t ++ behind) (sym (spelled-append s.pieces (p ∷ []) ∙ ap (λ t. spelled s.pieces ++ t) spelling));
+      stand = stand-append s.pieces (p ∷ []) behind (subst (AllStand s.pieces) (b.split ∙ ap (λ t. t ++ behind) (sym spelling)) s.stand) (b.stands, tt);
       listed = ap (λ ts. ts ++ token_at (length text - length rest) kind) s.listed ∙ ap (λ n. tokens_from 0 s.pieces ++ token_at n kind) there ∙ sym (tokens_from-push 0 s.pieces p);
     }
 

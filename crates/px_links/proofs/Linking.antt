@@ -1,17 +1,13 @@
 -- What linked cells are, and how the links of one list change.
-use Rattle.std.proofs.Common.{◌≡◌, ◌≢◌, ℕ, zero, suc, ◌-◌, ◌≤◌, Bool, true, false, ◌||◌, nat_eq, List, [], ◌∷◌, ◌++◌, length, slice_get, Option, Some, None, IfSome, refl, ap, sym, ◌∙◌, arith, inl, inr, ◌⊎◌}
+use Rattle.std.proofs.Common.{◌≡◌, ◌≢◌, ℕ, zero, suc, ◌-◌, ◌≤◌, true, false, ◌||◌, nat_eq, List, [], ◌∷◌, ◌++◌, length, slice_get, Option, Some, None, IfSome, refl, ap, sym, ◌∙◌, arith, inl, inr, ◌⊎◌}
 use Rattle.std.specs.Option.{option_or}
-use Rattle.std.proofs.lemmas.Bool.{eqb-true, eq-eqb, or_left}
+use Rattle.std.proofs.lemmas.Bool.{eqb-true, eq-eqb, or_left, or_right}
 use Rattle.std.proofs.lemmas.Bool.Decides.{eqb_tells}
 use Rattle.px_links.specs.Lists.{has, without, behind}
 use Rattle.px_links.specs.Keeping.{walk, AreLinked, is_number}
 use Rattle.px_links.specs.Relinking.{past}
 
 -- what a list has
-pub or_true : (a : Bool) {b : Bool} → b ≡ true → (a || b) ≡ true
-or_true true is = refl
-or_true false is = is
-
 pub has_head : (cell : ℕ) (list : List ℕ) → has (cell ∷ list) cell ≡ true
 has_head cell list = or_left (nat_eq cell cell) (has list cell) (eq-eqb cell cell refl)
 
@@ -67,11 +63,11 @@ module _ (next before : ℕ → Option ℕ) where
     | inr other ↦ absurd (cc (sym has_it ∙ ap (λ b. b || false) other.0))
   ]
   leads_on ahead first (head ∷ (other ∷ list)) last cell linked has_it = elim (eqb_tells cell head) [
-    | inl same ↦ rw (same.1) (inr (other, linked.2.0, linked.2.1, or_true (nat_eq other head) (has_head other list)))
+    | inl same ↦ rw (same.1) (inr (other, linked.2.0, linked.2.1, or_right (nat_eq other head) _ (has_head other list)))
     | inr apart ↦ elim (leads_on (Some head) (next head) (other ∷ list) last cell linked.2
         (sym (ap (λ b. b || has (other ∷ list) cell) apart.0) ∙ has_it)) [
           | inl is_last ↦ inl is_last
-          | inr leads ↦ inr (leads.0, leads.1, leads.2, or_true (nat_eq leads.0 head) leads.3)
+          | inr leads ↦ inr (leads.0, leads.1, leads.2, or_right (nat_eq leads.0 head) _ leads.3)
         ]
   ]
 
@@ -88,7 +84,7 @@ module _ (next before : ℕ → Option ℕ) where
     | inr apart ↦ elim (leads_back (Some head) (next head) list last cell linked.2
         (sym (ap (λ b. b || has list cell) apart.0) ∙ has_it)) [
           | inl is_first ↦ inr (head, is_first.0, is_first.1, has_head head list)
-          | inr leads ↦ inr (leads.0, leads.1, leads.2, or_true (nat_eq leads.0 head) leads.3)
+          | inr leads ↦ inr (leads.0, leads.1, leads.2, or_right (nat_eq leads.0 head) _ leads.3)
         ]
   ]
 
@@ -118,7 +114,7 @@ module _ (next before : ℕ → Option ℕ) where
       (or_left (nat_eq cell head) false (eq-eqb cell head (sym same)), ap next (sym same) ∙ linked.2.0)
   last_leads ahead first head (other ∷ list) last cell linked is =
       let behind = last_leads (Some head) (next head) other list last cell linked.2 is in
-      (or_true (nat_eq cell head) behind.0, behind.1)
+      (or_right (nat_eq cell head) _ behind.0, behind.1)
 
   pub last_is : (first : Option ℕ) (list : List ℕ) (last : Option ℕ) (cell : ℕ)
       → AreLinked next before None first list last → last ≡ Some cell → (has list cell ≡ true) × (next cell ≡ None)
@@ -166,7 +162,7 @@ module _ (next before then_next then_before : ℕ → Option ℕ) where
         linked.0,
         here.1 ∙ linked.1,
         linked_same (Some cell) (then_next cell) list last
-            (λ other has_it. same other (or_true (nat_eq other cell) has_it))
+            (λ other has_it. same other (or_right (nat_eq other cell) _ has_it))
             (rw (here.0) linked.2),
       )
 
@@ -183,7 +179,7 @@ module _ (next before then_next then_before : ℕ → Option ℕ) where
         ap (λ from. option_or from (Some new)) linked.0,
         here.1 ∙ linked.1,
         rw (here.0) (linked_push (Some cell) (next cell) list last new
-            (λ other has_it. others other (or_true (nat_eq other cell) has_it)) ends leads linked.2),
+            (λ other has_it. others other (or_right (nat_eq other cell) _ has_it)) ends leads linked.2),
       )
 
   -- a cell is taken out: each link to it leads past it
@@ -198,7 +194,7 @@ module _ (next before then_next then_before : ℕ → Option ℕ) where
       (ap (past gone (next gone)) linked.0, ap (past gone (before gone)) linked.1)
   linked_without ahead first (cell ∷ list) last gone others on back linked =
       let rest = linked_without (Some cell) (next cell) list last gone
-      (λ other has_it. others other (or_true (nat_eq other cell) has_it)) on back linked.2 in
+      (λ other has_it. others other (or_right (nat_eq other cell) _ has_it)) on back linked.2 in
       elim (eqb_tells gone cell) [
         | inl same ↦
             let here : before gone ≡ ahead = ap before same.1 ∙ linked.1 in

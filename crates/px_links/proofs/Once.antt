@@ -1,16 +1,14 @@
 -- No cell of a table is at two places.
-use Rattle.std.proofs.Common.{◌≡◌, ◌≢◌, ℕ, suc, true, ◌||◌, nat_eq, List, [], ◌∷◌, ◌++◌, length, get_or, AllPairs, refl, ap, sym, ◌∙◌, arith, inl, inr}
+use Rattle.std.proofs.Common.{◌≡◌, ◌≢◌, ℕ, suc, true, ◌||◌, nat_eq, List, [], ◌∷◌, length, get_or, AllPairs, refl, ap, sym, ◌∙◌, arith, inl, inr}
 use Rattle.std.specs.List.{concat}
 use Rattle.std.proofs.lemmas.Bool.{eq-eqb, cases_Bool}
-use Rattle.std.proofs.lemmas.List.Elements.{All-append}
-use Rattle.std.proofs.lemmas.List.Kept.{AllPairs-cons}
 use Rattle.std.proofs.lemmas.List.Folds.{list_any-append, list_any_at}
+use Rattle.px_value.proofs.General.{pairs_append}
 use Rattle.px_links.specs.declared.cell.Cell.{Cell}
 use Rattle.px_links.specs.declared.cell.Ends.{Ends}
 use Rattle.px_links.specs.Links.{IsOnce}
 use Rattle.px_links.specs.Lists.{has, nth}
 use Rattle.px_links.specs.Keeping.{IsTable}
-use Rattle.px_links.proofs.Linking.{has_head, or_true}
 use Rattle.px_links.proofs.Tables.{within, one_holder}
 
 -- what the lists have together, one of them has
@@ -25,26 +23,18 @@ concat_has (first ∷ lists) cell has_it = elim (cases_Bool (has first cell)) [
       (suc rest.0, rest.1)
 ]
 
-pairs_append : (list more : List ℕ) → AllPairs (λ a b. a ≢ b) list → AllPairs (λ a b. a ≢ b) more
-    → ((cell : ℕ) → has list cell ≡ true → has more cell ≡ true → ⊥) → AllPairs (λ a b. a ≢ b) (list ++ more)
-pairs_append [] more once others apart = others
-pairs_append (cell ∷ list) more once others apart = AllPairs-cons (λ a b. a ≢ b) cell (list ++ more)
-    (All-append (λ other. cell ≢ other) list more
-    (λ k d below. once 0 (suc k) d (omega arith) (omega arith))
-    (λ k d below same. apart cell (has_head cell list) (list_any_at (nat_eq cell) more k d below (eq-eqb cell _ same))))
-    (pairs_append list more (λ i j d before below. once (suc i) (suc j) d (omega arith) (omega arith)) others
-    (λ other has_it has_too. apart other (or_true (nat_eq other cell) has_it) has_too))
-
 once-concat : (lists : List (List ℕ)) → ((list : ℕ) → AllPairs (λ a b. a ≢ b) (nth lists list))
     → ((list other cell : ℕ) → has (nth lists list) cell ≡ true → has (nth lists other) cell ≡ true → list ≡ other)
     → AllPairs (λ a b. a ≢ b) (concat lists)
 once-concat [] once one = λ i j d before below. absurd (omega arith)
-once-concat (first ∷ lists) once one = pairs_append first (concat lists) (once 0)
+once-concat (first ∷ lists) once one = pairs_append (λ a b. a ≢ b) first (concat lists) (once 0)
     (once-concat lists (λ list. once (suc list)) (λ list other cell has_it has_too.
     let same : suc list ≡ suc other = one (suc list) (suc other) cell has_it has_too in omega arith))
-    (λ cell has_it has_too.
-    let behind = concat_has lists cell has_too in
-    let same : 0 ≡ suc behind.0 = one 0 (suc behind.0) cell has_it behind.1 in
+    (λ i j d near far is.
+    let cell : ℕ = get_or first i d in
+    let here = list_any_at (nat_eq cell) first i d near (eq-eqb cell cell refl) in
+    let behind = concat_has lists cell (list_any_at (nat_eq cell) (concat lists) j d far (eq-eqb cell _ is)) in
+    let same : 0 ≡ suc behind.0 = one 0 (suc behind.0) cell here behind.1 in
     omega arith)
 
 pub table-once : (cells : List Cell) (ends : List Ends) (lists : List (List ℕ)) → IsTable cells ends lists

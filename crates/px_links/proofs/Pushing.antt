@@ -3,7 +3,7 @@ use Rattle.std.proofs.Common.{◌≡◌, ◌≢◌, ℕ, ◌<◌, Bool, true, fa
 use Rattle.std.specs.Prelude.{if◌then◌else◌}
 use Rattle.std.specs.List.{position}
 use Rattle.std.specs.Option.{option_or}
-use Rattle.std.proofs.lemmas.Bool.{eq-eqb, cases_Bool}
+use Rattle.std.proofs.lemmas.Bool.{eq-eqb, cases_Bool, or_right}
 use Rattle.std.proofs.lemmas.Bool.Decides.{eqb_tells}
 use Rattle.std.proofs.lemmas.List.{get_or-set_same, get_or-set_other, length-set}
 use Rattle.std.proofs.lemmas.List.Folds.{list_any-append, list_any_at}
@@ -13,14 +13,14 @@ use Rattle.px_links.specs.declared.cell.Ends.{Ends}
 use Rattle.px_links.specs.Lists.{has, nth, with_last}
 use Rattle.px_links.specs.Keeping.{cell_at, ends_at, AreLinked, is_number, IsTable}
 use Rattle.px_links.specs.Relinking.{with_next}
-use Rattle.px_links.proofs.Linking.{linked_same, linked_push, number_here, here_number, if_some, or_true}
+use Rattle.px_links.proofs.Linking.{linked_same, linked_push, number_here, here_number, if_some}
 use Rattle.px_links.proofs.Reading.{holder-read}
 use Rattle.px_links.proofs.Tables.{next_in, before_in, no_ends, leads_on_in, last_in, within, one_holder, next-set, length-next}
 
 -- a list with one cell more has that one and the others
 has-new : (list : List ℕ) (new : ℕ) → has (list ++ new ∷ []) new ≡ true
 has-new [] new = rw (eq-eqb new new refl) refl
-has-new (head ∷ list) new = or_true (nat_eq new head) (has-new list new)
+has-new (head ∷ list) new = or_right (nat_eq new head) _ (has-new list new)
 
 has-old : (list : List ℕ) (new cell : ℕ) → new ≢ cell → has (list ++ new ∷ []) cell ≡ has list cell
 has-old list new cell apart = list_any-append (nat_eq cell) list (new ∷ []) ∙ elim (eqb_tells cell new) [

@@ -1,5 +1,5 @@
 -- A cell is taken out of its list.
-use Rattle.std.proofs.Common.{◌≡◌, ◌≢◌, ℕ, ◌<◌, Bool, true, false, not, nat_eq, List, [], length, set, Option, Some, None, IfSome, refl, ap, sym, ◌∙◌, arith, inl, inr, subst}
+use Rattle.std.proofs.Common.{◌≡◌, ◌≢◌, ℕ, ◌<◌, true, false, not, nat_eq, List, [], length, set, Option, Some, None, IfSome, refl, ap, sym, ◌∙◌, arith, inl, inr, subst}
 use Rattle.std.specs.Prelude.{if◌then◌else◌}
 use Rattle.std.specs.List.{position}
 use Rattle.std.proofs.lemmas.Bool.{eqb-true, cases_Bool}
@@ -8,6 +8,7 @@ use Rattle.std.proofs.lemmas.List.{get_or-set_same, get_or-set_other, length-set
 use Rattle.std.proofs.Math.ListN.{get_or-map}
 use Rattle.std.proofs.lemmas.List.Kept.{AllPairs-filter}
 use Rattle.std.proofs.lemmas.Map.Views.{any-filter_same}
+use Rattle.px_value.proofs.General.{same_bool}
 use Rattle.px_links.specs.declared.cell.Cell.{Cell}
 use Rattle.px_links.specs.declared.cell.Ends.{Ends}
 use Rattle.px_links.specs.Lists.{has, without, nth, without_cell}
@@ -28,11 +29,6 @@ has-other list gone cell apart =
       | inl same ↦ absurd (apart (same.1 ∙ sym (eqb-true cell other is)))
       | inr other ↦ ap not other.0
     ]) list
-
-same_bool : (a b : Bool) → (a ≡ true → b ≡ true) → (b ≡ true → a ≡ true) → a ≡ b
-same_bool true b to from = sym (to refl)
-same_bool false true to from = from refl
-same_bool false false to from = refl
 
 -- the links of the table without a cell
 abbrev pub cells_without : List Cell → ℕ → List Cell

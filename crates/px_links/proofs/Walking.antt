@@ -2,7 +2,7 @@
 use Rattle.std.proofs.Common.{◌≡◌, ◌≢◌, ℕ, suc, true, ◌||◌, nat_eq, List, [], ◌∷◌, slice_get, Option, Some, None, is_some, IfSome, IsSome, AllPairs, refl, ap, sym, ◌∙◌, arith, subst, inl, inr}
 use Rattle.std.specs.Prelude.{if◌then◌else◌}
 use Rattle.std.specs.Option.{option_and_then, unwrap_or}
-use Rattle.std.proofs.lemmas.Bool.{eqb-true, eq-eqb}
+use Rattle.std.proofs.lemmas.Bool.{eqb-true, eq-eqb, or_right}
 use Rattle.std.proofs.lemmas.Bool.Decides.{eqb_tells}
 use Rattle.std.proofs.lemmas.Map.Views.{Contains-from_any}
 use Rattle.px_links.specs.declared.cell.Cell.{Cell}
@@ -11,7 +11,7 @@ use Rattle.px_links.specs.declared.links.Links.TheInside.{Inside}
 use Rattle.px_links.specs.Links.{LinksData, rest_of, holder_of, first_of, last_of, next_of}
 use Rattle.px_links.specs.Lists.{has, behind, from_cell, nth}
 use Rattle.px_links.specs.Keeping.{IsKept, links_data}
-use Rattle.px_links.proofs.Linking.{has_head, or_true, number_here, here_number, if_some}
+use Rattle.px_links.proofs.Linking.{has_head, number_here, here_number, if_some}
 use Rattle.px_links.proofs.Reading.{holder-read, first-read, last-read}
 use Rattle.px_links.proofs.Tables.{first_in, last_in}
 
@@ -28,8 +28,8 @@ from-first (first ∷ list) = rw (eq-eqb first first refl) refl
 behind_has : (list : List ℕ) (cell other : ℕ) → behind list cell ≡ Some other → has list other ≡ true
 behind_has [] cell other is = absurd (cc)
 behind_has (first ∷ list) cell other is = elim (eqb_tells cell first) [
-  | inl same ↦ or_true (nat_eq other first) (second list (sym (ap (λ b. if b then slice_get list 0 else behind list cell) same.0) ∙ is))
-  | inr apart ↦ or_true (nat_eq other first)
+  | inl same ↦ or_right (nat_eq other first) _ (second list (sym (ap (λ b. if b then slice_get list 0 else behind list cell) same.0) ∙ is))
+  | inr apart ↦ or_right (nat_eq other first) _
       (behind_has list cell other (sym (ap (λ b. if b then slice_get list 0 else behind list cell) apart.0) ∙ is))
 ]
   where

@@ -1,10 +1,10 @@
 -- Listeners without a pair.
-use Rattle.std.proofs.Common.{◌≡◌, ℕ, ◌<◌, ◌≢◌, List, [], ◌∷◌, length, map, replicate, sum_by, get_or, None, All, AllPairs, refl, ap, sym, ◌∙◌, arith, subst, inl, inr, zero, suc}
-use Rattle.std.proofs.lemmas.Bool.{cases_lt}
-use Rattle.std.proofs.lemmas.List.{get_or-replicate, get_or_past, length-replicate}
+use Rattle.std.proofs.Common.{◌≡◌, ℕ, ◌<◌, ◌≢◌, List, [], ◌∷◌, length, map, replicate, sum_by, get_or, None, All, AllPairs, refl, ap, sym, ◌∙◌, arith, subst, zero, suc}
+use Rattle.std.proofs.lemmas.List.{length-replicate}
 use Rattle.std.proofs.lemmas.List.Elements.{All-nil, All-replicate}
 use Rattle.std.proofs.lemmas.List.Sums.{sum_by-cons}
 use Rattle.px_links.specs.Links.{LinksData, empty, holder_of}
+use Rattle.px_links.proofs.Empty.{replicate-same}
 use Rattle.px_listen.specs.Keeping.{ArePairs, listening}
 use Rattle.px_listen.specs.Listening.{AreSound, dependents_of, pairs_of, unwatched}
 use Rattle.px_listen.specs.Walking.{watchers_in}
@@ -20,12 +20,6 @@ no-pairs : (sources : ℕ) → sum_by (λ (list : List ℕ). length list) (none 
 no-pairs zero = refl
 no-pairs (suc sources) =
     sum_by-cons (λ (list : List ℕ). length list) [] (none sources) ∙ omega (arith, no-pairs sources)
-
-nth-none : (sources source : ℕ) → get_or (none sources) source [] ≡ []
-nth-none sources source = elim (cases_lt source sources) [
-  | inl below ↦ get_or-replicate sources source [] [] below
-  | inr past ↦ get_or_past (none sources) source [] (omega (arith, past, length-replicate {A = List ℕ} sources []))
-]
 
 -- what they are to contracts
 pub listening-none : (sources watchers room : ℕ)
@@ -48,7 +42,7 @@ kept-none sources watchers room absent = record {
   bounded = length-replicate sources 0 ∙ sym (length-replicate {A = List ℕ} sources []);
   below = λ source. subst (λ listeners. All (λ watcher. watcher < get_or (replicate sources 0) source 0)
       (dependents_of listeners source)) (sym (listening-none sources watchers room))
-      (rw (nth-none sources source) (All-nil (λ watcher. watcher < get_or (replicate sources 0) source 0)));
+      (rw (replicate-same {X = List ℕ} sources source []) (All-nil (λ watcher. watcher < get_or (replicate sources 0) source 0)));
 }
 
 pub kept-made : (sources watchers room : ℕ) (told : ℕ) (links : LinksData) (watcher_of bounds : List ℕ) → told ≡ watchers

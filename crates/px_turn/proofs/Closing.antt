@@ -1,5 +1,6 @@
 -- The end.
-use Rattle.std.proofs.Common.{◌≡◌, ◌≢◌, ℕ, suc, ◌+◌, ◌<◌, Bool, true, false, List, [], ◌∷◌, ◌++◌, map, length, Option, Some, IsSome, unwrap_or, refl, sym, ap, ◌∙◌, subst, arith, All, ◌≤◌}
+use Rattle.std.proofs.Common.{◌≡◌, ◌≢◌, ℕ, suc, ◌+◌, ◌<◌, true, false, List, [], ◌∷◌, ◌++◌, map, length, Option, Some, IsSome, unwrap_or, refl, sym, ap, ◌∙◌, subst, arith, All, ◌≤◌}
+use Rattle.std.proofs.lemmas.Bool.{false_from_ne_true}
 use mathlib.Core.Logic.{dite}
 use mathlib.Core.Option.{some, some-injective}
 use native.Mathlib.Decide.{ℕ_discrete}
@@ -27,11 +28,7 @@ module _ {T I : Type 0} where
 
   -- who has no record is live no more
   not_live : (v : View T I) → length (numbers v) ≡ 0 → v.live ≡ false
-  not_live v none_left = dead v.live (λ live. let long = long_numbers v live in omega arith)
-    where
-      dead : (b : Bool) → (b ≡ true → ⊥) → b ≡ false
-      dead true not_so = absurd (not_so refl)
-      dead false not_so = refl
+  not_live v none_left = false_from_ne_true v.live (λ live. let long = long_numbers v live in omega arith)
 
   -- where a seat has as many records as there are seats, no other is live
   others_spent : (views : List (View T I)) (id : ℕ) (v : View T I) → AreNumbered views → get_elem? views id ≡ some v

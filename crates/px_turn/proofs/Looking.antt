@@ -1,10 +1,10 @@
 -- A seat looks whether its ticket is served.
-use Rattle.std.proofs.Common.{◌≡◌, ◌≢◌, ℕ, ◌+◌, ◌%◌, ◌^◌, ◌<◌, ◌≤◌, Bool, true, false, is_some, List, [], ◌∷◌, length, set, get_or, Option, Some, refl, sym, ap, ◌∙◌, subst, ⊎_elim, arith, length-set}
+use Rattle.std.proofs.Common.{◌≡◌, ◌≢◌, ℕ, ◌+◌, ◌%◌, ◌^◌, ◌<◌, ◌≤◌, true, false, is_some, List, [], ◌∷◌, length, set, get_or, Option, Some, refl, sym, ap, ◌∙◌, subst, ⊎_elim, arith, length-set}
 use mathlib.Core.Logic.{dite}
 use mathlib.Core.Option.{some, none}
 use native.Mathlib.Decide.{ℕ_discrete}
 use lib.ListN.{get_elem?}
-use Rattle.std.proofs.lemmas.Bool.{cases_lt}
+use Rattle.std.proofs.lemmas.Bool.{cases_lt, false_from_ne_true}
 use Rattle.atomic_table.specs.Table.{State, step, stepped, keeps, takes, Allows}
 use Rattle.px_turn.specs.declared.view.View.{View}
 use Rattle.px_turn.specs.Histories.{is_number, AreMade, HasPositions}
@@ -61,7 +61,7 @@ module _ {T I : Type 0} (list : T → List I) (goes_on : T → T → Type 0) (ke
       (ticket : ℕ)
       → get_elem? s.views id ≡ some v → v.ticket ≡ Some ticket → v.turn ≡ false → ticket ≡ ruled.served
       → HaveNoTurn s.views
-  nobody_has s ruled id v ticket at holds off is j u there = off_if u.turn (λ on. dite (ℕ_discrete id j)
+  nobody_has s ruled id v ticket at holds off is j u there = false_from_ne_true u.turn (λ on. dite (ℕ_discrete id j)
       (λ same. let one = ap (λ (x : View T I). x.turn) (one_only s.views id j v u at there same) in cc)
       (λ apart.
       let fits = ruled.each j u there in
@@ -72,10 +72,6 @@ module _ {T I : Type 0} (list : T → List I) (goes_on : T → T → Type 0) (ke
       let one = at_most_one ticket ruled.served (ruled.served + waiting s.views) (holders ticket s.views)
       (ruled.tickets.below ticket) (ruled.tickets.between ticket) (ruled.tickets.above ticket) in
       omega arith))
-    where
-      off_if : (b : Bool) → (b ≡ true → ⊥) → b ≡ false
-      off_if true not_on = absurd (not_on refl)
-      off_if false not_on = refl
 
   -- the turn is had
   turn_ruled : (s : State (Option T) (View T I)) (ruled : IsRuled list goes_on key s) (id : ℕ) (me : Sat T I)

@@ -11,13 +11,13 @@ use Rattle.std.proofs.lemmas.Str.Ascii.{IsAscii-nil, IsAscii-cons}
 use Rattle.px_value.specs.Name.{is_letter_or_digit, begins_identifier, continues_identifier, is_identifier, is_generated, is_name}
 use Rattle.px_value.specs.Path.{pieces, is_path}
 
--- bytes that all pass a test pass a weaker one
-pub list_all-weaker : (strong weak : ℕ → Bool) → ((c : ℕ) → strong c ≡ true → weak c ≡ true) → (bytes : List ℕ)
-    → list_all strong bytes ≡ true → list_all weak bytes ≡ true
+-- items that all pass a test pass a weaker one
+pub list_all-weaker : {X : Type 0} (strong weak : X → Bool) → ((x : X) → strong x ≡ true → weak x ≡ true) → (xs : List X)
+    → list_all strong xs ≡ true → list_all weak xs ≡ true
 list_all-weaker strong weak each [] h = refl
-list_all-weaker strong weak each (c ∷ cs) h =
-    let parts = and_parts (strong c) (list_all strong cs) h in
-    and_from (weak c) (list_all weak cs) (each c parts.0) (list_all-weaker strong weak each cs parts.1)
+list_all-weaker strong weak each (x ∷ xs) h =
+    let parts = and_parts (strong x) (list_all strong xs) h in
+    and_from (weak x) (list_all weak xs) (each x parts.0) (list_all-weaker strong weak each xs parts.1)
 
 abbrev all_ascii : List ℕ → Bool
 all_ascii bytes = list_all is_ascii bytes

@@ -1,9 +1,12 @@
--- Bytes that are all digits are those of a decimal numeral.
-use Rattle.std.proofs.Common.{◌≡◌, ℕ, true, List, [], ◌∷◌}
-use Rattle.std.specs.Prelude.{nat_le}
+-- Bytes that are all digits are those of a decimal numeral, and a decimal numeral is all digits.
+use Rattle.std.proofs.Common.{◌≡◌, ℕ, ◌+◌, ◌<◌, ◌%◌, ◌^◌, true, List, [], ◌∷◌, arith}
+use Rattle.std.specs.Prelude.{nat_le, decimal}
 use Rattle.std.specs.List.{list_all}
 use Rattle.std.specs.Str.Parse.{AllDigits}
 use Rattle.std.proofs.lemmas.Bool.{and_parts, leb-true}
+use Rattle.std.proofs.lemmas.Bool.Decides.{nat_tests}
+use Rattle.std.proofs.lemmas.Fmt.{decimal_by_steps}
+use Rattle.std.proofs.lemmas.List.Folds.{list_all-append}
 use Rattle.std.proofs.lemmas.Str.Parse.{tells_digits}
 use Rattle.px_value.specs.Name.{is_digit}
 
@@ -13,3 +16,13 @@ all_digits (c ∷ cs) pass =
     let parts = and_parts (is_digit c) (list_all is_digit cs) pass in
     let range = and_parts (nat_le 48 c) (nat_le c 57) parts.0 in
     tells_digits.more c cs (leb-true 48 c range.0, leb-true c 57 range.1) (all_digits cs parts.1)
+
+digit_is : (d : ℕ) → d < 10 → is_digit (48 + d) ≡ true
+digit_is d small = grind (arith, nat_tests)
+
+pub decimal_digits : (n : ℕ) → n < 2 ^ 64 → list_all is_digit (decimal n) ≡ true
+decimal_digits n small =
+    decimal_by_steps (λ _ ds. list_all is_digit ds ≡ true)
+    (λ d below. rw (digit_is d below))
+    (λ n ds _ front. rw (list_all-append is_digit ds ((48 + n % 10) ∷ []), front, digit_is (n % 10) (omega arith)))
+    n small

@@ -1,16 +1,27 @@
 -- What holds of options, Booleans, lists, results and texts in general, and several crates need.
-use Rattle.std.proofs.Common.{◌≡◌, ℕ, ◌+◌, ◌<◌, ◌==◌, Bool, true, false, List, ◌∷◌, drop, length, get_or, Option, Some, None, Result, Ok, Err, refl, sym, ap, ◌∙◌, arith}
+use Rattle.std.proofs.Common.{◌≡◌, ℕ, suc, ◌+◌, ◌<◌, ◌==◌, Bool, true, false, cond, List, [], ◌∷◌, ◌++◌, All, AllPairs, find, drop, length, get_or, Option, Some, None, is_none, is_some, Result, Ok, Err, refl, sym, ap, ◌∙◌, subst, arith}
 use Rattle.std.specs.Result.{OnErr}
 use Rattle.std.specs.Str.{is_utf8, IsUtf8}
 use Rattle.std.proofs.lemmas.Bool.{false_from_ne_true}
 use Rattle.std.proofs.lemmas.Bool.Decides.{nat_tests}
 use Rattle.std.proofs.lemmas.List.{drop_more}
+use Rattle.std.proofs.lemmas.List.Elements.{All-append, All-head, All-tail}
+use Rattle.std.proofs.lemmas.List.Kept.{AllPairs-cons}
 use Rattle.std.proofs.lemmas.Str.{IsUtf8-from_is_utf8}
 
 -- there is none where each would be absurd
 pub none_from : {X : Type 0} (found : Option X) → ((x : X) → found ≡ Some x → ⊥) → found ≡ None
 none_from None each = refl
 none_from (Some x) each = absurd (each x refl)
+
+-- options that hold nothing
+pub is_none-None : {X : Type 0} (found : Option X) → is_none found ≡ true → found ≡ None
+is_none-None None is = refl
+is_none-None (Some x) is = cc
+
+pub is_some-None : {X : Type 0} (found : Option X) → is_some found ≡ false → found ≡ None
+is_some-None None is = refl
+is_some-None (Some x) is = cc
 
 -- tests that pass together are one
 pub same_bool : (a b : Bool) → (a ≡ true → b ≡ true) → (b ≡ true → a ≡ true) → a ≡ b
@@ -22,6 +33,28 @@ same_bool false false to from = refl
 pub cut_at : {X : Type 0} (xs : List X) (place : ℕ) (x : X) → place < length xs → x ≡ get_or xs place x
     → drop place xs ≡ x ∷ drop (place + 1) xs
 cut_at xs place x within is = drop_more xs place x within ∙ ap (λ first. first ∷ drop (place + 1) xs) (sym is)
+
+-- what is found passes, and has what all have
+pub found_has : {X : Type 0} (P : X → Type 0) (p : X → Bool) (xs : List X) (x : X) → All P xs → find p xs ≡ Some x
+    → P x × (p x ≡ true)
+found_has P p [] x all is = absurd (cc is)
+found_has P p (first ∷ xs) x all is = by (p first) refl is (found_has P p xs x (All-tail P first xs all))
+  where
+    by : (b : Bool) → p first ≡ b → cond b (Some first) (find p xs) ≡ Some x
+        → (find p xs ≡ Some x → P x × (p x ≡ true)) → P x × (p x ≡ true)
+    by true passes is rest =
+        let same : first ≡ x = cc is in
+        (subst P same (All-head P first xs all), subst (λ x. p x ≡ true) same passes)
+    by false fails is rest = rest is
+
+-- what holds of the pairs of each of two lists, and across them, holds of the pairs of both
+pub pairs_append : {X : Type 0} (R : X → X → Type 0) (xs ys : List X) → AllPairs R xs → AllPairs R ys
+    → ((i j : ℕ) (d : X) → i < length xs → j < length ys → R (get_or xs i d) (get_or ys j d)) → AllPairs R (xs ++ ys)
+pairs_append R [] ys front back cross = back
+pairs_append R (x ∷ xs) ys front back cross = AllPairs-cons R x (xs ++ ys)
+    (All-append (R x) xs ys (λ k d below. front 0 (suc k) d (omega arith) (omega (arith, below))) (λ k d below. cross 0 k d (omega arith) below))
+    (pairs_append R xs ys (λ i j d before below. front (suc i) (suc j) d (omega (arith, before)) (omega (arith, below))) back
+    (λ i j d near far. cross (suc i) j d (omega (arith, near)) far))
 
 -- what holds in any case holds where there is an error
 pub on_err : {T E P : Type 0} (r : Result T E) → P → OnErr r P

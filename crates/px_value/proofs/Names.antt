@@ -1,22 +1,19 @@
 -- A generated name is a name.
-use Rattle.std.proofs.Common.{◌≡◌, ℕ, ◌+◌, ◌<◌, ◌≤◌, ◌%◌, ◌^◌, true, List, [], ◌∷◌, length, arith}
+use Rattle.std.proofs.Common.{◌≡◌, ℕ, ◌<◌, ◌≤◌, ◌^◌, true, List, [], ◌∷◌, length, arith}
 use Rattle.std.specs.Prelude.{nat_le, decimal}
 use Rattle.std.specs.List.{list_all}
 use Rattle.std.proofs.lemmas.Bool.{and_from, le-leb}
 use Rattle.std.proofs.lemmas.Bool.Decides.{nat_tests}
-use Rattle.std.proofs.lemmas.Fmt.{decimal_by_steps, decimal_nonempty, length-decimal-le}
-use Rattle.std.proofs.lemmas.List.Folds.{list_all-append}
-use Rattle.px_value.specs.Name.{is_letter_or_digit, is_generated, generated_name, is_name}
+use Rattle.std.proofs.lemmas.Fmt.{decimal_nonempty, length-decimal-le}
+use Rattle.px_value.specs.Name.{is_digit, is_letter_or_digit, is_generated, generated_name, is_name}
+use Rattle.px_value.proofs.Ascii.{list_all-weaker}
+use Rattle.px_value.proofs.Digits.{decimal_digits}
 
-digit_passes : (d : ℕ) → d < 10 → is_letter_or_digit (48 + d) ≡ true
-digit_passes d small = grind (arith, nat_tests)
+digit_passes : (c : ℕ) → is_digit c ≡ true → is_letter_or_digit c ≡ true
+digit_passes c is = grind (arith, nat_tests)
 
 decimal_passes : (k : ℕ) → k < 2 ^ 64 → list_all is_letter_or_digit (decimal k) ≡ true
-decimal_passes k small =
-    decimal_by_steps (λ _ ds. list_all is_letter_or_digit ds ≡ true)
-    (λ d below. rw (digit_passes d below))
-    (λ n ds _ front. rw (list_all-append is_letter_or_digit ds ((48 + n % 10) ∷ []), front, digit_passes (n % 10) (omega arith)))
-    k small
+decimal_passes k small = list_all-weaker is_digit is_letter_or_digit digit_passes (decimal k) (decimal_digits k small)
 
 hash_before : (ds : List ℕ) → 0 < length ds → list_all is_letter_or_digit ds ≡ true → is_generated (35 ∷ ds) ≡ true
 hash_before [] some pass = absurd (omega arith)

@@ -1,4 +1,5 @@
-use Rattle.std.proofs.Common.{◌≡◌, length, not, Option, Some, None, is_none, is_some, false, nat_eq, subst, ap, sym, ◌∙◌, if◌then◌else◌, refl}
+use Rattle.std.proofs.Common.{◌≡◌, length, not, Some, None, is_none, is_some, nat_eq, subst, ap, sym, ◌∙◌, if◌then◌else◌}
+use Rattle.px_value.proofs.General.{is_some-None}
 use Rattle.px_links.specs.Links.{LinksData, pushed, holder_of}
 use Rattle.px_links.specs.Lists.{with_last}
 use Rattle.px_links.specs.Keeping.{lists_in}
@@ -7,14 +8,10 @@ use Rattle.px_links.proofs.Holding.{held-pushed}
 use Rattle.px_links.proofs.Reading.{holder_now}
 use Rattle.px_links.proofs.links.Links.push_back_absent.Goals as goal
 
-none_of : {A : Type 0} (found : Option A) → is_some found ≡ false → found ≡ None
-none_of None is = refl
-none_of (Some x) is = absurd (cc)
-
 pub link_last-requires-clause-absent : goal.link_last-requires-clause-absent
 link_last-requires-clause-absent c = rw (c.deref_mut.ensures.value) (
     holder_now c.self.inside c.args.self.now c.self.view_is c.self.invariant c.args.cell ∙ sym c.holds.ensures.answer
-    ∙ none_of c.holds.result (sym c.is_some.ensures ∙ c.if-is_some.false))
+    ∙ is_some-None c.holds.result (sym c.is_some.ensures ∙ c.if-is_some.false))
 
 pub invariant_of-self : goal.invariant_of-self
 invariant_of-self c = kept c.self.inside c.link_last.new.cells c.link_last.new.ends _ c.link_last.ensures
@@ -30,13 +27,13 @@ returns-clause-links c =
     })
     ∙ ap (λ (links : LinksData). pushed links c.args.list c.args.cell) c.self.view_is
     ∙ ap (λ found. if not (is_some found) then pushed c.args.self.now c.args.list c.args.cell else c.args.self.now)
-    (sym (none_of c.holds.result (sym c.is_some.ensures ∙ c.if-is_some.false)) ∙ c.holds.ensures.answer)
+    (sym (is_some-None c.holds.result (sym c.is_some.ensures ∙ c.if-is_some.false)) ∙ c.holds.ensures.answer)
 
 pub returns-clause-holders : goal.returns-clause-holders
 returns-clause-holders c = λ other.
     let now = c.args.self.now in
     let absent : holder_of now c.args.cell ≡ None =
-    sym c.holds.ensures.answer ∙ none_of c.holds.result (sym c.is_some.ensures ∙ c.if-is_some.false) in
+    sym c.holds.ensures.answer ∙ is_some-None c.holds.result (sym c.is_some.ensures ∙ c.if-is_some.false) in
     ap (λ (links : LinksData). holder_of links other) (returns-clause-links c)
     ∙ subst (λ found. holder_of (if is_none found then pushed now c.args.list c.args.cell else now) other
     ≡ (if nat_eq c.args.cell other then (if is_none found then Some c.args.list else found) else holder_of now other))
