@@ -2,7 +2,7 @@
 use crate::columns::{Column, Fate};
 use crate::draw::Drawing;
 use crate::frame::CROSS;
-use crate::layout::{NUMBERS_EVERY, NUMBERS};
+use crate::layout::{NUMBERS, NUMBERS_EVERY};
 use px_value::NoMemory;
 
 /// How far above the rows the events' numbers stand.
