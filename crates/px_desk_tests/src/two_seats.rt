@@ -1,7 +1,7 @@
 // A desk of two seats over the session of a plan.
 use px_compile::compile;
 use px_desk::{Desk, EventDesk};
-use px_event::{Event, Values};
+use px_event::{Event, Names, Values};
 use px_naive::Naive;
 use px_ports::MemDisk;
 use px_sem::start;
@@ -32,7 +32,7 @@ fn a_seat_counts_what_another_posts(rt: HostRuntime) -> Result<(), Fail> {
     let Ok(stepper) = start::<Naive>(alloc, &plan) else {
         panic!(rt; "the plan starts");
     };
-    let Ok(exec) = create(alloc, disk, "J", PLAN, stepper, 10) else {
+    let Ok(exec) = create(alloc, disk, "J", PLAN, stepper, 10, Names::new(alloc)) else {
         panic!(rt; "the journal is made");
     };
     let Ok((desk, seats)) = EventDesk::open(alloc, exec, 2) else {
