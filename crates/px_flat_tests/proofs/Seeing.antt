@@ -1,27 +1,27 @@
 -- What isn't touched is still as it was seen: where all was just seen, where a cell is written, and where something is reported.
-use Rattle.std.proofs.Common.{◌≡◌, ℕ, ◌+◌, ◌<◌, Bool, true, false, List, length, set, get_or, refl, ap, sym, ◌∙◌, subst, arith, All}
+use Rattle.std.proofs.Common.{◌≡◌, ℕ, ◌+◌, ◌<◌, ◌≤◌, Bool, true, false, List, length, set, get_or, refl, ap, sym, ◌∙◌, subst, arith, All}
 use Rattle.px_value.specs.declared.value.Value.{Value}
 use Rattle.px_value.specs.declared.value.Value.TheVariants.{Unknown}
 use Rattle.std.proofs.lemmas.Bool.{false≢true}
 use Rattle.std.proofs.lemmas.List.{get_or-set_other}
 use Rattle.px_core.specs.declared.conditions.ConditionKind.{ConditionKind}
 use Rattle.px_core.specs.Plan.{Site}
-use Rattle.px_sem.specs.World.{LookState}
+use Rattle.px_sem.specs.World.{LookState, Report}
 use Rattle.px_flat.specs.declared.flat.Flat.{Flat}
 use Rattle.px_flat.specs.Flat.{plan_of}
 use Rattle.px_flat.specs.Layout.{all_cells}
-use Rattle.px_flat.specs.Lookups.{lookups_of}
 use Rattle.px_flat.specs.Numbered.{numbered_node}
 use Rattle.px_flat.specs.Row.{site_in}
 use Rattle.px_flat.specs.Sources.{Source, Cells, Reports, Present, IsSame, sources_in}
 use Rattle.px_flat.specs.Within.{IsWithin}
 use Rattle.px_flat.proofs.Tables.{flat_sound}
 use Rattle.px_flat.proofs.Withins.{node_is_within}
-use Rattle.px_cached.specs.Cached.{CachedData, HasTouchedCell, IsSeen, IsSeenBut, IsTouched, is_touched, plan_in}
-use Rattle.px_cached.specs.Conditions.{condition_in, source_number}
+use Rattle.px_cached.specs.Cached.{CachedData, HasTouchedCell, HasTouchedReports, IsSeen, IsSeenBut, is_touched, plan_in}
+use Rattle.px_cached.specs.Conditions.{all_sources, condition_in, source_number}
 use Rattle.px_cached.specs.Firsts.{HasCell}
 use Rattle.px_cached.proofs.Conditions.{kind_of_node, within_kind}
-use Rattle.px_cached.proofs.Listening.{sources_there}
+use Rattle.px_cached.proofs.Listening.{IsThere, sources_there}
+use Rattle.px_cached.proofs.Reported.{report_behind, report_there}
 
 abbrev sources_of : List Site → ℕ → ConditionKind → List Source
 sources_of plan node kind = sources_in plan (condition_in plan node kind)
@@ -30,7 +30,7 @@ sources_of plan node kind = sources_in plan (condition_in plan node kind)
 
 same_itself : (plan : List Site) (present : Present) (source : Source) → IsSame plan present present source
 same_itself plan present (Cells first size) = λ k below. refl
-same_itself plan present (Reports lookup) = λ args. refl
+same_itself plan present (Reports lookup tolerance) = λ args. refl
 
 pub just_seen : (cached : CachedData) (present : Present) → IsSeen cached present → IsSeenBut cached present
 just_seen cached present all node kind there k d inside untouched =
@@ -66,7 +66,7 @@ untouched_before old new others source none = by (is_touched old source) refl
 
 -- ---- a cell is written
 
-module _ (old new : CachedData) (values : List Value) (reports : List (LookState × Value)) (cell : ℕ) (value : Value)
+module _ (old new : CachedData) (values : List Value) (reports : List (LookState × Report)) (cell : ℕ) (value : Value)
     (touched : HasTouchedCell old new cell)
     (seen : IsSeenBut old (record { cells = values; reports = reports })) where
   abbrev before : Present
@@ -81,7 +81,7 @@ module _ (old new : CachedData) (values : List Value) (reports : List (LookState
   elsewhere (Cells first size) outside same = λ k below.
       same k below ∙ sym (get_or-set_other values cell (first + k) value Unknown
       (λ here. outside (omega (arith, here), omega (arith, here, below))))
-  elsewhere (Reports lookup) outside same = same
+  elsewhere (Reports lookup tolerance) outside same = same
 
   pub written_seen : IsSeenBut new after
   written_seen node kind there k d inside untouched =
@@ -92,7 +92,7 @@ module _ (old new : CachedData) (values : List Value) (reports : List (LookState
       (was_seen old new before touched.flat touched.seen seen node kind there k d inside
       (untouched_before old new touched.others number untouched))
 
--- ---- something is reported of the one name that is looked up
+-- ---- something is reported
 
 there_in : (flat : Flat) (node : ℕ) (kind : ConditionKind) → node < length (plan_of flat)
     → IsWithin (plan_of flat) (condition_in (plan_of flat) node kind)
@@ -102,23 +102,27 @@ there_in flat node kind there =
     (within_kind plan (numbered_node plan (site_in plan node).head).conditions kind
     (node_is_within plan node (flat_sound flat) there).conditions)
 
-module _ (old new : CachedData) (values : List Value) (reports later : List (LookState × Value))
-    (one : length (lookups_of (plan_in new)) ≡ 1) (touched : IsTouched old new (all_cells (plan_in new)))
-    (seen : IsSeenBut old (record { cells = values; reports = reports })) where
+module _ (old new : CachedData) (values : List Value) (reports later : List (LookState × Report))
+    (touched : HasTouchedReports old new) (seen : IsSeenBut old (record { cells = values; reports = reports })) where
   abbrev was : Present
   was = record { cells = values; reports = reports }
 
   abbrev now : Present
   now = record { cells = values; reports = later }
 
-  -- each lookup name is touched
-  cells_alone : (source : Source) → source_number (plan_in new) source < all_cells (plan_in new) + length (lookups_of (plan_in new))
+  all_touched : (source : ℕ) → all_cells (plan_in new) ≤ source → source < all_sources (plan_in new)
+      → is_touched new source ≡ true
+  all_touched = subst (λ (flat : Flat). (source : ℕ) → all_cells (plan_of flat) ≤ source → source < all_sources (plan_of flat)
+      → is_touched new source ≡ true) (sym touched.flat) touched.all
+
+  -- all that is reported is touched
+  cells_alone : (source : Source) → IsThere (plan_in new) source
       → is_touched new (source_number (plan_in new) source) ≡ false
       → IsSame (plan_in new) new.seen was source → IsSame (plan_in new) new.seen now source
-  cells_alone (Cells first size) below untouched same = same
-  cells_alone (Reports lookup) below untouched same =
-      let first : all_cells (plan_in new) + lookup ≡ all_cells (plan_in new) = omega (arith, below, one) in
-      absurd (false≢true (sym untouched ∙ ap (is_touched new) first ∙ touched.this))
+  cells_alone (Cells first size) there untouched same = same
+  cells_alone (Reports lookup tolerance) there untouched same =
+      absurd (false≢true (sym untouched ∙ all_touched (source_number (plan_in new) (Reports lookup tolerance))
+      (report_behind (plan_in new) lookup tolerance) (report_there (plan_in new) lookup tolerance there)))
 
   pub reported_seen : IsSeenBut new now
   reported_seen node kind there k d inside untouched =

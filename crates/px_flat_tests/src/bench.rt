@@ -1,5 +1,5 @@
 // A plan, the cells and reports of what runs it, and its conditions as they are kept.
-ghost use Rattle.std.specs.Prelude.{◌≡◌, ◌<◌, ◌≤◌, length, IfOk, IsNone, None};
+ghost use Rattle.std.specs.Prelude.{◌≡◌, ◌<◌, ◌≤◌, ◌^◌, length, IfOk, IsNone, None};
 ghost use Rattle.px_cells.specs.Marked.{written};
 ghost use Rattle.px_flat.specs.Flat.{plan_of};
 ghost use Rattle.px_flat.specs.Layout.{all_cells};
@@ -7,6 +7,7 @@ ghost use Rattle.px_flat.specs.Lookups.{lookups_of};
 ghost use Rattle.px_flat.specs.NumberedData.{expr_data};
 ghost use Rattle.px_flat.specs.Within.{IsWithin};
 ghost use Rattle.px_cached.specs.Cached.{IsSeen, IsSeenBut, plan_in, present_in};
+ghost use Rattle.px_cached.specs.Conditions.{all_sources};
 
 use crate::contest::node_at;
 use crate::tables::tables;
@@ -160,6 +161,7 @@ impl Fresh {
         ensures sized { IfOk result (λ fresh. length fresh.cells.contents.values ≡ all_cells (plan_of flat.now)) }
         ensures unmarked { IfOk result (λ fresh. fresh.cells.contents.marked ≡ None) }
         ensures seen { IfOk result (λ fresh. IsSeen fresh.conditions (present_in fresh.cells fresh.reports)) }
+        ensures few { IfOk result (λ _. all_sources (plan_of flat.now) < 2 ^ 32) }
     {
         let cells = unknown(alloc, flat.all_cells())?;
         let reports = Reports::new(alloc, Vec::new(alloc));
@@ -271,7 +273,7 @@ impl Bench {
             bail!("the plan looks up no name, or several");
         }
         let event = report_of(alloc, &self.flat, truth)?;
-        self.conditions.touch(self.flat.all_cells());
+        self.conditions.touch_reports(&self.flat);
         let taken = self.reports.take(alloc, &event);
         drop(event);
         Ok(taken?)

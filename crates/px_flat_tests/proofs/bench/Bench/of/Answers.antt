@@ -9,5 +9,6 @@ invariant_of-result c =
       plan = c.in-Ok.ensures.plan;
       cells = c.in-Ok.ensures.sized;
       unmarked = c.in-Ok.ensures.unmarked;
+      few = c.in-Ok.ensures.few;
       seen = just_seen fresh.conditions (present_in fresh.cells fresh.reports) c.in-Ok.ensures.seen;
     }

@@ -12,5 +12,6 @@ invariant_of-self c =
       plan = ap plan_of look.ensures.flat ∙ c.self.invariant.plan;
       cells = c.self.invariant.cells;
       unmarked = c.self.invariant.unmarked;
+      few = c.self.invariant.few;
       seen = just_seen look.new.self (present_in c.self.inside.cells c.self.inside.reports) look.ensures.seen;
     }

@@ -1,9 +1,6 @@
-use Rattle.std.proofs.Common.{◌≡◌, List, ◌∙◌, length, ap, sym, subst}
-use Rattle.px_core.specs.Plan.{Site}
+use Rattle.std.proofs.Common.{◌≡◌, ◌∙◌, ap}
 use Rattle.px_flat.specs.Flat.{plan_of}
-use Rattle.px_flat.specs.Layout.{all_cells}
-use Rattle.px_flat.specs.Lookups.{lookups_of}
-use Rattle.px_cached.specs.Cached.{CachedData, IsTouched, plan_in}
+use Rattle.px_cached.specs.Cached.{CachedData, plan_in}
 use Rattle.px_flat_tests.specs.Bench.{IsStanding}
 use Rattle.px_flat_tests.proofs.Seeing.{reported_seen}
 use Rattle.px_flat_tests.proofs.bench.Bench.report.Goals as goal
@@ -14,21 +11,19 @@ stands : (c : After-drop) → IsStanding (record {
   flat = c.self.inside.flat;
   cells = c.self.inside.cells;
   reports = c.take-taken.new.self;
-  conditions = c.touch.new.self;
+  conditions = c.touch_reports.new.self;
 })
 stands c =
     let old : CachedData = c.self.inside.conditions in
-    let new : CachedData = c.touch.new.self in
-    let plan : plan_in new ≡ plan_of c.self.inside.flat = ap plan_of c.touch.ensures.flat ∙ c.self.invariant.plan in
+    let new : CachedData = c.touch_reports.new.self in
+    let plan : plan_in new ≡ plan_of c.self.inside.flat = ap plan_of c.touch_reports.ensures.flat ∙ c.self.invariant.plan in
     record {
       plan = plan;
       cells = c.self.invariant.cells;
       unmarked = c.self.invariant.unmarked;
+      few = c.self.invariant.few;
       seen = reported_seen old new c.self.inside.cells.contents.values c.self.inside.reports.reports
-          c.take-taken.new.self.reports
-          (ap (λ (sites : List Site). length (lookups_of sites)) plan ∙ sym c.lookups.ensures ∙ c.if-lookups-ne1.false)
-          (subst (IsTouched old new) (c.all_cells.ensures.cells ∙ sym (ap all_cells plan)) c.touch.ensures)
-          c.self.invariant.seen;
+          c.take-taken.new.self.reports c.touch_reports.ensures c.self.invariant.seen;
     }
 
 pub invariant_of-self : goal.invariant_of-self

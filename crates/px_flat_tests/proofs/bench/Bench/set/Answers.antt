@@ -14,5 +14,6 @@ invariant_of-self c =
       cells = ap (λ (contents : Contents Value). length contents.values) cells
           ∙ length-set c.self.inside.cells.contents.values c.args.cell c.args.value ∙ kept.cells;
       unmarked = ap (λ (contents : Contents Value). contents.marked) cells ∙ kept.unmarked;
+      few = kept.few;
       seen = c.write.ensures.seen;
     }
