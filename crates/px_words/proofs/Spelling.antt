@@ -88,10 +88,10 @@ splits [] (c ∷ cs) free = elim (cases_Bool (c == 61)) [
 ]
 splits (a ∷ xs) [] free = (refl, refl)
 splits (a ∷ xs) (c ∷ cs) free = elim (cases_Bool (c == 61)) [
-  | inl is ↦ let differs = no_equals a c is (parts_or (a == 61) (has_byte 61 xs) free).0 in rw (is, differs, turned a c differs) (refl, refl)
+  | inl is ↦ let differs = no_equals a c is (parts_or (a == 61) (has_byte 61 xs) free).0 in rw (is, differs, differs_turned a c differs) (refl, refl)
   | inr isnt ↦ rw isnt (elim (cases_Bool (a == c)) [
     | inl is ↦ let same : a ≡ c = eqb-true a c is in rw (same, eq-eqb c c refl) (splits xs cs (parts_or (a == 61) (has_byte 61 xs) free).1)
-    | inr other ↦ rw (other, turned a c other) (refl, refl)
+    | inr other ↦ rw (other, differs_turned a c other) (refl, refl)
   ])
 ]
 
