@@ -1,5 +1,5 @@
 -- Each tolerance has latched a value in each report, whatever is reported and taken back.
-use Rattle.std.proofs.Common.{◌≡◌, ℕ, zero, suc, ◌-◌, Bool, true, false, List, [], ◌∷◌, ◌++◌, length, map, take, Option, Some, None, IfSome, is_some, nat_eq, All, refl, ap, sym, subst, ◌∙◌, if◌then◌else◌}
+use Rattle.std.proofs.Common.{◌≡◌, ℕ, zero, suc, ◌-◌, Bool, true, false, List, [], ◌∷◌, ◌++◌, length, map, take, Option, Some, None, IfSome, is_some, nat_eq, All, refl, ap, sym, subst, ◌∙◌, arith, if◌then◌else◌}
 use Rattle.std.specs.Borrow.{Bor}
 use Rattle.std.specs.List.{list_any}
 use Rattle.std.specs.Map.{keys_of, lookup, values_of}
@@ -91,3 +91,18 @@ pub latched_some : (tolerances : List ℕ) (report : Report) (tolerance : ℕ) �
     → is_some (latched_at report tolerance) ≡ list_any (nat_eq tolerance) tolerances
 latched_some tolerances report tolerance latches =
     is_some-lookup (nat_eq tolerance) report.latched ∙ ap (list_any (nat_eq tolerance)) latches
+
+-- without a tolerance the next report does not depend on the one before
+pub first_alone : (found : Option Report) (given : Value) → IfSome found (LatchEach [])
+    → report_after [] None given ≡ report_after [] found given
+first_alone None given latches = refl
+first_alone (Some report) given latches = by report.latched latches
+  where
+    by : (latched : List (ℕ × Value)) → keys_of latched ≡ []
+        → report_after [] None given ≡ report_after [] (Some (record { last = report.last; latched = latched })) given
+    by [] none = refl
+    by (kept ∷ latched) none = absurd (cc none)
+
+pub no_tolerances : (tolerances : List ℕ) → length tolerances ≡ 0 → tolerances ≡ []
+no_tolerances [] none = refl
+no_tolerances (tolerance ∷ tolerances) none = absurd (omega (arith, none))

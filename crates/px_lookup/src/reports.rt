@@ -53,6 +53,22 @@ impl Model for Reports {
     ghost invariant = { IsKept };
 }
 
+// The report of a state, if the next one depends on it: without a tolerance it doesn't.
+fn old_report<'a>(
+    values: &'a IndexMap<LookState, Report>,
+    tolerances: &[u32],
+    state: &LookState,
+) -> Option<&'a Report>
+    requires { All (LatchEach tolerances.now) (values_of values.now.entries) }
+    ensures { (given : Value) → report_after tolerances.now (option_copied result) given
+        ≡ report_after tolerances.now (report_at values.now.entries state.now) given }
+{
+    if tolerances.is_empty() {
+        return None;
+    }
+    values.get(state)
+}
+
 // The report of a state after one more, or its first.
 fn report_after(
     alloc: Global,
@@ -218,7 +234,7 @@ impl Reports {
         self.changes.reserve(1)?;
         let mut empty = mem::replace(&mut self.spare, Vec::new(alloc));
         empty.clear();
-        let old = self.values.get(&state);
+        let old = old_report(&self.values, &self.tolerances, &state);
         let report = report_after(alloc, &self.tolerances, old, value, empty)?;
         let change = insert(&mut self.values, state, report)?;
         note(&mut self.changes, self.is_marked, change);

@@ -17,13 +17,17 @@ returns-clause-ok c =
     let made = c.new-state.result in
     let state : LookState = record { name = c.args.name.now; args = c.args.args.now } in
     let is : made ≡ state = search rules in
-    let old : option_copied c.get-old.result ≡ report_at entries made =
-    c.get-old.ensures.value ∙ lookup-report_at made entries in
+    let tolerances = c.self.inside.tolerances.items in
+    let report_is : c.in_ok-report.report ≡ report_after tolerances (report_at entries made) given =
+    c.in_ok-report.ensures
+    ∙ ap (λ tolerances. report_after tolerances (option_copied c.old_report-old.result) given)
+    (c.deref-2.ensures.value ∙ sym c.deref.ensures.value)
+    ∙ c.old_report-old.ensures given
+    ∙ ap (λ tolerances. report_after tolerances (report_at entries made) given) c.deref.ensures.value in
     c.in_ok-change.ensures.ok
-    ∙ ap (insert_entry is_same_state entries made)
-    (c.in_ok-report.ensures ∙ (λ i. report_after (c.deref.ensures.value i) (old i) given))
-    ∙ insert_entry-reported c.self.inside.tolerances.items made given entries
-    ∙ ap (λ state. reported c.self.inside.tolerances.items state given entries) is
+    ∙ ap (insert_entry is_same_state entries made) report_is
+    ∙ insert_entry-reported tolerances made given entries
+    ∙ ap (λ state. reported tolerances state given entries) is
     ∙ ap (λ (held : ReportsData). reported held.tolerances state given held.reports) c.self.view_is
 
 pub returns-clause-marked : goal.returns-clause-marked
@@ -38,16 +42,20 @@ invariant_of-self-2 c =
     let entries = c.self.inside.values.entries in
     let given = c.args.value.now in
     let made = c.new-state.result in
-    let old = option_copied c.get-old.result in
-    let report_is : c.in_ok-report.report ≡ report_after tolerances old given =
-    c.in_ok-report.ensures ∙ ap (λ tolerances. report_after tolerances old given) c.deref.ensures.value in
+    let report_is : c.in_ok-report.report ≡ report_after tolerances (report_at entries made) given =
+    c.in_ok-report.ensures
+    ∙ ap (λ tolerances. report_after tolerances (option_copied c.old_report-old.result) given)
+    (c.deref-2.ensures.value ∙ sym c.deref.ensures.value)
+    ∙ c.old_report-old.ensures given
+    ∙ ap (λ tolerances. report_after tolerances (report_at entries made) given) c.deref.ensures.value in
     record {
       nothing = search rules;
       latching = subst (λ entries. All (LatchEach tolerances) (values_of entries)) (sym c.in_ok-change.ensures.ok)
           (inserted_all (LatchEach tolerances) made c.in_ok-report.report entries c.self.invariant.latching
           (subst (LatchEach tolerances) (sym report_is)
-          (after_latches tolerances old given
-          (found_latches tolerances made entries old c.self.invariant.latching c.get-old.ensures.value))));
+          (after_latches tolerances (report_at entries made) given
+          (found_latches tolerances made entries (report_at entries made) c.self.invariant.latching
+          (sym (lookup-report_at made entries))))));
       before = noted_all (HadLatchedEach tolerances) c.self.inside.is_marked c.self.inside.changes.items c.note.new.changes.items
           c.in_ok-change.change (search rules) c.self.invariant.before (c.in_ok-change.ensures.old tolerances c.self.invariant.latching);
     }
