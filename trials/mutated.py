@@ -29,6 +29,10 @@ wait events 3
 thread 2
 thread 8
 thread 9
+thread 1 arm
+thread 2 arm
+thread 2 leg
+thread 9 arm
 # nothing""".splitlines()
 
 NUMBER = r"(?:0|[1-9][0-9]*)"
@@ -36,7 +40,7 @@ REFUSALS = {
     3: rf"plan refused: (?:longer than 1048576 bytes|not text at byte {NUMBER}|byte {NUMBER}|real number at byte {NUMBER}"
     rf"|too long at byte {NUMBER}|deep at token {NUMBER}|syntax at token {NUMBER}|check [1-9] at token {NUMBER}"
     rf"|too many nodes {NUMBER})\n",
-    4: rf"script refused: line {NUMBER} kind [1-5]\n",
+    4: rf"script refused: line {NUMBER} kind [1-6]\n",
     5: rf"journal refused: (?:none|damaged at byte {NUMBER}|plan|runaway at event {NUMBER})\n",
     6: "runaway at start\n",
 }
@@ -208,11 +212,22 @@ def same_run(trace, whole):
     return trace == re.sub(rf"^(?:{REPLY}|{STALL})", "", whole, flags=re.MULTILINE)
 
 
+def names_of(journal):
+    """What is printed of the names of a journal's entries."""
+    is_named = journal[8] == ord("2")
+    lines = []
+    for position, body in enumerate(journal_of(journal)[1], 1):
+        name = body[7 : 7 + int.from_bytes(body[5:7], "big")].decode() if is_named else ""
+        lines.append(f"event {position}: thread {body[0]} line {int.from_bytes(body[1:5], 'big')} {name or '-'}\n")
+    return "".join(lines)
+
+
 def over_journal(program, folder, script, journal):
-    """Prints a journal and resumes it."""
+    """Prints a journal and its names, and resumes it."""
     write(folder, S=script.encode(), J=journal)
     trace = answer(program, folder, "trace", "J")
-    check((folder / "J").read_bytes() == journal, f"{trace}: the journal is another")
+    names = answer(program, folder, "names", "J")
+    check((folder / "J").read_bytes() == journal, f"{trace}, {names}: the journal is another")
     resumed = answer(program, folder, "resume", "S", "J")
     check_text(trace)
     check_text(resumed)
@@ -224,7 +239,9 @@ def over_journal(program, folder, script, journal):
     if refusal:
         wanted = (5, f"journal refused: {refusal}\n")
         check((trace.status, trace.text) == wanted, f"{trace}: {refusal}")
+        check((names.status, names.text) == wanted, f"{names}: {refusal}")
     else:
+        check((names.status, names.text) == (0, names_of(journal)), f"{names}: other names")
         check(trace.status in (0, 6) or re.search(": (?:plan|runaway at event [0-9]+)\n", trace.text), str(trace))
     if trace.status != 0:
         check((resumed.status, resumed.text) == (trace.status, trace.text), f"{trace}, {resumed}")
