@@ -1,9 +1,10 @@
 -- Workers, round by round.
-use Rattle.std.proofs.Common.{◌≡◌, ◌≢◌, ℕ, zero, suc, ◌+◌, ◌<◌, ◌≤◌, List, [], ◌∷◌, ◌++◌, length, get_or, take, subst, Option, None, Some, inl, inr, refl, sym, ap, ◌∙◌, arith}
+use Rattle.std.proofs.Common.{◌≡◌, ◌≢◌, ℕ, zero, suc, ◌+◌, ◌<◌, ◌≤◌, List, [], ◌∷◌, ◌++◌, length, get_or, take, subst, inl, inr, refl, sym, ap, ◌∙◌, arith}
 use Rattle.std.specs.List.{All, sum_by}
 use Rattle.std.specs.Option.{option_and_then, option_to_list}
 use Rattle.std.proofs.lemmas.List.Elements.{All-weaker, All-more}
 use Rattle.std.proofs.lemmas.List.Sums.{sum_by-cons}
+use Rattle.px_value.proofs.General.{neither}
 use Rattle.px_script.specs.declared.crew_end.CrewEnd.{CrewEnd}
 use Rattle.px_script.specs.declared.crew_end.CrewEnd.TheVariants as ends
 use Rattle.px_script.specs.declared.stall.Stall.{Stall}
@@ -128,11 +129,7 @@ module _ {S : Type 0} (start : Start) (fits : S → Type 0) (seating : S → Sea
   -- who stands at no wait has no line left
   no_line_left : (plan : List Site) (first : List Entry) (log : Log) (todo : Todo) (place : ℕ) (rest : List Stall) → IsHeld plan first log todo place
       → option_to_list (wait_at todo place) ++ rest ≡ [] → (place ≡ length todo.lines) × (rest ≡ [])
-  no_line_left plan first log todo place rest (inl all) none = (all, nothing (wait_at todo place) none)
-    where
-      nothing : (wait : Option Stall) → option_to_list wait ++ rest ≡ [] → rest ≡ []
-      nothing None none = none
-      nothing (Some stall) none = absurd (cc)
+  no_line_left plan first log todo place rest (inl all) none = (all, (neither (option_to_list (wait_at todo place)) rest none).1)
   no_line_left plan first log todo place rest (inr (number, cond, line, unmet)) none =
       let wait = ap (option_and_then (wait_of todo.thread)) line in
       absurd (cc)

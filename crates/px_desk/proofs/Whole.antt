@@ -18,7 +18,7 @@ use Rattle.px_desk.specs.declared.event_desk.EventDesk.{EventDesk}
 use Rattle.px_desk.specs.Listing.{listing}
 use Rattle.px_desk.specs.Seating.{Seating, newcomer, AreAll, IsOneHistory}
 use Rattle.px_desk.specs.Seats.{split_times, split_from, views_of, HasTaken}
-use Rattle.px_desk.proofs.Dealing.{All-unmap}
+use Rattle.px_value.proofs.General.{All-unmap}
 use Rattle.px_desk.proofs.Shown.{goes_on}
 
 -- ---- lists

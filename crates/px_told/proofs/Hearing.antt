@@ -2,10 +2,11 @@
 use Rattle.std.proofs.Common.{◌≡◌, ℕ, zero, suc, ◌+◌, ◌<◌, ◌≤◌, Bool, true, false, not, ◌&&◌, cond, List, [], ◌∷◌, ◌++◌, length, set, Some, is_none, inl, inr, refl, ap, sym, ◌∙◌, arith, append_assoc}
 use Rattle.std.specs.Prelude.{if◌then◌else◌}
 use Rattle.std.specs.List.{filter, range_with_len}
-use Rattle.std.proofs.lemmas.Bool.{cond-true, cond-false, cases_eq, cases_Bool}
+use Rattle.std.proofs.lemmas.Bool.{cond-true, cases_eq, cases_Bool}
 use Rattle.std.proofs.lemmas.Bool.Decides.{eqb_tells}
 use Rattle.std.proofs.lemmas.List.{append-nil, get_or-set_same, get_or-set_other, set-get_or, set-set}
 use Rattle.std.proofs.lemmas.List.Elements.{filter-append}
+use Rattle.px_value.proofs.General.{no_filtered}
 use Rattle.px_links.specs.Links.{LinksData, holder_of, is_absent, pushed, HoldsOthersAsBefore, SameCounts}
 use Rattle.px_links.specs.Lists.{nth}
 use Rattle.px_told.specs.declared.asks.Asks.{Asks}
@@ -14,12 +15,6 @@ use Rattle.px_told.specs.Hearing.{is_told_anew, told_anew, with_absent, HasHeard
 use Rattle.px_told.proofs.Same.{asks_same}
 
 -- ---- which of a range of numbers pass a test
-
-none_pass : (p : ℕ → Bool) (a n : ℕ) → ((k : ℕ) → a ≤ k → p k ≡ false) → filter p (range_with_len a n) ≡ []
-none_pass p a zero fails = refl
-none_pass p a (suc n) fails =
-    cond-false (p a) (a ∷ filter p (range_with_len (a + 1) n)) (filter p (range_with_len (a + 1) n)) (fails a (omega arith))
-    ∙ none_pass p (a + 1) n (λ k past. fails k (omega arith))
 
 cond_push : (b : Bool) (first : ℕ) (front back : List ℕ)
     → cond b (first ∷ (front ++ back)) (front ++ back) ≡ cond b (first ∷ front) front ++ back
@@ -34,9 +29,9 @@ one_passes p q at a zero from within same fails passes = absurd (omega arith)
 one_passes p q at a (suc n) from within same fails passes = elim (cases_eq a at) [
   | inl here ↦
       cond-true (q a) (a ∷ filter q (range_with_len (a + 1) n)) (filter q (range_with_len (a + 1) n)) (ap q here ∙ passes)
-      ∙ ap (λ rest. a ∷ rest) (none_pass q (a + 1) n (λ k past. same k (λ is. omega arith) ∙ fails k (omega arith)))
+      ∙ ap (λ rest. a ∷ rest) (no_filtered q (a + 1) n (λ k below. same (a + 1 + k) (λ is. omega arith) ∙ fails (a + 1 + k) (omega arith)))
       ∙ ap (λ first. first ∷ []) here
-      ∙ ap (λ front. front ++ at ∷ []) (sym (none_pass p a (suc n) (λ k past. fails k (omega arith))))
+      ∙ ap (λ front. front ++ at ∷ []) (sym (no_filtered p a (suc n) (λ k below. fails (a + k) (omega arith))))
   | inr apart ↦
       let rest = one_passes p q at (a + 1) n (omega arith) (omega arith) same fails passes in
       (λ i. cond (same a apart i) (a ∷ rest i) (rest i))
@@ -86,7 +81,7 @@ pub nobody_heard : (told : List Asks) (links : LinksData) (list : ℕ) → HasHe
 nobody_heard told links list =
     let same : (node : ℕ) → is_told_anew told told node ≡ false = λ node. ap not (asks_same (asks_at told node)) in
     record {
-      lists = sym (ap (with_absent links list) (none_pass (is_told_anew told told) 0 (length told) (λ k past. same k))
+      lists = sym (ap (with_absent links list) (no_filtered (is_told_anew told told) 0 (length told) (λ k below. same (0 + k)))
           ∙ with-none links list);
       holders = λ node. ap (λ b. if b && is_absent links node then Some list else holder_of links node) (sym (same node));
       counts = (refl, refl);

@@ -1,15 +1,14 @@
 -- Initial values that are of the types of their variables, and no more than their cells, suit them.
-use Rattle.std.proofs.Common.{◌≡◌, ◌≤◌, true, List, length, slice_index_or, refl, arith, IsTrue}
+use Rattle.std.proofs.Common.{◌≡◌, true, List, slice_index_or, refl, IsTrue}
 use Rattle.std.specs.List.{All, list_all}
-use Rattle.std.proofs.lemmas.Bool.{and_parts}
-use Rattle.std.proofs.lemmas.Bool.Decides.{nat_tests}
 use Rattle.std.proofs.lemmas.List.Sums.{AllPass-from_list_all}
 use Rattle.px_value.specs.declared.value.Value.{Value}
 use Rattle.px_value.specs.declared.value.Value.TheVariants as values
 use Rattle.px_core.specs.declared.variable.VarKind.{VarKind}
 use Rattle.px_core.specs.declared.variable.VarKind.TheVariants as kinds
-use Rattle.px_core.specs.Fit.{cells_of, has_right_size, has_right_cells, has_right_variables}
+use Rattle.px_core.specs.Fit.{has_right_cells, has_right_variables}
 use Rattle.px_core.specs.Plan.{VariableData, Tree, sites}
+use Rattle.px_core.proofs.Cells.{few_initials}
 use Rattle.px_expand.specs.Typed.{is_of_kind, is_typed, has_typed_values}
 use Rattle.px_typed.specs.Typing.{suits, HasInitials, InitialsSuit}
 
@@ -18,9 +17,6 @@ value_suits kinds.Boolean (values.Boolean truth) is = refl
 value_suits kinds.Integer (values.Integer number) is = refl
 value_suits kinds.Text (values.Text text) is = refl
 value_suits kind value is = absurd (cc)
-
-few_initials : (variable : VariableData) → IsTrue (has_right_cells variable) → length variable.init ≤ cells_of variable
-few_initials variable right = let parts = and_parts (has_right_size variable.size) _ right in grind (arith, nat_tests, parts)
 
 variables_suit :
     (variables : List VariableData) → list_all is_typed variables ≡ true → IsTrue (list_all has_right_cells variables) → All HasInitials variables

@@ -1,13 +1,14 @@
 -- The record of a node after a step, and after another record was put in the place of one.
-use Rattle.std.proofs.Common.{◌≡◌, ℕ, zero, suc, ◌<◌, Bool, true, false, List, [], ◌∷◌, length, get_or, map, Option, Some, refl, ap, sym, ◌∙◌, subst, arith, if◌then◌else◌}
+use Rattle.std.proofs.Common.{◌≡◌, ℕ, Bool, true, false, List, [], ◌∷◌, map, Option, Some, refl, ap, sym, ◌∙◌, subst, if◌then◌else◌}
 use Rattle.std.specs.List.{All, find}
 use Rattle.std.specs.Map.{lookup}
 use Rattle.std.specs.Option.{unwrap_or, option_map}
-use Rattle.std.specs.Cmp.Lexicographic.{bytes_decides, nat_list_eq_equiv}
-use Rattle.std.proofs.lemmas.Bool.{false_from_ne_true}
+use Rattle.std.specs.Cmp.Lexicographic.{bytes_decides}
 use Rattle.std.proofs.lemmas.List.{get_or_default}
+use Rattle.px_value.proofs.General.{found_has}
 use Rattle.px_core.specs.Fit.{AreDistinct}
 use Rattle.px_core.specs.Plan.{Site, no_site, is_same}
+use Rattle.px_core.proofs.Paths.{found_itself}
 use Rattle.px_sem.specs.World.{World, NodeRecord, no_record, record_at, initial_world, initial_record}
 use Rattle.px_sem.specs.Step.{micro, record_after}
 use Rattle.px_sem.specs.Conflicts.{transition}
@@ -18,48 +19,18 @@ found plan path = find (λ site. is_same site.path path) plan
 
 -- it has the path
 pub found_path : (plan : List Site) (path : List ℕ) (site : Site) → found plan path ≡ Some site → site.path ≡ path
-found_path [] path site is = absurd (cc)
-found_path (first ∷ plan) path site is = by (is_same first.path path) refl is (found_path plan path site)
-  where
-    by : (b : Bool) → is_same first.path path ≡ b → (if b then Some first else found plan path) ≡ Some site
-        → (found plan path ≡ Some site → site.path ≡ path) → site.path ≡ path
-    by true same is others =
-        let it : first ≡ site = cc in
-        subst (λ s. s.path ≡ path) it ((bytes_decides first.path path).0 same)
-    by false other is others = others is
+found_path plan path site is = (bytes_decides site.path path).0
+    (found_has (λ (s : Site). Unit {0}) (λ s. is_same s.path path) plan site (λ k d within. tt) is).1
 
 -- what holds of each node holds of it
 pub found_holds : (P : Site → Type 0) (plan : List Site) → All P plan → (path : List ℕ) (site : Site)
     → found plan path ≡ Some site → P site
-found_holds P [] all path site is = absurd (cc)
-found_holds P (first ∷ plan) all path site is =
-    by (is_same first.path path) is (found_holds P plan (λ k d within. all (suc k) d (omega arith)) path site)
-  where
-    by : (b : Bool) → (if b then Some first else found plan path) ≡ Some site → (found plan path ≡ Some site → P site)
-        → P site
-    by true is others =
-        let it : first ≡ site = cc in
-        subst P it (all zero first (omega arith))
-    by false is others = others is
+found_holds P plan all path site is = (found_has P (λ s. is_same s.path path) plan site all is).0
 
 -- each node is the one at its path, where paths differ
-own_at : (plan : List Site) (i : ℕ) → AreDistinct plan → i < length plan
-    → found plan (get_or plan i no_site).path ≡ Some (get_or plan i no_site)
-own_at [] i distinct within = absurd (omega arith)
-own_at (first ∷ plan) zero distinct within =
-    ap (λ b. if b then Some first else found plan first.path) (nat_list_eq_equiv.refl first.path)
-own_at (first ∷ plan) (suc i) distinct within =
-    let own : List ℕ = (get_or plan i no_site).path in
-    let other : is_same first.path own ≡ false = false_from_ne_true (is_same first.path own) (λ same.
-    let e : 0 ≡ suc i = distinct 0 (suc i) (omega arith) (omega arith) ((bytes_decides first.path own).0 same) in
-    absurd (omega arith)) in
-    let behind : AreDistinct plan = λ j k hj hk same.
-    let e : suc j ≡ suc k = distinct (suc j) (suc k) (omega arith) (omega arith) same in omega arith in
-    ap (λ b. if b then Some first else found plan own) other ∙ own_at plan i behind (omega arith)
-
 pub each_is_found : (plan : List Site) → AreDistinct plan → All (λ site. found plan site.path ≡ Some site) plan
 each_is_found plan distinct k d within =
-    subst (λ site. found plan site.path ≡ Some site) (get_or_default plan k no_site d within) (own_at plan k distinct within)
+    subst (λ site. found plan site.path ≡ Some site) (get_or_default plan k no_site d within) (found_itself plan k distinct within)
 
 -- ---- records
 

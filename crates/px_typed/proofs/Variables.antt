@@ -1,12 +1,13 @@
 -- What the variables of a node hold after a step and after a write: as many cells as they declare, each of its type.
-use Rattle.std.proofs.Common.{◌≡◌, ℕ, zero, suc, ◌-◌, Bool, true, false, List, [], ◌∷◌, length, map, replicate, slice_index_or, Option, Some, None, refl, ◌∙◌, subst, arith, if◌then◌else◌}
+use Rattle.std.proofs.Common.{◌≡◌, ℕ, zero, ◌-◌, Bool, true, false, List, [], ◌∷◌, length, map, replicate, slice_index_or, Option, Some, None, refl, ◌∙◌, subst, arith, if◌then◌else◌}
 use Rattle.std.specs.List.{All, find, zip}
 use Rattle.std.specs.Cmp.Lexicographic.{bytes_decides}
 use Rattle.std.specs.Option.{ForSome, unwrap_or}
 use Rattle.std.proofs.lemmas.List.{length-append, length-replicate, length-set}
-use Rattle.std.proofs.lemmas.List.Elements.{All-set, All-replicate, All-append}
+use Rattle.std.proofs.lemmas.List.Elements.{All-set, All-replicate, All-append, All-tail}
 use Rattle.px_value.specs.declared.value.Value.{Value}
 use Rattle.px_value.specs.declared.value.Value.TheVariants as values
+use Rattle.px_value.proofs.General.{found_has}
 use Rattle.px_core.specs.declared.variable.VarKind.{VarKind}
 use Rattle.px_core.specs.Fit.{cells_of}
 use Rattle.px_core.specs.Plan.{VariableData, is_same}
@@ -28,21 +29,11 @@ abbrev pub HoldsSuiting : List VariableData → List ℕ → List (List Value) �
 HoldsSuiting variables name held =
     ForSome (named variables name) (λ variable. HasCells variable (held_by variables name held))
 
-rest_of : {X : Type 0} (P : X → Type 0) (x : X) (xs : List X) → All P (x ∷ xs) → All P xs
-rest_of P x xs all k d within = all (suc k) d (omega arith)
-
 -- the variable that is found has the name
 pub named_so : (variables : List VariableData) (name : List ℕ) (variable : VariableData)
     → named variables name ≡ Some variable → variable.name ≡ name
-named_so [] name variable is = absurd (cc)
-named_so (first ∷ variables) name variable is = by (is_same first.name name) refl is (named_so variables name variable)
-  where
-    by : (b : Bool) → is_same first.name name ≡ b → (if b then Some first else named variables name) ≡ Some variable
-        → (named variables name ≡ Some variable → variable.name ≡ name) → variable.name ≡ name
-    by true same is others =
-        let it : first ≡ variable = cc in
-        subst (λ v. v.name ≡ name) it ((bytes_decides first.name name).0 same)
-    by false other is others = others is
+named_so variables name variable is = (bytes_decides variable.name name).0
+    (found_has (λ (v : VariableData). Unit {0}) (λ v. is_same v.name name) variables variable (λ k d within. tt) is).1
 
 -- ---- values given anew
 
@@ -52,7 +43,7 @@ pub given_suit : (give : VariableData → List Value) (variables : List Variable
 given_suit give [] name suit variable is = absurd (cc)
 given_suit give (first ∷ variables) name suit variable is =
     by (is_same first.name name) is
-    (given_suit give variables name (rest_of (λ v. HasCells v (give v)) first variables suit))
+    (given_suit give variables name (All-tail (λ v. HasCells v (give v)) first variables suit))
   where
     by : (b : Bool) → (if b then Some first else named variables name) ≡ Some variable
         → HoldsSuiting variables name (map give variables)
