@@ -2,11 +2,12 @@
 use Rattle.std.proofs.Common.{◌≡◌, ℕ, ◌<◌, List, [], ◌∷◌, ◌++◌, length, get_or, map, refl, ap, sym, ◌∙◌, arith, append_assoc, append-nil}
 use Rattle.std.specs.Borrow.{Bor}
 use Rattle.std.proofs.lemmas.List.{get_or-map, length-map, map-append}
+use Rattle.px_core.proofs.Trees.{node_tree}
 use Rattle.px_core.specs.declared.node.CoreNode.{CoreNode}
 use Rattle.px_core.specs.Plan.{Tree, NoNode, Branch, Site, no_site, path_under, sites, sites_under}
 use Rattle.px_flat.specs.Laying.{trees, below_it, heads_in, heads_of}
 use Rattle.px_flat.specs.Row.{site_in}
-use Rattle.px_flat.proofs.Trees.{node_head, node_tree}
+use Rattle.px_flat.proofs.Trees.{node_head}
 
 pub heads_of_more : (nodes more : List CoreNode)
     → heads_in (trees (nodes ++ more)) ≡ heads_in (trees nodes) ++ heads_in (trees more)

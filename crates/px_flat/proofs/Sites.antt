@@ -1,5 +1,5 @@
 -- Rows by number: each row's site stands over its parent's, and a look-up by path finds it.
-use Rattle.std.proofs.Common.{◌≡◌, ℕ, zero, suc, ◌+◌, ◌<◌, false, List, [], ◌∷◌, ◌++◌, length, get_or}
+use Rattle.std.proofs.Common.{◌≡◌, ℕ, zero, suc, ◌+◌, ◌<◌, List, [], ◌∷◌, ◌++◌, length, get_or}
 use Rattle.std.proofs.Common.{map, refl, ap, sym, ◌∙◌, subst, arith, Option, Some, None, length-append, zero-add}
 use Rattle.std.proofs.Common.{add-zero}
 use Rattle.std.specs.List.{zip}
@@ -9,7 +9,7 @@ use Rattle.std.proofs.lemmas.List.{get_or_append_left}
 use Rattle.std.proofs.Math.Seq.{get_or-append_seam}
 use Rattle.px_core.specs.Fit.{AreDistinct}
 use Rattle.px_core.specs.Plan.{Site, is_same, no_site, site_at}
-use Rattle.px_core.proofs.Paths.{same-self, same-other, distinct_behind}
+use Rattle.px_core.proofs.Paths.{same-self, distinct_behind, head_differs, found_itself}
 use Rattle.px_sem.specs.World as world
 use Rattle.px_flat.specs.declared.row.Row.{Row}
 use Rattle.px_flat.specs.Row.{head_data}
@@ -91,11 +91,6 @@ grown-push sites (first ∷ rows) row = grown-push (sites ++ site_of sites first
 
 -- ---- look-ups by path
 
-head_differs : (site : Site) (sites : List Site) (i : ℕ) → AreDistinct (site ∷ sites) → i < length sites
-    → is_same site.path (get_or sites i no_site).path ≡ false
-head_differs site sites i distinct h = same-other _ _ (λ same.
-    let e : 0 ≡ suc i = distinct 0 (suc i) (omega arith) (omega arith) same in absurd (omega arith))
-
 pub found_record : (sites : List Site) (records : List world.NodeRecord) (i : ℕ) (e : world.NodeRecord) → AreDistinct sites
     → i < length sites
     → length records ≡ length sites
@@ -111,8 +106,4 @@ found_record (site ∷ sites) (r ∷ records) (suc i) e distinct h long =
 
 pub found_site : (sites : List Site) (i : ℕ) → AreDistinct sites → i < length sites
     → site_at sites (get_or sites i no_site).path ≡ get_or sites i no_site
-found_site [] i distinct h = absurd (omega arith)
-found_site (site ∷ sites) zero distinct h = rw (same-self site.path) refl
-found_site (site ∷ sites) (suc i) distinct h =
-    let within : i < length sites = omega arith in
-    rw (head_differs site sites i distinct within) (found_site sites i (distinct_behind site sites distinct) within)
+found_site sites i distinct h = ap (λ found. unwrap_or found no_site) (found_itself sites i distinct h)

@@ -1,10 +1,7 @@
 -- Sums over the front of a list.
-use Rattle.std.proofs.Common.{◌≡◌, ℕ, ◌+◌, ◌<◌, ◌≤◌, List, [], ◌∷◌, length, get_or, map, take, sum, Option, Some, None, refl, ap, ◌∙◌, arith}
-use Rattle.std.specs.Option.{unwrap_or}
+use Rattle.std.proofs.Common.{◌≡◌, ℕ, ◌+◌, ◌<◌, ◌≤◌, List, [], ◌∷◌, length, get_or, map, take, sum, ap, ◌∙◌, arith}
 use Rattle.std.proofs.lemmas.List.{take_more, map-append, take-map}
 use Rattle.std.proofs.lemmas.List.Sums.{sum_by-append, sum_by-take-le}
-use Rattle.px_core.specs.Fit.{cells_of}
-use Rattle.px_core.specs.Plan.{VariableData}
 
 -- one more
 pub sum_more : {X : Type 0} (f : X → ℕ) (xs : List X) (i : ℕ) (d : X) → i < length xs
@@ -18,11 +15,3 @@ sum_more f xs i d within =
 -- the front is no more than all
 pub sum_front : {X : Type 0} (f : X → ℕ) (xs : List X) (i : ℕ) → sum (map f (take i xs)) ≤ sum (map f xs)
 sum_front f xs i = omega (arith, ap sum (take-map f i xs), sum_by-take-le (λ n. n) (map f xs) i)
-
--- the cells of a variable
-pub cells_are : (variable : VariableData) → cells_of variable ≡ unwrap_or variable.size 1
-cells_are variable = by variable.size refl
-  where
-    by : (size : Option ℕ) → variable.size ≡ size → cells_of variable ≡ unwrap_or variable.size 1
-    by None is = rw is refl
-    by (Some size) is = rw is refl

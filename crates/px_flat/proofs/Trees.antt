@@ -13,9 +13,10 @@ use Rattle.std.proofs.lemmas.List.Sums.{list_all-from_AllPass}
 use Rattle.std.proofs.Math.Seq.{get_or-append_seam}
 use Rattle.px_value.specs.Name.{is_name}
 use Rattle.px_value.specs.Path.{below}
+use Rattle.px_core.proofs.Trees.{node_tree}
 use Rattle.px_core.specs.declared.node.CoreNode.{CoreNode}
 use Rattle.px_core.specs.declared.node.CoreNode.TheViews.{out-CoreNode}
-use Rattle.px_core.specs.declared.node.CoreNode.TheFolds.{fold-CoreNode, fold_out-CoreNode}
+use Rattle.px_core.specs.declared.node.CoreNode.TheFolds.{fold-CoreNode}
 use Rattle.px_core.specs.Plan.{Tree, Branch, NoNode, Head, count_of, Site, no_site, branch, head_of, path_under}
 use Rattle.px_core.specs.Plan.{site_under, sites_under, sites}
 use Rattle.px_core.specs.Fit.{siblings_differ, has_short_path, has_name, AreDistinct}
@@ -29,10 +30,6 @@ use Rattle.px_flat.proofs.Sites.{length-sites_of, site_at_linked, grown-push}
 -- a node's head
 abbrev pub node_head : CoreNode → Head
 node_head node = head_of (out-CoreNode node)
-
-pub node_tree : (node : CoreNode) (rest : Tree)
-    → fold-CoreNode (Tree → Tree) branch node rest ≡ Branch (node_head node) (below_it node) rest
-node_tree node rest = ap (λ (f : Tree → Tree). f rest) (fold_out-CoreNode (Tree → Tree) branch node)
 
 -- the sites of nodes side by side are those of the first ones and those of the rest
 pub sites_of_more : (above : List (List ℕ)) (nodes more : List CoreNode)

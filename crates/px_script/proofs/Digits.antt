@@ -10,10 +10,10 @@ use Rattle.std.proofs.lemmas.Bool.{cases_Bool, and_parts, leb-true}
 use Rattle.std.proofs.lemmas.Bool.Decides.{nat_tests}
 use Rattle.std.proofs.lemmas.Str.Parse.{IsNumeralModel, numerals_by_value, tells_digits, digits_value_short, parse_digits, parse_gives}
 use Rattle.px_value.specs.Name.{is_digit, is_identifier}
+use Rattle.px_value.proofs.Digits.{all_digits}
 use Rattle.px_value.proofs.Ascii.{ascii_text, identifier_text, list_all-weaker}
 use Rattle.px_event.specs.Fit.{is_report_name}
 use Rattle.px_script.specs.ThreadLine.{are_digits, is_thread}
-use Rattle.px_script.proofs.Integers.{all_digits}
 
 numerals : IsNumeralModel (AllDigits 10) (digits_value 10)
 numerals = numerals_by_value (AllDigits 10) tells_digits

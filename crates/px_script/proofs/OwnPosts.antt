@@ -1,8 +1,7 @@
 -- What a thread posts is its own.
-use Rattle.std.proofs.Common.{◌≡◌, ◌≢◌, ℕ, List, [], ◌∷◌, map, refl, ap, subst, arith}
+use Rattle.std.proofs.Common.{◌≡◌, ◌≢◌, ℕ, List, [], ◌∷◌, refl, ap}
 use Rattle.std.specs.List.{All, filter_map}
 use Rattle.std.proofs.lemmas.Bool.{eq-eqb, ne_eqb}
-use Rattle.std.proofs.lemmas.List.{length-map, get_or-map}
 use Rattle.std.proofs.lemmas.List.Elements.{All-nil, All-cons}
 use Rattle.px_event.specs.declared.entry.Entry.{Entry}
 use Rattle.px_script.specs.Order.{entry_of}
@@ -42,8 +41,3 @@ own_thread thread (line ∷ lines) = by line.what (own_thread thread lines)
     by (whats.Post event) others =
         All-cons (λ (entry : Entry). entry.thread ≡ thread) (record { thread = thread; line = line.number; event = event }) (posts_of thread lines) refl others
     by (whats.Wait cond) others = others
-
--- what holds of each image holds of each element
-pub All-unmap : {X Y : Type 0} (P : Y → Type 0) (f : X → Y) (xs : List X) → All P (map f xs) → All (λ x. P (f x)) xs
-All-unmap P f xs all k d within =
-    subst P (get_or-map f xs k d (f d) within) (all k (f d) (omega (arith, length-map xs f)))

@@ -4,6 +4,8 @@ use Rattle.std.specs.Prelude.{if◌then◌else◌}
 use Rattle.std.proofs.lemmas.List.{take_rest}
 use Rattle.std.proofs.lemmas.Bool.{cases_Bool, eqb-true}
 use Rattle.px_value.specs.Text.{unescaped}
+use Rattle.std.proofs.lemmas.Option.{none-some}
+use Rattle.px_lex.proofs.StringFronts.{inner}
 use Rattle.px_lex.specs.String.{is_quote, is_backslash, is_line_end, with_byte, string_from, escape_from, read_string}
 use Rattle.px_lex.specs.Gap.{begins}
 use Rattle.px_script.specs.Place.{behind_byte}
@@ -16,25 +18,16 @@ read_behind Outside text = Some ([], text)
 read_behind Inside text = string_from text
 read_behind Escaped text = escape_from text
 
-nothing : (read : List ℕ × List ℕ) → ◌≡◌ {A = Option (List ℕ × List ℕ)} None (Some read) → ⊥
-nothing read h = cc
-
 abbrev rest_of : Option (List ℕ × List ℕ) → List ℕ
 rest_of None = []
 rest_of (Some read) = read.1
-
-inner : (byte : Option ℕ) (read : Option (List ℕ × List ℕ)) (content rest : List ℕ) → with_byte byte read ≡ Some (content, rest) → (less : List ℕ) × (read ≡ Some (less, rest))
-inner None read content rest h = cc
-inner (Some b) None content rest h = cc
-inner (Some b) (Some (less, behind)) content rest h =
-    let same : behind ≡ rest = ap rest_of h in (less, ap (λ t. Some (less, t)) same)
 
 inside_on : (quote backslash line_end : Bool) (c : ℕ) (cs content rest : List ℕ)
     → (if quote then Some ([], cs) else if backslash then escape_from cs else if line_end then None else with_byte (Some c) (string_from cs)) ≡ Some (content, rest)
     → (less : List ℕ) × (read_behind (if quote then Outside else if backslash then Escaped else Inside) cs ≡ Some (less, rest))
 inside_on true backslash line_end c cs content rest h = (content, h)
 inside_on false true line_end c cs content rest h = (content, h)
-inside_on false false true c cs content rest h = absurd (nothing (content, rest) h)
+inside_on false false true c cs content rest h = absurd (none-some (content, rest) h)
 inside_on false false false c cs content rest h = inner (Some c) (string_from cs) content rest h
 
 -- a string goes on behind its next byte
@@ -70,5 +63,5 @@ pub unquoted : (text content rest : List ℕ) → (1 ≤ length text → get_or 
 unquoted [] content rest other h = cc
 unquoted (c ∷ cs) content rest other h = elim (cases_Bool (is_quote c)) [
   | inl quote ↦ other (omega arith) (eqb-true c 34 quote)
-  | inr plain ↦ nothing (content, rest) (rw plain at h)
+  | inr plain ↦ none-some (content, rest) (rw plain at h)
 ]

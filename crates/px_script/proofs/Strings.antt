@@ -6,6 +6,8 @@ use Rattle.std.proofs.lemmas.Bool.{cases_Bool, eqb-true, false≢true}
 use Rattle.std.proofs.lemmas.List.{append-nil, append_assoc}
 use Rattle.px_value.specs.declared.value.Value.{Value}
 use Rattle.px_value.specs.declared.value.Value.TheVariants as values
+use Rattle.px_value.proofs.General.{neither}
+use Rattle.px_lex.proofs.Unique.{not_at_end}
 use Rattle.px_lex.specs.declared.fault.LexFault.{LexFault}
 use Rattle.px_lex.specs.declared.fault.LexFault.TheVariants as faults
 use Rattle.px_lex.specs.declared.token.Token.{Token}
@@ -90,9 +92,6 @@ lexed (c ∷ cs) tokens found quote s all f =
 
 -- ---- a text with a fault
 
-no_fault_at_end : (kind : FaultKind) → IsFaulty kind [] → ⊥
-no_fault_at_end kind h = let same : nothing ≡ faulty kind = fault_front kind [] h in cc
-
 faulty_kind : (fault : LexFault) (place : ℕ) (rest : List ℕ) → fault ≢ faults.NoMemory → IsFault fault place rest → (kind : FaultKind) × IsFaulty kind rest
 faulty_kind (faults.Bad at) place rest told h = (Bad, h.1)
 faulty_kind (faults.Real at) place rest told h = (Real, h.1)
@@ -110,10 +109,6 @@ long_all : (content rest : List ℕ) → nat_le (length content) 1024 ≡ false 
 long_all content [] long = too_long content long
 long_all content (c ∷ cs) long = refl
 
-both_empty : (xs ys : List ℕ) → xs ++ ys ≡ [] → ys ≡ []
-both_empty [] ys h = h
-both_empty (x ∷ xs) ys h = cc
-
 at_once : (cs : List ℕ) (kind : FaultKind) (read : Option (List ℕ × List ℕ)) → string_from cs ≡ read → front (34 ∷ cs) ≡ faulty kind → None ≡ all_of read
 at_once cs kind None is first = refl
 at_once cs kind (Some (content, rest)) is first = elim (cases_Bool (nat_le (length content) 1024)) [
@@ -127,7 +122,7 @@ later cs rest kind p ps None is first all h = refl
 later cs rest kind p ps (Some (content, behind)) is first all h = elim (cases_Bool (nat_le (length content) 1024)) [
   | inl short ↦
       let left : spelled ps ++ rest ≡ [] = ap rest_of (sym first ∙ front_text cs content behind is short) ∙ all content behind is in
-      absurd (no_fault_at_end kind (subst (IsFaulty kind) (both_empty (spelled ps) rest left) h))
+      absurd (not_at_end kind (subst (IsFaulty kind) (neither (spelled ps) rest left).1 h))
   | inr long ↦ long_all content behind long
 ]
 

@@ -8,12 +8,13 @@ use Rattle.std.proofs.lemmas.Bool.{and_parts, cases_Bool}
 use Rattle.std.proofs.lemmas.List.{map-append}
 use Rattle.std.proofs.lemmas.List.Folds.{list_all-append, list_all-map}
 use Rattle.px_value.specs.Path.{below}
+use Rattle.px_core.proofs.Trees.{node_tree}
 use Rattle.px_core.specs.declared.node.CoreNode.{CoreNode}
 use Rattle.px_core.specs.declared.node.Kind.{Kind}
 use Rattle.px_core.specs.Fit.{has_short_path}
 use Rattle.px_core.specs.Plan.{Tree, NoNode, Branch, Site, sites_under, sites, tree_of_node, is_same}
 use Rattle.px_flat.specs.Laying.{trees, below_it}
-use Rattle.px_flat.proofs.Trees.{node_head, node_tree, sites_of_root}
+use Rattle.px_flat.proofs.Trees.{node_head, sites_of_root}
 use Rattle.px_script.specs.Telling.{TellKinds, all_kinds, kinds_under, has_short}
 
 abbrev Told : Type 0

@@ -40,6 +40,12 @@ run_on_more plan (Some now) (first ∷ history) event world is =
 pub run_at_start : (plan : List Site) (world : World) (k : ℕ) → started plan ≡ Some (world, k) → run plan [] ≡ Some world
 run_at_start plan world k is = run_on_none plan (settled_world (started plan)) ∙ ap settled_world is
 
+-- who has settled after the start has run the empty history
+pub run_started : (plan : List Site) (now : State) → (count : ℕ) × (started plan ≡ Some (now.world, count)) → now ≡ settled_state plan now.world
+    → run now.nodes [] ≡ Some now.world
+run_started plan now (count, start) rest =
+    subst (λ nodes. run nodes [] ≡ Some now.world) (sym (ap (λ (s : State). s.nodes) rest)) (run_at_start plan now.world count start)
+
 pub run_more : (plan : List Site) (history : List Event) (event : Event) (world : World) → run plan history ≡ Some world
     → run plan (history ++ event ∷ []) ≡ settled_world (posted plan world event)
 run_more plan history event world is = run_on_more plan (settled_world (started plan)) history event world is

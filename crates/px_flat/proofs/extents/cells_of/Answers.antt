@@ -1,8 +1,9 @@
 use Rattle.std.proofs.Common.{◌≡◌, ◌+◌, ◌<◌, List, length, get_or, map, sum, take, ap, sym, ◌∙◌, arith}
 use Rattle.std.proofs.lemmas.List.{get_or-map, length-map}
+use Rattle.px_core.proofs.Cells.{cells_are}
 use Rattle.px_core.specs.Fit.{cells_of}
 use Rattle.px_core.specs.Plan.{VariableData, variable_data}
-use Rattle.px_flat.proofs.Sums.{sum_more, sum_front, cells_are}
+use Rattle.px_flat.proofs.Sums.{sum_more, sum_front}
 use Rattle.px_flat.proofs.extents.cells_of.Goals as goal
 
 next_cells : (c : goal.After-unwrap_or-cells) → c.loop-variable.cells + c.unwrap_or-cells.result

@@ -1,12 +1,13 @@
 use Rattle.std.proofs.Common.{◌≡◌, ◌+◌, ◌<◌, List, length, get_or, map, sum, take, ap, sym, ◌∙◌, arith}
 use Rattle.std.proofs.lemmas.List.{get_or-map, length-map, take_all}
 use Rattle.indexmap.specs.IndexMap.{insert_entry}
+use Rattle.px_core.proofs.Cells.{cells_are}
 use Rattle.px_core.specs.Fit.{cells_of}
 use Rattle.px_core.specs.Plan.{VariableData, variable_data, is_same}
 use Rattle.px_flat.specs.declared.slots.Slot.{Slot}
 use Rattle.px_flat.specs.Slots.{slots_from}
 use Rattle.px_flat.proofs.Slotted.{slots_more, slot_at, length-slots_from}
-use Rattle.px_flat.proofs.Sums.{sum_more, sum_front, cells_are}
+use Rattle.px_flat.proofs.Sums.{sum_more, sum_front}
 use Rattle.px_flat.proofs.slots.Slots.of.Goals as goal
 use Rattle.px_flat.proofs.slots.Slots.of.Goals.{In_ok-insert}
 
