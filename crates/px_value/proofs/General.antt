@@ -1,12 +1,14 @@
 -- What holds of options, Booleans, lists, results and texts in general, and several crates need.
-use Rattle.std.proofs.Common.{◌≡◌, ℕ, zero, suc, ◌+◌, ◌<◌, ◌==◌, Bool, true, false, cond, List, [], ◌∷◌, ◌++◌, All, AllPairs, find, filter, map, drop, length, get_or, Option, Some, None, is_none, is_some, Result, Ok, Err, refl, sym, ap, ◌∙◌, subst, arith}
+use Rattle.std.proofs.Common.{◌≡◌, ℕ, zero, suc, ◌+◌, ◌<◌, ◌==◌, Bool, true, false, cond, List, [], ◌∷◌, ◌++◌, All, AllPairs, find, filter, map, take, drop, length, replicate, get_or, Option, Some, None, is_none, is_some, option_map, Result, Ok, Err, IsErrAnd, IfErr, refl, sym, ap, ◌∙◌, subst, arith, inl, inr}
 use Rattle.std.specs.List.{range_with_len}
-use Rattle.std.specs.Result.{OnErr}
+use Rattle.std.specs.Result.{OnErr, OnOk}
 use Rattle.std.specs.Str.{is_utf8, IsUtf8}
-use Rattle.std.proofs.lemmas.Bool.{cond-false, false_from_ne_true}
+use Rattle.std.proofs.lemmas.Bool.{cases_lt, cond-false, false_from_ne_true}
 use Rattle.std.proofs.lemmas.Bool.Decides.{nat_tests}
-use Rattle.std.proofs.lemmas.List.{drop_more, get_or-map, length-map}
+use Rattle.std.proofs.lemmas.List.{drop_more, get_or-map, get_or-replicate, get_or_past, length-map, length-replicate, length-take, take-take}
 use Rattle.std.proofs.lemmas.List.Elements.{All-append, All-head, All-tail}
+use Rattle.std.proofs.lemmas.List.Folds.{map_fixed}
+use Rattle.std.proofs.lemmas.List.FromFn.{map-range_with_len_more}
 use Rattle.std.proofs.lemmas.List.Kept.{AllPairs-cons}
 use Rattle.std.proofs.lemmas.Str.{IsUtf8-from_is_utf8}
 
@@ -34,6 +36,26 @@ same_bool false false to from = refl
 pub cut_at : {X : Type 0} (xs : List X) (place : ℕ) (x : X) → place < length xs → x ≡ get_or xs place x
     → drop place xs ≡ x ∷ drop (place + 1) xs
 cut_at xs place x within is = drop_more xs place x within ∙ ap (λ first. first ∷ drop (place + 1) xs) (sym is)
+
+-- a list of one item again and again has it at each place, and is read as it beyond its end
+pub replicate-same : {X : Type 0} (count at : ℕ) (x : X) → get_or (replicate count x) at x ≡ x
+replicate-same count at x = elim (cases_lt at count) [
+  | inl below ↦ get_or-replicate count at x x below
+  | inr past ↦ get_or_past (replicate count x) at x (omega (arith, past, length-replicate count x))
+]
+
+-- what begins with a list that begins with another begins with that one
+pub begins_further : {X : Type 0} (old mid new : List X) → take (length old) mid ≡ old → take (length mid) new ≡ mid → take (length old) new ≡ old
+begins_further old mid new first second =
+    let fewer : length old ≤ length mid = omega (arith, ap length first, length-take (length old) mid) in
+    sym (take-take (length old) (length mid) new fewer) ∙ ap (take (length old)) second ∙ first
+
+-- a range and the number behind it
+pub range_more : (from count : ℕ) → range_with_len from (count + 1) ≡ range_with_len from count ++ (from + count) ∷ []
+range_more from count =
+    sym (map_fixed (λ k. k) (range_with_len from (count + 1)) (λ k d within. refl))
+    ∙ map-range_with_len_more (λ k. k) from count (from + count) refl
+    ∙ ap (λ front. front ++ (from + count) ∷ []) (map_fixed (λ k. k) (range_with_len from count) (λ k d within. refl))
 
 -- two lists that are nothing together
 pub neither : {X : Type 0} (xs ys : List X) → xs ++ ys ≡ [] → (xs ≡ []) × (ys ≡ [])
@@ -65,6 +87,16 @@ found_has P p (first ∷ xs) x all is = by (p first) refl is (found_has P p xs x
         (subst P same (All-head P first xs all), subst (λ x. p x ≡ true) same passes)
     by false fails is rest = rest is
 
+-- what is found among images is the image of what is found
+pub find-map : {X Y : Type 0} (p : Y → Bool) (f : X → Y) (xs : List X) → find p (map f xs) ≡ option_map f (find (λ x. p (f x)) xs)
+find-map p f [] = refl
+find-map p f (x ∷ xs) = by (p (f x)) (find-map p f xs)
+  where
+    by : (passes : Bool) → find p (map f xs) ≡ option_map f (find (λ x. p (f x)) xs)
+        → cond passes (Some (f x)) (find p (map f xs)) ≡ option_map f (cond passes (Some x) (find (λ x. p (f x)) xs))
+    by true rest = refl
+    by false rest = rest
+
 -- what holds of the pairs of each of two lists, and across them, holds of the pairs of both
 pub pairs_append : {X : Type 0} (R : X → X → Type 0) (xs ys : List X) → AllPairs R xs → AllPairs R ys
     → ((i j : ℕ) (d : X) → i < length xs → j < length ys → R (get_or xs i d) (get_or ys j d)) → AllPairs R (xs ++ ys)
@@ -74,10 +106,19 @@ pairs_append R (x ∷ xs) ys front back cross = AllPairs-cons R x (xs ++ ys)
     (pairs_append R xs ys (λ i j d before below. front (suc i) (suc j) d (omega (arith, before)) (omega (arith, below))) back
     (λ i j d near far. cross (suc i) j d (omega (arith, near)) far))
 
--- what holds in any case holds where there is an error
+-- what holds in any case holds where there is an answer, and where there is an error
+pub on_ok : {T E P : Type 0} (r : Result T E) → P → OnOk r P
+on_ok (Ok value) holds = holds
+on_ok (Err fault) holds = tt
+
 pub on_err : {T E P : Type 0} (r : Result T E) → P → OnErr r P
 on_err (Ok value) holds = tt
 on_err (Err fault) holds = holds
+
+-- what holds of an error holds where it is handed on
+pub handed_on : {T E : Type 0} (P : E → Type 0) (fault : E) (r : Result T E) → IsErrAnd r (λ e. e ≡ fault) → P fault → IfErr r P
+handed_on P fault (Ok done) is holds = absurd is
+handed_on P fault (Err other) is holds = subst P (sym is) holds
 
 -- bytes that are no text
 pub not_utf8 : (bytes : List ℕ) → (IsUtf8 bytes → ⊥) → is_utf8 bytes ≡ false
