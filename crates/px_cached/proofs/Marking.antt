@@ -1,6 +1,7 @@
 -- What is to be looked at, while touched sources are gone through.
 use Rattle.std.proofs.Common.{◌≡◌, ℕ, Bool, true, false, nat_eq, List, length, get_or, ◌⊎◌, inl, inr, refl, ap, sym, ◌∙◌, All, None}
 use Rattle.std.specs.List.{list_any}
+use Rattle.std.proofs.lemmas.Bool.{cases_Bool}
 use Rattle.std.proofs.lemmas.Bool.Decides.{eqb_tells}
 use Rattle.std.proofs.lemmas.List.Folds.{list_any_none}
 use Rattle.px_links.specs.Links.{LinksData, HoldsOthersAsBefore, first_of, is_absent, SameCounts}
@@ -8,14 +9,10 @@ use Rattle.px_listen.specs.Listening.{ListenData, dependents_of, is_dependent}
 use Rattle.px_cached.specs.Noticing.{IsNoticed}
 use Rattle.px_cached.proofs.OneList.{none_noted, noted_then}
 
-pub bool_cases : (b : Bool) → (b ≡ true) ⊎ (b ≡ false)
-bool_cases true = inl refl
-bool_cases false = inr refl
-
 -- what is in a list all of which is noted is noted
 pub noted_in : (stale : LinksData) (parts : List ℕ) (part : ℕ) → All (λ part. is_absent stale part ≡ false) parts
     → list_any (nat_eq part) parts ≡ true → is_absent stale part ≡ false
-noted_in stale parts part all is = elim (bool_cases (is_absent stale part)) [
+noted_in stale parts part all is = elim (cases_Bool (is_absent stale part)) [
   | inr noted ↦ noted
   | inl absent ↦
       let none : list_any (nat_eq part) parts ≡ false =

@@ -3,7 +3,8 @@ use Rattle.std.proofs.Common.{◌≡◌, ℕ, ◌*◌, ◌<◌, Bool, false, Lis
 use Rattle.std.specs.Prelude.{is_none}
 use Rattle.std.proofs.lemmas.Bool.{cases_lt}
 use Rattle.std.proofs.lemmas.Bool.Decides.{eqb_tells}
-use Rattle.std.proofs.lemmas.List.{get_or-replicate, get_or_past, length-replicate}
+use Rattle.std.proofs.lemmas.List.{length-replicate}
+use Rattle.px_value.proofs.General.{replicate-same}
 use Rattle.px_core.specs.Plan.{Site}
 use Rattle.px_flat.specs.Sources.{Present}
 use Rattle.px_links.specs.Links.{LinksData, HoldsOthersAsBefore, SameCounts, holder_of, is_absent}
@@ -23,10 +24,7 @@ use Rattle.px_cached.proofs.OneList.{absent_then, holders_then, now_noted, still
 -- ---- all is to be looked at
 
 unknown : (count part : ℕ) → truth_at (replicate count None) part ≡ None
-unknown count part = elim (cases_lt part count) [
-  | inl below ↦ get_or-replicate count part None None below
-  | inr past ↦ get_or_past (replicate count None) part None (omega (arith, past, length-replicate {A = Option Bool} count None))
-]
+unknown count part = replicate-same count part None
 
 joint_unknown : (joint : Joint) → kleene joint None None ≡ None
 joint_unknown joints.And = refl

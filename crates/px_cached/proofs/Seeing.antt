@@ -1,5 +1,6 @@
 -- What is kept is sound in what is present, where what was not touched is as it was seen; and then it is fresh.
 use Rattle.std.proofs.Common.{◌≡◌, ℕ, ◌+◌, ◌/◌, ◌<◌, Bool, true, false, not, List, ◌++◌, length, map, get_or, Option, None, ◌⊎◌, inl, inr, ap, sym, ◌∙◌, subst, arith, All}
+use Rattle.std.proofs.lemmas.Bool.{cases_Bool}
 use Rattle.std.proofs.lemmas.List.{get_or_append_left, get_or-append-add, get_or-map, length-append}
 use Rattle.px_value.specs.Truth.{truth_of}
 use Rattle.px_core.specs.declared.conditions.ConditionKind.{ConditionKind}
@@ -21,7 +22,6 @@ use Rattle.px_cached.specs.Reading.{AreListening, sources_at}
 use Rattle.px_cached.proofs.Conditions.{condition_back, node_back, number_below}
 use Rattle.px_cached.proofs.Freshness.{fresh_part}
 use Rattle.px_cached.proofs.Layers.{spells_inside}
-use Rattle.px_cached.proofs.Marking.{bool_cases}
 
 -- what is true of all sources is true of a stretch of them
 all_in_stretch : (P : Source → Type 0) (some all : List Source) → IsStretch some all → All P all → All P some
@@ -50,7 +50,7 @@ module _ (plan : List Site) (seen present : Present) (long : length seen.cells �
       → All (λ source. not (is_absent touched (source_number plan source)) ≡ false) (sources_at plan (part_at network part))
   untouched part there absent k d inside =
       let source : Source = get_or (sources_at plan (part_at network part)) k d in
-      elim (bool_cases (is_absent touched (source_number plan source))) [
+      elim (cases_Bool (is_absent touched (source_number plan source))) [
         | inl is ↦ ap not is
         | inr noted ↦
             let marked : is_absent then_stale part ≡ false =
@@ -59,7 +59,7 @@ module _ (plan : List Site) (seen present : Present) (long : length seen.cells �
       ]
 
   was_absent : (part : ℕ) → is_absent then_stale part ≡ true → is_absent stale part ≡ true
-  was_absent part absent = elim (bool_cases (is_absent stale part)) [
+  was_absent part absent = elim (cases_Bool (is_absent stale part)) [
     | inl is ↦ is
     | inr noted ↦
         let still : is_absent then_stale part ≡ false = noticed.still part noted in

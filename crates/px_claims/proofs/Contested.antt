@@ -3,9 +3,8 @@ use Rattle.std.proofs.Common.{◌≡◌, ◌≢◌, ℕ, Bool, false, not, ◌&&
 use Rattle.std.specs.Prelude.{nat_eq, if◌then◌else◌}
 use Rattle.std.proofs.lemmas.Bool.{cases_eq, cond-false, cond-true, eq-eqb, eqb-true, ne_eqb}
 use Rattle.std.proofs.lemmas.List.{get_or-set_other}
-use Rattle.px_value.proofs.General.{same_bool}
+use Rattle.px_value.proofs.General.{replicate-same, same_bool}
 use Rattle.px_links.specs.Links.{LinksData, holder_of, HoldsOthersAsBefore}
-use Rattle.px_links.proofs.Empty.{replicate-same}
 use Rattle.px_tally.specs.Tally.{TallyData, marked, nobody, total}
 use Rattle.px_tally.proofs.Counting.{none-count, count-none}
 use Rattle.px_claims.specs.Keeping.{HoldsContested, is_contested}

@@ -1,6 +1,7 @@
 -- The number after the last descendant, by the tree and by the list of nodes.
 use Rattle.std.proofs.Common.{◌≡◌, ◌≢◌, ℕ, zero, suc, ◌+◌, ◌-◌, ◌<◌, ◌≤◌, Bool, true, false, ◌||◌, ◌&&◌, cond, List, [], ◌∷◌, ◌++◌, length, get_or, drop, refl, ap, sym, ◌∙◌, arith, inl, inr, append_assoc, append-nil, length-append}
 use Rattle.std.specs.List.{list_all, list_any, prefix_len}
+use Rattle.std.proofs.Math.Bool.{or-true}
 use Rattle.std.proofs.lemmas.Bool.{cases_lt, and_parts}
 use Rattle.std.proofs.lemmas.List.{get_or_append_left, get_or-append-add, drop-drop, drop_at}
 use Rattle.std.proofs.lemmas.List.Folds.{length-prefix_len, list_all-append}
@@ -12,10 +13,6 @@ use Rattle.px_flat.proofs.Trees.{length-sites_under, length-ends_from}
 
 -- ---- those that stand below a node
 
-or_true : (b : Bool) → (b || true) ≡ true
-or_true true = refl
-or_true false = refl
-
 -- all nodes of a tree stand below each of their ancestors
 pub all_below : (own : List ℕ) (above : List (List ℕ)) (tree : Tree) → list_any (is_same own) above ≡ true
     → list_all (is_below own) (sites_under above tree) ≡ true
@@ -23,7 +20,7 @@ all_below own above NoNode here = refl
 all_below own above (Branch head children rest) here =
     let under : List (List ℕ) = path_under above head.name ∷ above in
     let deeper : list_any (is_same own) under ≡ true =
-    ap (λ b. is_same own (path_under above head.name) || b) here ∙ or_true (is_same own (path_under above head.name)) in
+    ap (λ b. is_same own (path_under above head.name) || b) here ∙ or-true (is_same own (path_under above head.name)) in
     ap (λ b. b && list_all (is_below own) (sites_under under children ++ sites_under above rest)) here
     ∙ list_all-append (is_below own) (sites_under under children) (sites_under above rest)
     ∙ ap (λ b. b && list_all (is_below own) (sites_under above rest)) (all_below own under children deeper)

@@ -1,9 +1,10 @@
 -- The nodes below a node are those behind it, up to the number after its last descendant.
 use Rattle.std.proofs.Common.{◌≡◌, ◌≢◌, ℕ, zero, suc, ◌+◌, ◌-◌, ◌<◌, ◌≤◌, Bool, true, false, ◌&&◌, nat_lt, List, [], ◌∷◌, ◌++◌, length, get_or, drop, take_while, refl, ap, sym, ◌∙◌, subst, arith, ◌⊎◌, inl, inr, append_assoc, length-append}
 use Rattle.std.specs.List.{list_all, list_any}
-use Rattle.std.proofs.lemmas.Bool.{cases_lt, lt-ltb, le-ltb, or_parts, or_from, false_from_ne_true, true_from_ne_false, true≢false}
+use Rattle.std.proofs.lemmas.Bool.{cases_lt, lt-ltb, le-ltb, or_parts, or_from, false_from_ne_true, true≢false}
 use Rattle.std.proofs.lemmas.List.{get_or_append_left, get_or-append-add, drop_at}
-use Rattle.std.proofs.lemmas.List.Folds.{length-prefix_len, list_any-append, list_any_at, list_all_at}
+use Rattle.std.proofs.lemmas.List.Folds.{length-prefix_len, list_any-append, list_any_at}
+use Rattle.std.proofs.lemmas.List.Sums.{AllPass-from_list_all}
 use Rattle.std.proofs.Math.Seq.{get_or-append_seam}
 use Rattle.px_core.specs.Fit.{AreDistinct}
 use Rattle.px_core.specs.Plan.{Tree, NoNode, Branch, Site, no_site, is_same, count_of, path_under, site_under, sites_under, sites}
@@ -211,11 +212,6 @@ one_fails : (p : Site → Bool) (sites : List Site) (i : ℕ) → list_any p sit
 one_fails p sites i none within =
     false_from_ne_true (p (get_or sites i no_site)) (λ is. true≢false (sym (list_any_at p sites i no_site within is) ∙ none))
 
-one_passes : (p : Site → Bool) (sites : List Site) (i : ℕ) → list_all p sites ≡ true → i < length sites
-    → p (get_or sites i no_site) ≡ true
-one_passes p sites i all within =
-    true_from_ne_false (p (get_or sites i no_site)) (λ is. true≢false (sym all ∙ list_all_at p sites i no_site within is))
-
 first_of_none : (p : Site → Bool) (sites : List Site) → list_any p sites ≡ false → FirstFails p sites
 first_of_none p [] none = tt
 first_of_none p (site ∷ sites) none = (or_parts (p site) (list_any p sites) none).0
@@ -290,7 +286,7 @@ below_split plan node other split within =
         let small : k < length split.inner = omega (arith, end) in
         asked
         ∙ ap p (behind_it k (omega arith) ∙ get_or_append_left split.inner split.behind no_site k small)
-        ∙ one_passes p split.inner k split.all_inner small
+        ∙ AllPass-from_list_all p split.inner split.all_inner k no_site small
         ∙ sym (λ i. lt-ltb node other past i && lt-ltb other (after_last plan node) inside i)
     by (inr from) (inl past) (inr outside) =
         let k : ℕ = other - suc node - length split.inner in

@@ -1,16 +1,10 @@
 -- A table whose lists are empty.
-use Rattle.std.proofs.Common.{◌≡◌, ℕ, replicate, get_or, List, [], None, refl, ap, sym, ◌∙◌, arith, inl, inr}
-use Rattle.std.proofs.lemmas.Bool.{cases_lt}
-use Rattle.std.proofs.lemmas.List.{get_or-replicate, get_or_past, length-replicate}
+use Rattle.std.proofs.Common.{◌≡◌, ℕ, replicate, List, [], None, refl, ap, sym, ◌∙◌, arith}
+use Rattle.std.proofs.lemmas.List.{length-replicate}
+use Rattle.px_value.proofs.General.{replicate-same}
 use Rattle.px_links.specs.declared.cell.Cell.{Cell}
 use Rattle.px_links.specs.Keeping.{IsTable}
 use Rattle.px_links.proofs.Tables.{no_ends}
-
-pub replicate-same : {X : Type 0} (count at : ℕ) (x : X) → get_or (replicate count x) at x ≡ x
-replicate-same count at x = elim (cases_lt at count) [
-  | inl below ↦ get_or-replicate count at x x below
-  | inr past ↦ get_or_past (replicate count x) at x (omega (arith, past, length-replicate count x))
-]
 
 abbrev pub absent_cell : Cell
 absent_cell = record { next = None; before = None; holder = None }

@@ -3,8 +3,8 @@ use Rattle.std.proofs.Common.{◌≡◌, ℕ, ◌<◌, ◌≢◌, List, [], ◌�
 use Rattle.std.proofs.lemmas.List.{length-replicate}
 use Rattle.std.proofs.lemmas.List.Elements.{All-nil, All-replicate}
 use Rattle.std.proofs.lemmas.List.Sums.{sum_by-cons}
+use Rattle.px_value.proofs.General.{replicate-same}
 use Rattle.px_links.specs.Links.{LinksData, empty, holder_of}
-use Rattle.px_links.proofs.Empty.{replicate-same}
 use Rattle.px_listen.specs.Keeping.{ArePairs, listening}
 use Rattle.px_listen.specs.Listening.{AreSound, dependents_of, pairs_of, unwatched}
 use Rattle.px_listen.specs.Walking.{watchers_in}

@@ -13,7 +13,7 @@ use Rattle.std.proofs.lemmas.Map.Keys.{IsDistinct-IsPermutation}
 use Rattle.std.proofs.lemmas.Map.Made.{AllPairs-from_IsDistinct, IsDistinct-from_AllPairs}
 use Rattle.std.proofs.lemmas.Map.Views.{Contains-from_any, list_any-from_Contains}
 use Rattle.std.proofs.Math.Bool.{and-false}
-use Rattle.px_value.proofs.General.{same_bool}
+use Rattle.px_value.proofs.General.{same_bool, pairs_append}
 use Rattle.px_value.specs.declared.enums.NodeState.TheVariants as states
 use Rattle.px_core.specs.Plan.{Site, TargetData}
 use Rattle.px_sem.specs.declared.guards.Arrival.{Arrival}
@@ -129,32 +129,6 @@ each_there to (node ∷ nodes) each =
 there_is : (to : Option Arrival) → IsSome to → to ≡ Some (there to)
 there_is (Some arrival) some = refl
 there_is None some = absurd (false≢true some)
-
--- ---- pairs of two lists, one after the other
-
-pairs_append : {X : Type 0} (R : X → X → Type 0) (xs ys : List X) → AllPairs R xs → AllPairs R ys
-    → ((i j : ℕ) (d : X) → i < length xs → j < length ys → R (get_or xs i d) (get_or ys j d)) → AllPairs R (xs ++ ys)
-pairs_append {X} R xs ys front back cross i j d before inside = by (cases_lt i (length xs)) (cases_lt j (length xs))
-  where
-    behind : (k : ℕ) → length xs ≤ k → get_or (xs ++ ys) k d ≡ get_or ys (k - length xs) d
-    behind k past =
-        let place : k ≡ length xs + (k - length xs) = omega (arith, past) in
-        ap (λ k. get_or (xs ++ ys) k d) place ∙ get_or-append-add xs ys (k - length xs) d
-
-    by : (i < length xs) ⊎ (length xs ≤ i) → (j < length xs) ⊎ (length xs ≤ j) → R (get_or (xs ++ ys) i d) (get_or (xs ++ ys) j d)
-    by (inl i_near) (inl j_near) =
-        subst (λ x. R x (get_or (xs ++ ys) j d)) (sym (get_or_append_left xs ys d i i_near))
-        (subst (R (get_or xs i d)) (sym (get_or_append_left xs ys d j j_near)) (front i j d before j_near))
-    by (inl i_near) (inr j_past) =
-        subst (λ x. R x (get_or (xs ++ ys) j d)) (sym (get_or_append_left xs ys d i i_near))
-        (subst (R (get_or xs i d)) (sym (behind j j_past))
-        (cross i (j - length xs) d i_near (omega (arith, inside, length-append xs ys, j_past))))
-    by (inr i_past) (inl j_near) = absurd (omega (arith, i_past, j_near, before))
-    by (inr i_past) (inr j_past) =
-        subst (λ x. R x (get_or (xs ++ ys) j d)) (sym (behind i i_past))
-        (subst (R (get_or ys (i - length xs) d)) (sym (behind j j_past))
-        (back (i - length xs) (j - length xs) d (omega (arith, before, i_past))
-        (omega (arith, inside, length-append xs ys, j_past))))
 
 -- ---- who goes without asking
 

@@ -2,7 +2,7 @@
 use Rattle.std.proofs.Common.{◌≡◌, ℕ, ◌<◌, ◌≤◌, true, false, ◌&&◌, ◌||◌, nat_eq, nat_lt, List, [], ◌∷◌, ◌++◌, ◌+◌, length, map, get_or, Option, Some, None, All, IfSome, refl, ap, sym, ◌∙◌, subst, arith, inl, inr}
 use Rattle.std.specs.List.{list_any, range_with_len}
 use Rattle.std.proofs.lemmas.Bool.{cases_lt, eq-eqb, eqb-true, le-ltb, ne_eqb}
-use Rattle.std.proofs.lemmas.List.FromFn.{get_or-map-range_with_len, length-map-range_with_len, map-range_with_len_more}
+use Rattle.std.proofs.lemmas.List.FromFn.{get_or-map-range_with_len, length-map-range_with_len}
 use Rattle.px_value.proofs.General.{same_bool}
 use Rattle.px_core.specs.Plan.{Site, is_same}
 use Rattle.px_core.proofs.Paths.{same-self}
@@ -18,10 +18,6 @@ use Rattle.px_claims.specs.Claims.{AreOf, ClaimsData}
 use Rattle.px_micro.proofs.Ancestors.{placed}
 use Rattle.px_micro.proofs.Families.{end_within, same_node}
 use Rattle.px_machine.specs.Kept.{place_in, places_of, parents_of}
-
--- one more of a list of places, or of parents, so far
-pub mapped_more : {A : Type 0} (f : ℕ → A) (n : ℕ) → map f (range_with_len 0 (n + 1)) ≡ map f (range_with_len 0 n) ++ f n ∷ []
-mapped_more f n = map-range_with_len_more f 0 n n (omega arith)
 
 pub long : (plan : List Site) → length (places_of plan) ≡ length plan
 long plan = length-map-range_with_len (place_in plan) 0 (length plan)

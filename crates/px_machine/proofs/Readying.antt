@@ -176,10 +176,6 @@ ready_heard old new kept conditions (Some lookup) ready plan seen stand some non
 
 -- ---- after a step
 
-pub no_items : {X : Type 0} (items : List X) → length items ≡ 0 → items ≡ []
-no_items [] none = refl
-no_items (item ∷ items) none = absurd (omega (arith, none))
-
 ready_queued : (parts : Parts) (kept : Kept) (queue : LinksData) → IsReady parts kept → IsRight parts (with_queue kept queue)
     → IsReady parts (with_queue kept queue)
 ready_queued parts kept queue ready right = record {

@@ -1,6 +1,7 @@
 -- Where nothing is known yet, what is kept is right of any world.
 use Rattle.std.proofs.Common.{◌≡◌, ℕ, ◌<◌, false, not, List, length, get_or, replicate, Option, Some, None, refl, ap, sym, ◌∙◌, subst}
 use Rattle.std.proofs.lemmas.List.{get_or-replicate}
+use Rattle.px_value.proofs.General.{replicate-same}
 use Rattle.px_value.specs.declared.enums.NodeState.TheVariants as states
 use Rattle.px_sem.specs.Guards.{is_active, is_at_rest}
 use Rattle.px_tally.specs.Tally.{is_counted, nobody}
@@ -11,7 +12,6 @@ use Rattle.px_told.specs.Preorder.{parent_of}
 use Rattle.px_told.specs.Told.{AreTold, asked_under, silent}
 use Rattle.px_claims.specs.Claims.{AreNobodys}
 use Rattle.px_parts.specs.declared.parts.Parts.{Parts}
-use Rattle.px_links.proofs.Empty.{replicate-same}
 use Rattle.px_parts.specs.Parts.{plan_in}
 use Rattle.px_machine.specs.declared.kept.Kept.{Kept}
 use Rattle.px_machine.specs.Kept.{IsOfPlan, kept_state, parents_of}

@@ -6,9 +6,11 @@ use Rattle.std.proofs.lemmas.Bool.{cases_eq, cases_lt, eq-eqb, eqb-true, false�
 use Rattle.std.proofs.lemmas.List.{get_or_past, get_or-set_other, get_or-set_same, length-drop, map-append}
 use Rattle.std.proofs.lemmas.List.Elements.{Contains-append_cases, Contains-append_left, Contains-append_right}
 use Rattle.std.proofs.lemmas.List.Quantifiers.{position-Some}
+use Rattle.std.proofs.lemmas.Option.{slice_get_within}
 use Rattle.std.proofs.lemmas.Map.Views.{Contains-from_any, list_any-from_Contains}
 use Rattle.px_links.specs.Links.{LinksData, HoldsOthersAsBefore, SameCounts, first_of, holder_of, is_absent, popped, pushed}
 use Rattle.px_links.specs.Lists.{has, nth}
+use Rattle.px_cached.proofs.OneList.{holders_then, now_noted}
 use Rattle.px_micro.specs.declared.sight.Going.{Going}
 use Rattle.px_machine.specs.Queue.{AddsTo, FallBehind, HaveGone, IsBehind, IsWoken, NobodyIsWoken, Wakes, behind_in}
 
@@ -28,15 +30,11 @@ nobody_in queue list none node held =
     no_cell (nth queue.lists list) node none (position-Some (λ list. has list node) queue.lists list [] held).1
 
 -- without its first one a list is shorter
-some_cell : (cells : List ℕ) (node : ℕ) → slice_get cells 0 ≡ Some node → 0 < length cells
-some_cell [] node first = absurd (cc)
-some_cell (cell ∷ cells) node first = omega arith
-
 pub shorter_at : (queue : LinksData) (list node : ℕ) → first_of queue list ≡ Some node
     → length (nth (popped queue list).lists list) < length (nth queue.lists list)
 shorter_at queue list node first =
     let cells : List ℕ = nth queue.lists list in
-    let some : 0 < length cells = some_cell cells node first in
+    let some : 0 < length cells = slice_get_within cells 0 node first in
     let inside : list < length queue.lists = elim (cases_lt list (length queue.lists)) [
       | inl below ↦ below
       | inr past ↦ absurd (omega (arith, some, ap length (get_or_past queue.lists list [] past)))
@@ -142,26 +140,12 @@ module _ (old new : LinksData) (cell list : ℕ)
 -- so it adds to that list
 pub push_adds : (list : ℕ) (old new : LinksData) (cell : ℕ)
     → HoldsOthersAsBefore old new cell (if is_absent old cell then Some list else holder_of old cell) → AddsTo list old new
-push_adds list old new cell holders node = elim (cases_eq cell node) [
-  | inl same ↦
-      subst (λ node. (holder_of new node ≡ holder_of old node) ⊎ ((is_absent old node ≡ true) × (holder_of new node ≡ Some list)))
-      same (by (is_absent old cell) refl)
-  | inr apart ↦ inl (pushed_elsewhere old new cell list holders node apart)
-]
-  where
-    by : (absent : Bool) → is_absent old cell ≡ absent
-        → (holder_of new cell ≡ holder_of old cell) ⊎ ((is_absent old cell ≡ true) × (holder_of new cell ≡ Some list))
-    by true is = inr (is, pushed_here old new cell list holders is)
-    by false is = inl (kept_here old new cell list holders is)
+push_adds list old new cell holders = holders_then old new cell list holders
 
 -- and the cell waits
 pub push_waits : (list : ℕ) (old new : LinksData) (cell : ℕ)
     → HoldsOthersAsBefore old new cell (if is_absent old cell then Some list else holder_of old cell) → is_absent new cell ≡ false
-push_waits list old new cell holders = by (is_absent old cell) refl
-  where
-    by : (absent : Bool) → is_absent old cell ≡ absent → is_absent new cell ≡ false
-    by true is = ap is_none (pushed_here old new cell list holders is)
-    by false is = ap is_none (kept_here old new cell list holders is) ∙ is
+push_waits list old new cell holders = now_noted old new cell list holders
 
 -- one push into the list of those woken
 pub push_wakes : (old new : LinksData) (cell : ℕ)

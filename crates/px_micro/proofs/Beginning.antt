@@ -6,6 +6,7 @@ use Rattle.std.proofs.lemmas.List.Elements.{All-append, All-cons, All-head, All-
 use Rattle.std.proofs.lemmas.List.Sums.{AllPass-from_list_all}
 use Rattle.px_value.specs.declared.value.Value.{Value}
 use Rattle.px_value.specs.declared.value.Value.TheVariants as values
+use Rattle.px_value.proofs.General.{found_has}
 use Rattle.px_core.specs.Fit.{cells_of_site, has_right_cells, has_right_variables}
 use Rattle.px_core.specs.Plan.{Site, VariableData, no_site}
 use Rattle.px_sem.specs.Effects.{initial_values, is_initializing, move_kind}
@@ -25,7 +26,7 @@ use Rattle.px_micro.specs.Turns.{from_cell, initial_in}
 use Rattle.px_micro.proofs.Initial.{as_many_of_each}
 use Rattle.px_micro.proofs.Blocks.{values_in-same, values_in-initial, begun_off, begun_at, begun_length, fold-flat_map}
 use Rattle.px_micro.proofs.Goers.{goers_apart}
-use Rattle.px_micro.proofs.Hits.{hit_by, one_hit, found_has}
+use Rattle.px_micro.proofs.Hits.{hit_by, one_hit}
 
 -- whether a node begins to wait
 abbrev pub begins : Parts → Going → Bool

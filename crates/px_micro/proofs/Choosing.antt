@@ -2,12 +2,13 @@
 use Rattle.std.proofs.Common.{◌≡◌, ℕ, ◌<◌, Bool, true, false, not, ◌&&◌, cond, List, [], ◌∷◌, ◌++◌, ◌+◌, length, map, filter, get_or, take, refl, ap, sym, ◌∙◌, subst, arith, Option, Some, None, is_some, IsSome, Contains, All, AllPairs, nat_eq}
 use Rattle.std.specs.Cmp.{nat_eq_equiv}
 use Rattle.std.specs.List.{list_any, cons_option, range_with_len}
-use Rattle.std.proofs.lemmas.Bool.{and_parts, eqb-true}
+use Rattle.std.proofs.lemmas.Bool.{and_from, and_parts, eqb-true}
 use Rattle.std.proofs.lemmas.List.{get_or-map, length-map, take_more}
 use Rattle.std.proofs.lemmas.List.Elements.{All-cons, All-nil, All-head, All-tail, All-filter, filter_map-append}
 use Rattle.std.proofs.lemmas.List.FromFn.{length-range_with_len, get_or-range_with_len}
 use Rattle.std.proofs.lemmas.List.Kept.{AllPairs-filter}
 use Rattle.std.proofs.lemmas.Map.Views.{any-filter_same, list_any-from_Contains, Contains-from_any}
+use Rattle.std.proofs.Math.Bool.{and-false, and-true}
 use Rattle.px_core.specs.Plan.{Site, TargetData}
 use Rattle.px_sem.specs.declared.guards.Arrival.{Arrival}
 use Rattle.px_sem.specs.Conflicts.{destination, transition, would_start, holds_variable, target_of, keeps_back, is_loser}
@@ -27,16 +28,12 @@ abbrev starts_to : World → Site → Option Arrival → Bool
 starts_to now site None = false
 starts_to now site (Some to) = is_waiting (state_at now site.path) && is_executing to.to
 
-never : (b : Bool) → b && false ≡ false
-never true = refl
-never false = refl
-
 would_start_is : (plan : List Site) (now : World) (site : Site)
     → would_start plan now site ≡ starts_to now site (destination plan now site)
 would_start_is plan now site = by (destination plan now site) refl
   where
     by : (to : Option Arrival) → destination plan now site ≡ to → would_start plan now site ≡ starts_to now site to
-    by None is = rw is (never (is_waiting (state_at now site.path)))
+    by None is = rw is (and-false (is_waiting (state_at now site.path)))
     by (Some to) is = rw is refl
 
 abbrev starting : List Site → World → ℕ → Bool
@@ -72,9 +69,6 @@ wanting_are plan now (node ∷ nodes) =
 
 -- ---- who writes
 
-both_true : (a b : Bool) → a ≡ true → b ≡ true → a && b ≡ true
-both_true a b first second = rw first second
-
 -- the candidates that would start are all nodes that would
 among_starting : (plan : List Site) (now : World) (nodes : List ℕ) (node : ℕ)
     → list_any (nat_eq node) (filter (starting plan now) nodes)
@@ -96,7 +90,7 @@ starts_among : (plan : List Site) (now : World) (nodes : List ℕ) (node : ℕ) 
     → list_any (nat_eq node) (filter (starting plan now) nodes) ≡ true
 starts_among plan now nodes node are here starts =
     among_starting plan now nodes node
-    ∙ both_true (starting plan now node) (list_any (nat_eq node) nodes) starts
+    ∙ and_from (starting plan now node) (list_any (nat_eq node) nodes) starts
     (list_any-from_Contains nat_eq_equiv node nodes (are.all node here (start_goes plan now (site_in plan node) starts)))
 
 holds_among : (plan : List Site) (now : World) (node : ℕ) → node < length plan
@@ -104,14 +98,10 @@ holds_among : (plan : List Site) (now : World) (node : ℕ) → node < length pl
 holds_among plan now node here =
     any-filter_same (nat_eq node) held (held node) (λ other same. ap held (sym (eqb-true node other same)))
     (range_with_len 0 (length plan))
-    ∙ ap (λ b. held node && b) (in_range (length plan) node here) ∙ always (held node)
+    ∙ ap (λ b. held node && b) (in_range (length plan) node here) ∙ and-true (held node)
   where
     held : ℕ → Bool
     held node = is_active (state_at now (site_in plan node).path)
-
-    always : (b : Bool) → b && true ≡ b
-    always true = refl
-    always false = refl
 
 pub writers_are : (plan : List Site) (now : World) (nodes : List ℕ) → AreCandidates plan now nodes
     → AreWriters plan now (wanting plan now (wanted plan now nodes)) (holding plan now)

@@ -1,7 +1,6 @@
 -- A fold of which at most one item has to do with what is looked at.
 use Rattle.std.proofs.Common.{◌≡◌, suc, Bool, true, false, cond, List, [], ◌∷◌, fold, map, refl, ap, ◌∙◌, subst, arith, Option, Some, None, All, AllPairs}
 use Rattle.std.specs.List.{find}
-use Rattle.std.specs.Option.{option_map}
 use Rattle.std.proofs.lemmas.List.Elements.{All-cons, All-head, All-nil, All-tail}
 
 -- what is seen after the item that was found, where one was
@@ -57,20 +56,6 @@ one_hit step see hits Ok Fits f keeps missed hit (item ∷ items) s fit ok apart
 
 -- ---- what is found
 
--- what is found passes, and has what all have
-pub found_has : {A : Type 0} (P : A → Type 0) (p : A → Bool) (items : List A) (item : A) → All P items
-    → find p items ≡ Some item → P item × (p item ≡ true)
-found_has P p [] item all is = absurd (cc is)
-found_has P p (first ∷ items) item all is =
-    by (p first) refl is (found_has P p items item (All-tail P first items all))
-  where
-    by : (b : Bool) → p first ≡ b → cond b (Some first) (find p items) ≡ Some item
-        → (find p items ≡ Some item → P item × (p item ≡ true)) → P item × (p item ≡ true)
-    by true passes is rest =
-        let same : first ≡ item = cc is in
-        (subst P same (All-head P first items all), subst (λ item. p item ≡ true) same passes)
-    by false passes is rest = rest is
-
 -- where none is found none passes
 pub none_found : {A : Type 0} (p : A → Bool) (items : List A) → find p items ≡ None → All (λ item. p item ≡ false) items
 none_found p [] is = All-nil (λ item. p item ≡ false)
@@ -80,13 +65,3 @@ none_found p (first ∷ items) is = by (p first) refl is (none_found p items)
         → (find p items ≡ None → All (λ item. p item ≡ false) items) → All (λ item. p item ≡ false) (first ∷ items)
     by true passes is rest = absurd (cc is)
     by false fails is rest = All-cons (λ item. p item ≡ false) first items fails (rest is)
-
-pub find-map : {A B : Type 0} (p : B → Bool) (f : A → B) (items : List A)
-    → find p (map f items) ≡ option_map f (find (λ item. p (f item)) items)
-find-map p f [] = refl
-find-map p f (item ∷ items) = by (p (f item)) (find-map p f items)
-  where
-    by : (b : Bool) → find p (map f items) ≡ option_map f (find (λ item. p (f item)) items)
-        → cond b (Some (f item)) (find p (map f items)) ≡ option_map f (cond b (Some item) (find (λ item. p (f item)) items))
-    by true rest = refl
-    by false rest = rest

@@ -7,6 +7,7 @@ use Rattle.std.proofs.lemmas.List.Sums.{AllPass-from_list_all, sum_by-cons}
 use Rattle.std.proofs.lemmas.List.{take_more, get_or-map, length-map, get_or_past, length-take-le, get_or_append_left, get_or-append_right, get_or-replicate, length-replicate}
 use Rattle.px_value.specs.declared.value.Value.{Value}
 use Rattle.px_value.specs.declared.value.Value.TheVariants as values
+use Rattle.px_core.proofs.Cells.{few_initials}
 use Rattle.px_core.specs.declared.variable.Variable.{Variable}
 use Rattle.px_core.specs.Fit.{cells_of, has_right_cells, has_right_size, has_right_variables}
 use Rattle.px_core.specs.Plan.{Site, Head, VariableData, no_site, variable_data}
@@ -31,18 +32,13 @@ from_cell-append cell (value ∷ some) more =
     ap (λ rest. here ∷ rest) (from_cell-append (cell + 1) some more
     ∙ ap (λ next. from_cell (cell + 1) some ++ from_cell next more) behind)
 
-few_values : (variable : VariableData) → has_right_cells variable ≡ true → length variable.init ≤ cells_of variable
-few_values variable right =
-    leb-true (length variable.init) (cells_of variable)
-    (and_parts (has_right_size variable.size) (nat_le (length variable.init) (cells_of variable)) right).1
-
 -- a value for each cell
 pub as_many : (variable : VariableData) → has_right_cells variable ≡ true
     → length (initial_values variable) ≡ cells_of variable
 as_many variable right =
     omega (
       arith,
-      few_values variable right,
+      few_initials variable right,
       length-append variable.init (replicate (cells_of variable - length variable.init) values.Unknown),
       length-replicate (cells_of variable - length variable.init) values.Unknown,
     )

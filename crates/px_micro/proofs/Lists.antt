@@ -7,10 +7,11 @@ use Rattle.std.specs.Ordering.{nat_cmp}
 use Rattle.std.proofs.lemmas.Bool.{eqb-true, false_from_ne_true, cases_lt}
 use Rattle.std.proofs.lemmas.List.{get_or_default}
 use Rattle.std.proofs.lemmas.List.Elements.{filter-append}
-use Rattle.std.proofs.lemmas.List.Folds.{list_any_at, list_any_none, map_fixed}
-use Rattle.std.proofs.lemmas.List.FromFn.{get_or-range_with_len, length-range_with_len, map-range_with_len_more}
+use Rattle.std.proofs.lemmas.List.Folds.{list_any_at, list_any_none}
+use Rattle.std.proofs.lemmas.List.FromFn.{get_or-range_with_len, length-range_with_len}
 use Rattle.std.proofs.lemmas.List.Sorted.{searched}
 use Rattle.std.proofs.Math.Nat.{eq-or-lt_of_le}
+use Rattle.px_value.proofs.General.{range_more}
 
 -- a search among numbers that rise finds what is there
 pub found_rising : (xs : List ℕ) (x : ℕ) (r : Result ℕ ℕ) → IsBinarySearchResult (λ y. nat_cmp y x) xs r
@@ -43,20 +44,10 @@ in_range n node within =
     list_any_at (nat_eq node) (range_with_len 0 n) node 0 (omega (arith, within, length-range_with_len 0 n))
     (ap (nat_eq node) (get_or-range_with_len 0 n node 0 within ∙ here) ∙ nat_eq_equiv.refl node)
 
-pub range_more : (n : ℕ) → range_with_len 0 (n + 1) ≡ range_with_len 0 n ++ n ∷ []
-range_more n =
-    sym (map_fixed (λ k. k) (range_with_len 0 (n + 1)) (λ k d l. refl))
-    ∙ map-range_with_len_more (λ k. k) 0 n n (omega arith)
-    ∙ ap (λ front. front ++ n ∷ []) (map_fixed (λ k. k) (range_with_len 0 n) (λ k d l. refl))
-
 -- one more number
 pub range_filter_more : (p : ℕ → Bool) (n : ℕ) (here : Bool) → p n ≡ here
     → filter p (range_with_len 0 (n + 1)) ≡ filter p (range_with_len 0 n) ++ (if here then n ∷ [] else [])
 range_filter_more p n here is =
-    ap (filter p) (range_more n) ∙ filter-append p (range_with_len 0 n) (n ∷ [])
+    let last : 0 + n ≡ n = omega arith in
+    ap (filter p) (range_more 0 n ∙ ap (λ (last : ℕ). range_with_len 0 n ++ last ∷ []) last) ∙ filter-append p (range_with_len 0 n) (n ∷ [])
     ∙ ap (λ b. filter p (range_with_len 0 n) ++ (if b then n ∷ [] else [])) is
-
--- what follows of a result
-pub if_ok : {T E : Type 0} (r : Result T E) (P Q : T → Type 0) → ((x : T) → P x → Q x) → IfOk r P → IfOk r Q
-if_ok (Ok x) P Q step found = step x found
-if_ok (Err e) P Q step found = tt

@@ -9,6 +9,7 @@ use Rattle.px_value.specs.declared.enums.Failure.{Failure}
 use Rattle.px_value.specs.declared.enums.Outcome.{Outcome}
 use Rattle.px_value.specs.declared.value.Value.{Value}
 use Rattle.px_value.specs.declared.value.Value.TheVariants as values
+use Rattle.px_value.proofs.General.{find-map, found_has}
 use Rattle.px_core.specs.Fit.{cells_of_site}
 use Rattle.px_core.specs.Plan.{Site, BodyData, Nothing, Assign, Command, Update, VariableData}
 use Rattle.px_sem.specs.declared.guards.Arrival.{Arrival}
@@ -43,7 +44,7 @@ use Rattle.px_micro.proofs.Beginning.{begins, begun_as, begun_variables, initial
 use Rattle.px_micro.proofs.Blocks.{values_in-same, begun_length}
 use Rattle.px_micro.proofs.Firsts.{firsts_all}
 use Rattle.px_micro.proofs.Goers.{nodes_are, stays}
-use Rattle.px_micro.proofs.Hits.{hit_by, find-map, found_has}
+use Rattle.px_micro.proofs.Hits.{hit_by}
 use Rattle.px_micro.proofs.Seeing.{record_is}
 use Rattle.px_micro.proofs.Writing.{IsWriteOf, written_in, writes_inside, writes_small, written_variables}
 

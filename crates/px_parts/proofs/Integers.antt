@@ -9,6 +9,7 @@ use Rattle.std.proofs.lemmas.List.{drop-drop}
 use Rattle.std.proofs.lemmas.List.Sums.{sum_by-cons}
 use Rattle.px_value.specs.declared.value.Value.{Value}
 use Rattle.px_value.specs.declared.value.Value.TheVariants as values
+use Rattle.px_core.proofs.Cells.{cells_are}
 use Rattle.px_core.specs.declared.variable.Variable.{Variable}
 use Rattle.px_core.specs.Fit.{cells_of, AreDistinct}
 use Rattle.px_core.specs.Plan.{Site, VariableData, variable_data, is_same, no_site, site_at}
@@ -21,10 +22,9 @@ use Rattle.px_flat.specs.Numbered.{held}
 use Rattle.px_flat.specs.Parts.{values_in}
 use Rattle.px_flat.specs.Row.{head_data, site_in, paths_of, number_at}
 use Rattle.px_flat.proofs.Sites.{found_site}
-use Rattle.px_flat.proofs.Sums.{cells_are}
 use Rattle.px_flat.proofs.Tables.{flat_sound}
 use Rattle.px_flat.proofs.Worlds.{record_at-world_of}
-use Rattle.px_command.proofs.Told.{told_path}
+use Rattle.px_command.proofs.Told.{told_path, no_site_at}
 use Rattle.px_command.proofs.Writes.{cells_within}
 use Rattle.px_parts.specs.declared.parts.Parts.{Parts}
 use Rattle.px_parts.specs.Parts.{AreStanding, plan_in, world_in}
@@ -171,27 +171,11 @@ integer_read parts owner name node within is long =
 
 -- ---- where the plan doesn't have the node
 
-not_found : (plan : List Site) (path : List ℕ) (first : ℕ) → position_from (is_same path) first (paths_of plan) ≡ None
-    → site_at plan path ≡ no_site
-not_found [] path first none = refl
-not_found (site ∷ plan) path first none =
-    by (is_same site.path path) (is_same path site.path) (nat_list_eq_equiv.symm site.path path) none
-    (not_found plan path (first + 1))
-  where
-    by : (here there : Bool) → here ≡ there
-        → cond there (Some first) (position_from (is_same path) (first + 1) (paths_of plan)) ≡ None
-        → (position_from (is_same path) (first + 1) (paths_of plan) ≡ None → site_at plan path ≡ no_site)
-        → unwrap_or (cond here (Some site) (find (λ site. is_same site.path path) plan)) no_site ≡ no_site
-    by true true same none rest = absurd (cc none)
-    by false false same none rest = rest none
-    by true false same none rest = absurd (cc)
-    by false true same none rest = absurd (cc)
-
 pub no_owner : (parts : Parts) (owner name : List ℕ) → number_at (plan_in parts) owner ≡ None
     → None ≡ integer_at (plan_in parts) (world_in parts) owner name
 no_owner parts owner name none =
     let nowhere : site_at (plan_in parts) owner ≡ no_site =
-    not_found (plan_in parts) owner 0 (sym (position_from-zero (is_same owner) (paths_of (plan_in parts))) ∙ none) in
+    no_site_at (plan_in parts) owner none in
     rw nowhere refl
 
 -- ---- what the code has read
@@ -224,9 +208,3 @@ pub sought_in : (parts : Parts) (node : ℕ) (extent : Extent) (row : Row) (vari
 sought_in parts node extent row variables name extent_is head is = λ i.
     scalar_from (sym extent_is i).first_cell
     (sym (ap (map variable_data) is ∙ ap (λ head. head.variables) head) i) name
-
--- what is read of cells
-pub value_read : (cells : List Value) (cell : ℕ) (value : Value) → slice_get cells cell ≡ Some value → held cells cell ≡ value
-value_read [] cell value is = absurd (cc)
-value_read (first ∷ cells) zero value is = (cc)
-value_read (first ∷ cells) (suc cell) value is = value_read cells cell value is

@@ -4,10 +4,10 @@ use Rattle.std.specs.Option.{unwrap_or}
 use Rattle.std.proofs.lemmas.List.{drop_more}
 use Rattle.std.proofs.Math.ListN.{drop_of_length-le}
 use Rattle.std.proofs.lemmas.List.Sums.{sum_by-cons}
+use Rattle.px_core.proofs.Cells.{cells_are}
 use Rattle.px_core.specs.declared.variable.Variable.{Variable}
 use Rattle.px_core.specs.Fit.{cells_of}
 use Rattle.px_core.specs.Plan.{VariableData, variable_data, is_same}
-use Rattle.px_flat.proofs.Sums.{cells_are}
 use Rattle.px_parts.specs.Readings.{scalar_from}
 
 -- the variables from a place on

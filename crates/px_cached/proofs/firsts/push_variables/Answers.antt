@@ -1,8 +1,9 @@
 use Rattle.std.proofs.Common.{◌≡◌, ◌+◌, ◌<◌, ◌++◌, List, length, map, sum, take, get_or, replicate, ap, sym, ◌∙◌, arith}
 use Rattle.std.proofs.lemmas.List.{append_assoc, get_or-map, length-append, length-map, take_all}
+use Rattle.px_core.proofs.Cells.{cells_are}
 use Rattle.px_core.specs.Fit.{cells_of}
 use Rattle.px_core.specs.Plan.{VariableData, variable_data}
-use Rattle.px_flat.proofs.Sums.{cells_are, sum_front}
+use Rattle.px_flat.proofs.Sums.{sum_front}
 use Rattle.px_cached.specs.Firsts.{firsts_from}
 use Rattle.px_cached.proofs.FirstCells.{length-firsts_from, more_variables}
 use Rattle.px_cached.proofs.firsts.push_variables.Goals as goal

@@ -1,5 +1,6 @@
 use Rattle.std.proofs.Common.{◌≡◌, ap, ◌∙◌}
 use Rattle.std.proofs.lemmas.Option.{get_or_from_slice_get}
+use Rattle.std.proofs.lemmas.Result.{IfOk-weaker}
 use Rattle.px_core.specs.Plan.{Head}
 use Rattle.px_core.specs.Plan as core
 use Rattle.px_sem.specs.Effects.{move_kind}
@@ -9,7 +10,6 @@ use Rattle.px_flat.specs.NumberedData.{body_data}
 use Rattle.px_flat.specs.Parts.{act_of}
 use Rattle.px_micro.specs.Doing.{done, kind_data}
 use Rattle.px_micro.specs.Turns.{AreEffects}
-use Rattle.px_micro.proofs.Lists.{if_ok}
 use Rattle.px_micro.proofs.Meaning.{done_as, kept_small}
 use Rattle.px_micro.proofs.doing.effects_of.Goals as goal
 
@@ -27,7 +27,7 @@ returns c =
     let going = c.args.going in
     let act : act_of parts.actions.contents.values going.node ≡ c.of-act.result.now =
     get_or_from_slice_get parts.actions.contents.values c.args.going.node c.of-act.result.now under_way.Idle c.of-act.ensures in
-    if_ok c.done.result
+    IfOk-weaker c.done.result
     (λ made. made ≡ done parts c.of-act.result.now (kind_data c.move_kind-kind.result) (core.body_data c.row.result.now.head.body)
     (body_data c.node.result.now.body))
     (AreEffects parts going)

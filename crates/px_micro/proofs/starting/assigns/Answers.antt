@@ -1,6 +1,7 @@
 use Rattle.std.proofs.Common.{◌≡◌, ◌+◌, ◌<◌, ◌≤◌, Some, IfSome, ap, sym, ◌∙◌, subst, arith}
 use Rattle.std.proofs.lemmas.Option.{get_or_from_slice_get}
 use Rattle.px_value.specs.declared.value.Value.TheVariants as values
+use Rattle.std.proofs.lemmas.Result.{IfOk-weaker}
 use Rattle.px_core.specs.Plan as core
 use Rattle.px_sem.specs.Effects.{as_kind, cell_of}
 use Rattle.px_flat.specs.Layout.{variable_cells}
@@ -11,7 +12,6 @@ use Rattle.px_micro.specs.declared.effects.UnderWay.TheVariants as under_way
 use Rattle.px_micro.specs.Doing.{assigned, kept, writing}
 use Rattle.px_parts.specs.Parts.{plan_in, value_in}
 use Rattle.px_micro.specs.Places.{place_data, place_now}
-use Rattle.px_micro.proofs.Lists.{if_ok}
 use Rattle.px_micro.proofs.Meaning.{assigned_at}
 use Rattle.px_micro.proofs.starting.assigns.Goals as goal
 
@@ -47,7 +47,7 @@ returns c =
     ∙ sym (get_or_from_slice_get all (first + c.offset.result) c.get.result.now values.Unknown c.get.ensures)
     ∙ ap (λ k. held all (first + k)) c.offset.ensures in
     let at : place_now parts numbers ≡ Some place = sym c.in_ok-place.ensures.place ∙ c.in-Some.is in
-    if_ok c.writing.result
+    IfOk-weaker c.writing.result
     (λ made. made ≡ writing target first place c.in_ok-value.value (under_way.Begun c.kept.result))
     (λ made. made ≡ assigned parts target numbers given)
     (λ made are. are

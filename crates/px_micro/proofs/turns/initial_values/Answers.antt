@@ -1,7 +1,7 @@
 use Rattle.std.proofs.Common.{◌+◌, ◌++◌, ap, sym, ◌∙◌, arith}
+use Rattle.px_core.proofs.Cells.{cells_are}
 use Rattle.px_core.specs.Plan.{variable_data}
 use Rattle.px_sem.specs.Effects.{initial_values}
-use Rattle.px_flat.proofs.Sums.{cells_are}
 use Rattle.px_flat.proofs.Tables.{flat_sound}
 use Rattle.px_parts.specs.Parts.{plan_in}
 use Rattle.px_micro.specs.Turns.{from_cell}

@@ -1,9 +1,9 @@
 use Rattle.std.proofs.Common.{◌+◌, ◌<◌, ◌++◌, ◌∷◌, [], take, append_assoc, ap, sym, ◌∙◌, arith}
 use Rattle.std.proofs.lemmas.List.{take_all}
+use Rattle.px_core.proofs.Cells.{cells_are}
 use Rattle.px_core.specs.Fit.{cells_of}
 use Rattle.px_core.specs.Plan.{variable_data}
 use Rattle.px_sem.specs.Effects.{initial_values}
-use Rattle.px_flat.proofs.Sums.{cells_are}
 use Rattle.px_micro.specs.Turns.{from_cell}
 use Rattle.px_micro.proofs.Initial.{as_many, initial_more}
 use Rattle.px_micro.proofs.turns.push_initial.Goals as goal

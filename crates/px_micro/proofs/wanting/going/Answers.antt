@@ -1,10 +1,10 @@
 use Rattle.std.proofs.Common.{◌≡◌, ◌<◌, length, filter, not, nat_eq, All, AllPairs, ap, sym, ◌∙◌, subst}
 use Rattle.std.specs.List.{list_any}
+use Rattle.std.proofs.lemmas.Result.{IfOk-weaker}
 use Rattle.px_assign.specs.Conflicts.{AreWriters}
 use Rattle.px_micro.specs.declared.sight.Going.{Going}
 use Rattle.px_micro.specs.Going.{wanted, wanting, holding, AreAllGoing}
 use Rattle.px_parts.specs.Parts.{plan_in, world_in}
-use Rattle.px_micro.proofs.Lists.{if_ok}
 use Rattle.px_micro.proofs.Choosing.{writers_are, wanting_within, holding_within, wanted_within, losers_are, losers_rise, losing, staying_go}
 use Rattle.px_micro.proofs.wanting.going.Goals as goal
 
@@ -63,7 +63,7 @@ returns c =
     let lost : c.deref-5.result.now ≡ losing plan now nodes =
     c.deref-5.ensures.value ∙ losers_are plan now nodes c.deref-2.result.now c.in_ok-losers.losers.items wants
     (c.in_ok-losers.ensures.nodes now writers) in
-    if_ok c.staying.result
+    IfOk-weaker c.staying.result
     (λ made. made.items ≡ filter (λ (one : Going). not (list_any (nat_eq one.node) c.deref-5.result.now)) c.deref-4.result.now)
     (λ made. AreAllGoing plan now made.items)
     (λ made are. subst (AreAllGoing plan now)

@@ -1,5 +1,6 @@
 use Rattle.std.proofs.Common.{◌≡◌, [], true, false, length, refl, ap, sym, ◌∙◌, subst, arith}
 use Rattle.std.proofs.lemmas.Bool.{eqb-true}
+use Rattle.std.proofs.lemmas.List.{nil_from_length}
 use Rattle.px_parts.specs.Parts.{plan_in, world_in}
 use Rattle.px_sem.specs.Stepper as stepper
 use Rattle.px_sem.specs.World.{World}
@@ -7,7 +8,7 @@ use Rattle.px_sem.specs.Step.{moves}
 use Rattle.px_micro.proofs.Quiet.{quiet}
 use Rattle.px_machine.specs.Queue.{HaveGone}
 use Rattle.px_machine.specs.Stepping.{HasChosen}
-use Rattle.px_machine.proofs.Readying.{marked_still, no_items, one_both, ready_gone, ready_rested, ready_still, same_is_one, same_quiet, same_state, stepped_state}
+use Rattle.px_machine.proofs.Readying.{marked_still, one_both, ready_gone, ready_rested, ready_still, same_is_one, same_quiet, same_state, stepped_state}
 use Rattle.px_machine.proofs.machine.MachineStepper.step.Goals as goal
 
 -- none goes
@@ -18,7 +19,7 @@ invariant_of-self-then-is_empty-2 c =
     let going = c.in_ok-going.going in
     let same = c.goers.ensures.same in
     let none : going.items ≡ [] =
-    no_items going.items (omega (arith, eqb-true going.len 0 (sym c.is_empty.ensures ∙ c.if-is_empty.true), going.ok.0)) in
+    nil_from_length going.items (omega (arith, eqb-true going.len 0 (sym c.is_empty.ensures ∙ c.if-is_empty.true), going.ok.0)) in
     record {
       ready =
           ready_rested middle _ c.goers.new.kept c.rest.new.queue c.goers.ensures.ready

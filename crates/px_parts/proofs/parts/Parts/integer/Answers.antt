@@ -1,4 +1,6 @@
 use Rattle.std.proofs.Common.{◌≡◌, ◌<◌, List, length, map, sum, ap, sym, ◌∙◌, arith, Some, None, rules}
+use Rattle.std.proofs.lemmas.Option.{get_or_from_slice_get}
+use Rattle.px_value.specs.declared.value.Value.TheVariants as values
 use Rattle.px_core.specs.Fit.{cells_of}
 use Rattle.px_core.specs.Plan.{VariableData, variable_data}
 use Rattle.px_flat.specs.Layout.{first_cell}
@@ -7,7 +9,7 @@ use Rattle.px_flat.proofs.Tables.{flat_sound}
 use Rattle.px_command.proofs.Writes.{cells_within}
 use Rattle.px_parts.specs.Parts.{plan_in}
 use Rattle.px_parts.specs.Readings.{integer_in}
-use Rattle.px_parts.proofs.Integers.{IsSought, no_owner, sought_in, sought_read, sought_within, value_read}
+use Rattle.px_parts.proofs.Integers.{IsSought, no_owner, sought_in, sought_read, sought_within}
 use Rattle.px_parts.proofs.parts.Parts.integer.Goals as goal
 
 pub returns-in_err-node : goal.returns-in_err-node
@@ -71,5 +73,5 @@ returns c =
       stand = c.requires;
     } in
     c.integer_in.ensures
-    ∙ ap integer_in (sym (value_read parts.cells.contents.values c.in_ok-cell.cell c.get.result.now c.get.ensures))
+    ∙ ap integer_in (sym (get_or_from_slice_get parts.cells.contents.values c.in_ok-cell.cell c.get.result.now values.Unknown c.get.ensures))
     ∙ sought_read parts c.args.owner.now c.args.name.now c.in_ok-node.node (Some c.in_ok-cell.cell) sought
