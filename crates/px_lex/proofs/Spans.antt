@@ -1,5 +1,5 @@
 -- The longest front of a list whose elements pass.
-use Rattle.std.proofs.Common.{◌≡◌, ℕ, ◌≤◌, Bool, true, false, List, [], ◌∷◌, ◌++◌, length, take, drop, refl, sym, ap, ◌∙◌, arith, inl, inr, length-append}
+use Rattle.std.proofs.Common.{◌≡◌, ℕ, Bool, true, false, List, [], ◌∷◌, ◌++◌, length, take, drop, refl, sym, ap, ◌∙◌, arith, inl, inr}
 use Rattle.std.specs.List.{list_all, prefix_len}
 use Rattle.std.proofs.lemmas.Bool.{cases_Bool, and_from}
 use Rattle.std.proofs.Math.Seq.{take-append_seam, drop-append_seam}
@@ -55,6 +55,3 @@ taken_pass p xs front e = rw (e, span_taken p xs) (span p xs).pass
 
 pub left_stops : (p : ℕ → Bool) (xs rest : List ℕ) → rest ≡ drop (prefix_len p xs) xs → begins p rest ≡ false
 left_stops p xs rest e = rw (e, span_left p xs) (span p xs).stop
-
-pub prefix_within : (p : ℕ → Bool) (xs : List ℕ) → prefix_len p xs ≤ length xs
-prefix_within p xs = let s : Span p xs = span p xs in omega (arith, s.long, ap length s.split, length-append s.front s.rest)

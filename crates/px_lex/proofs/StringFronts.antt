@@ -1,5 +1,5 @@
 -- A string at the front of a text.
-use Rattle.std.proofs.Common.{◌≡◌, ℕ, ◌≤◌, true, false, ◌==◌, ◌||◌, List, [], ◌∷◌, ◌++◌, length, drop, Option, Some, None, refl, ap, ◌∙◌, arith, inl, inr}
+use Rattle.std.proofs.Common.{◌≡◌, ℕ, ◌≤◌, true, false, ◌==◌, ◌||◌, List, [], ◌∷◌, ◌++◌, length, drop, Option, Some, None, refl, sym, ap, ◌∙◌, arith, inl, inr}
 use Rattle.std.specs.Str.{IsUtf8, IsCharBoundary}
 use Rattle.std.proofs.lemmas.Bool.{cases_Bool, eqb-true}
 use Rattle.std.proofs.lemmas.Option.{none-some}
@@ -12,15 +12,33 @@ use Rattle.px_lex.specs.Lexer.{Begins}
 use Rattle.px_lex.specs.declared.token.TokenKind.TheVariants as kinds
 use Rattle.px_lex.proofs.Cuts.{cut_behind}
 
+abbrev pub content_of : Option (List ℕ × List ℕ) → List ℕ
+content_of None = []
+content_of (Some read) = read.0
+
 abbrev behind_of : Option (List ℕ × List ℕ) → List ℕ
 behind_of None = []
 behind_of (Some read) = read.1
 
+-- a byte and what is read behind it
+pub record Before (byte : Option ℕ) (read : Option (List ℕ × List ℕ)) (content rest : List ℕ) : Type 0 where
+  pub first : ℕ
+  pub less : List ℕ
+  pub byte_is : byte ≡ Some first
+  pub read_is : read ≡ Some (less, rest)
+  pub content_is : content ≡ first ∷ less
+
+pub before : (byte : Option ℕ) (read : Option (List ℕ × List ℕ)) (content rest : List ℕ) → with_byte byte read ≡ Some (content, rest)
+    → Before byte read content rest
+before None read content rest h = cc
+before (Some b) None content rest h = cc
+before (Some b) (Some r) content rest h =
+    record { first = b; less = r.0; byte_is = refl; read_is = ap (λ t. Some (r.0, t)) (ap behind_of h); content_is = sym (ap content_of h) }
+
 -- what is read with a byte in front is read without it
-pub inner : (byte : Option ℕ) (read : Option (List ℕ × List ℕ)) (content rest : List ℕ) → with_byte byte read ≡ Some (content, rest) → (less : List ℕ) × (read ≡ Some (less, rest))
-inner None read content rest h = cc
-inner (Some b) None content rest h = cc
-inner (Some b) (Some (less, behind)) content rest h = let same : behind ≡ rest = ap behind_of h in (less, ap (λ t. Some (less, t)) same)
+pub inner : (byte : Option ℕ) (read : Option (List ℕ × List ℕ)) (content rest : List ℕ) → with_byte byte read ≡ Some (content, rest)
+    → (less : List ℕ) × (read ≡ Some (less, rest))
+inner byte read content rest h = let b = before byte read content rest h in (b.less, b.read_is)
 
 -- what is read of a string ends where the rest begins
 mutual
