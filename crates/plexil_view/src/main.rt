@@ -2,11 +2,10 @@
 //! that answers, with `paint` in colours on a terminal, and ends with its status.
 #![tactic(auto)]
 
-mod host;
 mod paint;
 
-use host::StdHost;
 use paint::painted;
+use px_system::StdHost;
 use px_view::{Answer, view};
 use std::alloc::Global;
 use std::env::Env;
