@@ -4,6 +4,7 @@ use Rattle.std.specs.Prelude.{◌&&◌, nat_le, nat_lt, IsTrue, Result, IfOk, Is
 use Rattle.std.specs.List.{list_all, flat_map}
 use Rattle.std.proofs.lemmas.Bool.{and_parts, and_from, leb-true, ltb-true, lt-ltb}
 use Rattle.std.proofs.lemmas.List.{length-append}
+use Rattle.std.proofs.lemmas.Option.{same_Some}
 use Rattle.byteorder.specs.Endian.{big_bytes}
 use Rattle.px_value.specs.Name.{is_identifier, is_name}
 use Rattle.px_value.specs.Path.{is_path, pieces}
@@ -20,7 +21,7 @@ use Rattle.px_event.specs.declared.event.Event.{Event}
 use Rattle.px_event.specs.declared.event.Event.TheVariants as events
 use Rattle.px_event.specs.declared.entry.Entry.{Entry}
 use Rattle.px_event.proofs.Spelled.{report_name_text, path_text}
-use Rattle.px_event.proofs.Fields.{tagged, IsBytes, bind_some, after, some_is, only_some, only_passes, Takes, Takes-then, byte_takes, four_back, number_takes, number_again, tested_takes, tested_again}
+use Rattle.px_event.proofs.Fields.{tagged, IsBytes, bind_some, after, only_some, only_passes, Takes, Takes-then, byte_takes, four_back, number_takes, number_again, tested_takes, tested_again}
 use Rattle.px_event.proofs.Wholes.{all_takes, all_again, answers, answers_bad, one_spelled}
 use Rattle.px_event.proofs.ToldValues.{value_takes, value_again, arguments_takes, arguments_again, value_short, arguments_short}
 
@@ -52,12 +53,12 @@ path_again node rest fit =
 handle_of-code : (code : ℕ) (handle : Handle) → handle_of code ≡ Some handle → code ≡ handle_code handle
 unfolding handle_of
 handle_of-code zero handle e = absurd cc
-handle_of-code (suc zero) handle e = ap handle_code (some_is handles.CommandSentToSystem handle e)
-handle_of-code (suc (suc zero)) handle e = ap handle_code (some_is handles.CommandAccepted handle e)
-handle_of-code (suc (suc (suc zero))) handle e = ap handle_code (some_is handles.CommandRcvdBySystem handle e)
-handle_of-code (suc (suc (suc (suc zero)))) handle e = ap handle_code (some_is handles.CommandFailed handle e)
-handle_of-code (suc (suc (suc (suc (suc zero))))) handle e = ap handle_code (some_is handles.CommandDenied handle e)
-handle_of-code (suc (suc (suc (suc (suc (suc zero)))))) handle e = ap handle_code (some_is handles.CommandSuccess handle e)
+handle_of-code (suc zero) handle e = ap handle_code (same_Some handles.CommandSentToSystem handle e)
+handle_of-code (suc (suc zero)) handle e = ap handle_code (same_Some handles.CommandAccepted handle e)
+handle_of-code (suc (suc (suc zero))) handle e = ap handle_code (same_Some handles.CommandRcvdBySystem handle e)
+handle_of-code (suc (suc (suc (suc zero)))) handle e = ap handle_code (same_Some handles.CommandFailed handle e)
+handle_of-code (suc (suc (suc (suc (suc zero))))) handle e = ap handle_code (same_Some handles.CommandDenied handle e)
+handle_of-code (suc (suc (suc (suc (suc (suc zero)))))) handle e = ap handle_code (same_Some handles.CommandSuccess handle e)
 handle_of-code (suc (suc (suc (suc (suc (suc (suc code))))))) handle e = absurd cc
 
 code-handle_of : (handle : Handle) → handle_of (handle_code handle) ≡ Some handle
@@ -79,7 +80,7 @@ handle_takes bytes read fits e =
     let t = byte_takes bytes b.0.0 b.0.1 fits b.1 in
     let d = bind_some (handle_of b.0.0) (handle_read b.0.1) read b.2 in
     let spelled : Takes bytes (handle_code d.0 ∷ []) b.0.1 = subst (λ (k : ℕ). Takes bytes (k ∷ []) b.0.1) (handle_of-code b.0.0 d.0 d.1) t.0 in
-    subst (λ (p : Handle × List ℕ). Takes bytes (handle_code p.0 ∷ []) p.1) (some_is (d.0, b.0.1) read d.2) spelled
+    subst (λ (p : Handle × List ℕ). Takes bytes (handle_code p.0 ∷ []) p.1) (same_Some (d.0, b.0.1) read d.2) spelled
 
 handle_again : (handle : Handle) (rest : List ℕ) → handle_at (handle_code handle ∷ rest) ≡ Some (handle, rest)
 unfolding handle_at
@@ -133,7 +134,7 @@ report_takes bytes read fits e =
     let fit : is_fit_event (events.Report name args v.0.0) ≡ true =
     and_from (is_report_name name && is_count (length args) && list_all is_plain args) (is_plain_or_unknown v.0.0)
     (and_from (is_report_name name && is_count (length args)) (list_all is_plain args) (and_from (is_report_name name) (is_count (length args)) nt.1 few_args) at.1) vt.1 in
-    subst (Happened bytes 1) (some_is (events.Report name args v.0.0, v.0.1) read v.2)
+    subst (Happened bytes 1) (same_Some (events.Report name args v.0.0, v.0.1) read v.2)
     (tagged 1 bytes (text_bytes name ++ (length args ∷ (flat_map value_bytes args ++ value_bytes v.0.0))) v.0.1 whole, fit)
 
 report_again : (name : List ℕ) (args : List Value) (value : Value) (rest : List ℕ) → is_fit_event (events.Report name args value) ≡ true
@@ -166,7 +167,7 @@ handle_event_takes bytes read fits e =
     let h = bind_some (handle_at n.0.1) (λ handle. Some (events.Handle n.0.0 handle.0, handle.1)) read n.2 in
     let ht = handle_takes n.0.1 h.0 nt.0.rest_fits h.1 in
     let whole = Takes-then bytes (text_bytes n.0.0) n.0.1 (handle_code h.0.0 ∷ []) h.0.1 nt.0 ht in
-    subst (Happened bytes 2) (some_is (events.Handle n.0.0 h.0.0, h.0.1) read h.2)
+    subst (Happened bytes 2) (same_Some (events.Handle n.0.0 h.0.0, h.0.1) read h.2)
     (tagged 2 bytes (text_bytes n.0.0 ++ handle_code h.0.0 ∷ []) h.0.1 whole, nt.1)
 
 handle_event_again : (node : List ℕ) (handle : Handle) (rest : List ℕ) → is_path node ≡ true
@@ -189,7 +190,7 @@ return_takes bytes read fits e =
     let v = bind_some (value_at n.0.1) (λ value. Some (events.Return n.0.0 value.0, value.1)) read n.2 in
     let vt = value_takes n.0.1 v.0 nt.0.rest_fits v.1 in
     let whole = Takes-then bytes (text_bytes n.0.0) n.0.1 (value_bytes v.0.0) v.0.1 nt.0 vt.0 in
-    subst (Happened bytes 3) (some_is (events.Return n.0.0 v.0.0, v.0.1) read v.2)
+    subst (Happened bytes 3) (same_Some (events.Return n.0.0 v.0.0, v.0.1) read v.2)
     (tagged 3 bytes (text_bytes n.0.0 ++ value_bytes v.0.0) v.0.1 whole, and_from (is_path n.0.0) (is_plain_or_unknown v.0.0) nt.1 vt.1)
 
 return_again : (node : List ℕ) (value : Value) (rest : List ℕ) → is_fit_event (events.Return node value) ≡ true
@@ -214,11 +215,11 @@ event_behind_takes (suc (suc (suc zero))) bytes read fits e = return_takes bytes
 event_behind_takes (suc (suc (suc (suc zero)))) bytes read fits e =
     let n = bind_some (path_at bytes) (node_read events.AbortDone) read e in
     let nt = path_takes bytes n.0.0 n.0.1 fits n.1 in
-    subst (Happened bytes 4) (some_is (events.AbortDone n.0.0, n.0.1) read n.2) (tagged 4 bytes (text_bytes n.0.0) n.0.1 nt.0, nt.1)
+    subst (Happened bytes 4) (same_Some (events.AbortDone n.0.0, n.0.1) read n.2) (tagged 4 bytes (text_bytes n.0.0) n.0.1 nt.0, nt.1)
 event_behind_takes (suc (suc (suc (suc (suc zero))))) bytes read fits e =
     let n = bind_some (path_at bytes) (node_read events.Acknowledged) read e in
     let nt = path_takes bytes n.0.0 n.0.1 fits n.1 in
-    subst (Happened bytes 5) (some_is (events.Acknowledged n.0.0, n.0.1) read n.2) (tagged 5 bytes (text_bytes n.0.0) n.0.1 nt.0, nt.1)
+    subst (Happened bytes 5) (same_Some (events.Acknowledged n.0.0, n.0.1) read n.2) (tagged 5 bytes (text_bytes n.0.0) n.0.1 nt.0, nt.1)
 event_behind_takes (suc (suc (suc (suc (suc (suc kind)))))) bytes read fits e = absurd cc
 
 pub event_takes : (bytes : List ℕ) (read : Event × List ℕ) → IsBytes bytes → event_at bytes ≡ Some read → Takes bytes (event_bytes read.0) read.1 × (is_fit_event read.0 ≡ true)
@@ -285,7 +286,7 @@ source_takes bytes read fits e =
     let whole = Takes-then bytes (t.0.0 ∷ []) t.0.1 (big_bytes 4 l.0.0) l.0.1 tt' lt.0 in
     let fit : is_source (t.0.0, l.0.0) ≡ true =
     and_from (is_thread t.0.0 && is_line l.0.0) (nat_lt l.0.0 (2 ^ 32)) (and_from (is_thread t.0.0) (is_line l.0.0) is positive) (lt-ltb l.0.0 (2 ^ 32) lt.1) in
-    subst (λ (p : Source × List ℕ). Takes bytes (source_bytes p.0) p.1 × (is_source p.0 ≡ true)) (some_is ((t.0.0, l.0.0), l.0.1) read l.2) (whole, fit)
+    subst (λ (p : Source × List ℕ). Takes bytes (source_bytes p.0) p.1 × (is_source p.0 ≡ true)) (same_Some ((t.0.0, l.0.0), l.0.1) read l.2) (whole, fit)
 
 pub source_again : (source : Source) (rest : List ℕ) → is_source source ≡ true → source_at (source_bytes source ++ rest) ≡ Some (source, rest)
 unfolding source_at
@@ -318,7 +319,7 @@ entry_takes bytes read fits e =
     let vt = event_takes s.0.1 v.0 st.0.rest_fits v.1 in
     let whole = Takes-then bytes (source_bytes s.0.0) s.0.1 (event_bytes v.0.0) v.0.1 st.0 vt.0 in
     let fit : is_fit_entry (entry_of s.0.0 v.0.0) ≡ true = and_from (is_source s.0.0) (is_fit_event v.0.0) st.1 vt.1 in
-    subst (λ (p : Entry × List ℕ). Takes bytes (entry_bytes p.0) p.1 × (is_fit_entry p.0 ≡ true)) (some_is (entry_of s.0.0 v.0.0, v.0.1) read v.2) (whole, fit)
+    subst (λ (p : Entry × List ℕ). Takes bytes (entry_bytes p.0) p.1 × (is_fit_entry p.0 ≡ true)) (same_Some (entry_of s.0.0 v.0.0, v.0.1) read v.2) (whole, fit)
 
 entry_again : (entry : Entry) (rest : List ℕ) → is_fit_entry entry ≡ true → entry_at (entry_bytes entry ++ rest) ≡ Some (entry, rest)
 unfolding entry_at

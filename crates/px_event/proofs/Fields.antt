@@ -4,6 +4,7 @@ use Rattle.std.specs.Str.{is_utf8}
 use Rattle.std.proofs.lemmas.Bool.{cases_lt, ltb-false, le-ltb}
 use Rattle.std.proofs.lemmas.List.{take_at, drop_at, take-append-drop, length-append, length-take, get_or-drop, get_or-take, get_or_past}
 use Rattle.std.proofs.lemmas.Nat.{be_bytes_2, be_bytes_4}
+use Rattle.std.proofs.lemmas.Option.{cond_some, same_Some}
 use Rattle.byteorder.specs.Endian.{big_bytes, big_number}
 use Rattle.byteorder.specs.Numbers.{big_from-take, big_from-lt, big_number-reads_back, length-bytes_high_first}
 use Rattle.px_event.specs.Bytes.{text_bytes}
@@ -34,19 +35,12 @@ after r next x y is e = ap (λ o. o >>= next) is ∙ e
 abbrev found : {X : Type 0} → X → Option X
 found x = Some x
 
-pub some_is : {X : Type 0} (x y : X) → found x ≡ found y → x ≡ y
-some_is x y e = cc
-
 guard_some : {X : Type 0} (b : Bool) (x y : X) → cond b None (Some x) ≡ Some y → (b ≡ false) × (x ≡ y)
 guard_some true x y e = absurd cc
 guard_some false x y e = (refl, cc)
 
-pub passed : {X : Type 0} (b : Bool) (x y : X) → cond b (Some x) None ≡ Some y → (b ≡ true) × (x ≡ y)
-passed true x y e = (refl, cc)
-passed false x y e = absurd cc
-
 pub only_some : {X : Type 0} (test : X → Bool) (read other : X × List ℕ) → only test read ≡ Some other → (test read.0 ≡ true) × (read ≡ other)
-only_some test read other e = passed (test read.0) read other e
+only_some test read other e = cond_some (test read.0) read other e
 
 pub only_passes : {X : Type 0} (test : X → Bool) (read : X × List ℕ) → test read.0 ≡ true → only test read ≡ Some read
 only_passes test read pass = ap (λ b. cond b (Some read) None) pass
@@ -68,7 +62,7 @@ tagged tag bytes spelled rest t = record { parts = ap (λ (l : List ℕ). tag �
 pub byte_takes : (bytes : List ℕ) (x : ℕ) (rest : List ℕ) → IsBytes bytes → byte_at bytes ≡ Some (x, rest) → Takes bytes (x ∷ []) rest × (x < 256)
 byte_takes [] x rest fits e = absurd cc
 byte_takes (b ∷ bytes) x rest fits e =
-    subst (λ (p : ℕ × List ℕ). Takes (b ∷ bytes) (p.0 ∷ []) p.1 × (p.0 < 256)) (some_is (b, bytes) (x, rest) e)
+    subst (λ (p : ℕ × List ℕ). Takes (b ∷ bytes) (p.0 ∷ []) p.1 × (p.0 < 256)) (same_Some (b, bytes) (x, rest) e)
     (record { parts = refl; rest_fits = λ i. fits (suc i) }, fits 0)
 
 -- ---- numbers

@@ -3,6 +3,7 @@ use Rattle.std.proofs.Common.{◌≡◌, ℕ, ◌≤◌, true, List, [], ◌∷�
 use Rattle.std.specs.Prelude.{◌&&◌, nat_le, IsTrue, Result, IfOk, IsErrOf}
 use Rattle.std.proofs.lemmas.Bool.{and_parts, and_from, leb-true}
 use Rattle.std.proofs.lemmas.List.{length-append}
+use Rattle.std.proofs.lemmas.Option.{same_Some}
 use Rattle.std.proofs.lemmas.Str.{IsUtf8-nil, is_utf8-from_IsUtf8}
 use Rattle.std.proofs.Math.Dec.{eqb-suc-zero}
 use Rattle.byteorder.specs.Endian.{big_bytes}
@@ -15,7 +16,7 @@ use Rattle.px_event.specs.declared.fault.DecodeFault.{DecodeFault}
 use Rattle.px_event.specs.declared.fault.DecodeFault.TheVariants.{Bad}
 use Rattle.px_event.specs.declared.named.NamedEntry.{NamedEntry}
 use Rattle.px_event.proofs.Spelled.{report_name_text}
-use Rattle.px_event.proofs.Fields.{IsBytes, bind_some, after, some_is, only_some, only_passes, Takes, Takes-then, text_takes, text_again}
+use Rattle.px_event.proofs.Fields.{IsBytes, bind_some, after, only_some, only_passes, Takes, Takes-then, text_takes, text_again}
 use Rattle.px_event.proofs.Entries.{is_source, source_bytes, source_takes, source_again, event_takes, event_again, event_short}
 use Rattle.px_event.proofs.Wholes.{all_takes, all_again, answers, answers_bad, one_spelled}
 
@@ -37,12 +38,12 @@ abbrev name_read : List ℕ × List ℕ → Read Interface
 name_read name = Some (named_by name)
 
 behind_takes : (bytes text rest : List ℕ) (read : Interface × List ℕ) → Takes bytes (text_bytes text) rest → interface_behind (text, rest) ≡ Some read → IsTaken bytes read
-behind_takes bytes [] rest read taken e = subst (IsTaken bytes) (some_is (unnamed rest) read e) (taken, refl)
+behind_takes bytes [] rest read taken e = subst (IsTaken bytes) (same_Some (unnamed rest) read e) (taken, refl)
 behind_takes bytes (c ∷ cs) rest read taken e =
     let given : (only is_report_name (c ∷ cs, rest) >>= name_read) ≡ Some read = rw eqb-suc-zero at e in
     let n = bind_some (only is_report_name (c ∷ cs, rest)) name_read read given in
     let o = only_some is_report_name (c ∷ cs, rest) n.0 n.1 in
-    subst (IsTaken bytes) (some_is (named_by n.0) read n.2)
+    subst (IsTaken bytes) (same_Some (named_by n.0) read n.2)
     (subst (λ (p : List ℕ × List ℕ). Takes bytes (text_bytes p.0) p.1 × (is_report_name p.0 ≡ true)) o.1 (taken, o.0))
 
 interface_takes : (bytes : List ℕ) (read : Interface × List ℕ) → IsBytes bytes → interface_at bytes ≡ Some read → IsTaken bytes read
@@ -91,7 +92,7 @@ named_takes bytes read fits e =
     let whole = Takes-then bytes (source_bytes s.0.0) s.0.1 (interface_bytes n.0.0 ++ event_bytes v.0.0) v.0.1 st.0 behind in
     let fit : is_fit_named (named_of s.0.0 n.0.0 v.0.0) ≡ true =
     and_from (is_interface n.0.0) (is_source s.0.0 && is_fit_event v.0.0) nt.1 (and_from (is_source s.0.0) (is_fit_event v.0.0) st.1 vt.1) in
-    subst (λ (p : NamedEntry × List ℕ). Takes bytes (spelled p.0) p.1 × (is_fit_named p.0 ≡ true)) (some_is (named_of s.0.0 n.0.0 v.0.0, v.0.1) read v.2) (whole, fit)
+    subst (λ (p : NamedEntry × List ℕ). Takes bytes (spelled p.0) p.1 × (is_fit_named p.0 ≡ true)) (same_Some (named_of s.0.0 n.0.0 v.0.0, v.0.1) read v.2) (whole, fit)
 
 named_again : (named : NamedEntry) (rest : List ℕ) → is_fit_named named ≡ true → named_at (spelled named ++ rest) ≡ Some (named, rest)
 unfolding named_at

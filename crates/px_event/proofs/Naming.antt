@@ -1,15 +1,11 @@
 -- One thread more is named.
-use Rattle.std.proofs.Common.{◌≡◌, ℕ, true, false, List, [], ◌∷◌, ◌++◌, Option, Some, None, refl, ap, inl, inr}
+use Rattle.std.proofs.Common.{◌≡◌, ℕ, true, false, List, [], ◌∷◌, ◌++◌, Some, None, refl, ap, inl, inr}
 use Rattle.std.specs.Prelude.{◌&&◌, ◌==◌, is_none}
 use Rattle.std.proofs.lemmas.Bool.{and_parts, and_from, cases_Bool}
-use Rattle.px_value.proofs.General.{differs_turned}
+use Rattle.px_value.proofs.General.{differs_turned, is_none-None}
 use Rattle.px_event.specs.Fit.{is_report_name}
 use Rattle.px_event.specs.Names.{name_of, are_names}
 use Rattle.px_event.specs.declared.names.ThreadName.{ThreadName}
-
-none_of : (name : Option (List ℕ)) → is_none name ≡ true → name ≡ None
-none_of None none = refl
-none_of (Some name) none = cc
 
 -- a thread without a name has none in the first row and none behind it
 unnamed_parts : (thread : ℕ) (row : ThreadName) (later : List ThreadName) → name_of thread (row ∷ later) ≡ None
@@ -35,7 +31,7 @@ are_names-push (first ∷ later) row names none fit =
     let named = is_report_name first.name in
     let outer = and_parts (named && is_none (name_of first.thread later)) (are_names later) names in
     let inner = and_parts named (is_none (name_of first.thread later)) (outer.0) in
-    let still : name_of first.thread more ≡ None = unnamed-push first.thread later row (none_of (name_of first.thread later) (inner.1)) (differs_turned first.thread row.thread (parts.0)) in
+    let still : name_of first.thread more ≡ None = unnamed-push first.thread later row (is_none-None (name_of first.thread later) (inner.1)) (differs_turned first.thread row.thread (parts.0)) in
     and_from (named && is_none (name_of first.thread more)) (are_names more)
     (and_from named (is_none (name_of first.thread more)) (inner.0) (ap is_none still))
     (are_names-push later row (outer.1) (parts.1) fit)

@@ -7,18 +7,20 @@ use Rattle.std.specs.Str.{is_utf8}
 use Rattle.std.proofs.lemmas.Bool.{and_parts, and_from, leb-true, lt-ltb, ltb-true, ltb-false}
 use Rattle.std.proofs.lemmas.Int.{ints, to_z-of_z, of_z-to_z}
 use Rattle.std.proofs.lemmas.List.{length-append}
-use mir.Val.{SFits, sel}
+use Rattle.std.proofs.lemmas.Option.{same_Some}
+use mir.Val.{sel}
 use Rattle.byteorder.specs.Endian.{big_bytes}
 use Rattle.px_value.specs.Arithmetic.{fits_32_bits}
 use Rattle.px_value.specs.Text.{is_short_text}
 use Rattle.px_value.specs.Value.{is_known}
 use Rattle.px_value.specs.declared.value.Value.{Value}
 use Rattle.px_value.specs.declared.value.Value.TheVariants as values
+use Rattle.px_value.proofs.Integers.{fits_of}
 use Rattle.px_event.specs.Values.{is_plain, is_plain_or_unknown}
 use Rattle.px_event.specs.Bytes.{text_bytes, integer_bytes, value_bytes}
 use Rattle.px_event.specs.Reading.{Read, ◌>>=◌, only, byte_at, number_at, text_at, value_behind, value_at, argument_at, arguments_at}
 use Rattle.px_event.proofs.Arguments.{read_on}
-use Rattle.px_event.proofs.Fields.{tagged, IsBytes, bind_some, after, some_is, only_some, only_passes, Takes, Takes-then, byte_takes, four_back, number_takes, number_again, text_again, tested_takes}
+use Rattle.px_event.proofs.Fields.{tagged, IsBytes, bind_some, after, only_some, only_passes, Takes, Takes-then, byte_takes, four_back, number_takes, number_again, text_again, tested_takes}
 
 -- ---- integers
 
@@ -31,12 +33,8 @@ signed_fits n lt =
     chosen_fits (nat_lt n (2 ^ 31)) n (2 ^ 32 - suc n) (λ low. low)
     (λ high. let above : 2 ^ 31 ≤ n = ltb-false n (2 ^ 31) high in lt-ltb (2 ^ 32 - suc n) (2 ^ 31) (omega arith))
 
-within : (z : ℤ) → fits_32_bits z ≡ true → SFits w32 z
-within (pos n) fits = let low : n < 2 ^ 31 = ltb-true n (2 ^ 31) fits in omega (arith, ints)
-within (negsuc n) fits = let low : n < 2 ^ 31 = ltb-true n (2 ^ 31) fits in omega (arith, ints)
-
 unsigned_signed : (z : ℤ) → fits_32_bits z ≡ true → cast_signed w32 (cast_unsigned w32 z) ≡ z
-unsigned_signed z fits = to_z-of_z w32 z (within z fits)
+unsigned_signed z fits = to_z-of_z w32 z (fits_of z fits)
 
 unsigned_below : (z : ℤ) → fits_32_bits z ≡ true → cast_unsigned w32 z < 2 ^ 32
 unsigned_below (pos n) fits = let low : n < 2 ^ 31 = ltb-true n (2 ^ 31) fits in omega (arith, ints)
@@ -62,23 +60,23 @@ text_read short = Some (values.Text short.0, short.1)
 value_behind_takes : (tag : ℕ) (bytes : List ℕ) (read : Value × List ℕ) → IsBytes bytes → value_behind tag bytes ≡ Some read → Told (tag ∷ bytes) read
 unfolding value_behind
 value_behind_takes zero bytes read fits e =
-    subst (Told (0 ∷ bytes)) (some_is (values.Unknown, bytes) read e) (record { parts = refl; rest_fits = fits }, refl)
+    subst (Told (0 ∷ bytes)) (same_Some (values.Unknown, bytes) read e) (record { parts = refl; rest_fits = fits }, refl)
 value_behind_takes (suc zero) bytes read fits e =
-    subst (Told (1 ∷ bytes)) (some_is (values.Boolean false, bytes) read e) (record { parts = refl; rest_fits = fits }, refl)
+    subst (Told (1 ∷ bytes)) (same_Some (values.Boolean false, bytes) read e) (record { parts = refl; rest_fits = fits }, refl)
 value_behind_takes (suc (suc zero)) bytes read fits e =
-    subst (Told (2 ∷ bytes)) (some_is (values.Boolean true, bytes) read e) (record { parts = refl; rest_fits = fits }, refl)
+    subst (Told (2 ∷ bytes)) (same_Some (values.Boolean true, bytes) read e) (record { parts = refl; rest_fits = fits }, refl)
 value_behind_takes (suc (suc (suc zero))) bytes read fits e =
     let b = bind_some (number_at 4 bytes) integer_read read e in
     let n = number_takes 4 four_back bytes b.0.0 b.0.1 fits b.1 in
     let same : cast_unsigned w32 (cast_signed w32 b.0.0) ≡ b.0.0 = of_z-to_z w32 b.0.0 n.1 in
     let spelled : Takes bytes (integer_bytes (cast_signed w32 b.0.0)) b.0.1 = subst (λ (k : ℕ). Takes bytes (big_bytes 4 k) b.0.1) (sym same) n.0 in
-    subst (Told (3 ∷ bytes)) (some_is (values.Integer (cast_signed w32 b.0.0), b.0.1) read b.2)
+    subst (Told (3 ∷ bytes)) (same_Some (values.Integer (cast_signed w32 b.0.0), b.0.1) read b.2)
     (tagged 3 bytes (integer_bytes (cast_signed w32 b.0.0)) b.0.1 spelled, signed_fits b.0.0 n.1)
 value_behind_takes (suc (suc (suc (suc zero)))) bytes read fits e =
     let b = bind_some (text_at bytes) (λ text. only is_short_text text >>= text_read) read e in
     let d = bind_some (only is_short_text b.0) text_read read b.2 in
     let t = tested_takes is_short_text bytes d.0.0 d.0.1 fits (after (text_at bytes) (λ text. only is_short_text text) b.0 (Some d.0) b.1 d.1) in
-    subst (Told (4 ∷ bytes)) (some_is (values.Text d.0.0, d.0.1) read d.2)
+    subst (Told (4 ∷ bytes)) (same_Some (values.Text d.0.0, d.0.1) read d.2)
     (tagged 4 bytes (text_bytes d.0.0) d.0.1 t.0, and_from (is_utf8 d.0.0) (is_short_text d.0.0) t.2 t.1)
 value_behind_takes (suc (suc (suc (suc (suc tag))))) bytes read fits e = absurd cc
 
@@ -157,13 +155,13 @@ AllTold n bytes read = Takes bytes (flat_map value_bytes read.0) read.1 × (list
 pub arguments_takes : (n : ℕ) (bytes : List ℕ) (read : List Value × List ℕ) → IsBytes bytes → arguments_at n bytes ≡ Some read → AllTold n bytes read
 unfolding arguments_at
 arguments_takes zero bytes read fits e =
-    subst (AllTold 0 bytes) (some_is ([], bytes) read e) (record { parts = refl; rest_fits = fits }, refl, refl)
+    subst (AllTold 0 bytes) (same_Some ([], bytes) read e) (record { parts = refl; rest_fits = fits }, refl, refl)
 arguments_takes (suc n) bytes read fits e =
     let b = bind_some (argument_at bytes) (λ first. arguments_at n first.1 >>= read_on first.0) read e in
     let t = argument_takes bytes b.0 fits b.1 in
     let d = bind_some (arguments_at n b.0.1) (read_on b.0.0) read b.2 in
     let o = arguments_takes n b.0.1 d.0 t.0.rest_fits d.1 in
-    subst (AllTold (suc n) bytes) (some_is (b.0.0 ∷ d.0.0, d.0.1) read d.2)
+    subst (AllTold (suc n) bytes) (same_Some (b.0.0 ∷ d.0.0, d.0.1) read d.2)
     (Takes-then bytes (value_bytes b.0.0) b.0.1 (flat_map value_bytes d.0.0) d.0.1 t.0 o.0, and_from (is_plain b.0.0) (list_all is_plain d.0.0) t.1 o.1, ap suc o.2)
 
 pub arguments_again : (args : List Value) (rest : List ℕ) → list_all is_plain args ≡ true → arguments_at (length args) (flat_map value_bytes args ++ rest) ≡ Some (args, rest)

@@ -3,10 +3,11 @@ use Rattle.std.proofs.Common.{◌≡◌, ℕ, Bool, true, cond, eqb, List, [], �
 use Rattle.std.specs.Prelude.{IsTrue, Result, Ok, Err, IfOk, IsErrOf}
 use Rattle.std.proofs.lemmas.Bool.{eqb-true}
 use Rattle.std.proofs.lemmas.List.{append-nil, nil_from_length}
+use Rattle.std.proofs.lemmas.Option.{cond_some, same_Some}
 use Rattle.px_event.specs.Reading.{Read, whole, Gives}
 use Rattle.px_event.specs.declared.fault.DecodeFault.{DecodeFault}
 use Rattle.px_event.specs.declared.fault.DecodeFault.TheVariants.{Bad, NoMemory}
-use Rattle.px_event.proofs.Fields.{IsBytes, Takes, bind_some, after, passed, some_is}
+use Rattle.px_event.proofs.Fields.{IsBytes, Takes, bind_some, after}
 
 abbrev if_all : {X : Type 0} → X × List ℕ → Option X
 if_all read = cond (eqb (length read.1) 0) (Some read.0) None
@@ -17,7 +18,7 @@ module _ {X : Type 0} (read_at : List ℕ → Read X) (spelled : X → List ℕ)
   all_takes takes bytes x are_bytes e =
       let b = bind_some (read_at bytes) if_all x e in
       let t = takes bytes b.0 are_bytes b.1 in
-      let o = passed (eqb (length b.0.1) 0) b.0.0 x b.2 in
+      let o = cond_some (eqb (length b.0.1) 0) b.0.0 x b.2 in
       let none : b.0.1 ≡ [] = nil_from_length b.0.1 (eqb-true (length b.0.1) 0 o.0) in
       let all : bytes ≡ spelled b.0.0 = t.0.parts ∙ ap (λ (l : List ℕ). spelled b.0.0 ++ l) none ∙ append-nil (spelled b.0.0) in
       subst (λ (y : X). (fits y ≡ true) × (bytes ≡ spelled y)) o.1 (t.1, all)
@@ -46,4 +47,4 @@ module _ {X : Type 0} (decoded : List ℕ → Option X) (spelled : X → List �
   -- no bytes are those of two
   pub one_spelled : ((x : X) → fits x ≡ true → decoded (spelled x) ≡ Some x)
       → (a b : X) → fits a ≡ true → fits b ≡ true → spelled a ≡ spelled b → a ≡ b
-  one_spelled again a b fit_a fit_b same = some_is a b (sym (again a fit_a) ∙ ap decoded same ∙ again b fit_b)
+  one_spelled again a b fit_a fit_b same = same_Some a b (sym (again a fit_a) ∙ ap decoded same ∙ again b fit_b)
