@@ -1,3 +1,4 @@
 pub mod Logs
 pub mod Settles
 pub mod Texts
+pub mod Writes

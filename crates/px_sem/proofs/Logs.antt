@@ -1,6 +1,7 @@
 -- How a legal log grows by one post.
-use Rattle.std.proofs.Common.{◌≡◌, ◌≢◌, ℕ, nat_le, Bool, true, false, List, [], ◌∷◌, ◌++◌, length, map, filter, Option, Some, None, IsSome, refl, ap, sym, subst, ◌∙◌, arith, ◌+◌, ◌≤◌, ◌&&◌, length-append, append_assoc, append-nil, if◌then◌else◌}
+use Rattle.std.proofs.Common.{◌≡◌, ◌≢◌, ℕ, nat_le, Bool, true, false, List, [], ◌∷◌, ◌++◌, length, map, filter, Option, Some, None, IsSome, refl, ap, sym, subst, ◌∙◌, arith, ◌+◌, ◌≤◌, length-append, append_assoc, append-nil, if◌then◌else◌}
 use Rattle.std.specs.List.{list_all}
+use Rattle.std.proofs.lemmas.Bool.{and_parts}
 use Rattle.std.proofs.lemmas.Bool.Decides.{nat_tests}
 use Rattle.std.proofs.lemmas.List.{map-append}
 use Rattle.px_core.specs.Plan.{Site}
@@ -150,9 +151,9 @@ history_grows history entry replies.Full = sym (append-nil history)
 history_grows history entry replies.Runaway = sym (append-nil history)
 
 -- what an answer does to the run and to the count
-record Follows (plan : List Site) (history : List Event) (world : World) (entry : Entry) (reply : Reply) : Type 0 where
-  runs : run plan (history ++ history_of (logged_as entry reply ∷ [])) ≡ Some (world_after plan world entry.event reply)
-  counted : counted_after (length history) reply ≡ length (history ++ history_of (logged_as entry reply ∷ []))
+pub record Follows (plan : List Site) (history : List Event) (world : World) (entry : Entry) (reply : Reply) : Type 0 where
+  pub runs : run plan (history ++ history_of (logged_as entry reply ∷ [])) ≡ Some (world_after plan world entry.event reply)
+  pub counted : counted_after (length history) reply ≡ length (history ++ history_of (logged_as entry reply ∷ []))
 
 kept : (plan : List Site) (history : List Event) (world : World) (entry : Entry) (reply : Reply) → run plan history ≡ Some world
     → history_of (logged_as entry reply ∷ []) ≡ [] → world_after plan world entry.event reply ≡ world → counted_after (length history) reply ≡ length history
@@ -164,14 +165,16 @@ kept plan history world entry reply runs refused same count =
       counted = count ∙ ap length (sym unchanged);
     }
 
-accepted_by : (s : Standing) (full : Bool) (o : Option (World × ℕ)) (count position : ℕ) → answer_by s full o count ≡ replies.Accepted position
+-- what an accepted answer tells
+pub accepted_by : (s : Standing) (full : Bool) (o : Option (World × ℕ)) (count position : ℕ) → answer_by s full o count ≡ replies.Accepted position
     → (found : World × ℕ) × (o ≡ Some found) × (position ≡ count + 1) × (full ≡ false)
 accepted_by (Finished outcome failure) full o count position is = absurd (cc)
 accepted_by Running true o count position is = absurd (cc)
 accepted_by Running false None count position is = absurd (cc)
 accepted_by Running false (Some found) count position is = (found, refl, (cc), refl)
 
-follows : (plan : List Site) (limit : ℕ) (history : List Event) (world : World) (entry : Entry) (reply : Reply) → run plan history ≡ Some world
+-- what was answered so does so
+pub follows : (plan : List Site) (limit : ℕ) (history : List Event) (world : World) (entry : Entry) (reply : Reply) → run plan history ≡ Some world
     → reply ≡ answer plan limit (length history) world entry.event → Follows plan history world entry reply
 follows plan limit history world entry replies.PlanFinished runs is = kept plan history world entry replies.PlanFinished runs refl refl refl
 follows plan limit history world entry replies.Full runs is = kept plan history world entry replies.Full runs refl refl refl
@@ -224,13 +227,9 @@ legal_log_runs plan history limit log legal =
 pub fit_accepted : (log : Log) → list_all is_fit_entry (map (λ logged. logged.entry) log) ≡ true → list_all is_fit_entry (accepted log) ≡ true
 fit_accepted [] fit = refl
 fit_accepted (logged ∷ log) fit =
-    let both = fit_both (is_fit_entry logged.entry) (list_all is_fit_entry (map (λ l. l.entry) log)) fit in
+    let both = and_parts (is_fit_entry logged.entry) (list_all is_fit_entry (map (λ l. l.entry) log)) fit in
     fit_first logged log (is_accepted logged.reply) both.0 (fit_accepted log both.1)
   where
-    fit_both : (a b : Bool) → (a && b) ≡ true → (a ≡ true) × (b ≡ true)
-    fit_both true b both = (refl, both)
-    fit_both false b both = cc
-
     fit_first : (logged : LogEntry) (log : Log) (b : Bool) → is_fit_entry logged.entry ≡ true → list_all is_fit_entry (accepted log) ≡ true
         → list_all is_fit_entry (map (λ l. l.entry) (if b then logged ∷ filter (λ l. is_accepted l.reply) log else filter (λ l. is_accepted l.reply) log)) ≡ true
     fit_first logged log true first others = rw first others
