@@ -8,6 +8,7 @@ use Rattle.std.proofs.lemmas.Bool.{and_parts}
 use Rattle.std.proofs.lemmas.Bool.Decides.{nat_tests}
 use Rattle.std.proofs.lemmas.Fmt.{decimal_nonempty}
 use Rattle.px_value.specs.Name.{is_digit, begins_identifier, continues_identifier, is_identifier}
+use Rattle.px_value.proofs.Digits.{decimal_digits}
 use Rattle.px_lex.specs.declared.keyword.Keyword.{Keyword}
 use Rattle.px_lex.specs.declared.keyword.Keyword.TheVariants as words
 use Rattle.px_lex.specs.declared.sign.Sign.TheVariants as signs
@@ -46,7 +47,7 @@ use Rattle.px_syntax.proofs.Levels.{binary_level, unary_level}
 use Rattle.px_print.specs.ExprLayout.{literal_text, enumerated_text, look_text, unary_function_text, binary_function_text, unary_sign, binary_sign, node_text, tolerance_text, term_text, arguments_text, further_text, operand_text}
 use Rattle.px_print.specs.Unnumbered.{plain_name, plain_node, plain_tolerance, plain_term, plain_terms}
 use Rattle.px_print.proofs.Printing.{Prints, follow, prints_as, prints_then, prints_nothing, prints_behind}
-use Rattle.px_print.proofs.Tokens.{AllCan, IsName, Ends, Stops, decimal_digits, prints_keyword, prints_sign, prints_any, prints_word, prints_integer, prints_string}
+use Rattle.px_print.proofs.Tokens.{AllCan, IsName, Ends, Stops, prints_keyword, prints_sign, prints_any, prints_word, prints_integer, prints_string}
 
 -- the form of what is the same, apart from the numbers of tokens
 abbrev pub Alike : {A : Type 0} → (A → Form) → (A → A) → A → Form

@@ -6,26 +6,14 @@ use Rattle.std.proofs.lemmas.Bool.{and_parts}
 use Rattle.std.proofs.lemmas.Bool.Decides.{nat_tests}
 use Rattle.std.proofs.lemmas.List.{length_push}
 use Rattle.std.proofs.lemmas.Str.{IsUtf8-append, IsUtf8-nil}
+use Rattle.px_lex.proofs.Pieces.{spelled-append, stand-append}
 use Rattle.px_lex.specs.declared.token.Token.{Token}
 use Rattle.px_lex.specs.declared.token.TokenKind.{TokenKind}
 use Rattle.px_lex.specs.Gap.{is_white_space, IsGap}
-use Rattle.px_lex.specs.Lexer.{Piece, Stands, spelled, AllStand, token_at, tokens_from}
+use Rattle.px_lex.specs.Lexer.{Piece, spelled, AllStand, token_at, tokens_from}
 use Rattle.px_lex.specs.Token.{IsToken}
 use Rattle.px_syntax.specs.Form.{Form, kind_at, one, nothing, ◌then◌}
 use Rattle.px_print.proofs.Utf8.{ascii_then}
-
--- ---- pieces, one list behind another
-
-spelled-append : (ps qs : List Piece) → spelled (ps ++ qs) ≡ spelled ps ++ spelled qs
-spelled-append [] qs = refl
-spelled-append (p ∷ ps) qs = ap (λ t. p.spelling ++ t) (spelled-append ps qs) ∙ sym (append_assoc p.spelling (spelled ps) (spelled qs))
-
-stand-append : (ps qs : List Piece) (rest : List ℕ) → AllStand ps (spelled qs ++ rest) → AllStand qs rest → AllStand (ps ++ qs) rest
-stand-append [] qs rest first second = second
-stand-append (p ∷ ps) qs rest first second = (
-  subst (Stands p.kind p.spelling) (sym (append_assoc (spelled ps) (spelled qs) rest) ∙ ap (λ t. t ++ rest) (sym (spelled-append ps qs))) first.0,
-  stand-append ps qs rest first.1 second,
-)
 
 -- ---- where their tokens stand
 

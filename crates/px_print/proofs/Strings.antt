@@ -5,35 +5,13 @@ use Rattle.std.proofs.lemmas.Bool.{and_parts, and_from, cases_Bool, eqb-true}
 use Rattle.std.proofs.lemmas.Bool.Decides.{nat_tests}
 use Rattle.px_value.specs.Text.{escaped, unescaped}
 use Rattle.px_lex.specs.String.{is_quote, is_backslash, is_line_end, string_from, escape_from, with_byte}
+use Rattle.px_lex.proofs.StringFronts.{content_of, before}
 
 -- a byte that can stand in a string, as an escape or by itself
 abbrev pub is_spelled : ℕ → Bool
 is_spelled c = not (c == 13)
 
 -- ---- what was read
-
--- a byte and what is read behind it
-pub record Before (byte : Option ℕ) (read : Option (List ℕ × List ℕ)) (content rest : List ℕ) : Type 0 where
-  pub first : ℕ
-  pub less : List ℕ
-  pub byte_is : byte ≡ Some first
-  pub read_is : read ≡ Some (less, rest)
-  pub content_is : content ≡ first ∷ less
-
-abbrev pub content_of : Option (List ℕ × List ℕ) → List ℕ
-content_of None = []
-content_of (Some read) = read.0
-
-abbrev rest_of : Option (List ℕ × List ℕ) → List ℕ
-rest_of None = []
-rest_of (Some read) = read.1
-
-pub before : (byte : Option ℕ) (read : Option (List ℕ × List ℕ)) (content rest : List ℕ) → with_byte byte read ≡ Some (content, rest)
-    → Before byte read content rest
-before None read content rest h = cc
-before (Some b) None content rest h = cc
-before (Some b) (Some r) content rest h =
-    record { first = b; less = r.0; byte_is = refl; read_is = ap (λ t. Some (r.0, t)) (ap rest_of h); content_is = sym (ap content_of h) }
 
 escape_spelled : (c b : ℕ) → unescaped c ≡ Some b → is_spelled b ≡ true
 escape_spelled c b h = grind (arith, nat_tests)

@@ -1,17 +1,18 @@
 -- Which tokens a text can have, and how each is printed.
 use Rattle.std.proofs.Common.{◌≡◌, ℕ, ◌+◌, ◌<◌, ◌≤◌, ◌^◌, Bool, true, false, ◌&&◌, ◌==◌, List, [], ◌∷◌, ◌++◌, length, drop, Option, Some, None, refl, sym, ap, ◌∙◌, subst, arith, append_assoc, append-nil, inl, inr}
-use Rattle.std.specs.Prelude.{if◌then◌else◌, ◌%◌, codes, decimal, pos, nat_lt, zero, suc}
+use Rattle.std.specs.Prelude.{if◌then◌else◌, codes, decimal, pos, nat_lt, zero, suc}
 use Rattle.std.specs.Char.{digit_value}
 use Rattle.std.specs.List.{list_all, flat_map}
 use Rattle.std.specs.Str.{IsUtf8}
 use Rattle.std.specs.Str.Parse.{digits_value}
+use Rattle.std.proofs.Math.Bool.{and-false}
 use Rattle.std.proofs.lemmas.Bool.{and_parts, or_right, and_from, cases_Bool, eqb-true, lt-ltb}
 use Rattle.std.proofs.lemmas.Bool.Decides.{nat_tests}
-use Rattle.std.proofs.lemmas.Fmt.{decimal_is_IsNumeral, decimal_by_steps, decimal_nonempty, IsAscii-decimal}
-use Rattle.std.proofs.lemmas.List.Folds.{list_all-append}
+use Rattle.std.proofs.lemmas.Fmt.{decimal_is_IsNumeral, decimal_nonempty, IsAscii-decimal}
 use Rattle.std.proofs.lemmas.Str.{IsUtf8-from_ascii}
 use Rattle.px_value.specs.Name.{is_digit, begins_identifier, continues_identifier, is_identifier}
 use Rattle.px_value.proofs.Ascii.{list_all-weaker, ascii_text, identifier_text}
+use Rattle.px_value.proofs.Digits.{decimal_digits}
 use Rattle.px_lex.specs.declared.keyword.Keyword.{Keyword}
 use Rattle.px_lex.specs.declared.sign.Sign.{Sign}
 use Rattle.px_lex.specs.declared.token.Token.{Token}
@@ -141,16 +142,6 @@ prints_word name rest is ends =
 
 -- ---- integers
 
-digit_is : (d : ℕ) → d < 10 → is_digit (48 + d) ≡ true
-digit_is d small = grind (arith, nat_tests)
-
-pub decimal_digits : (n : ℕ) → n < 2 ^ 64 → list_all is_digit (decimal n) ≡ true
-decimal_digits n small =
-    decimal_by_steps (λ _ ds. list_all is_digit ds ≡ true)
-    (λ d below. rw (digit_is d below))
-    (λ n ds _ front. rw (list_all-append is_digit ds ((48 + n % 10) ∷ []), front, digit_is (n % 10) (omega arith)))
-    n small
-
 of_ten : (c : ℕ) → is_digit c ≡ true → nat_lt (digit_value c) 10 ≡ true
 of_ten c h = grind (arith, nat_tests)
 
@@ -178,12 +169,8 @@ writes (a ∷ []) some all = numeral_is (a ∷ []) some all
 writes (a ∷ b ∷ ds) some all =
     let second = (and_parts (is_digit b) (list_all is_digit ds) (and_parts (is_digit a) (list_all is_digit (b ∷ ds)) all).1).0 in
     ap (λ x. if (a == 48) && x then numeral 16 ds else numeral 10 (a ∷ b ∷ ds)) (no_x b second)
-    ∙ ap (λ x. if x then numeral 16 ds else numeral 10 (a ∷ b ∷ ds)) (and_false (a == 48))
+    ∙ ap (λ x. if x then numeral 16 ds else numeral 10 (a ∷ b ∷ ds)) (and-false (a == 48))
     ∙ numeral_is (a ∷ b ∷ ds) some all
-  where
-    and_false : (x : Bool) → (x && false) ≡ false
-    and_false true = refl
-    and_false false = refl
 
 no_fraction : (ds rest : List ℕ) → begins (λ c. c == 46) rest ≡ false → is_fraction ds rest ≡ false
 no_fraction ds rest stop =

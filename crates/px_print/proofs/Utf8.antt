@@ -12,8 +12,8 @@ use Rattle.std.proofs.lemmas.Str.{IsUtf8-append, IsUtf8-drop, IsUtf8-encode, IsU
 use lib.Utf8.{scalar, scalars, encode, encodes, low_scalar}
 use Rattle.px_value.specs.Text.{unescaped, escape_letter, escaped_as, escaped, quoted}
 use Rattle.px_lex.specs.String.{string_from, escape_from}
+use Rattle.px_lex.proofs.StringFronts.{content_of, before}
 use Rattle.px_lex.proofs.Strings.{with_bytes, plain_char, unescaped_char, unescaped_small, the_quote, a_line_end}
-use Rattle.px_print.proofs.Strings.{content_of, before}
 
 pub ascii_then : (b : ℕ) (bytes : List ℕ) → b < 128 → IsUtf8 bytes → IsUtf8 (b ∷ bytes)
 ascii_then b bytes small u =
