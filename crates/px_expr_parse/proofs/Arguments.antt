@@ -1,5 +1,5 @@
 -- Arguments, one after another, and the parentheses that may be left out.
-use Rattle.std.proofs.Common.{◌≡◌, ℕ, ◌+◌, ◌≤◌, ◌<◌, inl, inr, refl, sym, ap, subst, ◌∙◌, List, [], ◌∷◌, ◌++◌, length, map, Some, None, arith}
+use Rattle.std.proofs.Common.{◌≡◌, ℕ, ◌+◌, ◌≤◌, ◌<◌, inl, inr, refl, sym, ap, subst, ◌∙◌, List, [], ◌∷◌, ◌++◌, length, Some, None, arith}
 use Rattle.px_lex.specs.declared.sign.Sign.{Sign}
 use Rattle.px_lex.specs.declared.sign.Sign.TheVariants as signs
 use Rattle.px_lex.specs.declared.token.Token.{Token}
@@ -37,11 +37,6 @@ pub in_turn_push :
     (terms : List Term) (term : Term) → in_turn (terms ++ term ∷ []) ≡ in_front terms (More term NoTerms)
 in_turn_push [] term = refl
 in_turn_push (first ∷ terms) term = ap (λ (x : Terms). More first x) (in_turn_push terms term)
-
--- the trees of one more expression
-pub map_push : {A B : Type 0} (f : A → B) (xs : List A) (x : A) → map f (xs ++ x ∷ []) ≡ map f xs ++ f x ∷ []
-map_push f [] x = refl
-map_push f (y ∷ xs) x = ap (λ (rest : List _). f y ∷ rest) (map_push f xs x)
 
 -- two signs don't stand at one place
 pub paren_or_comma :

@@ -1,6 +1,7 @@
 -- What a tree is by the token that it begins with.
 use Rattle.std.proofs.Common.{◌≡◌, ℕ, zero, suc, ◌+◌, ◌≤◌, ◌⊎◌, inl, inr, refl, sym, ap, subst, ◌∙◌, List, Option, Some, None, true, false, arith}
 use Rattle.std.specs.Option.{option_map, option_and_then}
+use Rattle.std.proofs.lemmas.Option.{same_Some}
 use Rattle.px_lex.specs.declared.keyword.Keyword.{Keyword}
 use Rattle.px_lex.specs.declared.keyword.Keyword.TheVariants as words
 use Rattle.px_lex.specs.declared.sign.Sign.TheVariants as signs
@@ -431,13 +432,10 @@ module _ (tokens : List Token) (from : ℕ) where
   rest_of opening begins tree end o =
       elim (opened tree end o) [
         | inl found ↦
-            let same : found.opening ≡ opening = some_same found.opening opening (sym found.opens ∙ begins.opens) in
+            let same : found.opening ≡ opening = same_Some found.opening opening (sym found.opens ∙ begins.opens) in
             subst (λ (which : Opening). Rest which tokens from tree end) same found.rest
         | inr found ↦ let is = found.is in let none = begins.no_operator in cc
       ]
-    where
-      some_same : (a b : Opening) → Some a ≡ Some b → a ≡ b
-      some_same a b e = cc
 
   -- and where an operator stands before an operand
   pub prefix_of :
@@ -452,13 +450,10 @@ module _ (tokens : List Token) (from : ℕ) where
             let same : found.opening ≡ openings.Nothing = sym begun.2 ∙ unary_opens begun.0 operator here in
             absurd (subst (λ (which : Opening). Rest which tokens from tree end) same found.rest)
         | inr found ↦
-            let same : found.operator ≡ operator = some_same found.operator operator (sym found.is ∙ is) in
+            let same : found.operator ≡ operator = same_Some found.operator operator (sym found.is ∙ is) in
             record {
               part = found.part;
               built = found.built ∙ ap (λ (which : UnaryOperator). Unary which from found.part) same;
               rest = found.rest;
             }
       ]
-    where
-      some_same : (a b : UnaryOperator) → Some a ≡ Some b → a ≡ b
-      some_same a b e = cc

@@ -1,6 +1,7 @@
 -- Each sort of expression that is no operation between two operands, from what is read behind its first token.
 use Rattle.std.proofs.Common.{◌≡◌, ℕ, suc, ◌+◌, ◌≤◌, ◌<◌, ◌⊎◌, inl, inr, refl, sym, ap, subst, ◌∙◌, List, length, Option, Some, None, true, false, arith, lit≤}
 use Rattle.std.specs.Option.{option_map, option_and_then}
+use Rattle.std.proofs.lemmas.Option.{same_Some}
 use Rattle.px_lex.specs.declared.keyword.Keyword.{Keyword}
 use Rattle.px_lex.specs.declared.keyword.Keyword.TheVariants as words
 use Rattle.px_lex.specs.declared.sign.Sign.{Sign}
@@ -47,6 +48,25 @@ found_alone tokens place within =
       within = within;
       only = λ others agree. record { spelled = refl; only = λ other end o. (refl, o) };
     }
+
+-- a literal is told by its kind of token
+pub literal_kind_one : (a b : LiteralValue) → literal_kind a ≡ literal_kind b → a ≡ b
+literal_kind_one (literals.Integer x) (literals.Integer y) e = cc
+literal_kind_one (literals.Integer x) (literals.Boolean true) e = cc
+literal_kind_one (literals.Integer x) (literals.Boolean false) e = cc
+literal_kind_one (literals.Integer x) (literals.Text y) e = cc
+literal_kind_one (literals.Boolean true) (literals.Integer y) e = cc
+literal_kind_one (literals.Boolean true) (literals.Boolean true) e = refl
+literal_kind_one (literals.Boolean true) (literals.Boolean false) e = cc
+literal_kind_one (literals.Boolean true) (literals.Text y) e = cc
+literal_kind_one (literals.Boolean false) (literals.Integer y) e = cc
+literal_kind_one (literals.Boolean false) (literals.Boolean true) e = cc
+literal_kind_one (literals.Boolean false) (literals.Boolean false) e = refl
+literal_kind_one (literals.Boolean false) (literals.Text y) e = cc
+literal_kind_one (literals.Text x) (literals.Integer y) e = cc
+literal_kind_one (literals.Text x) (literals.Boolean true) e = cc
+literal_kind_one (literals.Text x) (literals.Boolean false) e = cc
+literal_kind_one (literals.Text x) (literals.Text y) e = cc
 
 module _ (tokens : List Token) (from : ℕ) where
   keyword_there :
@@ -257,24 +277,6 @@ module _ (tokens : List Token) (from : ℕ) where
 
   -- ---- one token
 
-  literal_kind_one : (a b : LiteralValue) → literal_kind a ≡ literal_kind b → a ≡ b
-  literal_kind_one (literals.Integer x) (literals.Integer y) e = cc
-  literal_kind_one (literals.Integer x) (literals.Boolean true) e = cc
-  literal_kind_one (literals.Integer x) (literals.Boolean false) e = cc
-  literal_kind_one (literals.Integer x) (literals.Text y) e = cc
-  literal_kind_one (literals.Boolean true) (literals.Integer y) e = cc
-  literal_kind_one (literals.Boolean true) (literals.Boolean true) e = refl
-  literal_kind_one (literals.Boolean true) (literals.Boolean false) e = cc
-  literal_kind_one (literals.Boolean true) (literals.Text y) e = cc
-  literal_kind_one (literals.Boolean false) (literals.Integer y) e = cc
-  literal_kind_one (literals.Boolean false) (literals.Boolean true) e = cc
-  literal_kind_one (literals.Boolean false) (literals.Boolean false) e = refl
-  literal_kind_one (literals.Boolean false) (literals.Text y) e = cc
-  literal_kind_one (literals.Text x) (literals.Integer y) e = cc
-  literal_kind_one (literals.Text x) (literals.Boolean true) e = cc
-  literal_kind_one (literals.Text x) (literals.Boolean false) e = cc
-  literal_kind_one (literals.Text x) (literals.Text y) e = cc
-
   -- a tree of one token, where each tree that begins so is it
   read_leaf :
       (leaf : Term) → from < length tokens
@@ -302,12 +304,9 @@ module _ (tokens : List Token) (from : ℕ) where
       (begins_too tokens others from openings.Literal (from + 1) (omega arith) agree begins) tree end o in
       let kinds_are : Some (literal_kind r.0) ≡ Some (literal_kind value) =
       sym r.1 ∙ agree from (omega arith) ∙ at in
-      let same = literal_kind_one r.0 value (some_kind (literal_kind r.0) (literal_kind value) kinds_are) in
+      let same = literal_kind_one r.0 value (same_Some (literal_kind r.0) (literal_kind value) kinds_are) in
       (r.2.0 ∙ ap (λ (v : LiteralValue). Literal v from) same, r.2.1))
       (λ others same. (0, λ z. lit≤ tt, (refl, (same ∙ at, refl))))
-    where
-      some_kind : (a b : TokenKind) → Some a ≡ Some b → a ≡ b
-      some_kind a b e = cc
 
   pub read_enumerated :
       (value : EnumeratedValue) → Begins tokens from (openings.Enumerated value) → from < length tokens

@@ -1,4 +1,5 @@
 use Rattle.std.proofs.Common.{◌≡◌, ◌+◌, refl, sym, ap, subst, ◌∙◌, arith, Option, Some, List, [], ◌∷◌, ◌++◌, map}
+use Rattle.std.proofs.lemmas.List.{map_push}
 use Rattle.std.proofs.lemmas.Result.{IfErr-weaker, IfOk-weaker, err_from_is_err_and}
 use Rattle.std.proofs.lemmas.Bool.{false≢true}
 use Rattle.px_lex.specs.declared.sign.Sign.TheVariants as signs
@@ -11,7 +12,7 @@ use Rattle.px_syntax.specs.declared.word.LookWord.{LookWord}
 use Rattle.px_syntax.proofs.Levels.{binary_level}
 use Rattle.px_expr_parse.specs.Tail.{closed, closed_arguments, look_rest, second_argument}
 use Rattle.px_expr_parse.specs.Verdict.{IsFound}
-use Rattle.px_expr_parse.proofs.Arguments.{HasArguments, found_none, last_argument, map_push, missing_last, no_arguments, one_more_argument, refuse_argument}
+use Rattle.px_expr_parse.proofs.Arguments.{HasArguments, found_none, last_argument, missing_last, no_arguments, one_more_argument, refuse_argument}
 use Rattle.px_expr_parse.proofs.Closed.{closed_by, closer_ends, closer_of, comma_closes, found_closed, found_with_sign, missing_close_part, missing_closed, missing_expression, missing_sign_behind}
 use Rattle.px_lex.specs.declared.token.TokenKind.TheVariants as kinds
 use Rattle.px_expr_parse.proofs.Chains.{level}
