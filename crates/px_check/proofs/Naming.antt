@@ -2,9 +2,11 @@
 use Rattle.std.proofs.Common.{◌≡◌, ℕ, ◌-◌, Bool, true, false, cond, List, [], ◌∷◌, ◌++◌, map, length, drop, find, flat_map}
 use Rattle.std.proofs.Common.{Option, Some, None, option_map, refl, sym, ap, ◌∙◌, arith, append_assoc, length-append}
 use Rattle.std.specs.Str.{bytes_eq}
+use Rattle.std.proofs.lemmas.Iterator.Adapters.{option_map_id}
 use Rattle.std.proofs.lemmas.List.{map-append}
 use Rattle.std.proofs.lemmas.Grind.{flat_map-append}
 use Rattle.std.proofs.Math.Seq.{drop-append_seam}
+use Rattle.px_value.proofs.General.{find-map}
 use Rattle.px_syntax.specs.Plan.{DeclarationData, declaration_data}
 use Rattle.px_syntax.specs.Scope.{Global, Head, Node, is_named, searched, declared}
 use Rattle.px_syntax.specs.declared.plan.Declaration.{Declaration}
@@ -17,25 +19,14 @@ use Rattle.px_check.specs.declared.scope.VariableType.{VariableType}
 
 -- ---- lists
 
-pub find_mapped : {X Y Z : Type 0} (p : Y → Bool) (f : X → Y) (g : Y → Z) (xs : List X)
-    → option_map g (find p (map f xs)) ≡ option_map (λ x. g (f x)) (find (λ x. p (f x)) xs)
-find_mapped p f g [] = refl
-find_mapped {X} {Y} {Z} p f g (x ∷ xs) = by (p (f x)) (find_mapped p f g xs)
-  where
-    by : (passes : Bool) → option_map g (find p (map f xs)) ≡ option_map (λ x. g (f x)) (find (λ x. p (f x)) xs)
-        → option_map g (cond passes (Some (f x)) (find p (map f xs)))
-        ≡ option_map (λ x. g (f x)) (cond passes (Some x) (find (λ x. p (f x)) xs))
-    by true rest = refl
-    by false rest = rest
-
 twice_mapped : {X Y Z : Type 0} (f : Y → Z) (g : X → Y) (o : Option X)
     → option_map f (option_map g o) ≡ option_map (λ x. f (g x)) o
 twice_mapped f g None = refl
 twice_mapped f g (Some x) = refl
 
-same_mapped : {X : Type 0} (o : Option X) → option_map (λ x. x) o ≡ o
-same_mapped None = refl
-same_mapped (Some x) = refl
+pub find_mapped : {X Y Z : Type 0} (p : Y → Bool) (f : X → Y) (g : Y → Z) (xs : List X)
+    → option_map g (find p (map f xs)) ≡ option_map (λ x. g (f x)) (find (λ x. p (f x)) xs)
+find_mapped p f g xs = ap (option_map g) (find-map p f xs) ∙ twice_mapped g f (find (λ x. p (f x)) xs)
 
 -- what stands before a list again is dropped again
 pub dropped_over : {X : Type 0} (xs ys : List X) → drop (length (xs ++ ys) - length ys) (xs ++ ys) ≡ ys
@@ -132,7 +123,7 @@ callable_meant name named globals is =
     (λ one. one.1) named)
     ∙ ap (meaning_of name) is
     ∙ find_mapped (λ one. bytes_eq name one.0) (λ (known : Global). (known.name.name, known)) (λ one. one.1) globals
-    ∙ same_mapped (declared globals name)
+    ∙ option_map_id (declared globals name)
 
 -- a declaration more, before the others, of either sort
 pub global_more : (sort : DeclarationData → List Global) (others : List Declaration) (first : Declaration)
