@@ -13,12 +13,9 @@ use Rattle.px_words.specs.Line.{operands_in}
 abbrev pub row_at : Text → List Row → Option Row
 row_at id rows = find (λ r. bytes_eq r.id id) rows
 
-same_text : (x y : Text) → bytes_eq x y ≡ true → x ≡ y
-same_text x y is = (bytes_eq-Decides x y).0 is
-
 -- the id of a row is not that of another argument
 other_id : (x id other : Text) → bytes_eq id other ≡ false → bytes_eq x id ≡ true → bytes_eq x other ≡ false
-other_id x id other differs is = rw (same_text x id is) differs
+other_id x id other differs is = rw ((bytes_eq-Decides x id).0 is) differs
 
 pub other_row : (id other : Text) (how : Reading) (source : ValueSource) (values : List Text) (rows : List Row) → bytes_eq id other ≡ false
     → row_at other (with_values id how source values rows) ≡ row_at other rows

@@ -1,9 +1,11 @@
 -- How a word is spelt: as an operand, as `--`, with short options, or with a long one.
-use Rattle.std.proofs.Common.{true≢false, ◌≡◌, ℕ, suc, ◌+◌, ◌==◌, ◌&&◌, Bool, true, false, not, List, [], ◌∷◌, ◌++◌, Option, Some, None, length, refl, sym, ap, ◌∙◌, arith, inl, inr, is_some, codes, IsUtf8, chars}
-use Rattle.std.specs.Prelude.{◌||◌, nat_le, slice_get, encode_utf8_all, if◌then◌else◌}
+use Rattle.std.proofs.Common.{◌≡◌, ℕ, ◌+◌, ◌==◌, ◌&&◌, Bool, true, false, not, List, [], ◌∷◌, ◌++◌, Option, Some, None, length, refl, ap, arith, inl, inr, is_some, codes, IsUtf8, chars}
+use Rattle.std.specs.Prelude.{nat_le, slice_get, encode_utf8_all, if◌then◌else◌}
 use Rattle.std.specs.Str.{bytes_eq}
 use Rattle.std.specs.Str.Parse.{digits_value}
-use Rattle.std.proofs.lemmas.Bool.{cases_Bool, eqb-true, eq-eqb}
+use Rattle.std.proofs.Math.Nat.{suc-add}
+use Rattle.std.proofs.Math.Numerals.{one-add}
+use Rattle.std.proofs.lemmas.Bool.{cases_Bool, eqb-true, eq-eqb, or_parts}
 use Rattle.std.proofs.lemmas.Str.{IsUtf8-drop, IsCharBoundary-after_ascii, encodes-chars}
 use Rattle.px_value.proofs.General.{differs_turned}
 use Rattle.px_core.specs.Plan.{is_same}
@@ -53,22 +55,12 @@ abbrev parted : List ℕ → List ℕ × Option (List ℕ)
 parted [] = ([], None)
 parted (c ∷ cs) = if c == 61 then ([], Some cs) else (c ∷ (parted cs).0, (parted cs).1)
 
-one_more : (n : ℕ) → 1 + n ≡ suc n
-one_more n = omega arith
-
-two_more : (n : ℕ) → suc n + 1 ≡ suc (n + 1)
-two_more n = omega arith
-
 parted_is : (text : List ℕ) → name_and_value text ≡ parted text
 parted_is [] = refl
 parted_is (c ∷ cs) = elim (cases_Bool (c == 61)) [
   | inl is ↦ rw is refl
-  | inr isnt ↦ rw (isnt, one_more, two_more) (ap (λ (p : List ℕ × Option (List ℕ)). (c ∷ p.0, p.1)) (parted_is cs))
+  | inr isnt ↦ rw (isnt, one-add, suc-add) (ap (λ (p : List ℕ × Option (List ℕ)). (c ∷ p.0, p.1)) (parted_is cs))
 ]
-
-parts_or : (a b : Bool) → (a || b) ≡ false → (a ≡ false) × (b ≡ false)
-parts_or true b e = absurd (cc)
-parts_or false b e = (refl, e)
 
 -- `=` is none of the bytes of a text before it
 no_equals : (a c : ℕ) → (c == 61) ≡ true → (a == 61) ≡ false → (a == c) ≡ false
@@ -88,9 +80,9 @@ splits [] (c ∷ cs) free = elim (cases_Bool (c == 61)) [
 ]
 splits (a ∷ xs) [] free = (refl, refl)
 splits (a ∷ xs) (c ∷ cs) free = elim (cases_Bool (c == 61)) [
-  | inl is ↦ let differs = no_equals a c is (parts_or (a == 61) (has_byte 61 xs) free).0 in rw (is, differs, differs_turned a c differs) (refl, refl)
+  | inl is ↦ let differs = no_equals a c is (or_parts (a == 61) (has_byte 61 xs) free).0 in rw (is, differs, differs_turned a c differs) (refl, refl)
   | inr isnt ↦ rw isnt (elim (cases_Bool (a == c)) [
-    | inl is ↦ let same : a ≡ c = eqb-true a c is in rw (same, eq-eqb c c refl) (splits xs cs (parts_or (a == 61) (has_byte 61 xs) free).1)
+    | inl is ↦ let same : a ≡ c = eqb-true a c is in rw (same, eq-eqb c c refl) (splits xs cs (or_parts (a == 61) (has_byte 61 xs) free).1)
     | inr other ↦ rw (other, differs_turned a c other) (refl, refl)
   ])
 ]
