@@ -22,6 +22,7 @@ use Rattle.px_sem.specs.Expressions.{value}
 use Rattle.px_sem.specs.Step.{step_writes}
 use Rattle.px_sem.specs.World as world
 use Rattle.px_sem.specs.World.{World, NodeRecord, cells_at}
+use Rattle.px_sem.proofs.Writes.{IsTo, found_to}
 use Rattle.px_eval.specs.Arrays.{place_in}
 use Rattle.px_flat.specs.declared.act.Act.{Act}
 use Rattle.px_flat.specs.declared.act.Act.TheVariants as acts
@@ -233,34 +234,6 @@ writes_inside parts (one ∷ going) stand within =
         (record { source = write; inside = inside write refl; is = refl }) rest
 
 -- ---- the write to one variable
-
--- a write to the variable of this name
-record IsTo (plan : List Site) (owner name : List ℕ) (write : Write) : Type 0 where
-  inside : IsInside plan write
-  owner_is : write.owner ≡ owner
-  name_is : write.name ≡ name
-
-found_to : (plan : List Site) (owner name : List ℕ) (writes : List (Option Write))
-    → All (λ write. ForSome write (IsInside plan)) writes → ForSome (write_to owner name writes) (IsTo plan owner name)
-found_to plan owner name [] inside = λ write none. absurd (cc none)
-found_to plan owner name (None ∷ writes) inside =
-    found_to plan owner name writes (All-tail (λ write. ForSome write (IsInside plan)) None writes inside)
-found_to plan owner name (Some first ∷ writes) inside =
-    by (is_same first.owner owner && is_same first.name name) refl
-    (found_to plan owner name writes (All-tail (λ write. ForSome write (IsInside plan)) (Some first) writes inside))
-  where
-    by : (b : Bool) → (is_same first.owner owner && is_same first.name name) ≡ b
-        → ForSome (write_to owner name writes) (IsTo plan owner name)
-        → ForSome (if b then Some first else write_to owner name writes) (IsTo plan owner name)
-    by true is rest = λ write same.
-        let one : first ≡ write = cc same in
-        let both = and_parts (is_same first.owner owner) (is_same first.name name) is in
-        subst (IsTo plan owner name) one (record {
-          inside = All-head (λ write. ForSome write (IsInside plan)) (Some first) writes inside first refl;
-          owner_is = same_text first.owner owner (sym both.0);
-          name_is = same_text first.name name (sym both.1);
-        })
-    by false is rest = rest
 
 -- a write is to a variable where it is told by the variable's first cell
 same_slot : (plan : List Site) (owner name : List ℕ) (write : Write) → IsSound plan → (declared : IsDeclared plan owner name)
@@ -485,14 +458,14 @@ slot_after parts going cells owner name found declared stand within all is = by 
         block_is size first after (set block at write.value) (length-set block at write.value ∙ sized)
         (omega (arith, long, room)) (λ i few. cell i few (Some write) is ∙ same i few)
       where
-        to : IsTo plan owner name write
-        to = found_to plan owner name (all_writes parts going) inside write is
+        to : IsTo (IsInside plan) owner name write
+        to = found_to (IsInside plan) owner name (all_writes parts going) inside write is
 
         at : ℕ
         at = cell_of write.place
 
         place_is : place_of plan write.owner write.name ≡ declared.has.place
-        place_is = (λ i. place_of plan (to.owner_is i) (to.name_is i)) ∙ place_at plan owner name sound declared
+        place_is = (λ i. place_of plan (to.1 i) (to.2 i)) ∙ place_at plan owner name sound declared
 
         first_is : (place_of plan write.owner write.name).first ≡ first
         first_is = ap (λ (place : Place). place.first) place_is
@@ -500,8 +473,8 @@ slot_after parts going cells owner name found declared stand within all is = by 
         few_at : at < size
         few_at = omega (
           arith,
-          to.inside.inside,
-          ap (λ (place : Place). place.size) (sym (place_at plan write.owner write.name sound to.inside.declared) ∙ place_is),
+          to.0.inside,
+          ap (λ (place : Place). place.size) (sym (place_at plan write.owner write.name sound to.0.declared) ∙ place_is),
         )
 
         same : (i : ℕ) → i < size
