@@ -1,4 +1,4 @@
--- The first that wants, from the writers of a variable on, is the one of its writers that goes first.
+-- The first writer of a variable that wants it is the one that goes first.
 use Rattle.std.proofs.Common.{◌≡◌, ℕ, ◌<◌, ◌≤◌, Bool, true, false, not, ◌&&◌, ◌||◌, List, length, get_or, Some, refl, ap, sym, ◌∙◌, subst, arith, inl, inr}
 use Rattle.std.specs.Prelude.{nat_eq, nat_lt}
 use Rattle.std.specs.List.{position_or_len}
@@ -11,11 +11,8 @@ use Rattle.std.proofs.lemmas.Option.{same_Some, slice_get-get_or}
 use Rattle.px_core.specs.Plan.{Site}
 use Rattle.px_assign.specs.Conflicts.{variable_of, priority_of, goes_before}
 use Rattle.px_claims.specs.declared.order.Writer.{Writer}
-use Rattle.px_claims.specs.Ordering.{AreInOrder, IsWriter, first_wanting, stands_before}
-
--- a writer stands from those of this variable on, and wants what it writes
-abbrev pub is_candidate : (ℕ → Bool) → ℕ → Writer → Bool
-is_candidate wants variable writer = not (nat_lt writer.variable variable) && wants writer.node
+use Rattle.px_claims.specs.Ordering.{AreInOrder, IsWriter, first_wanting, is_wanting, stands_before}
+use Rattle.px_claims.proofs.Places.{not_behind}
 
 -- a node writes the variable and wants it, and none that does goes before
 pub record GoesFirst (plan : List Site) (wants : ℕ → Bool) (variable node : ℕ) : Type 0 where
@@ -67,43 +64,27 @@ module _ (plan : List Site) (writers : List Writer) (are : AreInOrder plan write
       }
 
   passes : (node : ℕ) → wants node ≡ true → (at : StandsAt plan writers variable node)
-      → is_candidate wants variable at.writer ≡ true
+      → is_wanting wants variable (get_or writers at.place at.writer) ≡ true
   passes node want at =
-      and_from (not (nat_lt at.writer.variable variable)) (wants at.writer.node)
-      (ap not (le-ltb at.writer.variable variable (omega (arith, at.variable_is))))
+      ap (is_wanting wants variable) at.is
+      ∙ and_from (nat_eq at.writer.variable variable) (wants at.writer.node)
+      (eq-eqb at.writer.variable variable at.variable_is)
       (ap wants at.node_is ∙ want)
-
-  -- none that passes stands before the first that does
-  not_before : (at : ℕ) (writer : Writer) → is_candidate wants variable (get_or writers at writer) ≡ true
-      → position_or_len (is_candidate wants variable) writers ≤ at
-  not_before at writer is = elim (cases_lt at (position_or_len (is_candidate wants variable) writers)) [
-    | inl below ↦ absurd (false≢true (sym (fails_before_first (is_candidate wants variable) writers at writer below) ∙ is))
-    | inr from ↦ from
-  ]
 
   pub first_is : (wanting : ℕ) → wanting < length plan → variable_of plan wanting ≡ Some variable → wants wanting ≡ true
       → (node : ℕ) × (first_wanting wants writers variable ≡ Some node) × GoesFirst plan wants variable node
   first_is wanting within is want =
-      let test : Writer → Bool = is_candidate wants variable in
+      let test : Writer → Bool = is_wanting wants variable in
       let at = stands_at wanting within is in
       let d : Writer = at.writer in
       let first : ℕ = position_or_len test writers in
-      let up_to : first ≤ at.place =
-      not_before at.place d (ap test at.is ∙ passes wanting want at) in
-      let inside : first < length writers = omega (arith, up_to, at.inside) in
+      let inside : first < length writers =
+      omega (arith, not_behind test writers at.place d (passes wanting want at), at.inside) in
       let found : Writer = get_or writers first d in
-      let both = and_parts (not (nat_lt found.variable variable)) (wants found.node)
+      let both = and_parts (nat_eq found.variable variable) (wants found.node)
       (passes_at_first test writers d inside) in
       let says : IsWriter plan found = are.whole.each first d inside in
-      let low : variable ≤ found.variable = ltb-false found.variable variable (not-true (nat_lt found.variable variable) both.0) in
-      let ordered : stands_before at.writer found ≡ false =
-      sym (ap (λ writer. stands_before writer found) at.is) ∙ are.order first at.place d up_to at.inside in
-      let high : found.variable ≤ at.writer.variable =
-      ltb-false at.writer.variable found.variable (or_parts (nat_lt at.writer.variable found.variable)
-      (nat_eq at.writer.variable found.variable
-      && (nat_lt at.writer.priority found.priority
-      || (nat_eq at.writer.priority found.priority && nat_lt at.writer.node found.node))) ordered).0 in
-      let own : found.variable ≡ variable = omega (arith, low, high, at.variable_is) in (
+      let own : found.variable ≡ variable = eqb-true found.variable variable both.0 in (
         found.node,
         ap (option_map (λ (writer : Writer). writer.node)) (find_at test writers ∙ slice_get-get_or writers first d inside),
         record {
@@ -112,8 +93,7 @@ module _ (plan : List Site) (writers : List Writer) (are : AreInOrder plan write
           wanted = both.1;
           before = λ other there writes wanted.
               let behind = stands_at other there writes in
-              let past : first ≤ behind.place =
-              not_before behind.place behind.writer (ap test behind.is ∙ passes other wanted behind) in
+              let past : first ≤ behind.place = not_behind test writers behind.place behind.writer (passes other wanted behind) in
               same_variable plan behind.writer found other found.node behind.node_is refl behind.priority_is says.priority
               (behind.variable_is ∙ sym own)
               (sym (λ i. stands_before (behind.is i) (get_or_default writers first behind.writer d inside i))

@@ -1,6 +1,6 @@
 pub mod Contested
 pub mod First
-pub mod Search
+pub mod Places
 pub mod Sorting
 pub mod Table
 pub mod Variables

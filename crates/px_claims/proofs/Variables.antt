@@ -14,8 +14,9 @@ use Rattle.px_flat.proofs.Tables.{flat_sound}
 use Rattle.px_flat.proofs.Withins.{node_is_within}
 use Rattle.px_assign.specs.Conflicts.{variable_of, written}
 use Rattle.px_tally.specs.Tally.{TallyData, nobody}
-use Rattle.px_claims.specs.Keeping.{AreTallies}
-use Rattle.px_claims.specs.Ordering.{variables_of}
+use Rattle.px_claims.specs.declared.order.Writer.{Writer}
+use Rattle.px_claims.specs.Keeping.{AreRanks, AreTallies, IsRanked}
+use Rattle.px_claims.specs.Ordering.{IsWriter, variables_of}
 
 abbrev IsVariable : List Site → Option ℕ → Type 0
 IsVariable plan written = IfSome written (λ variable. variable < variable_cells plan)
@@ -70,3 +71,18 @@ two_tallies flat wanting holding wants holds =
       holding_sized = length-replicate (length (variables_of (plan_of flat))) false;
       within = written_there flat;
     }))
+
+-- ---- places of writers
+
+-- the writers of a plan, and their places
+pub ranked : (plan : List Site) (writers : List Writer) (ranks : List ℕ) → All (IsWriter plan) writers
+    → length ranks ≡ length plan → AreRanks writers ranks → IsRanked (variables_of plan) writers ranks
+ranked plan writers ranks each sized right = record {
+  nodes = λ k d inside. omega (arith, (each k d inside).within, length-variables plan);
+  groups = λ k d inside.
+      get_or-map-range_with_len (variable_of plan) 0 (length plan) (get_or writers k d).node (get_or writers k d).node None
+      (each k d inside).within (omega arith)
+      ∙ (each k d inside).variable;
+  sized = sized ∙ sym (length-variables plan);
+  right = right;
+}

@@ -1,6 +1,6 @@
 -- The writers of variables, in the order in which they go.
-use Rattle.std.specs.Prelude.{◌≡◌, ℕ, ◌<◌, ◌≤◌, Bool, true, false, not, ◌&&◌, ◌||◌, nat_eq, nat_lt, List, length, map, slice_index_or, Option, Some, All}
-use Rattle.std.specs.List.{list_any, find, range_with_len}
+use Rattle.std.specs.Prelude.{◌≡◌, ℕ, ◌<◌, ◌≤◌, Bool, true, false, not, ◌&&◌, ◌||◌, nat_eq, nat_lt, List, length, map, slice_get, slice_index_or, Option, Some, All}
+use Rattle.std.specs.List.{list_any, find, position_or_len, range_with_len}
 use Rattle.std.specs.Option.{option_map}
 use Rattle.px_core.specs.Plan.{Site}
 use Rattle.px_assign.specs.Conflicts.{variable_of, priority_of}
@@ -39,7 +39,24 @@ pub record AreInOrder (plan : List Site) (writers : List Writer) : Type 0 where
   pub whole : AreWriters plan writers
   pub order : IsOrdered writers
 
--- the first of them that wants what it writes, from the writers of this variable on
+-- it is a writer of this variable, and wants it
+abbrev pub is_wanting : (ℕ → Bool) → ℕ → Writer → Bool
+is_wanting wants variable writer = nat_eq writer.variable variable && wants writer.node
+
+-- the first of the variable's writers that wants it
 abbrev pub first_wanting : (ℕ → Bool) → List Writer → ℕ → Option ℕ
-first_wanting wants writers variable = option_map (λ (writer : Writer). writer.node)
-    (find (λ (writer : Writer). not (nat_lt writer.variable variable) && wants writer.node) writers)
+first_wanting wants writers variable =
+    option_map (λ (writer : Writer). writer.node) (find (is_wanting wants variable) writers)
+
+-- and its place, or behind all where none does
+abbrev pub place_wanting : (ℕ → Bool) → List Writer → ℕ → ℕ
+place_wanting wants writers variable = position_or_len (is_wanting wants variable) writers
+
+-- the writer at a variable's place
+abbrev pub first_at : List ℕ → List Writer → ℕ → Option ℕ
+first_at places writers variable =
+    option_map (λ (writer : Writer). writer.node) (slice_get writers (slice_index_or places variable (length writers)))
+
+-- all that want but one node
+abbrev pub but_for : ℕ → (ℕ → Bool) → ℕ → Bool
+but_for node wants other = wants other && not (nat_eq other node)

@@ -6,7 +6,8 @@ ghost use Rattle.px_flat.specs.Flat.{plan_of};
 ghost use Rattle.px_claims.specs.Claims.{with_wanting, with_holding, AreAllStarting, AreNobodys, AreOf, AreWinners};
 
 use crate::contest::{judge, winners};
-use crate::order::{Writer, variables, writers};
+use crate::firsts::Firsts;
+use crate::order::{variables, writers};
 use px_flat::Flat;
 use px_links::Links;
 use px_tally::Tally;
@@ -18,7 +19,8 @@ use std::marker::Model;
 /// those whose variable is held or not wanted. No call but `new` and `winners` takes memory.
 #[derive(Drop)]
 pub struct Claims {
-    writers: Vec<Writer>,
+    /// The writers of each variable in their order, and the first of them that would start.
+    firsts: Firsts,
     /// The nodes that would start, by the variable that they write.
     wanting: Tally,
     /// The nodes at work, by the variable that they write.
@@ -47,20 +49,22 @@ impl Claims {
     {
         let cells = flat.variable_cells();
         Ok(Claims {
-            writers: writers(alloc, flat)?,
+            firsts: Firsts::new(alloc, writers(alloc, flat)?, flat.nodes(), cells)?,
             wanting: Tally::new(alloc, cells, variables(alloc, flat)?)?,
             holding: Tally::new(alloc, cells, variables(alloc, flat)?)?,
             contested: Links::new(alloc, cells, 1)?,
         })
     }
 
-    /// From now on the node would start, or it wouldn't.
+    /// From now on the node would start, or it wouldn't. Where it went first, and others of its variable would start, it
+    /// costs a walk to the next of them.
     pub fn want(&mut self, node: u32, wants: bool)
         requires { node < length self.old.variables }
         ensures { self.new ≡ with_wanting self.old node wants }
     {
         self.wanting.set(node, wants);
         if let Some(variable) = self.wanting.group(node) {
+            self.firsts.turn(&self.wanting, node, variable);
             judge(&self.wanting, &self.holding, &mut self.contested, variable);
         }
     }
@@ -78,7 +82,7 @@ impl Claims {
 
     /// The writers that go, each once: of each variable that nobody holds the one of those that would start whose priority
     /// number is the lowest, and of these the earliest (PLEXIL reference manual, "Assignment Nodes"). It costs a look at each
-    /// variable for which one goes, and at its writers up to that one.
+    /// variable for which one goes.
     pub fn winners(&self, alloc: Global) -> Result<Vec<u32>, NoMemory>
         ensures winners { (plan : List Site) → AreOf plan self.now
             → IfOk result (λ winners. AreWinners plan self.now winners.items) }
@@ -86,6 +90,6 @@ impl Claims {
             → IfOk result (λ winners. AreAllStarting (plan_of flat) self.now winners.items) }
     {
         self.contested.each_once();
-        winners(alloc, &self.writers, &self.wanting, &self.contested)
+        winners(alloc, &self.firsts, &self.contested)
     }
 }

@@ -1,13 +1,11 @@
 // Variables that are wanted and not held, and the first that wants one.
-ghost use Rattle.std.specs.Prelude.{◌≡◌, ◌<◌, length, filter_map, Some, None, All, IfOk, IfSome, if◌then◌else◌};
+ghost use Rattle.std.specs.Prelude.{◌≡◌, ◌<◌, length, filter_map, Some, None, IfOk, IfSome, if◌then◌else◌};
 ghost use Rattle.px_links.specs.Links.{holder_of, HoldsOthersAsBefore, SameCounts};
 ghost use Rattle.px_links.specs.Lists.{nth};
-ghost use Rattle.px_tally.specs.Tally.{is_counted};
-ghost use Rattle.px_claims.specs.declared.order.Writer.{Writer};
 ghost use Rattle.px_claims.specs.Keeping.{is_contested};
-ghost use Rattle.px_claims.specs.Ordering.{first_wanting, IsOrdered};
+ghost use Rattle.px_claims.specs.Ordering.{first_at};
 
-use crate::order::Writer;
+use crate::firsts::Firsts;
 use px_links::Links;
 use px_tally::Tally;
 use px_value::NoMemory;
@@ -34,39 +32,21 @@ pub(crate) fn judge(wanting: &Tally, holding: &Tally, contested: &mut Links, var
     }
 }
 
-// The first of the writers of a variable that would start. The writers of no variable before stand behind the place where
-// the search begins; where some writer of the variable would start, the first that would is one of its own.
-fn first_wanting(writers: &[Writer], wanting: &Tally, variable: u32) -> Option<u32>
-    requires order { IsOrdered writers.now }
-    requires nodes { All (λ (writer : Writer). writer.node < length wanting.now.group_of) writers.now }
-    ensures { result ≡ first_wanting (is_counted wanting.now) writers.now variable }
-{
-    let from = writers.partition_point(|writer| writer.variable < variable);
-    for writer in &writers[from..] {
-        if wanting.counts(writer.node) {
-            return Some(writer.node);
-        }
-    }
-    None
-}
-
 /// Of each contested variable the first of its writers that would start.
 pub(crate) fn winners(
     alloc: Global,
-    writers: &[Writer],
-    wanting: &Tally,
+    firsts: &Firsts,
     contested: &Links,
 ) -> Result<Vec<u32>, NoMemory>
-    requires order { IsOrdered writers.now }
-    requires nodes { All (λ (writer : Writer). writer.node < length wanting.now.group_of) writers.now }
+    requires variables { length firsts.now.places.items ≡ contested.now.cells }
     requires list { 0 < length contested.now.lists }
     ensures { IfOk result (λ winners. winners.items
-        ≡ filter_map (first_wanting (is_counted wanting.now) writers.now) (nth contested.now.lists 0)) }
+        ≡ filter_map (first_at firsts.now.places.items firsts.now.writers.items) (nth contested.now.lists 0)) }
 {
     let mut winners = Vec::new(alloc);
     let mut at = contested.first(CONTESTED);
     while let Some(variable) = at {
-        if let Some(node) = first_wanting(writers, wanting, variable) {
+        if let Some(node) = firsts.first(variable) {
             winners.push(node)?;
         }
         at = contested.next(variable);

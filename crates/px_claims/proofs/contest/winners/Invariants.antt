@@ -2,14 +2,13 @@ use Rattle.std.proofs.Common.{◌≡◌, ◌<◌, ◌++◌, length, Some, IfSome
 use Rattle.std.specs.List.{filter_map}
 use Rattle.px_links.specs.Links.{holder_of, rest_of}
 use Rattle.px_links.specs.Lists.{nth}
-use Rattle.px_tally.specs.Tally.{is_counted}
-use Rattle.px_claims.specs.Ordering.{first_wanting}
+use Rattle.px_claims.specs.Ordering.{first_at}
 use Rattle.px_claims.proofs.contest.winners.Given as goal
 
 abbrev pub invariant-loop-at : goal.invariant-loop-at
 invariant-loop-at l =
-    (filter_map (first_wanting (is_counted l.wanting) l.writers) (nth l.contested.lists 0)
-    ≡ l.winners.items ++ filter_map (first_wanting (is_counted l.wanting) l.writers) (rest_of l.contested l.at))
+    (filter_map (first_at l.firsts.places.items l.firsts.writers.items) (nth l.contested.lists 0)
+    ≡ l.winners.items ++ filter_map (first_at l.firsts.places.items l.firsts.writers.items) (rest_of l.contested l.at))
     × (IfSome l.at (λ variable. variable < l.contested.cells)
     × IfSome l.at (λ variable. holder_of l.contested variable ≡ Some 0))
 

@@ -13,11 +13,13 @@ invariant_of-self c =
     let is = c.set.ensures.tally in
     let of : get_or t.holding.group_of c.args.node None ≡ Some c.in-Some.variable =
     sym (ap (λ (tally : TallyData). get_or tally.group_of c.args.node None) is) ∙ sym c.group.ensures ∙ c.in-Some.is in
-    subst (λ (now : TallyData). IsKept (record { writers = t.writers; wanting = t.wanting; holding = now; contested = c.judge.new.contested })) (sym is)
+    subst (λ (now : TallyData). IsKept (record { firsts = t.firsts; wanting = t.wanting; holding = now; contested = c.judge.new.contested })) (sym is)
     (record {
       order = kept.order;
-      nodes = kept.nodes;
       tallies = held_tallies t.wanting t.holding kept.tallies c.args.node c.args.holds;
+      ranked = kept.ranked;
+      variables = kept.variables;
+      firsts = kept.firsts;
       cells = c.judge.ensures.counts.0 ∙ kept.cells;
       lists = c.judge.ensures.counts.1 ∙ kept.lists;
       contested = held_then t.wanting t.holding kept.tallies c.args.node c.args.holds t.contested c.judge.new.contested
@@ -33,11 +35,13 @@ invariant_of-self-in_default c =
     let is = c.set.ensures.tally in
     let none : get_or t.holding.group_of c.args.node None ≡ None =
     sym (ap (λ (tally : TallyData). get_or tally.group_of c.args.node None) is) ∙ sym c.group.ensures ∙ c.in_default.is in
-    subst (λ (now : TallyData). IsKept (record { writers = t.writers; wanting = t.wanting; holding = now; contested = t.contested })) (sym is)
+    subst (λ (now : TallyData). IsKept (record { firsts = t.firsts; wanting = t.wanting; holding = now; contested = t.contested })) (sym is)
     (record {
       order = kept.order;
-      nodes = kept.nodes;
       tallies = held_tallies t.wanting t.holding kept.tallies c.args.node c.args.holds;
+      ranked = kept.ranked;
+      variables = kept.variables;
+      firsts = kept.firsts;
       cells = kept.cells;
       lists = kept.lists;
       contested = held_alone t.wanting t.holding kept.tallies c.args.node c.args.holds t.contested kept.contested none;

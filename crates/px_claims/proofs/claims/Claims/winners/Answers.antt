@@ -9,7 +9,8 @@ use Rattle.px_links.specs.Lists.{nth}
 use Rattle.px_tally.specs.Tally.{is_counted}
 use Rattle.px_claims.specs.Claims.{AreAllStarting, AreOf, AreWinners}
 use Rattle.px_claims.specs.Keeping.{claims_data}
-use Rattle.px_claims.specs.Ordering.{first_wanting}
+use Rattle.px_claims.specs.Ordering.{first_at, first_wanting}
+use Rattle.px_claims.proofs.Places.{first_found}
 use Rattle.px_claims.proofs.Table.{only_list}
 use Rattle.px_claims.proofs.Variables.{IsTallyOf, length-variables}
 use Rattle.px_claims.proofs.Winning.{each, once, starting, within}
@@ -17,8 +18,18 @@ use Rattle.px_claims.proofs.claims.Claims.winners.Goals as goal
 use Rattle.px_claims.proofs.claims.Claims.winners.Goals.{After-winners}
 
 abbrev firsts : After-winners → List ℕ
-firsts c = filter_map (first_wanting (is_counted c.self.inside.wanting) c.self.inside.writers.items)
+firsts c = filter_map (first_wanting (is_counted c.self.inside.wanting) c.self.inside.firsts.writers.items)
     (nth c.self.inside.contested.lists 0)
+
+-- as they are told by their places
+abbrev told : After-winners → List ℕ
+told c = filter_map (first_at c.self.inside.firsts.places.items c.self.inside.firsts.writers.items)
+    (nth c.self.inside.contested.lists 0)
+
+told_firsts : (c : After-winners) → told c ≡ firsts c
+told_firsts c = ap (λ first. filter_map first (nth c.self.inside.contested.lists 0)) (λ i variable.
+    first_found c.self.inside.wanting c.self.inside.firsts.writers.items c.self.inside.firsts.places.items
+    c.self.invariant.firsts variable i)
 
 module _ (c : After-winners) (plan : List Site) (of : AreOf plan c.args.self.now) where
   -- what they are, said of the fields
@@ -47,11 +58,11 @@ module _ (c : After-winners) (plan : List Site) (of : AreOf plan c.args.self.now
 
   are : AreWinners plan (claims_data c.self.inside) (firsts c)
   are = record {
-    once = once plan c.self.inside.writers.items known.writers c.self.inside.wanting c.self.inside.holding wanted held
+    once = once plan c.self.inside.firsts.writers.items known.writers c.self.inside.wanting c.self.inside.holding wanted held
         c.self.inside.contested c.self.invariant.contested some apart;
-    within = within plan c.self.inside.writers.items known.writers c.self.inside.wanting c.self.inside.holding wanted held
+    within = within plan c.self.inside.firsts.writers.items known.writers c.self.inside.wanting c.self.inside.holding wanted held
         c.self.inside.contested c.self.invariant.contested some;
-    each = each plan c.self.inside.writers.items known.writers c.self.inside.wanting c.self.inside.holding wanted held
+    each = each plan c.self.inside.firsts.writers.items known.writers c.self.inside.wanting c.self.inside.holding wanted held
         c.self.inside.contested c.self.invariant.contested some;
   }
 
@@ -64,24 +75,18 @@ module _ (c : After-winners) (plan : List Site) (of : AreOf plan c.args.self.now
 pub returns-clause-winners : goal.returns-clause-winners
 returns-clause-winners c plan of =
     let at = (goal.at.returns-clause-winners c).After-winners in
-    let lists = nth c.self.inside.contested.lists 0 in
-    IfOk-weaker c.winners.result
-    (λ winners. winners.items ≡ filter_map (first_wanting (is_counted c.self.inside.wanting) c.deref.result.now) lists)
+    IfOk-weaker c.winners.result (λ winners. winners.items ≡ told at)
     (λ winners. AreWinners plan c.args.self.now winners.items)
-    (λ winners is. subst (AreWinners plan c.args.self.now)
-    (sym (is ∙ ap (λ writers. filter_map (first_wanting (is_counted c.self.inside.wanting) writers) lists) c.deref.ensures.value))
+    (λ winners is. subst (AreWinners plan c.args.self.now) (sym (is ∙ told_firsts at))
     (subst (λ claims. AreWinners plan claims (firsts at)) c.self.view_is (are at plan of)))
     c.winners.ensures
 
 pub returns-clause-starting : goal.returns-clause-starting
 returns-clause-starting c flat of =
     let at = (goal.at.returns-clause-starting c).After-winners in
-    let lists = nth c.self.inside.contested.lists 0 in
-    IfOk-weaker c.winners.result
-    (λ winners. winners.items ≡ filter_map (first_wanting (is_counted c.self.inside.wanting) c.deref.result.now) lists)
+    IfOk-weaker c.winners.result (λ winners. winners.items ≡ told at)
     (λ winners. AreAllStarting (plan_of flat) c.args.self.now winners.items)
-    (λ winners is. subst (AreAllStarting (plan_of flat) c.args.self.now)
-    (sym (is ∙ ap (λ writers. filter_map (first_wanting (is_counted c.self.inside.wanting) writers) lists) c.deref.ensures.value))
+    (λ winners is. subst (AreAllStarting (plan_of flat) c.args.self.now) (sym (is ∙ told_firsts at))
     (subst (λ claims. AreAllStarting (plan_of flat) claims (firsts at)) c.self.view_is
     (start at (plan_of flat) of (flat_sound flat))))
     c.winners.ensures
