@@ -3,6 +3,7 @@ use Rattle.std.proofs.Common.{◌≡◌, ◌≤◌, inl, inr, ℕ, true, List, [
 use Rattle.std.specs.Prelude.{◌&&◌, ◌==◌, is_none}
 use Rattle.std.specs.Option.{option_map}
 use Rattle.std.proofs.lemmas.Bool.{and_parts, and_from, cases_Bool}
+use Rattle.std.proofs.lemmas.Option.{same_Some}
 use Rattle.px_event.specs.Fit.{is_fit_entry, is_interface, is_report_name}
 use Rattle.px_event.specs.Names.{name_of, are_names}
 use Rattle.px_event.specs.Reading.{decoded, decoded_named}
@@ -10,7 +11,7 @@ use Rattle.px_event.specs.declared.entry.Entry.{Entry}
 use Rattle.px_event.specs.declared.named.NamedEntry.{NamedEntry}
 use Rattle.px_event.specs.declared.names.ThreadName.{ThreadName}
 use Rattle.px_event.proofs.Entries.{decoded_takes, decoded_again, entry_short}
-use Rattle.px_event.proofs.Fields.{IsBytes, some_is}
+use Rattle.px_event.proofs.Fields.{IsBytes}
 use Rattle.px_event.proofs.Interfaces.{named_decoded_takes, named_decoded_again, named_short}
 use Rattle.px_event.proofs.Wholes.{one_spelled}
 use Rattle.px_journal.specs.Journal.{name_given}
@@ -29,7 +30,7 @@ unnamed_is (Some name) entry none = absurd cc
 
 some_unnamed : (read : Option Entry) (named : NamedEntry) → option_map unnamed read ≡ Some named → (entry : Entry) × (read ≡ Some entry) × (unnamed entry ≡ named)
 some_unnamed None named e = absurd cc
-some_unnamed (Some entry) named e = (entry, refl, some_is (unnamed entry) named e)
+some_unnamed (Some entry) named e = (entry, refl, same_Some (unnamed entry) named e)
 
 -- in either version the entry is fit
 pub entry_fits : (version : Version) (named : NamedEntry) → is_fit version named ≡ true → is_fit_entry named.entry ≡ true

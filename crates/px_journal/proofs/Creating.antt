@@ -1,5 +1,5 @@
 -- What each moment of a creation leaves: the closed master gate, what goes behind it, and the open one.
-use Rattle.std.proofs.Common.{◌≡◌, ◌≢◌, ◌≤◌, ◌<◌, ◌+◌, ◌⊎◌, inl, inr, ⊎_elim, ℕ, Bool, true, false, List, [], ◌∷◌, ◌++◌, length, take, drop, refl, sym, ◌∙◌, ap, subst, arith, append_assoc, IsTrue}
+use Rattle.std.proofs.Common.{◌≡◌, ◌≢◌, ◌≤◌, ◌<◌, ◌+◌, ◌⊎◌, inl, inr, ⊎_elim, ℕ, true, false, List, [], ◌∷◌, ◌++◌, length, take, drop, refl, sym, ◌∙◌, ap, subst, arith, append_assoc, IsTrue}
 use Rattle.std.specs.Prelude.{Some, None, Result, Ok, Err, OnOk, IsFalse, is_some, nat_lt, slice_range, slice_index}
 use Rattle.std.specs.Option.{ForSome, option_map}
 use Rattle.std.proofs.lemmas.Bool.{cases_Bool, or_left, or_right, or_from}
@@ -31,9 +31,6 @@ closed_nothing bytes closed = or_right _ _ closed
 
 pub not_nothing : (bytes : List ℕ) → 13 ≤ length bytes → is_closed bytes ≡ false → IsFalse (is_nothing bytes)
 not_nothing bytes long shut = or_from _ _ (long_test (length bytes) long) shut
-
-pub nothing_or_not : (test : Bool) → IsTrue test → IsFalse test → ⊥
-nothing_or_not test is is_not = let both : true ≡ false = sym is ∙ is_not in cc
 
 -- the first byte that was read
 pub gate_closed : (told gate : List ℕ) → 13 ≤ length told → gate ≡ slice_range told 0 1 → slice_index gate 0 ≡ 0 → IsTrue (is_closed told)

@@ -1,12 +1,13 @@
 -- From one call of a disk to the next: what it keeps over both, and how its faults are counted.
-use Rattle.std.proofs.Common.{◌≡◌, ◌≢◌, ◌≤◌, ℕ, Bool, List, length, Option, refl, ◌∙◌, ap, arith}
+use Rattle.std.proofs.Common.{◌≡◌, ◌≢◌, ◌≤◌, ℕ, Bool, List, length, Option, refl, sym, ◌∙◌, ap, arith}
 use Rattle.std.proofs.lemmas.List.{take_all}
 use Rattle.std.specs.Prelude.{Result, Ok, Err, IsErrAnd, is_some}
+use Rattle.px_value.proofs.General.{begins_further}
 use Rattle.px_ports.specs.Disk.{CountsFaults, OnlyReads, StaysAttached}
 use Rattle.px_ports.specs.Host.{Rose}
 use Rattle.px_ports.specs.declared.disk.Disk
 use Rattle.px_journal.specs.Goes.{RisesWhere, Goes, Reads}
-use Rattle.px_journal.proofs.Moments.{grows_on, reads_on}
+use Rattle.px_journal.proofs.Moments.{reads_on}
 
 -- ---- counts
 
@@ -24,18 +25,21 @@ rises_then {F} {G} {first} {before} {now} early unfailed late = record {
   kept = λ right. late.kept right ∙ early.kept unfailed;
 }
 
+-- a fault that is handed on is the fault that came
+pub err_is : {T E : Type 0} (result : Result T E) (given came : E) → IsErrAnd result (λ handed. handed ≡ came) → result ≡ Err given → came ≡ given
+err_is (Ok value) given came handed same = absurd handed
+err_is (Err fault) given came handed same = sym handed ∙ (let is : fault ≡ given = cc in is)
+
 -- an error that `?` hands on is the call's
 pub handed_to : {T U E : Type 0} {result : Result U E} {came why : E} → IsErrAnd result (λ given. given ≡ came) → ◌≡◌ {A = Result T E} (Err came) (Err why) → result ≡ Err why
 handed_to {result = Ok value} handed same = absurd handed
 handed_to {result = Err given} handed same = cc
 
 pub handed_from : {T U E : Type 0} {result : Result U E} {came why : E} → IsErrAnd result (λ given. given ≡ came) → result ≡ Err why → ◌≡◌ {A = Result T E} (Err came) (Err why)
-handed_from {result = Ok value} handed same = absurd handed
-handed_from {result = Err given} handed same = cc
+handed_from handed same = ap Err (err_is _ _ _ handed same)
 
 pub other_fault : {U E : Type 0} {result : Result U E} {came why : E} → IsErrAnd result (λ given. given ≡ came) → came ≢ why → result ≡ Err why → ⊥
-other_fault {result = Ok value} handed other same = absurd handed
-other_fault {result = Err given} handed other same = other cc
+other_fault handed other same = other (err_is _ _ _ handed same)
 
 -- the same failure, told in other words
 pub rises_told : {F G : Type 0} {before now : ℕ} → RisesWhere F before now → (F → G) → (G → F) → RisesWhere G before now
@@ -101,7 +105,7 @@ module _ {D : Type 0} (members : Disk.Ghosts D) where
   pub goes_then : {F G : Type 0} {old mid new : D} → Goes members F old mid → ¬ F → Goes members G mid new → Goes members G old new
   goes_then early unfailed late = record {
     tells = late.tells ∙ early.tells;
-    grows = grows_on _ _ _ early.grows late.grows;
+    grows = begins_further _ _ _ early.grows late.grows;
     stays = stays_on early.stays late.stays;
     faults = rises_then early.faults unfailed late.faults;
   }

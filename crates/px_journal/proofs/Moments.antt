@@ -4,6 +4,7 @@ use Rattle.std.specs.Prelude.{Result, Ok, Err}
 use Rattle.std.proofs.lemmas.Bool.{cases_lt}
 use Rattle.std.proofs.lemmas.List.{take-take, take_all, length-take}
 use Rattle.std.specs.Option.{ForSome}
+use Rattle.px_value.proofs.General.{begins_further}
 use Rattle.px_ports.specs.Disk.{Told, OnlyReads, Writes, Syncs}
 use Rattle.px_ports.specs.Moment.{Images, LeftSince, Torn, Elapses, Stays}
 use Rattle.px_ports.specs.declared.disk.DiskFault.{DiskFault}
@@ -12,10 +13,6 @@ use Rattle.px_journal.specs.Crash.{Puts, LeavesOnly}
 
 pub grows_length : (old new : List Moment) → take (length old) new ≡ old → length old ≤ length new
 grows_length old new grows = omega (arith, ap length grows, length-take (length old) new)
-
-pub grows_on : (old mid new : List Moment) → take (length old) mid ≡ old → take (length mid) new ≡ mid → take (length old) new ≡ old
-grows_on old mid new first second =
-    sym (take-take (length old) (length mid) new (grows_length old mid first)) ∙ ap (λ (ms : List Moment). take (length old) ms) second ∙ first
 
 module _ (images : Images) where
   -- what a crash now may leave is among what one since an earlier moment may leave
@@ -37,7 +34,7 @@ module _ (images : Images) where
   pub elapses_on : (step : List ℕ → List ℕ → Type 0) (old mid new : List Moment) → Elapses images step old mid → Elapses images Stays mid new
       → Elapses images step old new
   elapses_on step old mid new first second = record {
-    grows = grows_on old mid new first.grows second.grows;
+    grows = begins_further old mid new first.grows second.grows;
     each = λ image left. ⊎_elim
         (λ early. first.each image early)
         (λ late.
@@ -78,7 +75,7 @@ module _ (images : Images) where
 
     pub leaves_on : (old mid new : List Moment) → LeavesOnly images left old mid → LeavesOnly images left mid new → LeavesOnly images left old new
     leaves_on old mid new first second = record {
-      grows = grows_on old mid new first.grows second.grows;
+      grows = begins_further old mid new first.grows second.grows;
       each = λ image since. ⊎_elim (λ early. first.each image early) (λ late. second.each image late)
           (left_before_or_after mid new (length old) image second.grows since);
     }

@@ -1,7 +1,7 @@
 -- Bytes that aren't nothing stand for a text and a history, or are damaged at some place.
 use Rattle.std.proofs.Common.{◌≡◌, ◌≢◌, ◌≤◌, ◌<◌, ◌+◌, ◌⊎◌, inl, inr, ℕ, zero, suc, false, List, [], ◌∷◌, ◌++◌, Option, Some, None, length, take, drop, refl, sym, ◌∙◌, ap, arith, length-append, take-add, IsTrue}
 use Rattle.std.specs.Prelude.{slice_index, IsFalse}
-use Rattle.std.proofs.lemmas.Bool.{cases_lt, cases_eq, cases_Bool}
+use Rattle.std.proofs.lemmas.Bool.{both_ways, cases_lt, cases_eq, cases_Bool}
 use Rattle.std.proofs.lemmas.List.{take-take, length-take, length-drop, drop-drop, get_or-drop}
 use Rattle.byteorder.specs.Endian.{big_bytes}
 use Rattle.byteorder.specs.Numbers.{big_from-take}
@@ -16,7 +16,7 @@ use Rattle.px_journal.specs.Layout.{magic, digit, body_bytes, entries, heading, 
 use Rattle.px_journal.specs.declared.version.Version.{Version}
 use Rattle.px_journal.proofs.Appending.{open_or_closed}
 use Rattle.px_journal.proofs.Bodies.{body_of, body_takes, body_again}
-use Rattle.px_journal.proofs.Creating.{nothing_or_not, short_nothing, closed_nothing}
+use Rattle.px_journal.proofs.Creating.{short_nothing, closed_nothing}
 use Rattle.px_journal.proofs.Digits.{told_version}
 use Rattle.px_journal.proofs.Fronts.{Front-push, next_gate-push}
 use Rattle.px_journal.proofs.Histories.{length-heading, length-record}
@@ -208,7 +208,7 @@ verdict bytes fits something = elim (first_difference (take 7 (drop 1 bytes)) ma
   where
     long : 13 ≤ length bytes
     long = elim (cases_lt (length bytes) 13) [
-      | inl short ↦ absurd (nothing_or_not (is_nothing bytes) (short_nothing bytes short) something)
+      | inl short ↦ absurd (both_ways (is_nothing bytes) something (short_nothing bytes short))
       | inr enough ↦ enough
     ]
 
@@ -217,6 +217,6 @@ verdict bytes fits something = elim (first_difference (take 7 (drop 1 bytes)) ma
 
     gate : IsTrue (is_open bytes)
     gate = elim (cases_Bool (is_closed bytes)) [
-      | inl closed ↦ absurd (nothing_or_not (is_nothing bytes) (closed_nothing bytes closed) something)
+      | inl closed ↦ absurd (both_ways (is_nothing bytes) something (closed_nothing bytes closed))
       | inr shut ↦ open_or_closed bytes (omega (arith, long)) shut
     ]

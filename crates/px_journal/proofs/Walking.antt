@@ -1,6 +1,6 @@
 -- A journal that was read up to a gate.
-use Rattle.std.proofs.Common.{◌≡◌, ◌≤◌, ◌<◌, ◌+◌, ◌⊎◌, inl, inr, ⊎_elim, ℕ, Bool, List, [], ◌∷◌, ◌++◌, Option, length, drop, refl, sym, ◌∙◌, subst, arith, length-append, IsTrue}
-use Rattle.std.specs.Prelude.{◌==◌, IsErrAnd, IsFalse, Some, Result, Ok, Err}
+use Rattle.std.proofs.Common.{◌≡◌, ◌≤◌, ◌<◌, ◌+◌, ◌⊎◌, inl, inr, ⊎_elim, ℕ, Bool, List, [], ◌∷◌, ◌++◌, Option, length, drop, refl, ◌∙◌, subst, arith, length-append, IsTrue}
+use Rattle.std.specs.Prelude.{◌==◌, IsFalse, Some}
 use Rattle.std.proofs.lemmas.Bool.Decides.{nat_tests}
 use Rattle.std.specs.List.{list_all}
 use Rattle.std.specs.Option.{ForSome}
@@ -106,8 +106,3 @@ full_history n full = grind (arith, nat_tests)
 
 pub room_in_history : (n : ℕ) → n ≤ 100000 → IsFalse (n == 100000) → n < 100000
 room_in_history n few not_full = grind (arith, nat_tests)
-
--- a fault that is handed on is the fault that came
-pub err_is : {T E : Type 0} (result : Result T E) (given came : E) → IsErrAnd result (λ handed. handed ≡ came) → result ≡ Err given → came ≡ given
-err_is (Ok value) given came handed same = absurd handed
-err_is (Err fault) given came handed same = sym handed ∙ (let is : fault ≡ given = cc in is)

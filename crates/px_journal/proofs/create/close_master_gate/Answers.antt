@@ -1,7 +1,8 @@
 use Rattle.std.proofs.Common.{◌≤◌, length, sym, ◌∙◌, arith}
+use Rattle.std.proofs.lemmas.Bool.{both_ways}
 use Rattle.px_ports.specs.Moment.{Stays}
 use Rattle.px_journal.specs.Layout.{is_nothing}
-use Rattle.px_journal.proofs.Creating.{closed_nothing, not_nothing, gate_closed, gate_open, nothing_or_not, same_leaves, short_leaves}
+use Rattle.px_journal.proofs.Creating.{closed_nothing, not_nothing, gate_closed, gate_open, same_leaves, short_leaves}
 use Rattle.px_journal.proofs.Moments.{elapses_on}
 use Rattle.px_journal.proofs.create.close_master_gate.Goals as goal
 
@@ -64,7 +65,7 @@ pub returns-in_err-sync-clause-untouched : goal.returns-in_err-sync-clause-untou
 returns-in_err-sync-clause-untouched g c = λ told is other.
     let closed = closed_nothing told (gate_closed told _ (omega (arith, c.in_ok-len.ensures.length told is, c.if-branch-lt-TEXT_PLACE.false))
     (c.in_ok-read_at.ensures.read told (c.len.ensures.reads.bytes ∙ is)) c.if-gate-ne-CLOSED.false) in
-    absurd (nothing_or_not (is_nothing told) closed other)
+    absurd (both_ways (is_nothing told) other closed)
 
 pub returns-in_err-sync-clause-old_or_nothing : goal.returns-in_err-sync-clause-old_or_nothing
 returns-in_err-sync-clause-old_or_nothing g c = λ told is.
@@ -78,7 +79,7 @@ returns-clause-nothing g c = λ told is.
     (c.in_ok-read_at.ensures.read told (c.len.ensures.reads.bytes ∙ before)) c.if-gate-ne-CLOSED.false
 
 pub returns-clause-untouched : goal.returns-clause-untouched
-returns-clause-untouched g c = λ told is other. absurd (nothing_or_not (is_nothing told) (returns-clause-only_nothing g c told is) other)
+returns-clause-untouched g c = λ told is other. absurd (both_ways (is_nothing told) other (returns-clause-only_nothing g c told is))
 
 pub returns-clause-old_or_nothing : goal.returns-clause-old_or_nothing
 returns-clause-old_or_nothing g c = λ told is.

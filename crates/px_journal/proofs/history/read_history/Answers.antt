@@ -1,8 +1,8 @@
 use Rattle.std.proofs.Common.{◌≡◌, [], ◌∷◌, Err, length, sym, ◌∙◌, ap, arith, length-append}
 use Rattle.px_journal.specs.declared.fault.RecoverWhy.TheVariants as whys
-use Rattle.px_journal.proofs.Going.{handed_to, handed_from, other_fault, reads_then, reads_told}
+use Rattle.px_journal.proofs.Going.{err_is, handed_to, handed_from, other_fault, reads_then, reads_told}
 use Rattle.px_journal.proofs.Histories.{entries_count}
-use Rattle.px_journal.proofs.Walking.{read_next, read_both, read_damaged, read_nothing, err_is, full_history, room_in_history}
+use Rattle.px_journal.proofs.Walking.{read_next, read_both, read_damaged, read_nothing, full_history, room_in_history}
 use Rattle.px_journal.proofs.Windows.{shows_nothing}
 use Rattle.px_journal.proofs.history.read_history.Goals as goal
 

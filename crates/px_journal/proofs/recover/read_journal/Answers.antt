@@ -1,8 +1,8 @@
 use Rattle.std.proofs.Common.{Err, ◌∙◌, ap}
 use Rattle.px_ports.specs.Moment.{Stays}
 use Rattle.px_journal.specs.declared.fault.RecoverWhy.TheVariants as whys
+use Rattle.px_journal.proofs.Going.{err_is}
 use Rattle.px_journal.proofs.Moments.{elapses_on, synced_on}
-use Rattle.px_journal.proofs.Walking.{err_is}
 use Rattle.px_journal.proofs.recover.read_journal.Goals as goal
 
 pub returns-in_err-version-clause-damaged : goal.returns-in_err-version-clause-damaged

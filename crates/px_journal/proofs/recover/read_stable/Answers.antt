@@ -1,9 +1,8 @@
 use Rattle.std.proofs.Common.{Err, ◌∙◌, ap, arith}
 use Rattle.px_journal.specs.declared.fault.RecoverWhy.TheVariants as whys
 use Rattle.px_journal.proofs.Creating.{not_nothing}
-use Rattle.px_journal.proofs.Going.{handed_to, handed_from, reads_by_call, reads_then, reads_told}
+use Rattle.px_journal.proofs.Going.{err_is, handed_to, handed_from, reads_by_call, reads_then, reads_told}
 use Rattle.px_journal.proofs.Undamaged.{open_not_closed}
-use Rattle.px_journal.proofs.Walking.{err_is}
 use Rattle.px_journal.proofs.recover.read_stable.Goals as goal
 
 pub returns-in_err-version-clause-damaged : goal.returns-in_err-version-clause-damaged
