@@ -1,7 +1,8 @@
 -- A new session, from the calls that make it.
-use Rattle.std.proofs.Common.{◌≡◌, inl, inr, ℕ, List, [], ◌∷◌, Some, IsErrAnd, Result, Ok, Err, IfErr, refl, sym, ◌∙◌, ap, subst, arith, IsTrue, IsFalse}
+use Rattle.std.proofs.Common.{◌≡◌, inl, inr, ℕ, List, [], ◌∷◌, Some, refl, sym, ◌∙◌, ap, subst, arith, IsTrue, IsFalse}
 use Rattle.std.specs.Prelude.{is_some}
 use Rattle.std.specs.Option.{ForSome}
+use Rattle.std.proofs.lemmas.Bool.{both_ways}
 use Rattle.px_event.specs.declared.entry.Entry.{Entry}
 use Rattle.px_event.specs.declared.named.NamedEntry.{NamedEntry}
 use Rattle.px_event.specs.declared.names.ThreadName.{ThreadName}
@@ -21,7 +22,6 @@ use Rattle.px_ports.specs.declared.disk.Disk
 use Rattle.px_sem.specs.declared.stepper.Stepper
 use Rattle.px_session.specs.Attaching.{IsAttached, IsNotAttached}
 use Rattle.px_session.specs.Creating.{LeavesNew, Creates, IsCreateWhy, IsNotCreated, version_for}
-use Rattle.px_journal.proofs.Creating.{nothing_or_not}
 use Rattle.px_journal.proofs.Going.{rises_told}
 use Rattle.px_journal.proofs.Ready.{ready_stands, ready_synced}
 use Rattle.px_session.specs.Session.{unposted, HasOneHistory}
@@ -139,13 +139,8 @@ module _ {D : Type 0} (members : Disk.Ghosts D) (name text : List ℕ) (names : 
       );
       leaves = leaves;
       tells = tells;
-      untouched = λ told is whole. absurd (nothing_or_not (is_nothing told) (nothing told ((was.untouched).content ∙ is)) whole);
+      untouched = λ told is whole. absurd (both_ways (is_nothing told) whole (nothing told ((was.untouched).content ∙ is)));
       bound = inl bound;
       faults = subst (λ (n : ℕ). RisesWhere (whys.NoMemory ≡ whys.DiskFault) n (members.faults new)) was.faults
           (rises_told goes.faults (λ failed. absurd (right failed)) (λ same. absurd (cc)));
     }
-
--- a fault that is handed on
-pub handed_on : {T E : Type 0} (P : E → Type 0) (fault : E) (r : Result T E) → IsErrAnd r (λ e. e ≡ fault) → P fault → IfErr r P
-handed_on P fault (Ok done) is holds = absurd is
-handed_on P fault (Err other) is holds = subst P (sym is) holds

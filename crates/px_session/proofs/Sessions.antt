@@ -1,11 +1,12 @@
 -- From what the calls of a journal leave of a disk to what a session leaves.
 use Rattle.std.proofs.Common.{◌≡◌, inl, inr, ⊎_elim, ℕ, List, [], ◌++◌, Some, length, take, refl, sym, ◌∙◌, subst, append-nil}
 use Rattle.std.specs.Option.{ForSome}
+use Rattle.px_value.proofs.General.{begins_further}
 use Rattle.px_event.specs.declared.entry.Entry.{Entry}
 use Rattle.px_journal.specs.Crash.{OldOrNew}
 use Rattle.px_journal.specs.Journal.{IsSynced, IsUnwritten, IsUntouched}
 use Rattle.px_journal.specs.Layout.{Stands}
-use Rattle.px_journal.proofs.Moments.{grows_on, left_now, left_before_or_after, elapses_none, elapses_on}
+use Rattle.px_journal.proofs.Moments.{left_now, left_before_or_after, elapses_none, elapses_on}
 use Rattle.px_ports.specs.Moment.{LeftSince, Stays}
 use Rattle.px_ports.specs.declared.disk.Disk
 use Rattle.px_session.specs.Creating.{LeavesNew}
@@ -60,7 +61,7 @@ module _ {D : Type 0} (members : Disk.Ghosts D) where
   }
     where
       all : take (length (members.moments old)) (members.moments new) ≡ members.moments old
-      all = grows_on (members.moments old) (members.moments mid) (members.moments new) ((untouched.unwritten).elapses).grows leaves.grows
+      all = begins_further (members.moments old) (members.moments mid) (members.moments new) ((untouched.unwritten).elapses).grows leaves.grows
 
       older : (image : List ℕ) → OldOrNew (members.images (members.moments mid)) text image → OldOrNew (members.images (members.moments old)) text image
       older image = ⊎_elim

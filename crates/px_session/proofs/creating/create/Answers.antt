@@ -1,7 +1,8 @@
 use Rattle.std.proofs.Common.{refl, ap, sym, subst, ◌∙◌}
+use Rattle.px_value.proofs.General.{handed_on}
 use Rattle.px_journal.specs.declared.fault.CreateWhy.TheVariants.{NoMemory}
 use Rattle.px_session.specs.Creating.{IsNotCreated}
-use Rattle.px_session.proofs.Created.{unattached, uncreated, created, why_refused, made_in_vain, handed_on}
+use Rattle.px_session.proofs.Created.{unattached, uncreated, created, why_refused, made_in_vain}
 use Rattle.px_session.proofs.creating.create.Goals as goal
 
 pub returns-in-Err-clause-refused : goal.returns-in-Err-clause-refused
