@@ -1,6 +1,6 @@
 -- The text of a log, part by part: the trace of its history, the line of each post, and how the plan stands; and the line of
 -- a stalled thread.
-use Rattle.std.proofs.Common.{◌≡◌, ℕ, List, ◌++◌, Option, Some, None, IsSome, Result, Ok, Err, OnOk, refl, ap, subst, sym, ◌∙◌, append_assoc}
+use Rattle.std.proofs.Common.{◌≡◌, ℕ, List, ◌++◌, Option, Some, None, IsSome, Result, refl, ap, subst, sym, ◌∙◌, append_assoc}
 use Rattle.px_core.specs.Plan.{Site}
 use Rattle.px_event.specs.declared.entry.Entry.{Entry}
 use Rattle.px_script.specs.declared.stall.Stall.{Stall}
@@ -41,11 +41,6 @@ pub world_is : (plan nodes : List Site) (history : List Entry) (at world : World
     → run nodes (events_of history) ≡ Some at → run plan (events_of history) ≡ Some world → at ≡ world
 world_is plan nodes history at world n one two =
     let both : ◌≡◌ {A = Option World} (Some at) (Some world) = sym one ∙ ap (λ nodes. run nodes (events_of history)) n ∙ two in cc
-
--- what holds whatever is answered
-pub on_ok : {T E : Type 0} {P : Type 0} (r : Result T E) → P → OnOk r P
-on_ok (Ok answer) holds = holds
-on_ok (Err fault) holds = tt
 
 -- the trace from a fresh stepper
 pub trace_prints : (nodes plan : List Site) (history : List Entry) (old new : View) (p q : List ℕ) (r : Result Unit PrintFault) → nodes ≡ plan

@@ -1,4 +1,5 @@
 use Rattle.std.proofs.Common.{◌≡◌, ◌∙◌, ◌++◌, Ok, Err, ap, refl, subst}
+use Rattle.px_value.proofs.General.{on_ok}
 use Rattle.px_sem.specs.Log.{HasRun}
 use Rattle.px_sem.specs.Stepper.{State}
 use Rattle.px_sem.specs.Text.{trace, log_lines, standing_text}
@@ -7,7 +8,7 @@ use Rattle.px_sem.specs.declared.standing.Standing.{Standing}
 use Rattle.px_output.specs.Printing.{Prints}
 use Rattle.px_output.specs.View.{view}
 use Rattle.px_output.proofs.Printed.{goes_on, only_more, ends, fails, fails_first}
-use Rattle.px_output.proofs.Logging.{standing_behind, prints_text, trace_prints, world_is, on_ok}
+use Rattle.px_output.proofs.Logging.{standing_behind, prints_text, trace_prints, world_is}
 use Rattle.px_output.proofs.log.print_text.Goals as goal
 
 pub returns-in_err-print_trace-clause-prints : goal.returns-in_err-print_trace-clause-prints
