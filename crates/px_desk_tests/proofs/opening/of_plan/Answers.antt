@@ -1,4 +1,4 @@
-use Rattle.px_desk_tests.proofs.Starting.{run_started}
+use Rattle.px_sem.proofs.Logs.{run_started}
 use Rattle.px_desk_tests.proofs.opening.of_plan.Goals as goal
 
 pub returns-clause-started : goal.returns-clause-started

@@ -1,12 +1,12 @@
-use Rattle.std.proofs.Common.{◌≡◌, map, ap, sym, subst, ◌∙◌, arith}
+use Rattle.std.proofs.Common.{map, ap, sym, subst, ◌∙◌, arith}
 use Rattle.std.specs.Prelude.{slice_set}
+use Rattle.px_sem.proofs.Logs.{run_started}
 use Rattle.px_exec.specs.Answers.{entry_of}
 use Rattle.px_naive.specs.contracts.naive.NaiveStepper.TheImpl as naive
 use Rattle.px_turn.specs.Histories.{items}
 use Rattle.px_desk.specs.EventDesk.{seating, opened_with, IsSeatOf}
 use Rattle.px_desk.specs.Listing.{start_of}
 use Rattle.px_desk.specs.Seating.{AreAll}
-use Rattle.px_desk_tests.proofs.Starting.{run_started}
 use Rattle.px_desk_tests.proofs.Seats.{posted, two, both, all}
 use Rattle.px_desk_tests.proofs.two_seats.a_seat_counts_what_another_posts.Goals as goal
 
