@@ -1,6 +1,8 @@
 -- What each image since some moment stands for, from one post to the next.
-use Rattle.std.proofs.Common.{◌≡◌, inl, ⊎_elim, ℕ, List, [], ◌∷◌, ◌++◌, Option, Some, None, IsSome, length, take, refl, sym, ◌∙◌, ap, subst, arith, append_assoc, append-nil}
+use Rattle.std.proofs.Common.{◌≡◌, inl, ⊎_elim, ℕ, List, [], ◌∷◌, ◌++◌, Option, Some, None, IsSome, length, refl, sym, ◌∙◌, ap, subst, append_assoc, append-nil}
+use Rattle.std.proofs.Math.Seq.{take-length}
 use Rattle.std.proofs.lemmas.List.{take_all}
+use Rattle.px_value.proofs.General.{begins_further}
 use Rattle.px_event.specs.declared.entry.Entry.{Entry}
 use Rattle.px_event.specs.declared.named.NamedEntry.{NamedEntry}
 use Rattle.px_journal.specs.Crash.{WithOrWithout, WithOrWithoutAs, LeavesOnly}
@@ -8,7 +10,7 @@ use Rattle.px_journal.specs.Journal.{IsReady, IsReadyAs, IsSynced, with_name}
 use Rattle.px_journal.specs.Layout.{Stands, StandsAs}
 use Rattle.px_journal.specs.declared.journal.Journal.{Journal}
 use Rattle.px_journal.proofs.Going.{goes_none, goes_told}
-use Rattle.px_journal.proofs.Moments.{grows_on, left_before_or_after}
+use Rattle.px_journal.proofs.Moments.{left_before_or_after}
 use Rattle.px_journal.proofs.Ready.{ready_stands, ready_synced}
 use Rattle.px_ports.specs.Moment.{Images, LeftSince}
 use Rattle.px_ports.specs.declared.disk.Disk
@@ -21,17 +23,14 @@ told_of None some = absurd (cc)
 told_of (Some told) some = (told, refl)
 
 -- where no moment passes, an image since then is one now
-left_now : (images : Images) (moments : List Moment) (image : List ℕ) → LeftSince images moments (length moments) image → images moments image
+pub left_now : (images : Images) (moments : List Moment) (image : List ℕ) → LeftSince images moments (length moments) image → images moments image
 left_now images moments image left = subst (λ (ms : List Moment). images ms image) (take_all (left.0) moments (left.1)) (left.3)
-
-nothing_passes : (moments : List Moment) → take (length moments) moments ≡ moments
-nothing_passes moments = take_all (length moments) moments (omega arith)
 
 -- what a synced disk leaves at a crash now
 synced_leaves : {D : Type 0} (members : Disk.Ghosts D) (disk : D) (told : List ℕ) (left : List ℕ → Type 0) → IsSynced members disk
     → members.content disk ≡ Some told → left told → LeavesOnly members.images left (members.moments disk) (members.moments disk)
 synced_leaves members disk told left synced is now = record {
-  grows = nothing_passes (members.moments disk);
+  grows = take-length (members.moments disk);
   each = λ image since. subst left (sym (synced told is image (left_now members.images (members.moments disk) image since))) now;
 }
 
@@ -117,7 +116,7 @@ pub within_more : (images : Images) (text : List ℕ) (first history since : Lis
     → LeavesOnly images (StandsWithin text first history) old mid → LeavesOnly images (WithOrWithout text history entry) mid new
     → LeavesOnly images (StandsWithin text first (history ++ entry ∷ [])) old new
 within_more images text first history since entry old mid new grown before after = record {
-  grows = grows_on old mid new before.grows after.grows;
+  grows = begins_further old mid new before.grows after.grows;
   each = λ image left. ⊎_elim
       (λ early. within_longer text first history entry image (before.each image early))
       (λ late. either_within text first history since entry image grown (after.each image late))

@@ -20,8 +20,8 @@ use Rattle.px_exec.specs.declared.closing.Failed.{Failed}
 use Rattle.px_exec.specs.Answers.{answer_now, logged}
 use Rattle.px_exec.specs.Crash.{AddsAtMost}
 use Rattle.px_exec.specs.Executive.{Opening, Executive, Keeps, KeepsDisk, IsOpen, IsClosed, KeepsNaming, KeepsSinceOpening, TellsBytes, failed_entries, plan_of, world_of}
-use Rattle.px_sem.proofs.Logs.{accepted_more, answers_more}
-use Rattle.px_exec.proofs.Growing.{accepted_by, run_after, some_run}
+use Rattle.px_sem.proofs.Logs.{accepted_by, accepted_more, answers_more}
+use Rattle.px_exec.proofs.Growing.{run_after, some_run}
 pub use Rattle.px_exec.proofs.Images.{told_of}
 use Rattle.px_exec.proofs.Images.{ready_leaves, within_at_once, within_more}
 use Rattle.px_exec.proofs.Naming.{with_parts, naming_at_once, naming_more, naming_still}

@@ -1,6 +1,7 @@
 -- The names that entries have in the images since the opening, from one post to the next.
 use Rattle.std.proofs.Common.{◌≡◌, ⊎_elim, ℕ, List, [], ◌∷◌, ◌++◌, Option, None, sym, ◌∙◌, ap, subst, append_assoc, append-nil, map}
 use Rattle.std.proofs.lemmas.List.{map-append}
+use Rattle.px_value.proofs.General.{begins_further}
 use Rattle.px_event.specs.declared.entry.Entry.{Entry}
 use Rattle.px_event.specs.declared.named.NamedEntry.{NamedEntry}
 use Rattle.px_event.specs.declared.names.ThreadName.{ThreadName}
@@ -9,7 +10,7 @@ use Rattle.px_journal.specs.Journal.{IsReadyAs, name_given, with_name}
 use Rattle.px_journal.specs.Layout.{StandsAs}
 use Rattle.px_journal.specs.declared.journal.Journal.{Journal}
 use Rattle.px_journal.specs.declared.version.Version.{Version}
-use Rattle.px_journal.proofs.Moments.{grows_on, left_before_or_after}
+use Rattle.px_journal.proofs.Moments.{left_before_or_after}
 use Rattle.px_ports.specs.Moment.{Images}
 use Rattle.px_ports.specs.declared.disk.Disk
 use Rattle.px_ports.specs.declared.moment.Moment.{Moment}
@@ -47,7 +48,7 @@ module _ (images : Images) (version : Version) (text : List ℕ) (found since : 
       → LeavesOnly images (WithOrWithoutAs version text (found ++ since) next) mid new
       → LeavesOnly images (StandsNamed version text found (since ++ next ∷ [])) old new
   named_more old mid new before after = record {
-    grows = grows_on old mid new before.grows after.grows;
+    grows = begins_further old mid new before.grows after.grows;
     each = λ image left. ⊎_elim
         (λ early. longer version text found since next image (before.each image early))
         (λ late. either image (after.each image late))

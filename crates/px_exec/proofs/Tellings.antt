@@ -1,5 +1,5 @@
 -- What a post does, by what the stepper, the journal, the history and the log do.
-use Rattle.std.proofs.Common.{◌≡◌, ◌≢◌, ◌<◌, ◌+◌, ◌^◌, ℕ, List, [], ◌∷◌, ◌++◌, Option, Some, None, IsTrue, IsFalse, length, refl, sym, ◌∙◌, ap, subst, arith, length-append}
+use Rattle.std.proofs.Common.{◌≡◌, ◌<◌, ◌+◌, ◌^◌, ℕ, List, [], ◌∷◌, ◌++◌, Option, Some, None, IsTrue, IsFalse, length, refl, sym, ◌∙◌, ap, subst, arith, length-append}
 use Rattle.std.specs.Prelude.{Err}
 use Rattle.std.specs.Option.{option_map}
 use Rattle.px_event.specs.Fit.{is_fit_entry}
@@ -22,10 +22,6 @@ use Rattle.px_exec.specs.Crash.{AddsAtMost}
 use Rattle.px_exec.specs.Executive.{Executive, Keeps, plan_of, world_of}
 use Rattle.px_exec.proofs.Naming.{with_parts}
 use Rattle.px_exec.proofs.Keeping.{open_of, keeps_replied, keeps_failed, keeps_as_before}
-
-pub none_of : {T : Type 0} (o : Option T) → ((x : T) → o ≢ Some x) → o ≡ None
-none_of None other = refl
-none_of (Some x) other = absurd (other x refl)
 
 -- which append had failed, by its count of faults
 pub unfailed_of : (failed : Option Failed) (count : Option ℕ) → count ≡ option_map (λ f. f.faults) failed → count ≡ None → failed ≡ None

@@ -1,12 +1,13 @@
 use Rattle.std.proofs.Common.{◌^◌, Result, Err, length, IsTrue, refl, sym, ◌∙◌, ap, subst, arith}
 use Rattle.std.proofs.lemmas.Result.{err_from_is_err_and}
+use Rattle.px_value.proofs.General.{none_from}
 use Rattle.px_event.specs.Fit.{is_fit_entry}
 use Rattle.px_event.specs.declared.entry.Entry.{Entry}
 use Rattle.px_event.specs.declared.reply.Reply.{Reply}
 use Rattle.px_journal.proofs.Ready.{ready_count, ready_few}
 use Rattle.px_exec.specs.declared.answering.Unanswered.{Unanswered}
 use Rattle.px_exec.proofs.Images.{adds_nothing, adds_told}
-use Rattle.px_exec.proofs.Tellings.{none_of, unfailed_of, failed_of, closes_with, grows_from, length_more, at_rest, ready_now, keeps_reply, posts_reply, keeps_fault, posts_fault, keeps_out, posts_out, answered_otherwise}
+use Rattle.px_exec.proofs.Tellings.{unfailed_of, failed_of, closes_with, grows_from, length_more, at_rest, ready_now, keeps_reply, posts_reply, keeps_fault, posts_fault, keeps_out, posts_out, answered_otherwise}
 use Rattle.px_exec.proofs.exec.Exec.post.Goals as goal
 
 pub same-self : goal.same-self
@@ -22,13 +23,13 @@ returns-in-Some-clause-crash g c = adds_nothing g.D.Disk _ _ (λ failed. absurd 
 
 pub invariant_of-self : goal.invariant_of-self
 invariant_of-self g c =
-    keeps_out g.S.Stepper g.D.Disk _ c.self.invariant (unfailed_of _ _ c.closed_after.ensures (none_of _ c.in_default.not-Some)) _ _ _ _ refl refl c.in_err-copies.ensures.history c.in_err-copies.ensures.log
+    keeps_out g.S.Stepper g.D.Disk _ c.self.invariant (unfailed_of _ _ c.closed_after.ensures (none_from _ c.in_default.not-Some)) _ _ _ _ refl refl c.in_err-copies.ensures.history c.in_err-copies.ensures.log
 
 pub returns-in_err-copies-clause-answers : goal.returns-in_err-copies-clause-answers
 returns-in_err-copies-clause-answers g c =
     let p = err_from_is_err_and c.from_residual.result c.from_residual.ensures.1 in
     rw (p.1, p.2, ← c.self.view_is)
-    (posts_out g.S.Stepper g.D.Disk _ c.self.invariant (unfailed_of _ _ c.closed_after.ensures (none_of _ c.in_default.not-Some)) _ _ _ _ refl refl c.in_err-copies.ensures.history c.in_err-copies.ensures.log)
+    (posts_out g.S.Stepper g.D.Disk _ c.self.invariant (unfailed_of _ _ c.closed_after.ensures (none_from _ c.in_default.not-Some)) _ _ _ _ refl refl c.in_err-copies.ensures.history c.in_err-copies.ensures.log)
 
 pub returns-in_err-copies-clause-crash : goal.returns-in_err-copies-clause-crash
 returns-in_err-copies-clause-crash g c =
@@ -39,7 +40,7 @@ returns-in_err-copies-clause-crash g c =
 
 pub overflow_cast-len : goal.overflow_cast-len
 overflow_cast-len g c =
-    let ready = ready_now g.S.Stepper g.D.Disk _ c.self.invariant (unfailed_of _ _ c.closed_after.ensures (none_of _ c.in_default.not-Some)) in
+    let ready = ready_now g.S.Stepper g.D.Disk _ c.self.invariant (unfailed_of _ _ c.closed_after.ensures (none_from _ c.in_default.not-Some)) in
     omega (arith, c.len.ensures, ap length c.in_ok-copies.ensures.history, ready_few _ _ _ _ ready)
 
 pub answer-requires-clause-nothing : goal.answer-requires-clause-nothing
@@ -53,11 +54,11 @@ answer-requires-clause-within g c = c.self.invariant.most
 
 pub answer-requires-clause-ready : goal.answer-requires-clause-ready
 answer-requires-clause-ready g c =
-    (c.self.invariant.text.0, _, ready_now g.S.Stepper g.D.Disk _ c.self.invariant (unfailed_of _ _ c.closed_after.ensures (none_of _ c.in_default.not-Some)))
+    (c.self.invariant.text.0, _, ready_now g.S.Stepper g.D.Disk _ c.self.invariant (unfailed_of _ _ c.closed_after.ensures (none_from _ c.in_default.not-Some)))
 
 pub answer-requires-clause-count : goal.answer-requires-clause-count
 answer-requires-clause-count g c =
-    let ready = ready_now g.S.Stepper g.D.Disk _ c.self.invariant (unfailed_of _ _ c.closed_after.ensures (none_of _ c.in_default.not-Some)) in
+    let ready = ready_now g.S.Stepper g.D.Disk _ c.self.invariant (unfailed_of _ _ c.closed_after.ensures (none_from _ c.in_default.not-Some)) in
     omega (arith, c.len.ensures, c.prepare.new.history.ok.0, ap length c.in_ok-copies.ensures.history, ready_count _ _ _ _ ready)
 
 -- ---- a reply
@@ -75,7 +76,7 @@ pub invariant_of-self-in-Ok : goal.invariant_of-self-in-Ok
 invariant_of-self-in-Ok g c =
     let before = c.in_ok-copies.ensures in
     let done = c.in-Ok.ensures in
-    keeps_reply g.S.Stepper g.D.Disk _ c.self.invariant (unfailed_of _ _ c.closed_after.ensures (none_of _ c.in_default.not-Some)) c.in_ok-copies.copies.for_log c.answer.new.stepper c.answer.new.journal
+    keeps_reply g.S.Stepper g.D.Disk _ c.self.invariant (unfailed_of _ _ c.closed_after.ensures (none_from _ c.in_default.not-Some)) c.in_ok-copies.copies.for_log c.answer.new.stepper c.answer.new.journal
     _ (omega (arith, c.len.ensures, c.prepare.new.history.ok.0, ap length before.history)) _ _ c.in-Ok.reply done.due done.state
     (grows_from _ _ _ _ c.log_reply.ensures.log before.log) (grows_from _ _ _ _ c.log_reply.ensures.history before.history) done.kept done.refused
     (length_more _ _ _ (2 ^ 32) c.log_reply.ensures.log (omega (arith, before.few, c.prepare.new.log.ok.0))) done.named (λ failed. absurd (cc)) done.crash
@@ -85,7 +86,7 @@ returns-in-Ok-clause-answers g c =
     let before = c.in_ok-copies.ensures in
     let done = c.in-Ok.ensures in
     rw (c.told.ensures, ← before.for_log, ← c.self.view_is)
-    (posts_reply g.S.Stepper g.D.Disk _ c.self.invariant (unfailed_of _ _ c.closed_after.ensures (none_of _ c.in_default.not-Some)) c.in_ok-copies.copies.for_log c.answer.new.stepper c.answer.new.journal
+    (posts_reply g.S.Stepper g.D.Disk _ c.self.invariant (unfailed_of _ _ c.closed_after.ensures (none_from _ c.in_default.not-Some)) c.in_ok-copies.copies.for_log c.answer.new.stepper c.answer.new.journal
     _ (omega (arith, c.len.ensures, c.prepare.new.history.ok.0, ap length before.history)) _ _ c.in-Ok.reply done.due done.state
     (grows_from _ _ _ _ c.log_reply.ensures.log before.log) (grows_from _ _ _ _ c.log_reply.ensures.history before.history) done.kept done.refused
     c.standing.result c.standing.ensures)
@@ -102,7 +103,7 @@ invariant_of-self-in-Err-DiskFault g c =
     let before = c.in_ok-copies.ensures in
     let done = c.in-Err-DiskFault.ensures in
     let is = ap (λ fault. let r : Result Reply Unanswered = Err fault in r) c.in-Err-DiskFault.field-0-is in
-    keeps_fault g.S.Stepper g.D.Disk _ c.self.invariant (unfailed_of _ _ c.closed_after.ensures (none_of _ c.in_default.not-Some)) c.in_ok-copies.copies.for_log c.answer.new.stepper c.answer.new.journal
+    keeps_fault g.S.Stepper g.D.Disk _ c.self.invariant (unfailed_of _ _ c.closed_after.ensures (none_from _ c.in_default.not-Some)) c.in_ok-copies.copies.for_log c.answer.new.stepper c.answer.new.journal
     _ (omega (arith, c.len.ensures, c.prepare.new.history.ok.0, ap length before.history)) _ _ _ before.history before.log
     (closes_with _ _ _ _ _ c.close.ensures (before.for_history ∙ sym before.for_log) c.faults.ensures) (done.was_due is) done.err is done.crash
     (subst (λ (e : Entry). IsTrue (is_fit_entry e)) (sym before.for_log) c.requires.fit)
@@ -113,7 +114,7 @@ returns-in-Err-DiskFault-clause-answers g c =
     let done = c.in-Err-DiskFault.ensures in
     let is = ap (λ fault. let r : Result Reply Unanswered = Err fault in r) c.in-Err-DiskFault.field-0-is in
     rw (← before.for_log, ← c.self.view_is)
-    (posts_fault g.S.Stepper g.D.Disk _ c.self.invariant (unfailed_of _ _ c.closed_after.ensures (none_of _ c.in_default.not-Some)) c.in_ok-copies.copies.for_log c.answer.new.stepper c.answer.new.journal
+    (posts_fault g.S.Stepper g.D.Disk _ c.self.invariant (unfailed_of _ _ c.closed_after.ensures (none_from _ c.in_default.not-Some)) c.in_ok-copies.copies.for_log c.answer.new.stepper c.answer.new.journal
     _ (omega (arith, c.len.ensures, c.prepare.new.history.ok.0, ap length before.history)) _ _ _ before.history before.log
     (closes_with _ _ _ _ _ c.close.ensures (before.for_history ∙ sym before.for_log) c.faults.ensures) (done.was_due is) done.err is done.crash)
 
@@ -128,14 +129,14 @@ pub invariant_of-self-in-Err-NoMemory : goal.invariant_of-self-in-Err-NoMemory
 invariant_of-self-in-Err-NoMemory g c =
     let done = c.in-Err-NoMemory.ensures in
     let is = ap (λ fault. let r : Result Reply Unanswered = Err fault in r) c.in-Err-NoMemory.field-0-is in
-    keeps_out g.S.Stepper g.D.Disk _ c.self.invariant (unfailed_of _ _ c.closed_after.ensures (none_of _ c.in_default.not-Some)) _ _ _ _ done.err (done.no_memory is) c.in_ok-copies.ensures.history c.in_ok-copies.ensures.log
+    keeps_out g.S.Stepper g.D.Disk _ c.self.invariant (unfailed_of _ _ c.closed_after.ensures (none_from _ c.in_default.not-Some)) _ _ _ _ done.err (done.no_memory is) c.in_ok-copies.ensures.history c.in_ok-copies.ensures.log
 
 pub returns-in-Err-NoMemory-clause-answers : goal.returns-in-Err-NoMemory-clause-answers
 returns-in-Err-NoMemory-clause-answers g c =
     let done = c.in-Err-NoMemory.ensures in
     let is = ap (λ fault. let r : Result Reply Unanswered = Err fault in r) c.in-Err-NoMemory.field-0-is in
     rw (← c.self.view_is)
-    (posts_out g.S.Stepper g.D.Disk _ c.self.invariant (unfailed_of _ _ c.closed_after.ensures (none_of _ c.in_default.not-Some)) _ _ _ _ done.err (done.no_memory is) c.in_ok-copies.ensures.history c.in_ok-copies.ensures.log)
+    (posts_out g.S.Stepper g.D.Disk _ c.self.invariant (unfailed_of _ _ c.closed_after.ensures (none_from _ c.in_default.not-Some)) _ _ _ _ done.err (done.no_memory is) c.in_ok-copies.ensures.history c.in_ok-copies.ensures.log)
 
 pub returns-in-Err-NoMemory-clause-crash : goal.returns-in-Err-NoMemory-clause-crash
 returns-in-Err-NoMemory-clause-crash g c =
