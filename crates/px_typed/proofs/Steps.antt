@@ -1,16 +1,17 @@
 -- A micro step keeps the types of cells and of kept values.
-use Rattle.std.proofs.Common.{◌≡◌, ℕ, zero, suc, Bool, true, false, ◌&&◌, List, [], ◌∷◌, map, slice_index_or, Option, Some, None, refl, ap, sym, ◌∙◌, subst, arith, if◌then◌else◌}
+use Rattle.std.proofs.Common.{◌≡◌, ℕ, Bool, true, false, List, map, slice_index_or, Option, Some, None, refl, ap, sym, ◌∙◌, subst, if◌then◌else◌}
 use Rattle.std.specs.List.{All, zip}
 use Rattle.std.specs.Option.{ForSome, unwrap_or, option_and_then}
-use Rattle.std.specs.Cmp.Lexicographic.{bytes_decides}
+use Rattle.std.proofs.lemmas.List.Elements.{All-map}
 use Rattle.px_value.specs.declared.value.Value.{Value}
 use Rattle.px_core.specs.Fit.{AreDistinct}
-use Rattle.px_core.specs.Plan.{Site, no_site, is_same, site_at}
+use Rattle.px_core.specs.Plan.{Site, no_site, site_at}
 use Rattle.px_sem.specs.declared.guards.Arrival.{Arrival}
 use Rattle.px_sem.specs.World.{World, NodeRecord, record_at, variable_at}
 use Rattle.px_sem.specs.Conflicts.{transition}
 use Rattle.px_sem.specs.Effects.{Write, effects_of, initial_values, write_to, written}
 use Rattle.px_sem.specs.Step.{micro, record_after, initializes, step_writes}
+use Rattle.px_sem.proofs.Writes.{IsTo, found_to}
 use Rattle.px_typed.specs.Typing.{InitialsSuit, KeptSuits, IsTyped}
 use Rattle.px_typed.proofs.Effects.{WriteSuits, effects_suit, effects_keep}
 use Rattle.px_typed.proofs.Records.{found, found_path, found_holds, each_is_found, record_of, record_of_step}
@@ -37,42 +38,6 @@ own_write_suits plan world typed site own write = by (transition plan world site
     by None is = absurd (cc)
     by (Some arrival) is = effects_suit plan world site arrival kept write is
 
--- a write to a variable is one of these
-record IsFound (plan : List Site) (owner name : List ℕ) (write : Write) : Type 0 where
-  owner_is : write.owner ≡ owner
-  name_is : write.name ≡ name
-  suits : WriteSuits plan write
-
-write_is_found : (plan : List Site) (writes : Site → Option Write) (sites : List Site)
-    → All (λ site. ForSome (writes site) (WriteSuits plan)) sites
-    → (owner name : List ℕ) (write : Write) → write_to owner name (map writes sites) ≡ Some write
-    → IsFound plan owner name write
-write_is_found plan writes [] all owner name write is = absurd (cc)
-write_is_found plan writes (site ∷ sites) all owner name write is =
-    by (writes site) (all zero site (omega arith)) is
-    (write_is_found plan writes sites (λ k d within. all (suc k) d (omega arith)) owner name write)
-  where
-    Later : Type 0
-    Later = write_to owner name (map writes sites) ≡ Some write → IsFound plan owner name write
-
-    test : (w : Write) → WriteSuits plan w → (a : Bool) → is_same w.owner owner ≡ a → (b : Bool) → is_same w.name name ≡ b
-        → (if a && b then Some w else write_to owner name (map writes sites)) ≡ Some write → Later
-        → IsFound plan owner name write
-    test w suits true owner_is true name_is is later =
-        let it : w ≡ write = cc in
-        subst (IsFound plan owner name) it (record {
-          owner_is = (bytes_decides w.owner owner).0 owner_is;
-          name_is = (bytes_decides w.name name).0 name_is;
-          suits = suits;
-        })
-    test w suits true owner_is false name_is is later = later is
-    test w suits false owner_is b name_is is later = later is
-
-    by : (own : Option Write) → ForSome own (WriteSuits plan) → write_to owner name (own ∷ map writes sites) ≡ Some write
-        → Later → IsFound plan owner name write
-    by None suits is later = later is
-    by (Some w) suits is later = test w (suits w refl) (is_same w.owner owner) refl (is_same w.name name) refl is later
-
 -- ---- the variables of a node
 
 -- what a node's variables hold after a step
@@ -94,19 +59,20 @@ step_holds plan world distinct initials typed site own name false =
     (typed.cells site.path name))
     keeps
   where
-    all_suit : All (λ other. ForSome (own_write plan world other) (WriteSuits plan)) plan
-    all_suit k d within = own_write_suits plan world typed (slice_index_or plan k d) (each_is_found plan distinct k d within)
+    all_suit : All (λ write. ForSome write (WriteSuits plan)) (step_writes plan world)
+    all_suit = All-map (λ write. ForSome write (WriteSuits plan)) (own_write plan world) plan
+        (λ k d within. own_write_suits plan world typed (slice_index_or plan k d) (each_is_found plan distinct k d within))
 
     keeps : ForSome (named site.head.variables name)
         (Keeps (λ variable. written variable.1 (write_to site.path variable.0.name (step_writes plan world))))
     keeps variable is cells suit =
         written_suits variable cells (write_to site.path variable.name (step_writes plan world)) suit
         (λ write written_is.
-        let it : IsFound plan site.path variable.name write =
-        write_is_found plan (own_write plan world) plan all_suit site.path variable.name write written_is in
-        it.suits variable
-        (ap (λ owner. variable_at plan owner write.name) it.owner_is
-        ∙ ap (variable_at plan site.path) (it.name_is ∙ named_so site.head.variables name variable is)
+        let it : IsTo (WriteSuits plan) site.path variable.name write =
+        found_to (WriteSuits plan) site.path variable.name (step_writes plan world) all_suit write written_is in
+        it.0 variable
+        (ap (λ owner. variable_at plan owner write.name) it.1
+        ∙ ap (variable_at plan site.path) (it.2 ∙ named_so site.head.variables name variable is)
         ∙ ap (λ s. named (unwrap_or s no_site).head.variables name) own
         ∙ is))
 
