@@ -41,7 +41,7 @@ pub dry_run_status : (tree : Tree) (threads : List Todo) (course : Course) (due 
     → WhereDue (λ ending. ending.status ≡ (start_ending tree).status) due
 dry_run_status tree threads _ _ (DryRunOf.runaway none) = sym (ap (λ found. (of_start (sites tree) found).status) none)
 dry_run_status tree threads _ _ (DryRunOf.whole log dry) =
-    let found = some_start tree dry.legal.runs in sym (ap (λ start. (of_start (sites tree) start).status) found.1)
+    let found = some_start (sites tree) dry.legal.runs in sym (ap (λ start. (of_start (sites tree) start).status) found.1)
 dry_run_status tree threads _ _ DryRunOf.no_memory = tt
 
 module _ {D : Type 0} (members : Disk.Ghosts D) (words : List (List ℕ)) (before now : View) (old new : D) where

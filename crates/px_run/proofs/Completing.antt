@@ -1,12 +1,12 @@
 -- From the headline to completeness, and to refusals.
 use Rattle.std.proofs.Common.{◌≡◌, ℕ, false, ◌⊎◌, inl, inr, List, [], Option, Some, None, IsSome, IsTrue, IsFalse, refl, ap, subst, sym, ◌∙◌}
 use Rattle.std.specs.Option.{option_map, option_and_then}
+use Rattle.std.proofs.lemmas.Bool.{both_ways}
 use Rattle.px_compile.specs.Compiled.{IsCompiled}
 use Rattle.px_compile.proofs.Refusals.{one_plan}
 use Rattle.px_core.specs.Plan.{Site, Tree, sites}
 use Rattle.px_event.specs.declared.entry.Entry.{Entry}
 use Rattle.px_journal.specs.Layout.{is_nothing, entries, Stands}
-use Rattle.px_journal.proofs.Creating.{nothing_or_not}
 use Rattle.px_output.specs.View.{View, Faulted}
 use Rattle.px_ports.specs.Host.{Files, Rose}
 use Rattle.px_ports.specs.declared.disk.Disk
@@ -96,7 +96,7 @@ module _ {D : Type 0} (members : Disk.Ghosts D) (words : List (List ℕ)) (befor
         → members.content old ≡ Some bytes → IsTrue (is_nothing bytes) → NewCalls members telling plan text limit script old new course due
         → WhereDue (λ ending. OrStalled 0 ending.status) due
     new_sound telling plan text limit script _ _ bytes content nothing (NewCalls.exists told) =
-        absurd (nothing_or_not (is_nothing bytes) nothing (told bytes content))
+        absurd (both_ways (is_nothing bytes) (told bytes content) nothing)
     new_sound telling plan text limit script _ _ bytes content nothing (NewCalls.half_made rose) = absurd (steady rose)
     new_sound telling plan text limit script _ _ bytes content nothing (NewCalls.made session due was (so, behind)) =
         session_sound telling plan (rest script.threads []) session due behind
@@ -109,7 +109,7 @@ module _ {D : Type 0} (members : Disk.Ghosts D) (words : List (List ℕ)) (befor
     new_refused telling plan text limit script _ _ bytes content something (NewCalls.exists told) = refl
     new_refused telling plan text limit script _ _ bytes content something (NewCalls.half_made rose) = absurd (steady rose)
     new_refused telling plan text limit script _ _ bytes content something (NewCalls.made session due was (so, behind)) =
-        absurd (nothing_or_not (is_nothing bytes) (was bytes content) something)
+        absurd (both_ways (is_nothing bytes) something (was bytes content))
     new_refused telling plan text limit script _ _ bytes content something NewCalls.no_memory = tt
 
     -- a soak over a new journal, on a disk that was nothing
@@ -125,7 +125,7 @@ module _ {D : Type 0} (members : Disk.Ghosts D) (words : List (List ℕ)) (befor
         → members.content old ≡ Some bytes → IsTrue (is_nothing bytes)
         → NewCalls members tellings.Summary plan text limit (soak_lines count seed) old new course due → WhereDue (λ ending. ending.status ≡ 0) due
     soak_new_sound plan text limit count seed _ _ bytes content nothing (NewCalls.exists told) =
-        absurd (nothing_or_not (is_nothing bytes) nothing (told bytes content))
+        absurd (both_ways (is_nothing bytes) (told bytes content) nothing)
     soak_new_sound plan text limit count seed _ _ bytes content nothing (NewCalls.half_made rose) = absurd (steady rose)
     soak_new_sound plan text limit count seed _ _ bytes content nothing (NewCalls.made session due was (so, behind)) =
         soak_session_sound plan count seed session due behind

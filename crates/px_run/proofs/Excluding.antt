@@ -2,6 +2,7 @@
 -- away.
 use Rattle.std.proofs.Common.{◌≡◌, inl, inr, ℕ, List, [], ◌∷◌, ◌++◌, Option, Some, None, IsSome, IsTrue, refl, ap, subst, sym, ◌∙◌, append_assoc}
 use Rattle.std.specs.Option.{ForSome}
+use Rattle.std.proofs.lemmas.Bool.{both_ways}
 use Rattle.std.proofs.lemmas.List.{map-append}
 use Rattle.px_core.specs.Plan.{Site, Tree, sites}
 use Rattle.px_event.specs.declared.entry.Entry.{Entry}
@@ -10,7 +11,6 @@ use Rattle.px_compile.specs.Compiled.{IsCompiled}
 use Rattle.px_compile.proofs.Refusals.{one_plan}
 use Rattle.px_exec.specs.Opening.{RunsAwayAt}
 use Rattle.px_journal.specs.Layout.{is_nothing, Stands}
-use Rattle.px_journal.proofs.Creating.{nothing_or_not}
 use Rattle.px_journal.proofs.Meaning.{one_meaning_text, one_meaning_history}
 use Rattle.px_journal.proofs.Ready.{stands_not_nothing}
 use Rattle.px_journal.proofs.Undamaged.{undamaged}
@@ -57,7 +57,7 @@ runs_to_its_end plan history at away some =
 
 -- what stands for a text and a history is a journal
 pub stands_something : (bytes text : List ℕ) (history : List Entry) → Stands bytes text history → IsTrue (is_nothing bytes) → ⊥
-stands_something bytes text history stands nothing = nothing_or_not (is_nothing bytes) nothing (stands_not_nothing bytes text history stands)
+stands_something bytes text history stands nothing = both_ways (is_nothing bytes) (stands_not_nothing bytes text history stands) nothing
 
 -- where it stands, one is there and undamaged
 pub never_none : {D : Type 0} (members : Disk.Ghosts D) (disk : D) (bytes text : List ℕ) (first : List Entry) → members.content disk ≡ Some bytes

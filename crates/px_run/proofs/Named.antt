@@ -1,10 +1,11 @@
 -- The names that a session leaves, from what its posts leave of them since the opening.
 use Rattle.std.proofs.Common.{◌≡◌, ◌⊎◌, inl, inr, ⊎_elim, ℕ, List, [], ◌∷◌, ◌++◌, map, length, take, refl, sym, ◌∙◌, ap, subst}
+use Rattle.px_value.proofs.General.{begins_further}
 use Rattle.px_event.specs.declared.entry.Entry.{Entry}
 use Rattle.px_event.specs.declared.named.NamedEntry.{NamedEntry}
 use Rattle.px_exec.specs.Executive.{StandsNamed}
 use Rattle.px_exec.specs.Opening.{GivesNames}
-use Rattle.px_journal.proofs.Moments.{grows_on, left_before_or_after}
+use Rattle.px_journal.proofs.Moments.{left_before_or_after}
 use Rattle.px_journal.specs.Journal.{with_name, name_given}
 use Rattle.px_journal.specs.declared.journal.Journal.{Journal}
 use Rattle.px_journal.specs.declared.version.Version.{Version}
@@ -52,7 +53,7 @@ module _ {D : Type 0} (members : Disk.Ghosts D) (session : Session) (naming : Na
   leaves_names IsEarly text old opened new same version gives grows early posts = record {
     read = λ told here. has_names opened text same version gives told (posts.read told here);
     each = record {
-      grows = grows_on (members.moments old) (members.moments opened.disk) (members.moments new) grows posts.since.grows;
+      grows = begins_further (members.moments old) (members.moments opened.disk) (members.moments new) grows posts.since.grows;
       each = λ image left. ⊎_elim
           (λ sooner. ⊎_elim (λ was. inl was) (λ is. inr (inl is)) (early image sooner))
           (λ later. inr (inr (has_names opened text same version gives image (posts.since.each image later))))

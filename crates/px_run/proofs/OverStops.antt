@@ -3,6 +3,7 @@ use Rattle.std.proofs.Common.{◌≡◌, inl, inr, ⊎_elim, ℕ, List, [], ◌+
 use Rattle.std.specs.Option.{option_and_then}
 use Rattle.px_core.specs.Plan.{Site, Tree, sites}
 use Rattle.px_event.specs.declared.entry.Entry.{Entry}
+use Rattle.px_exec.proofs.Images.{left_now}
 use Rattle.px_exec.proofs.Keeping.{told_of}
 use Rattle.px_exec.specs.Executive.{TellsBytes}
 use Rattle.px_journal.proofs.Meaning.{one_meaning_history}
@@ -27,7 +28,6 @@ use Rattle.px_session.specs.Creating.{LeavesNew}
 use Rattle.px_session.specs.Session.{Session, unsure, longest_of, IsFront, LeavesFronts}
 use Rattle.px_words.specs.Words.{Command, TraceStart, DryRun, Check, Format, Run, Resume, Trace, Names, Soak, script_operand, command}
 use Rattle.px_run.proofs.Excluding.{stands_something}
-use Rattle.px_run.proofs.Running.{left_at_end}
 use Rattle.px_run.specs.Course.{Course, Untouched, TakenUp, Due, EndsIn, AfterFile, Leaves}
 use Rattle.px_run.specs.Ending.{Ending}
 use Rattle.px_run.specs.Reading.{FileKind, Reads, with_text}
@@ -76,7 +76,7 @@ module _ {D : Type 0} (members : Disk.Ghosts D) (read_left : ReadsAreLeft member
 
   still : new ≡ old → AreSound
   still same image since =
-      was image (left_at_end members.images (members.moments old) image
+      was image (left_now members.images (members.moments old) image
       (subst (λ (d : D). LeftSince members.images (members.moments d) (length (members.moments old)) image) same since))
 
   unwritten : IsUnwritten members old new → AreSound

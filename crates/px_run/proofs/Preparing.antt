@@ -1,12 +1,14 @@
 -- The reading of a plan and its script, and the start of the plan, ahead of a new journal.
-use Rattle.std.proofs.Common.{◌≡◌, ◌≤◌, inr, ℕ, List, [], Option, Some, None, IsErrAnd, Result, Ok, Err, IfErr, length, refl, sym, ◌∙◌, ap, subst}
+use Rattle.std.proofs.Common.{◌≡◌, ◌≤◌, inr, ℕ, List, [], Some, None, IsErrAnd, Result, Err, IfErr, length, refl, sym, ap, subst}
+use Rattle.px_value.proofs.General.{handed_on}
 use Rattle.px_core.specs.Plan.{Site, Tree, sites}
+use Rattle.px_exec.proofs.Growing.{some_run}
 use Rattle.px_output.specs.View.{View, OnlyReads, KeepsFiles}
 use Rattle.px_ports.specs.declared.disk.Disk
 use Rattle.px_script.specs.Fit.{IsFitScript}
 use Rattle.px_script.specs.declared.script.Script.{Script}
-use Rattle.px_sem.proofs.Logs.{run_on_none}
-use Rattle.px_sem.specs.Run.{run, started, settled_world}
+use Rattle.px_sem.proofs.Logs.{run_started}
+use Rattle.px_sem.specs.Run.{run, started}
 use Rattle.px_sem.specs.Stepper.{settled_state}
 use Rattle.px_sem.specs.World.{World}
 use Rattle.px_sem.specs.declared.settling.StepFault.{StepFault}
@@ -27,7 +29,7 @@ use Rattle.px_run.specs.declared.finishing.Telling.TheVariants as tellings
 use Rattle.px_run.specs.declared.run.Prepared.{Prepared}
 use Rattle.px_run.proofs.Performing.{performs_since}
 use Rattle.px_run.proofs.SeenFiles.{shows_since, reads_later, reads_since, after_reading, after_since, reads_at_once}
-use Rattle.px_run.proofs.Starting.{run_started}
+use Rattle.px_run.proofs.Starting.{some_start}
 
 -- ---- what stops the preparation
 
@@ -69,28 +71,23 @@ start_not_made old mid new plan script text tree read steps.Runaway source first
     (reads_since Script (script_file (sites tree)) old mid new script read first left) (runaway refl, (refl, refl)))
 start_not_made old mid new plan script text tree read steps.NoMemory source first second left runaway = tt
 
--- a stop that is handed on
-stopped : {A : Type 0} (P : Stop → Type 0) (stop : Stop) (r : Result A Stop) → IsErrAnd r (λ e. e ≡ stop) → P stop → IfErr r P
-stopped P stop (Ok done) is holds = absurd is
-stopped P stop (Err other) is holds = subst P (sym is) holds
-
 pub stopped_at_plan : {A : Type 0} (old new : View) (plan script : List ℕ) (stop : Stop) (r : Result A Stop) → IsErrAnd r (λ e. e ≡ stop)
     → StopsReading plan_file old new plan stop → IfErr r (IsNotPrepared plan script old new)
 stopped_at_plan old new plan script stop r is reading =
-    stopped (IsNotPrepared plan script old new) stop r is (plan_not_read old new plan script stop reading)
+    handed_on (IsNotPrepared plan script old new) stop r is (plan_not_read old new plan script stop reading)
 
 pub stopped_at_script : {A : Type 0} (old mid new : View) (plan script text : List ℕ) (tree : Tree) (stop : Stop) (r : Result A Stop)
     → IsErrAnd r (λ e. e ≡ stop) → Reads (with_text plan_file) old mid plan (text, tree) → OnlyReads old mid → OnlyReads mid new
     → StopsReading (script_file (sites tree)) mid new script stop → IfErr r (IsNotPrepared plan script old new)
 stopped_at_script old mid new plan script text tree stop r is source first second reading =
-    stopped (IsNotPrepared plan script old new) stop r is (script_not_read old mid new plan script text tree stop source first second reading)
+    handed_on (IsNotPrepared plan script old new) stop r is (script_not_read old mid new plan script text tree stop source first second reading)
 
 pub stopped_at_start : {A : Type 0} (old mid new : View) (plan script text : List ℕ) (tree : Tree) (read : Script) (fault : StepFault)
     (r : Result A Stop) → IsErrAnd r (λ e. e ≡ stop_of_start fault) → Reads (with_text plan_file) old mid plan (text, tree) → OnlyReads old mid
     → OnlyReads mid new → Reads (script_file (sites tree)) mid new script read → (fault ≡ steps.Runaway → started (sites tree) ≡ None)
     → IfErr r (IsNotPrepared plan script old new)
 stopped_at_start old mid new plan script text tree read fault r is source first second left runaway =
-    stopped (IsNotPrepared plan script old new) (stop_of_start fault) r is
+    handed_on (IsNotPrepared plan script old new) (stop_of_start fault) r is
     (start_not_made old mid new plan script text tree read fault source first second left runaway)
 
 -- ---- a plan that has started
@@ -114,12 +111,8 @@ prepared runs old mid new plan name tree ready source first second short read fi
 }
 
 -- a world that was run has settled
-some_settled : (settled : Option (World × ℕ)) (world : World) → settled_world settled ≡ Some world → (found : World × ℕ) × (settled ≡ Some found)
-some_settled None world is = let no : ⊥ = cc in absurd no
-some_settled (Some found) world is = (found, refl)
-
 pub start_settles : (plan : List Site) (world : World) → run plan [] ≡ Some world → (found : World × ℕ) × (started plan ≡ Some found)
-start_settles plan world is = some_settled (started plan) world (sym (run_on_none plan (settled_world (started plan))) ∙ is)
+start_settles plan world is = some_start plan (some_run plan [] world is)
 
 -- ---- the command
 

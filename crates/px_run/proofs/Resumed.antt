@@ -3,15 +3,17 @@ use Rattle.std.proofs.Common.{◌≡◌, ◌≢◌, ◌≤◌, inl, inr, ⊎_eli
 use Rattle.std.proofs.lemmas.List.{take_all}
 use Rattle.std.specs.Prelude.{is_some}
 use Rattle.std.specs.Option.{ForSome}
+use Rattle.px_value.proofs.General.{begins_further}
 use Rattle.px_core.specs.Plan.{Site, Tree, tree_of, sites}
 use Rattle.px_event.specs.declared.entry.Entry.{Entry}
+use Rattle.px_exec.proofs.Images.{left_now}
 use Rattle.px_exec.proofs.Keeping.{told_of}
 use Rattle.px_exec.specs.Executive.{plan_of, IsTextOf, TellsBytes}
 use Rattle.px_exec.specs.Opening.{GivesNames}
 use Rattle.px_journal.specs.Crash.{LeavesOnly}
 use Rattle.px_journal.specs.Journal.{IsSynced, IsUntouched}
 use Rattle.px_journal.specs.Layout.{Stands}
-use Rattle.px_journal.proofs.Moments.{grows_on, grows_length, left_before_or_after}
+use Rattle.px_journal.proofs.Moments.{grows_length, left_before_or_after}
 use Rattle.px_journal.proofs.Ready.{ready_stands, ready_synced}
 use Rattle.px_output.specs.View.{View, OnlyReads}
 use Rattle.px_ports.specs.Moment.{Elapses, Stays}
@@ -49,7 +51,6 @@ use Rattle.px_run.proofs.Finished.{due_behind_since, opening_stands}
 use Rattle.px_run.proofs.Named.{leaves_names}
 use Rattle.px_run.proofs.Performing.{performs_since, printed, broken_off}
 use Rattle.px_run.proofs.SeenFiles.{shows_later}
-use Rattle.px_run.proofs.Running.{left_at_end}
 
 -- ---- what is left of a disk to which nothing was written
 
@@ -60,7 +61,7 @@ pub fronts_since : {D : Type 0} (members : Disk.Ghosts D) (session : Session) (o
     → LeavesFronts members (λ image. ⊥) session old new
 fronts_since members session old opened new untouched stands since = record {
   each = record {
-    grows = grows_on (members.moments old) (members.moments opened) (members.moments new) ((untouched.unwritten).elapses).grows since.grows;
+    grows = begins_further (members.moments old) (members.moments opened) (members.moments new) ((untouched.unwritten).elapses).grows since.grows;
     each = λ image left. ⊎_elim
         (λ early. let from = ((untouched.unwritten).elapses).each image early in inl (subst (members.images (members.moments old)) (sym (from.2)) (from.1)))
         (λ late. inr (inr (since.each image late)))
@@ -94,7 +95,7 @@ left_taken_up members text first old new untouched tells synced stands = (
   fronts_since members (unposted text first) old new new untouched stands_now
       (record {
         grows = take_all (length (members.moments new)) (members.moments new) (omega arith);
-        each = λ image since. front_unposted text first image (stands_now image (left_at_end members.images (members.moments new) image since));
+        each = λ image since. front_unposted text first image (stands_now image (left_now members.images (members.moments new) image since));
       }),
 )
   where

@@ -2,19 +2,21 @@
 use Rattle.std.proofs.Common.{◌≡◌, ◌⊎◌, inl, inr, ⊎_elim, ℕ, List, [], Some, None, IsSome, Err, length, take, refl, sym, ◌∙◌, ap, subst, arith, IsTrue}
 use Rattle.std.proofs.lemmas.List.{take_all}
 use Rattle.std.specs.Option.{ForSome}
+use Rattle.px_value.proofs.General.{begins_further}
 use Rattle.px_core.specs.Plan.{Site}
 use Rattle.px_event.specs.declared.entry.Entry.{Entry}
+use Rattle.px_exec.proofs.Images.{left_now}
 use Rattle.px_exec.proofs.Keeping.{told_of}
 use Rattle.px_event.specs.declared.names.ThreadName.{ThreadName}
 use Rattle.px_exec.specs.Executive.{Executive, plan_of, TellsBytes, WasNamed}
-use Rattle.px_journal.proofs.Moments.{grows_on, grows_length, left_before_or_after}
+use Rattle.px_journal.proofs.Moments.{grows_length, left_before_or_after}
 use Rattle.px_journal.specs.Crash.{OldOrNew, LeavesOnly}
 use Rattle.px_journal.specs.Journal.{IsReadyAs}
 use Rattle.px_journal.specs.Layout.{is_nothing, Stands, StandsAs}
 use Rattle.px_journal.specs.declared.fault.CreateWhy.{CreateWhy}
 use Rattle.px_journal.specs.declared.fault.CreateWhy.TheVariants as creating
 use Rattle.px_output.specs.View.{View}
-use Rattle.px_ports.specs.Moment.{Images, LeftSince}
+use Rattle.px_ports.specs.Moment.{LeftSince}
 use Rattle.px_ports.specs.declared.disk.Disk
 use Rattle.px_ports.specs.declared.moment.Moment.{Moment}
 use Rattle.px_script.specs.Follows.{Follows}
@@ -43,11 +45,6 @@ abbrev IsUnnamed : Session → List ℕ → Type 0
 IsUnnamed session image = IsTrue (is_nothing image) ⊎ Stands image session.text []
 
 -- ---- what a crash may leave
-
--- what a crash at the last moment may leave
-pub left_at_end : (images : Images) (moments : List Moment) (image : List ℕ) → LeftSince images moments (length moments) image
-    → images moments image
-left_at_end images moments image since = subst (λ (ms : List Moment). images ms image) (take_all (since.0) moments (since.1)) (since.3)
 
 -- an empty log follows whatever threads
 nothing_followed : (plan : List Site) (first : List Entry) (threads : List Todo) → Follows plan first [] threads
@@ -79,7 +76,7 @@ module _ {D : Type 0} (members : Disk.Ghosts D) where
       → LeavesFronts members (λ image. IsTrue (is_nothing image)) session old new
   fronts_behind session text old mid new same_text same_first tells making grows stands since = record {
     each = record {
-      grows = grows_on (members.moments old) (members.moments mid) (members.moments new) making.grows grows;
+      grows = begins_further (members.moments old) (members.moments mid) (members.moments new) making.grows grows;
       each = λ image left. ⊎_elim
           (λ early. of_making image (made.each image early))
           (λ late. inr (inr (since image late)))
@@ -115,7 +112,7 @@ module _ {D : Type 0} (members : Disk.Ghosts D) where
       (take_all (length (members.moments new)) (members.moments new) (omega arith))
       (λ image left. end_of_none text image (now.left told.0 told.1 image left))
       (λ image since. front_of_none (unposted text []) text image refl refl
-      (end_of_none text image (now.left told.0 told.1 image (left_at_end members.images (members.moments new) image since))))
+      (end_of_none text image (now.left told.0 told.1 image (left_now members.images (members.moments new) image since))))
 
   -- ---- the names that entries have then
 

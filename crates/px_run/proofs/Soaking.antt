@@ -9,6 +9,7 @@ use Rattle.px_event.specs.declared.names.ThreadName.{ThreadName}
 use Rattle.px_script.specs.Soak.{soak_threads}
 use Rattle.px_script.specs.declared.script.Script.{Script}
 use Rattle.px_script.specs.declared.todo.Todo.{Todo}
+use Rattle.px_sem.proofs.Logs.{run_started}
 use Rattle.px_sem.specs.Run.{run, started}
 use Rattle.px_sem.specs.Stepper.{settled_state}
 use Rattle.px_sem.specs.World.{World}
@@ -29,7 +30,6 @@ use Rattle.px_run.specs.declared.finishing.Telling.TheVariants as tellings
 use Rattle.px_run.specs.declared.run.Prepared.{Prepared}
 use Rattle.px_run.proofs.Performing.{performs_more}
 use Rattle.px_run.proofs.Preparing.{start_settles}
-use Rattle.px_run.proofs.Starting.{run_started}
 
 -- a start that runs away, or for which memory is wanting
 no_start : (tree : Tree) (fault : StepFault) → IsCompiled soak_plan tree → (fault ≡ steps.Runaway → started (sites tree) ≡ None)

@@ -29,12 +29,6 @@ runs_away tree none = sym (ap (of_start (sites tree)) none)
 pub nodes_at_rest : (plan : List Site) (now : State) → now ≡ settled_state plan now.world → now.nodes ≡ plan
 nodes_at_rest plan now rest = ap (λ (s : State). s.nodes) rest
 
--- a stepper that has settled after the start has run the empty history
-pub run_started : (plan : List Site) (now : State) → (count : ℕ) × (started plan ≡ Some (now.world, count)) → now ≡ settled_state plan now.world
-    → run now.nodes [] ≡ Some now.world
-run_started plan now (count, start) rest =
-    subst (λ nodes. run nodes [] ≡ Some now.world) (sym (nodes_at_rest plan now rest)) (run_at_start plan now.world count start)
-
 pub run_exists : (plan : List Site) (world : World) → (count : ℕ) × (started plan ≡ Some (world, count)) → IsSome (run plan [])
 run_exists plan world (count, start) = rw (run_at_start plan world count start) refl
 
@@ -43,8 +37,8 @@ some_settled : (found : Option (World × ℕ)) → IsSome (settled_world found) 
 some_settled None some = absurd (cc)
 some_settled (Some settled) some = (settled, refl)
 
-pub some_start : (tree : Tree) → IsSome (run (sites tree) []) → (settled : World × ℕ) × (started (sites tree) ≡ Some settled)
-some_start tree runs = some_settled (started (sites tree)) (subst (λ (w : Option World). IsSome w) (run_on_none (sites tree) (settled_world (started (sites tree)))) runs)
+pub some_start : (plan : List Site) → IsSome (run plan []) → (settled : World × ℕ) × (started plan ≡ Some settled)
+some_start plan runs = some_settled (started plan) (subst IsSome (run_on_none plan (settled_world (started plan))) runs)
 
 -- what posting all entries of a script has come to is what a dry run calls for
 pub posted_all : (tree : Tree) (threads : List Todo) (now : State) (log : Log) (entries : List Entry)

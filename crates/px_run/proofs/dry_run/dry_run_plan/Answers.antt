@@ -1,6 +1,6 @@
 use Rattle.std.proofs.Common.{Ok, Err, refl, ap, ◌∙◌}
 use Rattle.px_core.specs.Plan.{tree_of, sites}
-use Rattle.px_sem.proofs.Logs.{fit_accepted}
+use Rattle.px_sem.proofs.Logs.{fit_accepted, run_started}
 use Rattle.px_sem.specs.Stepper.{State}
 use Rattle.px_script.specs.declared.script.Script.{Script}
 use Rattle.px_run.specs.Course.{Untouched, AfterFile}
@@ -10,7 +10,7 @@ use Rattle.px_run.specs.Kinds.{script_file}
 use Rattle.px_output.specs.View.{view}
 use Rattle.px_run.specs.declared.ending.End.TheVariants as ends
 use Rattle.px_run.proofs.Performing.{reading_stopped, memory_stopped, start_stopped_behind, printed_behind, broken_off_behind}
-use Rattle.px_run.proofs.Starting.{run_started, nodes_at_rest, posted_all, prints_log}
+use Rattle.px_run.proofs.Starting.{nodes_at_rest, posted_all, prints_log}
 use Rattle.px_run.proofs.dry_run.dry_run_plan.Goals as goal
 
 pub returns-in_err-fetch_script-clause-performs : goal.returns-in_err-fetch_script-clause-performs
