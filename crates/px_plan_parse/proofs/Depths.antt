@@ -3,11 +3,14 @@ use Rattle.std.proofs.Common.{◌≡◌, ℕ, zero, suc, ◌+◌, ◌-◌, ◌�
 use Rattle.std.specs.List.{count_by, filter, list_all, list_any, range_with_len, slice_get, slice_range}
 use Rattle.std.specs.Option.{option_map, option_map_or}
 use Rattle.std.proofs.lemmas.List.{get_or-drop, length-append, length-drop, take-append-le, take_all, take_more}
+use Rattle.std.proofs.Math.Bool.{and-true, or-false}
 use Rattle.std.proofs.Math.Nat.{eq-or-lt_of_le}
+use Rattle.std.proofs.lemmas.Bool.{and_parts, le-leb, leb-true}
 use Rattle.std.proofs.lemmas.Bool.Decides.{leb_tells}
 use Rattle.std.proofs.lemmas.List.Folds.{list_all-append, list_any-append}
 use Rattle.std.proofs.lemmas.List.Sums.{sum_by-append}
 use Rattle.std.proofs.lemmas.Option.{get_or_from_slice_get, slice_get_within}
+use Rattle.px_value.proofs.General.{no_filtered, range_more}
 use Rattle.px_lex.specs.declared.token.Token.{Token}
 use Rattle.px_lex.specs.declared.token.TokenKind.{TokenKind}
 use Rattle.px_lex.specs.declared.token.TokenKind.TheVariants as kinds
@@ -21,13 +24,7 @@ use Rattle.px_plan_parse.specs.Walk.{counts, is_deep, walk_behind}
 -- ---- ranges and counts
 
 range_suc : (a n : ℕ) → range_with_len a (suc n) ≡ range_with_len a n ++ (a + n) ∷ []
-range_suc a zero = let e : a ≡ a + 0 = omega arith in ap (λ (k : ℕ). k ∷ []) e
-range_suc a (suc n) =
-    let e : a + 1 + n ≡ a + suc n = omega arith in
-    ap (λ (rest : List ℕ). a ∷ rest) (range_suc (a + 1) n ∙ ap (λ (last : ℕ). range_with_len (a + 1) n ++ last ∷ []) e)
-
-range_more : (a n : ℕ) → range_with_len a (n + 1) ≡ range_with_len a n ++ (a + n) ∷ []
-range_more a n = let e : n + 1 ≡ suc n = omega arith in ap (range_with_len a) e ∙ range_suc a n
+range_suc a n = let e : suc n ≡ n + 1 = omega arith in ap (range_with_len a) e ∙ range_more a n
 
 abbrev one_if : Bool → ℕ
 one_if b = cond b 1 0
@@ -83,13 +80,6 @@ count_some p (suc n) k below is = go (eq-or-lt_of_le (omega (arith, below))) (λ
 
 -- ---- the first of a range that passes
 
-filter_none : (p : ℕ → Bool) (a n : ℕ) → ((k : ℕ) → k < n → p (a + k) ≡ false) → filter p (range_with_len a n) ≡ []
-filter_none p a zero none = refl
-filter_none p a (suc n) none =
-    let here : p a ≡ false = ap p (omega arith) ∙ none 0 (omega arith) in
-    ap (λ (b : Bool). cond b (a ∷ filter p (range_with_len (a + 1) n)) (filter p (range_with_len (a + 1) n))) here
-    ∙ filter_none p (a + 1) n (λ k below. ap p (omega arith) ∙ none (k + 1) (omega (arith, below)))
-
 filter_first :
     (p : ℕ → Bool) (a n i : ℕ) → i < n → ((k : ℕ) → k < i → p (a + k) ≡ false) → p (a + i) ≡ true
     → (rest : List ℕ) × (filter p (range_with_len a n) ≡ (a + i) ∷ rest)
@@ -111,10 +101,6 @@ filter_first p a (suc n) (suc i) below none is =
     )
 
 -- ---- brackets that stay open
-
-and_true : (b : Bool) → (b && true) ≡ b
-and_true true = refl
-and_true false = refl
 
 module _ (xs : List Token) (t : Token) where
   count_snoc : (test : TokenKind → Bool) → count_of test (xs ++ t ∷ []) ≡ count_of test xs + cond (test t.kind) 1 0
@@ -141,7 +127,7 @@ module _ (xs : List Token) (t : Token) where
       (all_range (fewer (xs ++ t ∷ [])) (fewer xs) (n + 1)
       (λ k below. ap (λ (ys : List Token). nat_le (count_of is_closing ys) (count_of is_opening ys)) (take-append-le k xs (t ∷ []) (omega (arith, below)))))
       ∙ ap (λ (ys : List Token). list_all (fewer xs) (range_with_len 0 (n + 1)) && (nat_le (count_of is_closing ys) (count_of is_opening ys) && true)) whole
-      ∙ ap (λ (b : Bool). stays_open xs && b) (and_true (nat_le (count_of is_closing (xs ++ t ∷ [])) (count_of is_opening (xs ++ t ∷ []))))
+      ∙ ap (λ (b : Bool). stays_open xs && b) (and-true (nat_le (count_of is_closing (xs ++ t ∷ [])) (count_of is_opening (xs ++ t ∷ []))))
 
 -- ---- one more token
 
@@ -189,17 +175,6 @@ record IsStack (tokens : List Token) (at : ℕ) (stack : List ℕ) : Type 0 wher
       (place : ℕ) → place < at → passes is_opening tokens place ≡ true
       → stays_open (slice_range tokens (place + 1) at) ≡ true → In place stack
 
--- both of two tests
-both_true : (a b : Bool) → (a && b) ≡ true → (a ≡ true) × (b ≡ true)
-both_true true b e = (refl, e)
-both_true false b e = absurd cc
-
-at_most : (a b : ℕ) → a ≤ b → nat_le a b ≡ true
-at_most a b le = elim (leb_tells a b) [ inl t ↦ t.0 | inr t ↦ absurd (omega (arith, t.1, le)) ]
-
-is_at_most : (a b : ℕ) → nat_le a b ≡ true → a ≤ b
-is_at_most a b e = elim (leb_tells a b) [ inl t ↦ t.1 | inr t ↦ absurd (let f : true ≡ false = sym e ∙ t.0 in cc) ]
-
 opening_closes_nothing : (kind : TokenKind) → is_opening kind ≡ true → is_closing kind ≡ false
 opening_closes_nothing (kinds.Sign signs.OpenBrace) e = refl
 opening_closes_nothing (kinds.Sign signs.OpenParen) e = refl
@@ -238,7 +213,7 @@ module _ (tokens : List Token) (at : ℕ) (t : Token) (is : slice_get tokens at 
         stays =
             ap stays_open more ∙ stays_snoc old t
             ∙ ap (λ (b : Bool). b && nat_le (count_of is_closing (old ++ t ∷ [])) (count_of is_opening (old ++ t ∷ []))) op.stays
-            ∙ at_most (count_of is_closing (old ++ t ∷ [])) (count_of is_opening (old ++ t ∷ [])) (omega (arith, counts_are));
+            ∙ le-leb (count_of is_closing (old ++ t ∷ [])) (count_of is_opening (old ++ t ∷ [])) (omega (arith, counts_are));
         excess =
             ap (count_of is_opening) more ∙ counts_are
             ∙ ap (λ (ys : List Token). count_of is_closing ys + after) (sym more);
@@ -253,9 +228,9 @@ module _ (tokens : List Token) (at : ℕ) (t : Token) (is : slice_get tokens at 
   shrunk place before stays =
       let old = slice_range tokens (place + 1) at in
       let more = between_more tokens place at t before is in
-      let b = both_true (stays_open old) _ (sym (stays_snoc old t) ∙ sym (ap stays_open more) ∙ stays) in (
+      let b = and_parts (stays_open old) _ (sym (stays_snoc old t) ∙ sym (ap stays_open more) ∙ stays) in (
         b.0,
-        omega (arith, is_at_most _ _ b.1, count_snoc old t is_opening, count_snoc old t is_closing),
+        omega (arith, leb-true _ _ b.1, count_snoc old t is_opening, count_snoc old t is_closing),
       )
 
   moved :
@@ -430,7 +405,7 @@ open_count :
 unfolding open_at
 open_count tokens at stack st =
     count_stack tokens at at 0 stack st.standing
-    (λ place before e. let b = both_true (passes is_opening tokens place) _ e in st.all place before b.0 b.1)
+    (λ place before e. let b = and_parts (passes is_opening tokens place) _ e in st.all place before b.0 b.1)
 
 -- ---- the outermost list and what is open in it
 
@@ -528,7 +503,7 @@ lists_agree tokens at stack st = go (some_or_none (in_lists tokens stack))
 
     none_passes : in_lists tokens stack ≡ 0 → (place : ℕ) → place < at → (b : Bool) → test place ≡ b → test place ≡ false
     none_passes none place before true e =
-        let b = both_true (passes is_list_opening tokens place) _ e in
+        let b = and_parts (passes is_list_opening tokens place) _ e in
         let opens = passing_kind tokens place (kind_at tokens place) b.0 in
         absurd (omega (arith, none, list_counts tokens stack place (st.all place before opens b.1) b.0))
     none_passes none place before false e = e
@@ -541,7 +516,7 @@ lists_agree tokens at stack st = go (some_or_none (in_lists tokens stack))
         let o = open_in_stack 0 at stack st.standing r.0 r.1 in
         let passes_test : test r.0 ≡ true = ap (λ (b : Bool). b && stays_open (slice_range tokens (r.0 + 1) at)) r.2 ∙ o.1 in
         let many = count_some test at r.0 o.0 passes_test in
-        at_most 1 (open_before is_list_opening tokens at) (omega (arith, many)) ∙ sym some.0
+        le-leb 1 (open_before is_list_opening tokens at) (omega (arith, many)) ∙ sym some.0
     go (inr none) =
         let zero_many = count_none test at (λ place before. none_passes none.1 place before (test place) refl) in
         ap (nat_lt 0) zero_many ∙ sym none.0
@@ -557,7 +532,7 @@ module _ (tokens : List Token) (at : ℕ) (t : Token) (is : slice_get tokens at 
   unfolding since
   last_counts =
       ap (λ (ys : List Token). counts_as_operator tokens at && not (list_any (λ token. ends_statement token.kind) ys)) (between_none tokens at)
-      ∙ and_true (counts_as_operator tokens at)
+      ∙ and-true (counts_as_operator tokens at)
 
   before_last :
       (place : ℕ) → place < at
@@ -602,14 +577,10 @@ module _ (tokens : List Token) (at : ℕ) (t : Token) (is : slice_get tokens at 
       ∙ ap (λ (b : Bool). counts_as_operator tokens place
       && not (list_any (λ token. ends_statement token.kind) (slice_range tokens (place + 1) at) || (b || false))) ends
       ∙ ap (λ (b : Bool). counts_as_operator tokens place && not b)
-      (or_false (list_any (λ token. ends_statement token.kind) (slice_range tokens (place + 1) at)))) in
+      (or-false (list_any (λ token. ends_statement token.kind) (slice_range tokens (place + 1) at)))) in
       let here = ap (λ (b : Bool). cond b 1 0) last_counts in
       count_more (since (at + 1)) at ∙ ap (λ (k : ℕ). k + cond (since (at + 1) at) 1 0) rest
       ∙ ap (λ (k : ℕ). operators_before tokens at + k) here
-    where
-      or_false : (b : Bool) → (b || false) ≡ b
-      or_false true = refl
-      or_false false = refl
 
 -- ---- the walk
 
@@ -732,4 +703,4 @@ module _ (tokens : List Token) (at : ℕ) (walk : Walk) (w : IsWalked tokens at 
 
 pub none_deep : (tokens : List Token) (walk : Walk) → IsWalked tokens (length tokens) walk → too_deep tokens ≡ []
 none_deep tokens walk w =
-    filter_none (is_too_deep tokens) 0 (length tokens) (λ k below. ap (is_too_deep tokens) (omega arith) ∙ w.none k below)
+    no_filtered (is_too_deep tokens) 0 (length tokens) (λ k below. ap (is_too_deep tokens) (omega arith) ∙ w.none k below)

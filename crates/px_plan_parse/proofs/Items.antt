@@ -24,6 +24,7 @@ use Rattle.px_expr_parse.proofs.Completions.{begun_here}
 use Rattle.px_expr_parse.specs.Tail.{closed}
 use Rattle.px_expr_parse.proofs.Arguments.{no_colon}
 use Rattle.px_expr_parse.proofs.Parts.{agree_before}
+use Rattle.px_expr_parse.proofs.Primaries.{literal_kind_one}
 use Rattle.px_plan_parse.specs.declared.start.Start.{Start}
 use Rattle.px_plan_parse.specs.declared.start.Start.TheVariants as starts
 use Rattle.px_plan_parse.specs.Part.{Anything, IsLacking, IsPart, IsSole}
@@ -51,24 +52,6 @@ literal_itself others from (literals.Boolean true) has = (has, refl)
 literal_itself others from (literals.Boolean false) has = (has, refl)
 literal_itself others from (literals.Text content) has = (has, refl)
 
-one_kind : (value other : Literal) → literal_kind other ≡ literal_kind value → other ≡ value
-one_kind (literals.Integer value) (literals.Integer other) e = let h : other ≡ value = cc in ap (λ (v : _). literals.Integer v) h
-one_kind (literals.Integer value) (literals.Boolean true) e = cc
-one_kind (literals.Integer value) (literals.Boolean false) e = cc
-one_kind (literals.Integer value) (literals.Text other) e = cc
-one_kind (literals.Boolean true) (literals.Integer other) e = cc
-one_kind (literals.Boolean true) (literals.Boolean true) e = refl
-one_kind (literals.Boolean true) (literals.Boolean false) e = cc
-one_kind (literals.Boolean true) (literals.Text other) e = cc
-one_kind (literals.Boolean false) (literals.Integer other) e = cc
-one_kind (literals.Boolean false) (literals.Boolean true) e = cc
-one_kind (literals.Boolean false) (literals.Boolean false) e = refl
-one_kind (literals.Boolean false) (literals.Text other) e = cc
-one_kind (literals.Text value) (literals.Integer other) e = cc
-one_kind (literals.Text value) (literals.Boolean true) e = cc
-one_kind (literals.Text value) (literals.Boolean false) e = cc
-one_kind (literals.Text value) (literals.Text other) e = let h : other ≡ value = cc in ap (λ (v : List ℕ). literals.Text v) h
-
 -- no sign is a literal by itself
 pub no_sign : (value : Literal) (kind : TokenKind) (which : _) → kind ≡ kinds.Sign which → kind ≡ literal_kind value → ⊥
 no_sign (literals.Integer value) kind which e h = cc
@@ -91,7 +74,7 @@ module _ (tokens : List Token) (from : ℕ) (kind : TokenKind) (has : HasKind to
                 only = λ other end o next. elim (literal_token others from other end o) [
                   | inl itself ↦
                       let same : literal_kind other ≡ literal_kind value = let e = itself.0 in cc in
-                      (one_kind value other same, itself.1)
+                      (literal_kind_one other value same, itself.1)
                   | inr minus ↦ absurd (no_minus (sym (agree from (omega arith)) ∙ minus))
                 ];
               };

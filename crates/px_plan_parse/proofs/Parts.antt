@@ -13,6 +13,10 @@ use Rattle.px_expr_parse.proofs.Parts.{agree_before}
 use Rattle.px_expr_parse.proofs.Spans.{IsLocal, local_nothing, local_then}
 use Rattle.px_plan_parse.specs.Part.{Follow, Ended, IsPart, Lacks, IsLacking}
 
+-- two tokens on, one by one
+pub two : (n : ℕ) → n + 2 ≡ n + 1 + 1
+two n = omega arith
+
 -- ---- what the reader of expressions found
 
 pub of_found :

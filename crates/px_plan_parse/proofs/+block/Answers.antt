@@ -1,4 +1,5 @@
 use Rattle.std.proofs.Common.{◌≡◌, ◌+◌, refl, sym, ap, subst, ◌∙◌, inl, inr, None, List, map}
+use Rattle.std.proofs.lemmas.List.{map_push}
 use Rattle.std.proofs.lemmas.Result.{IfErr-weaker, IfOk-weaker, err_from_is_err_and}
 use Rattle.std.proofs.lemmas.Bool.{false≢true}
 use Rattle.px_lex.specs.declared.keyword.Keyword.TheVariants as words
@@ -13,7 +14,6 @@ use Rattle.px_syntax.specs.Block.{ActionTree, BlockTree, BodyTree, BranchTree, F
 use Rattle.px_syntax.specs.BlockGrammar.{action, block, body, branch, guarded}
 use Rattle.px_syntax.specs.Expr.{term_of}
 use Rattle.px_expr_parse.specs.Tail.{closed}
-use Rattle.px_expr_parse.proofs.Arguments.{map_push}
 use Rattle.px_plan_parse.specs.Part.{Anything, IsPart}
 use Rattle.px_plan_parse.specs.Start.{NoBranch, NoElseIf, is_action}
 use Rattle.px_plan_parse.specs.Tail.{Only}

@@ -11,7 +11,7 @@ use Rattle.std.proofs.lemmas.Int.{to_z-of_z}
 use Rattle.std.proofs.Common.{ℤ}
 use mir.Syntax.{w32}
 use mir.Val.{SFits, of_z, to_z}
-use Rattle.px_plan_parse.proofs.Parts.{lack_before, lack_behind, lack_kind, lack_second, lack_token, of_found, part_before, part_behind, part_both}
+use Rattle.px_plan_parse.proofs.Parts.{lack_before, lack_behind, lack_kind, lack_second, lack_token, of_found, part_before, part_behind, part_both, two}
 use Rattle.px_plan_parse.proofs.Starts.{here, start_integer}
 use Rattle.px_expr_parse.proofs.Spans.{local_identifier}
 use Rattle.px_plan_parse.proofs.Shortests.{short_counted}
@@ -22,9 +22,6 @@ use Rattle.px_plan_parse.proofs.Parts.{lack_first, of_missing}
 use Rattle.px_lex.specs.declared.sign.Sign.TheVariants as signs
 use Rattle.px_syntax.specs.Form.{identifier}
 use Rattle.px_plan_parse.proofs.body.counter.Goals as goal
-
-two : (n : ℕ) → n + 2 ≡ n + 1 + 1
-two n = omega arith
 
 three : (n : ℕ) → n + 3 ≡ n + 2 + 1
 three n = omega arith

@@ -1,20 +1,14 @@
-use Rattle.std.proofs.Common.{◌≡◌, ℕ, ◌+◌, ◌<◌, refl, sym, ap, subst, ◌∙◌, arith, Some, List, length, get_or}
-use Rattle.std.specs.List.{slice_get}
-use Rattle.std.proofs.lemmas.Option.{slice_get_read}
-use Rattle.px_lex.specs.declared.token.Token.{Token}
+use Rattle.std.proofs.Common.{◌≡◌, ℕ, ◌+◌, sym, subst, ◌∙◌, arith, length, get_or}
+use Rattle.std.proofs.lemmas.Option.{slice_get-get_or}
 use Rattle.px_plan_parse.specs.declared.depth.Walk.{Walk}
 use Rattle.px_plan_parse.proofs.Depths.{IsWalked, deep_first, none_deep, walk_begins, walk_within, walked_more}
 use Rattle.px_plan_parse.proofs.depth.first_too_deep.Goals as goal
-
--- the token there, as the walk reads it
-token_is : (tokens : List Token) (at : ℕ) (t : Token) → at < length tokens → t ≡ get_or tokens at t → slice_get tokens at ≡ Some (get_or tokens at t)
-token_is tokens at t inside is = slice_get_read tokens (length tokens) at t refl inside is ∙ ap (λ (x : Token). Some x) is
 
 pub returns-then-is_too_deep : goal.returns-then-is_too_deep
 returns-then-is_too_deep c =
     let t = c.index-tokens-at.result in
     deep_first c.args.tokens.now c.loop-at.at c.loop-at.walk c.loop-at.invariant (get_or c.args.tokens.now c.loop-at.at t)
-    (token_is c.args.tokens.now c.loop-at.at t c.loop-at-test.true c.index-tokens-at.is)
+    (slice_get-get_or c.args.tokens.now c.loop-at.at t c.loop-at-test.true)
     (sym c.is_too_deep.ensures ∙ c.if-is_too_deep.true)
 
 pub behind-walk-requires-clause-within : goal.behind-walk-requires-clause-within
@@ -25,7 +19,7 @@ loop-at-preserved c =
     let t = c.index-tokens-at.result in
     subst (λ (walk : Walk). IsWalked c.args.tokens.now (c.loop-at.at + 1) walk) (sym c.behind-walk.ensures)
     (walked_more c.args.tokens.now c.loop-at.at c.loop-at.walk c.loop-at.invariant (get_or c.args.tokens.now c.loop-at.at t)
-    (token_is c.args.tokens.now c.loop-at.at t c.loop-at-test.true c.index-tokens-at.is)
+    (slice_get-get_or c.args.tokens.now c.loop-at.at t c.loop-at-test.true)
     (sym c.is_too_deep.ensures ∙ c.if-is_too_deep.false))
 
 pub loop-at-init : goal.loop-at-init

@@ -1,8 +1,8 @@
 use Rattle.std.proofs.Common.{sym, ap, subst, ◌∙◌, arith, List, map}
+use Rattle.std.proofs.lemmas.List.{map_push}
 use Rattle.std.proofs.lemmas.Result.{err_from_is_err_and}
 use Rattle.px_syntax.specs.Plan.{DeclarationData, declaration_data}
 use Rattle.px_syntax.specs.PlanGrammar.{declaration}
-use Rattle.px_expr_parse.proofs.Arguments.{map_push}
 use Rattle.px_plan_parse.specs.Start.{NoDeclaration, is_declaration}
 use Rattle.px_plan_parse.proofs.Globals.{declaration_goes_on, no_declaration}
 use Rattle.px_plan_parse.proofs.Parts.{IsFront, front_ends, front_lacks, front_more}

@@ -1,4 +1,4 @@
-use Rattle.std.proofs.Common.{◌≡◌, ℕ, ◌+◌, refl, sym, subst, ◌∙◌, arith}
+use Rattle.std.proofs.Common.{◌+◌, refl, sym, subst, ◌∙◌, arith}
 use Rattle.std.proofs.lemmas.Result.{err_from_is_err_and}
 use Rattle.px_lex.specs.declared.keyword.Keyword.TheVariants as words
 use Rattle.px_lex.specs.declared.token.TokenKind.TheVariants as kinds
@@ -8,13 +8,10 @@ use Rattle.px_syntax.specs.Plan.{DeclarationData}
 use Rattle.px_syntax.specs.PlanGrammar.{declaration}
 use Rattle.px_plan_parse.specs.Part.{Anything, IsPart}
 use Rattle.px_plan_parse.proofs.Globals.{lacks_here, makes_command_word, makes_lookup_word, makes_typed, no_word, worded}
-use Rattle.px_plan_parse.proofs.Parts.{lack_behind, lack_made, lack_word, part_behind, part_made, part_word}
+use Rattle.px_plan_parse.proofs.Parts.{lack_behind, lack_made, lack_word, part_behind, part_made, part_word, two}
 use Rattle.px_plan_parse.proofs.Starts.{here, typed_ends, typed_stands}
 use Rattle.px_plan_parse.proofs.Shortests.{short_worded}
 use Rattle.px_plan_parse.proofs.global.typed.Goals as goal
-
-two : (n : ℕ) → n + 2 ≡ n + 1 + 1
-two n = omega arith
 
 pub returns-in_err-name-in-Command-clause-fault : goal.returns-in_err-name-in-Command-clause-fault
 returns-in_err-name-in-Command-clause-fault c =

@@ -1,8 +1,8 @@
 use Rattle.std.proofs.Common.{sym, ap, subst, ◌∙◌, List, map}
+use Rattle.std.proofs.lemmas.List.{map_push}
 use Rattle.std.proofs.lemmas.Result.{err_from_is_err_and}
 use Rattle.px_syntax.specs.Block.{ItemData, item_data}
 use Rattle.px_syntax.specs.BlockGrammar.{item}
-use Rattle.px_expr_parse.proofs.Arguments.{map_push}
 use Rattle.px_plan_parse.specs.Start.{NoItem, is_item}
 use Rattle.px_plan_parse.proofs.Items.{item_goes_on, no_item_there}
 use Rattle.px_plan_parse.proofs.Parts.{IsFront, front_ends, front_lacks, front_more}

@@ -1,19 +1,16 @@
-use Rattle.std.proofs.Common.{◌≡◌, ℕ, ◌+◌, sym, subst, arith}
+use Rattle.std.proofs.Common.{◌+◌, sym, subst}
 use Rattle.std.proofs.lemmas.Result.{err_from_is_err_and}
 use Rattle.px_syntax.specs.Block.{PairData}
 use Rattle.px_syntax.specs.BlockGrammar.{pair}
 use Rattle.px_plan_parse.specs.Part.{Anything, Ended, IsPart}
 use Rattle.px_plan_parse.proofs.Names.{makes_pair}
-use Rattle.px_plan_parse.proofs.Parts.{lack_behind, lack_made, lack_second, of_found, of_read, of_refused, part_behind, part_both, part_made}
+use Rattle.px_plan_parse.proofs.Parts.{lack_behind, lack_made, lack_second, of_found, of_read, of_refused, part_behind, part_both, part_made, two}
 use Rattle.px_expr_parse.proofs.Spans.{local_identifier}
 use Rattle.px_expr_parse.proofs.Completions.{short_expression}
 use Rattle.px_plan_parse.proofs.Shortests.{short_paired}
 use Rattle.px_plan_parse.proofs.Parts.{lack_first, lack_kind, of_missing}
 use Rattle.px_syntax.specs.Form.{identifier}
 use Rattle.px_plan_parse.proofs.named.pair.Goals as goal
-
-two : (n : ℕ) → n + 2 ≡ n + 1 + 1
-two n = omega arith
 
 pub returns-in_err-value-clause-fault : goal.returns-in_err-value-clause-fault
 returns-in_err-value-clause-fault c =
