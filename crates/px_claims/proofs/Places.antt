@@ -142,7 +142,7 @@ module _ (wanting : TallyData) (node : ℕ) (wants : Bool) where
           | inl own ↦ ap (λ is. nat_eq writer.variable variable && is) (other_as_before writer.node (λ same.
               apart (ap (λ node. get_or wanting.group_of node None) (sym same) ∙ groups k d inside ∙ ap Some own)))
           | inr other ↦ rw (ne_eqb writer.variable variable other) refl
-      ])
+        ])
 
     module _ (places : List ℕ) (kept : HoldsFirsts wanting writers places) where
       pub firsts_then : (variable : ℕ) → get_or wanting.group_of node None ≡ Some variable → variable < length places

@@ -48,7 +48,7 @@ invariant_of-self c =
       places = c.turn.new.self.places;
     } in
     let places : c.turn.new.self.places.items
-        ≡ set t.firsts.places.items variable (place_wanting (is_counted then) t.firsts.writers.items variable) =
+    ≡ set t.firsts.places.items variable (place_wanting (is_counted then) t.firsts.writers.items variable) =
     c.turn.ensures.places ∙ ap (λ (now : TallyData). set t.firsts.places.items variable
     (place_wanting (is_counted now) t.firsts.writers.items variable)) is in
     subst (λ (now : TallyData). IsKept (record { firsts = c.turn.new.self; wanting = now; holding = t.holding; contested = c.judge.new.contested })) (sym is)
