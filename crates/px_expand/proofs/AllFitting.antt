@@ -5,6 +5,7 @@ use Rattle.std.proofs.lemmas.Bool.{and_from, or_left, or_right, false≢true}
 use Rattle.std.proofs.lemmas.List.{append-nil}
 use Rattle.px_value.specs.Name.{is_identifier}
 use Rattle.px_value.specs.Path.{below}
+use Rattle.px_value.proofs.General.{neither}
 use Rattle.px_syntax.specs.declared.expr.Identifier.{Identifier}
 use Rattle.px_syntax.specs.declared.value_type.ValueType.TheVariants.{Boolean, Integer}
 use Rattle.px_syntax.specs.declared.word.BlockForm.{BlockForm}
@@ -34,7 +35,6 @@ use Rattle.px_expand.specs.Resolving.{resolved}
 use Rattle.px_expand.specs.Scope.{Scope}
 use Rattle.px_expand.proofs.Inside.{leaf_fits, shaped_fits, block_seen, actions_there, children_there}
 use Rattle.px_expand.proofs.Declaring.{each_item_none}
-use Rattle.px_expand.proofs.Faultless.{neither}
 use Rattle.px_expand.proofs.Fitting.{at, LabelIs, label_is, AllFit, node_is, node_fits, nothing_said, nothing_added, assignment_fits, not_found_speaks, before_fits, KeepsTest, where_found_speaks, where_not_found_speaks, tested_keeps, tested_fits, entered_seen, MayBe, follows_speaks}
 use Rattle.px_expand.proofs.Frames.{LabelNamed, NamedHeads, view, block_command}
 use Rattle.px_expand.proofs.Mentions.{is_there, scalar_is, judged_there}

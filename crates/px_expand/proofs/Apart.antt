@@ -4,6 +4,7 @@ use Rattle.std.specs.List.{list_any}
 use Rattle.std.specs.Str.{bytes_eq}
 use Rattle.std.proofs.lemmas.Bool.{and_from, or_from, or_left, or_right, not_from_false, false_from_ne_true, both_ways}
 use Rattle.std.proofs.lemmas.Slice.Eq.{bytes_eq-Decides}
+use Rattle.px_value.proofs.General.{neither}
 use Rattle.px_syntax.specs.declared.expr.Identifier.{Identifier}
 use Rattle.px_syntax.specs.declared.fault.FaultKind.TheVariants.{Redeclared}
 use Rattle.px_syntax.specs.BlockFaults.{repeated, redeclared}
@@ -11,10 +12,7 @@ use Rattle.px_syntax.specs.Fault.{fault_where}
 use Rattle.px_core.specs.Fit.{all_differ}
 use Rattle.px_core.specs.Plan.{is_same}
 use Rattle.px_core.proofs.Paths.{same-self}
-use Rattle.px_expand.proofs.Faultless.{neither, where_none}
-
-pub same_is_equal : (name other : List ℕ) → is_same name other ≡ true → name ≡ other
-same_is_equal name other = (bytes_eq-Decides name other).0
+use Rattle.px_expand.proofs.Faultless.{where_none}
 
 abbrev pub names : List Identifier → List (List ℕ)
 names = map (λ identifier. identifier.name)
@@ -41,7 +39,7 @@ apart before (first ∷ rest) none =
           or_from (is_same name first.name) (list_any (is_same name) (names rest))
           (false_from_ne_true _ (λ same.
           both_ways (list_any (is_same first.name) before) new
-          (ap (λ text. list_any (is_same text) before) (sym (same_is_equal name first.name same)) ∙ is)))
+          (ap (λ text. list_any (is_same text) before) (sym ((bytes_eq-Decides name first.name).0 same)) ∙ is)))
           (behind.other name (or_right (is_same name first.name) _ is));
     }
 

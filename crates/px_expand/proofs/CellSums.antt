@@ -5,7 +5,7 @@ use Rattle.std.specs.List.{flat_map}
 use Rattle.std.specs.Option.{unwrap_or}
 use Rattle.std.proofs.lemmas.Bool.{ltb-false, cases_Bool}
 use Rattle.std.proofs.lemmas.List.{map-append}
-use Rattle.std.proofs.lemmas.List.Sums.{sum_by-append}
+use Rattle.std.proofs.lemmas.List.Sums.{sum_by-append, sum_by-cons}
 use Rattle.px_syntax.specs.declared.fault.FaultKind.TheVariants.{TooLarge}
 use Rattle.px_syntax.specs.declared.word.BlockForm.{BlockForm}
 use Rattle.px_syntax.specs.declared.word.TypeName.{TypeName}
@@ -18,6 +18,7 @@ use Rattle.px_value.specs.Path.{below}
 use Rattle.px_core.specs.Fit.{cells_of, cells_of_site, cells_of_all}
 use Rattle.px_core.specs.Plan as plan
 use Rattle.px_core.specs.Plan.{VariableData, Site, Tree, NoNode, path_under, sites_under}
+use Rattle.px_core.proofs.Cells.{cells_are}
 use Rattle.px_expand.specs.Core.{Otherwise, name_of, branch_name, follows, shaped, block_seen, block_scope, if_scope, while_scope, for_scope, root_place, block_core, actions_core, action_core, body_core, if_core, chain_core, else_core, branch_core, core}
 use Rattle.px_expand.specs.Forms.{where_found, where_not_found, loop_path}
 use Rattle.px_expand.specs.Items.{variable_of, variables_in, variables_of}
@@ -36,22 +37,16 @@ abbrev cells_in : Tree → ℕ
 cells_in NoNode = 0
 cells_in (plan.Branch head children rest) = cells_in_variables head.variables + cells_in children + cells_in rest
 
-sum-append : (front back : List ℕ) → sum (front ++ back) ≡ sum front + sum back
-sum-append = sum_by-append (λ number. number)
-
-sum-cons : (first : ℕ) (rest : List ℕ) → sum (first ∷ rest) ≡ first + sum rest
-sum-cons first rest = omega (arith, sum-append (first ∷ []) rest)
-
 cells_of_sites : (above : List (List ℕ)) (tree : Tree) → sum (map cells_of_site (sites_under above tree)) ≡ cells_in tree
 cells_of_sites above NoNode = refl
 cells_of_sites above (plan.Branch head children rest) =
     let front : List Site = sites_under (path_under above head.name ∷ above) children in
     let back : List Site = sites_under above rest in
     let both = map-append cells_of_site front back in
-    let split = sum-append (map cells_of_site front) (map cells_of_site back) in
+    let split = sum_by-append (λ number. number) (map cells_of_site front) (map cells_of_site back) in
     let inside = cells_of_sites (path_under above head.name ∷ above) children in
     let behind = cells_of_sites above rest in
-    let own = sum-cons (cells_in_variables head.variables) (map cells_of_site (front ++ back)) in
+    let own = sum_by-cons (λ number. number) (cells_in_variables head.variables) (map cells_of_site (front ++ back)) in
     omega (arith, own, ap sum both, split, inside, behind)
 
 -- ---- the cells of the text
@@ -79,19 +74,13 @@ few_cells before (first ∷ rest) none few =
     some : fault_at TooLarge first.token ≡ [] → ⊥
     some impossible = cc
 
-one_variable : (of_type : TypeName) (variable : text.VariableData) → cells_of (variable_of of_type variable) ≡ unwrap_or variable.size 1
-one_variable of_type variable = of_size variable.size
-  where
-    of_size : (size : Option ℕ) → cells_of (variable_of of_type (record variable { size = size })) ≡ unwrap_or size 1
-    of_size None = refl
-    of_size (Some size) = refl
-
 listed_cells : (of_type : TypeName) (variables : List text.VariableData)
     → cells_in_variables (map (variable_of of_type) variables) ≡ total (item_cells (Variables of_type variables))
 listed_cells of_type [] = refl
 listed_cells of_type (first ∷ rest) =
-    let own = sum-cons (cells_of (variable_of of_type first)) (map cells_of (map (variable_of of_type) rest)) in
-    omega (arith, own, one_variable of_type first, listed_cells of_type rest)
+    let own = sum_by-cons (λ number. number) (cells_of (variable_of of_type first)) (map cells_of (map (variable_of of_type) rest)) in
+    let one : cells_of (variable_of of_type first) ≡ unwrap_or first.size 1 = cells_are (variable_of of_type first) in
+    omega (arith, own, one, listed_cells of_type rest)
 
 item_sum : (item : ItemData) → cells_in_variables (variables_in item) ≡ total (item_cells item)
 item_sum (Variables of_type variables) = listed_cells of_type variables
@@ -102,7 +91,7 @@ items_sum : (items : List ItemData) → cells_in_variables (variables_of items) 
 items_sum [] = refl
 items_sum (item ∷ items) =
     let both = map-append cells_of (variables_in item) (variables_of items) in
-    let split = sum-append (map cells_of (variables_in item)) (map cells_of (variables_of items)) in
+    let split = sum_by-append (λ number. number) (map cells_of (variables_in item)) (map cells_of (variables_of items)) in
     let text = total-append (item_cells item) (flat_map item_cells items) in
     omega (arith, ap sum both, split, text, item_sum item, items_sum items)
 

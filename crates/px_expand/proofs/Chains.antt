@@ -1,7 +1,8 @@
 -- Chains of `if`s: what is left of one while it is opened, and what it is once it is closed.
-use Rattle.std.proofs.Common.{◌≡◌, ℕ, zero, suc, ◌+◌, ◌<◌, ◌≤◌, max, List, [], ◌∷◌, ◌++◌, length, map, drop, get_or, Option, Some, option_map}
+use Rattle.std.proofs.Common.{◌≡◌, ℕ, suc, ◌+◌, ◌<◌, ◌≤◌, max, List, [], ◌∷◌, ◌++◌, length, map, drop, get_or, Option, Some, option_map}
 use Rattle.std.proofs.Common.{refl, ap, sym, ◌∙◌, arith, add-one, length-append}
 use Rattle.std.proofs.Math.ListN.{drop_of_length-le}
+use Rattle.std.proofs.lemmas.List.{drop-drop}
 use Rattle.px_value.proofs.General.{cut_at}
 use Rattle.px_syntax.specs.declared.block.Branch.{Branch, out-Branch}
 use Rattle.px_syntax.specs.declared.block.Guarded.{Guarded, out-Guarded}
@@ -121,18 +122,13 @@ chain_opened last others whole round nodes number scope place guarded outer past
           ∙ left.node,
     )
 
-drop_one : {A : Type 0} (n : ℕ) (xs : List A) → drop n (drop 1 xs) ≡ drop (suc n) xs
-drop_one n (x ∷ xs) = refl
-drop_one zero [] = refl
-drop_one (suc n) [] = refl
-
 -- the innermost `if` is left, and closed
 pub left_again : (outer rest : List OpenIf) (opened : OpenIf) (scope : Scope)
     → outer ≡ rest ++ (opened ∷ [])
     → drop (length rest) (drop 1 scope) ≡ drop (length outer) scope
 left_again outer rest opened scope is =
-    drop_one (length rest) scope
-    ∙ ap (λ n. drop n scope) (sym (ap length is ∙ length-append rest (opened ∷ []) ∙ add-one (length rest)))
+    let count : 1 + length rest ≡ length outer = omega (arith, ap length is, length-append rest (opened ∷ [])) in
+    drop-drop (length rest) 1 scope ∙ ap (λ n. drop n scope) count
 
 pub closed_again : (outer rest : List OpenIf) (opened : OpenIf) (behind after : Tree)
     → outer ≡ rest ++ (opened ∷ [])

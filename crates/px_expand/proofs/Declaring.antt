@@ -5,6 +5,7 @@ use Rattle.std.specs.List.{list_all, flat_map}
 use Rattle.std.proofs.lemmas.Bool.{and_from, or_parts, ltb-false, le-leb}
 use Rattle.std.proofs.lemmas.List.{map-append}
 use Rattle.std.proofs.lemmas.List.Folds.{list_all-append}
+use Rattle.px_value.proofs.General.{neither}
 use Rattle.px_syntax.specs.declared.block.ListedLiteral.{ListedLiteral}
 use Rattle.px_syntax.specs.declared.expr.Identifier.{Identifier}
 use Rattle.px_syntax.specs.declared.expr.Literal.{Literal as LiteralValue}
@@ -25,7 +26,7 @@ use Rattle.px_expand.specs.Items.{var_kind, variable_of, variables_in, variables
 use Rattle.px_expand.specs.Resolving.{literal_value}
 use Rattle.px_expand.specs.Typed.{is_of_kind, is_typed}
 use Rattle.px_expand.proofs.Apart.{names, all_apart}
-use Rattle.px_expand.proofs.Faultless.{neither, where_none}
+use Rattle.px_expand.proofs.Faultless.{where_none}
 
 -- ---- one variable
 

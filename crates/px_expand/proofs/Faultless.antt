@@ -1,6 +1,7 @@
 -- What a tree without faults has none of.
 use Rattle.std.proofs.Common.{◌≡◌, ℕ, Bool, true, false, List, [], ◌∷◌, ◌++◌, cond, refl}
 use Rattle.std.specs.List.{fold, flat_map}
+use Rattle.px_value.proofs.General.{neither}
 use Rattle.px_syntax.specs.declared.fault.FaultKind.{FaultKind}
 use Rattle.px_syntax.specs.BlockFaults.{block_faults}
 use Rattle.px_syntax.specs.Fault.{Fault, fault_where, is_before, placed, in_order}
@@ -8,10 +9,6 @@ use Rattle.px_syntax.specs.Plan.{PlanTree}
 use Rattle.px_syntax.specs.PlanFaults.{faults, global_faults, block_cells, passing_fault, outermost}
 use Rattle.px_syntax.specs.Scope.{commands_in, lookups_in}
 use Rattle.px_syntax.specs.Tolerances.{block_tolerances, passing_tolerance}
-
-pub neither : {X : Type 0} (xs ys : List X) → xs ++ ys ≡ [] → (xs ≡ []) × (ys ≡ [])
-neither [] ys none = (refl, none)
-neither (x ∷ xs) ys none = cc
 
 pub where_none : (holds : Bool) (kind : FaultKind) (token : ℕ) → fault_where holds kind token ≡ [] → holds ≡ false
 where_none true kind token none = cc

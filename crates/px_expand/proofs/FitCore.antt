@@ -1,8 +1,9 @@
 -- THE CORE PLAN OF A TREE WITHOUT FAULTS IS FIT, where it is not too large, and its values are of the types of their variables.
-use Rattle.std.proofs.Common.{◌≡◌, Bool, true, false, not, List, [], ◌∷◌, refl, arith}
+use Rattle.std.proofs.Common.{◌≡◌, true, false, not, List, [], refl, arith}
 use Rattle.std.specs.Prelude.{nat_lt}
 use Rattle.std.specs.List.{list_all}
-use Rattle.std.proofs.lemmas.Bool.{and_from, and_parts, or_parts, ltb-false, not-false}
+use Rattle.std.proofs.lemmas.Bool.{and_parts, or_parts, ltb-false, not-false}
+use Rattle.px_value.proofs.Ascii.{list_all-weaker}
 use Rattle.px_syntax.specs.Plan.{PlanTree}
 use Rattle.px_syntax.specs.PlanFaults.{faults}
 use Rattle.px_core.specs.Fit.{IsFit, path_is_there, variable_is_there, paths_are_there, variables_are_there, owns_its_targets, references_of_site, has_short_path}
@@ -20,22 +21,15 @@ use Rattle.px_expand.proofs.Mentions.{is_there}
 use Rattle.px_expand.proofs.Sound.{core_sound}
 use Rattle.px_expand.proofs.SoundSites.{sound_lists, sound_siblings, sound_variables, sound_bodies, sound_arrays, sound_values}
 
-weaker : {X : Type 0} (strong weak : X → Bool) → ((x : X) → strong x ≡ true → weak x ≡ true)
-    → (xs : List X) → list_all strong xs ≡ true → list_all weak xs ≡ true
-weaker strong weak passes [] all = refl
-weaker strong weak passes (x ∷ xs) all =
-    let parts = and_parts (strong x) (list_all strong xs) all in
-    and_from _ _ (passes x parts.0) (weaker strong weak passes xs parts.1)
-
 spoken : (whole : List Site) (site : Site) → fits whole site ≡ true → paths_are_there whole site ≡ true
 spoken whole site all =
-    weaker (is_there whole) (path_is_there whole)
+    list_all-weaker (is_there whole) (path_is_there whole)
     (λ reference is. (and_parts (path_is_there whole reference) (variable_is_there whole reference) is).0)
     (references_of_site site) (and_parts (list_all (is_there whole) (references_of_site site)) (owns_its_targets site) all).0
 
 declared : (whole : List Site) (site : Site) → fits whole site ≡ true → variables_are_there whole site ≡ true
 declared whole site all =
-    weaker (is_there whole) (variable_is_there whole)
+    list_all-weaker (is_there whole) (variable_is_there whole)
     (λ reference is. (and_parts (path_is_there whole reference) (variable_is_there whole reference) is).1)
     (references_of_site site) (and_parts (list_all (is_there whole) (references_of_site site)) (owns_its_targets site) all).0
 
@@ -59,10 +53,10 @@ core_fit tree none labels within =
       variables = sound_variables (core tree) sound;
       bodies = sound_bodies (core tree) sound;
       arrays = sound_arrays (core tree) sound;
-      spoken = weaker (fits whole) (paths_are_there whole) (spoken whole) whole all;
-      declared = weaker (fits whole) (variables_are_there whole) (declared whole) whole all;
+      spoken = list_all-weaker (fits whole) (paths_are_there whole) (spoken whole) whole all;
+      declared = list_all-weaker (fits whole) (variables_are_there whole) (declared whole) whole all;
       targets =
-          weaker (fits whole) owns_its_targets
+          list_all-weaker (fits whole) owns_its_targets
           (λ site is. (and_parts (list_all (is_there whole) (references_of_site site)) (owns_its_targets site) is).1) whole all;
     }
 

@@ -1,8 +1,9 @@
 -- The nodes of a core plan speak of what is there, and write variables of nodes above.
 use Rattle.std.proofs.Common.{◌≡◌, ℕ, Bool, true, false, cond, List, [], ◌∷◌, ◌++◌, map, Option, Some, None, refl, sym, ap, ◌∙◌, subst}
-use Rattle.std.specs.Prelude.{◌&&◌, ◌||◌}
+use Rattle.std.specs.Prelude.{◌&&◌}
 use Rattle.std.specs.List.{list_any, list_all, find}
 use Rattle.std.specs.Option.{option_to_list}
+use Rattle.std.proofs.Math.Bool.{or-false}
 use Rattle.std.proofs.lemmas.Bool.{and_from, and_parts, or_left, or_right}
 use Rattle.std.proofs.lemmas.List.{append-nil}
 use Rattle.std.proofs.lemmas.List.Folds.{list_all-append}
@@ -173,10 +174,6 @@ module _ (whole : List Site) where
   label_named path name None head is has = is
   label_named path name (Some label) head is has = (is.0, is.1, has)
 
-  or_false : (test : Bool) → (test || false) ≡ test
-  or_false true = refl
-  or_false false = refl
-
   -- inside a node of the text, whose children stand below one of these paths
   pub entered_seen : (above : List (List ℕ)) (name parent : List ℕ) (outer : seen.Scope) (label : Option Identifier)
       (as_command : Bool) (scope : Scope) (heads : List Head) (names : List (List ℕ)) (visibles : List Visible)
@@ -209,7 +206,7 @@ module _ (whole : List Site) where
         own = has;
         itself =
             λ text.
-            subst (λ test. AgreesOn whole text (find (is_named text) (head ∷ [])) (cond test (Some path) None)) (or_false (is_same text name))
+            subst (λ test. AgreesOn whole text (find (is_named text) (head ∷ [])) (cond test (Some path) None)) (or-false (is_same text name))
             (heads_agree whole (λ text. path) text (head ∷ []) (name ∷ []) (label_named path name label head is has, tt));
         children =
             λ text.

@@ -5,6 +5,7 @@ use Rattle.std.specs.List.{list_any, find}
 use Rattle.std.specs.Option.{option_map_or}
 use Rattle.std.specs.Str.{bytes_eq}
 use Rattle.std.proofs.lemmas.Bool.{and_parts, false≢true}
+use Rattle.std.proofs.lemmas.Slice.Eq.{bytes_eq-Decides}
 use Rattle.px_value.specs.Name.{is_identifier}
 use Rattle.px_value.specs.Path.{below}
 use Rattle.px_syntax.specs.declared.word.BlockForm.{BlockForm}
@@ -18,7 +19,6 @@ use Rattle.px_expand.specs.Core.{name_of, follows, shaped, block_scope, block_co
 use Rattle.px_expand.specs.Kinds.{Shape, Rest, OneAction, Children, shape_of, kind_of}
 use Rattle.px_expand.specs.Nodes.{Place, child}
 use Rattle.px_expand.specs.Scope.{Scope}
-use Rattle.px_expand.proofs.Apart.{same_is_equal}
 use Rattle.px_expand.proofs.Naming.{are_identifiers, differs_from_hash, names_from}
 use Rattle.px_expand.proofs.Seen.{HasHead, AgreesOn}
 use Rattle.px_expand.proofs.Sound.{body_named}
@@ -123,7 +123,7 @@ module _ (whole : List Site) where
         → AgreesOn whole name found (cond among (Some (at name)) None)
         → AgreesOn whole name (cond test (Some head) found) (cond (is_same name other || among) (Some (at name)) None)
     labelled_agrees name other label head found among true same own more =
-        let equal = same_is_equal name label same in
+        let equal = (bytes_eq-Decides name label).0 same in
         record {
           identifier = ap is_identifier equal ∙ own.1;
           path = at name;

@@ -4,6 +4,7 @@ use Rattle.std.specs.List.{flat_map}
 use Rattle.std.specs.Option.{is_some}
 use Rattle.std.proofs.lemmas.Bool.{and_from}
 use Rattle.px_value.specs.Path.{below}
+use Rattle.px_value.proofs.General.{neither}
 use Rattle.px_syntax.specs.declared.expr.Identifier.{Identifier}
 use Rattle.px_syntax.specs.declared.word.BlockForm.{BlockForm}
 use Rattle.px_syntax.specs.declared.word.BlockForm.TheVariants as forms
@@ -12,7 +13,7 @@ use Rattle.px_syntax.specs.Block as text
 use Rattle.px_syntax.specs.Block.{ItemData, Variables, Conditions, Priority, BlockTree, Braces, Actions, NoActions, More, Labelled, BodyTree, Inner, Assign, CallInto, Call, Update, If, While, For}
 use Rattle.px_syntax.specs.BlockFaults.{action_labels, item_faults, actions_faults, body_faults, inside_block, visible_as, visible_in}
 use Rattle.px_syntax.specs.Scope as seen
-use Rattle.px_syntax.specs.Scope.{is_simple, own_action, is_command_block, head_of, children_of}
+use Rattle.px_syntax.specs.Scope.{is_simple, own_action, is_command_block, children_of}
 use Rattle.px_syntax.specs.ValueType.{named_type}
 use Rattle.px_core.specs.declared.node.Kind.TheVariants as kinds
 use Rattle.px_core.specs.Fit.{has_site, is_array, is_command, is_update}
@@ -26,7 +27,6 @@ use Rattle.px_expand.specs.Kinds.{Shape, Rest, OneAction, Children, shape_of, ki
 use Rattle.px_expand.specs.Nodes.{Place, child, alone, leaf, paths_of}
 use Rattle.px_expand.specs.Scope.{Scope, table, each_once}
 use Rattle.px_expand.proofs.Declaring.{names_of_variables}
-use Rattle.px_expand.proofs.Faultless.{neither}
 use Rattle.px_expand.proofs.Fitting.{at, LabelIs, AllFit, node_is, node_fits, nothing_said, entered_seen}
 use Rattle.px_expand.proofs.Frames.{View, view, NamedHeads, actions_heads, block_command}
 use Rattle.px_expand.proofs.Mentions.{is_there, items_there, assign_there, call_into_there, call_alone_there, update_there}

@@ -5,6 +5,7 @@ use Rattle.std.specs.List.{list_any, list_all, flat_map}
 use denote.Enum.Bare.{sameb}
 use Rattle.std.proofs.lemmas.Bool.{and_from, and_parts, not-false, cond_both}
 use Rattle.std.proofs.lemmas.List.Folds.{list_all-append}
+use Rattle.px_value.proofs.General.{neither}
 use Rattle.px_syntax.specs.contracts.word.Condition.{the_type as condition_type}
 use Rattle.px_syntax.specs.declared.expr.Attribute.{Attribute as AttributeWord}
 use Rattle.px_syntax.specs.declared.expr.Attribute.TheVariants as attributes
@@ -22,7 +23,7 @@ use Rattle.px_syntax.specs.Expr as expr
 use Rattle.px_syntax.specs.ExprFaults.{name_faults, is_misused, attribute_faults, over_eight, count_faults, look_faults, count_terms, parameters_of, expr_faults, argument_faults, type_fault, alike_fault, faults_as}
 use Rattle.px_syntax.specs.Fault.{fault_at}
 use Rattle.px_syntax.specs.Scope as seen
-use Rattle.px_syntax.specs.Scope.{Visible, Head, Global, variable_named, declared, reference_token, is_simple}
+use Rattle.px_syntax.specs.Scope.{Visible, Head, variable_named, declared, reference_token}
 use Rattle.px_syntax.specs.ValueType.{told_types, allowed_as, binary_signature, binary_function_signature, unary_signature, unary_function_signature}
 use Rattle.px_core.specs.Expr.{Term, in_turn}
 use Rattle.px_core.specs.Fit.{Reference, Scalar, Array, path_is_there, variable_is_there, has_site, references, references_of_each, references_of_target, targets_of}
@@ -32,7 +33,7 @@ use Rattle.px_expand.specs.Items.{given_for, given_by}
 use Rattle.px_expand.specs.Kinds.{body_of, target_of, pair_of}
 use Rattle.px_expand.specs.Resolving.{resolved, resolved_each, attribute_term}
 use Rattle.px_expand.specs.Scope.{Scope, owner_of, path_meant}
-use Rattle.px_expand.proofs.Faultless.{neither, where_none}
+use Rattle.px_expand.proofs.Faultless.{where_none}
 use Rattle.px_expand.proofs.Seen.{declares_in, HasHead, HasVariable, IsSeen, meant_there, owner_there}
 use Rattle.px_expand.proofs.Speaking.{speaks, MaySpeak, GivenSpeaks, BodySpeaks}
 use Rattle.px_expand.proofs.Within.{site_weaker}

@@ -14,7 +14,7 @@ use Rattle.px_core.specs.Fit.{all_differ}
 use Rattle.px_core.specs.Plan.{is_same}
 use Rattle.px_expand.specs.Core.{name_of}
 use Rattle.px_expand.specs.Names.{named}
-use Rattle.px_expand.proofs.Apart.{names, same_is_equal}
+use Rattle.px_expand.proofs.Apart.{names}
 use Rattle.px_expand.proofs.Sizes.{length_of}
 
 -- ---- identifiers and names that begin with `#`
@@ -25,12 +25,12 @@ are_identifiers = list_all (λ label. is_identifier label.name)
 pub hash_differs : (hash name : List ℕ) → is_identifier hash ≡ false → is_identifier name ≡ true → is_same hash name ≡ false
 hash_differs hash name none identifier =
     false_from_ne_true _ (λ same.
-    both_ways (is_identifier hash) none (ap is_identifier (same_is_equal hash name same) ∙ identifier))
+    both_ways (is_identifier hash) none (ap is_identifier ((bytes_eq-Decides hash name).0 same) ∙ identifier))
 
 pub differs_from_hash : (hash name : List ℕ) → is_identifier hash ≡ false → is_identifier name ≡ true → is_same name hash ≡ false
 differs_from_hash hash name none identifier =
     false_from_ne_true _ (λ same.
-    both_ways (is_identifier hash) none (ap is_identifier (sym (same_is_equal name hash same)) ∙ identifier))
+    both_ways (is_identifier hash) none (ap is_identifier (sym ((bytes_eq-Decides name hash).0 same)) ∙ identifier))
 
 -- a name that is no identifier differs from that of a node with a label, or without one by another name
 pub hash_from_named : (hash : List ℕ) (label : Option Identifier) (unlabelled : List ℕ) → is_identifier hash ≡ false

@@ -2,9 +2,11 @@
 use Rattle.std.proofs.Common.{◌≡◌, ℕ, Bool, true, false, not, cond, List, [], ◌∷◌, ◌++◌, Option, Some, None, refl, sym, ap, ◌∙◌, subst}
 use Rattle.std.specs.Prelude.{◌&&◌, slice_get}
 use Rattle.std.specs.List.{list_any, find}
-use Rattle.std.specs.Option.{option_map, option_and_then, unwrap_or}
+use Rattle.std.specs.Option.{option_map, option_and_then, option_or, unwrap_or}
 use Rattle.std.specs.Str.{bytes_eq}
 use Rattle.std.proofs.lemmas.Bool.{and_from, or_left, or_right, or_from}
+use Rattle.std.proofs.lemmas.List.Folds.{find-append}
+use Rattle.std.proofs.lemmas.Slice.Eq.{bytes_eq-Decides}
 use Rattle.px_value.specs.Name.{is_identifier}
 use Rattle.px_syntax.specs.declared.expr.NodeReference.{NodeReference}
 use Rattle.px_syntax.specs.declared.expr.NodeReference.TheVariants as nodes
@@ -14,24 +16,7 @@ use Rattle.px_core.specs.Fit.{has_site, is_command, is_array}
 use Rattle.px_core.specs.Plan.{VariableData, Site, is_same}
 use Rattle.px_core.proofs.Paths.{same-self}
 use Rattle.px_expand.specs.Scope.{Scope, Frame, here, or_else, declared_in, declared_from, owner_of, child_named, itself_named, named_in, named_from, path_meant}
-use Rattle.px_expand.proofs.Apart.{same_is_equal}
 use Rattle.px_expand.proofs.Declaring.{names_of_variables}
-
--- ---- the first of several lists
-
-abbrev first_of : {X : Type 0} → Option X → Option X → Option X
-first_of None other = other
-first_of (Some x) other = Some x
-
-find-append : {X : Type 0} (test : X → Bool) (front back : List X)
-    → find test (front ++ back) ≡ first_of (find test front) (find test back)
-find-append test [] back = refl
-find-append {X} test (first ∷ front) back = of_test (test first) (find-append test front back)
-  where
-    of_test : (passes : Bool) → find test (front ++ back) ≡ first_of (find test front) (find test back)
-        → cond passes (Some first) (find test (front ++ back)) ≡ first_of (cond passes (Some first) (find test front)) (find test back)
-    of_test true more = refl
-    of_test false more = more
 
 -- ---- variables of a list
 
@@ -91,7 +76,7 @@ front_found name (visible ∷ visibles) (variable ∷ variables) shown =
         → FrontFound name variables (find (λ visible. bytes_eq name visible.name) visibles)
         → FrontFound name (variable ∷ variables) (cond test (Some visible) (find (λ visible. bytes_eq name visible.name) visibles))
     of_test true same more =
-        let equal = same_is_equal name visible.name same ∙ shown.0 in (
+        let equal = (bytes_eq-Decides name visible.name).0 same ∙ shown.0 in (
           or_left _ _ (ap (is_same name) (sym equal) ∙ same-self name),
           declares_first visible.is_array name variable variables (ap (λ text. is_same text name) (sym equal) ∙ same-self name)
               shown.1,
@@ -124,7 +109,7 @@ module _ (whole : List Site) where
   AgreesOn name (Some head) found = NodeFound name head found
 
   agrees_both : (name : List ℕ) (first second : Option Head) (one two : Option (List ℕ))
-      → AgreesOn name first one → AgreesOn name second two → AgreesOn name (first_of first second) (or_else one two)
+      → AgreesOn name first one → AgreesOn name second two → AgreesOn name (option_or first second) (or_else one two)
   agrees_both name (Some head) second one two front back = record {
     identifier = front.identifier;
     path = front.path;
@@ -265,7 +250,7 @@ module _ (whole : List Site) where
 
   variables_both : (above : List (List ℕ)) (name : List ℕ) (first second : Option Visible) (one two : Option (List ℕ))
       → VariableAgrees above name first one → VariableAgrees above name second two
-      → VariableAgrees above name (first_of first second) (or_else one two)
+      → VariableAgrees above name (option_or first second) (or_else one two)
   variables_both above name (Some variable) second one two front back =
       record { path = front.path; is = ap (λ found. or_else found two) front.is; has = front.has; owns = front.owns }
   variables_both above name None (Some variable) one two front back =

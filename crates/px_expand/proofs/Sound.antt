@@ -5,6 +5,7 @@ use Rattle.std.specs.List.{list_any}
 use Rattle.std.specs.Option.{option_to_list, is_some}
 use Rattle.std.proofs.lemmas.Bool.{and_from, and_parts, cond_both, or_from, or_parts, not-true, not_from_false}
 use Rattle.std.proofs.lemmas.List.Folds.{list_all-append}
+use Rattle.px_value.proofs.General.{neither}
 use Rattle.px_syntax.specs.declared.expr.Identifier.{Identifier}
 use Rattle.px_syntax.specs.declared.value_type.ValueType.TheVariants.{Boolean, Integer}
 use Rattle.px_syntax.specs.declared.word.BlockForm.{BlockForm}
@@ -16,14 +17,14 @@ use Rattle.px_syntax.specs.Fault.{Fault}
 use Rattle.px_syntax.specs.Plan.{PlanTree}
 use Rattle.px_syntax.specs.PlanFaults.{faults, outermost}
 use Rattle.px_syntax.specs.Scope as seen
-use Rattle.px_syntax.specs.Scope.{own_action, is_simple, commands_in, lookups_in}
+use Rattle.px_syntax.specs.Scope.{own_action, is_simple}
 use Rattle.px_value.specs.Name.{is_identifier}
 use Rattle.px_value.specs.Path.{below}
 use Rattle.px_core.specs.declared.node.Kind.{Kind}
 use Rattle.px_core.specs.declared.node.Kind.TheVariants as kinds
 use Rattle.px_core.specs.Fit.{may_have, names_of, all_differ, is_body_of, has_right_cells}
 use Rattle.px_core.specs.Plan as plan
-use Rattle.px_core.specs.Plan.{VariableData, BodyData, Tree, NoNode, is_same}
+use Rattle.px_core.specs.Plan.{VariableData, Tree, NoNode, is_same}
 use Rattle.px_expand.specs.Core.{Otherwise, name_of, branch_name, follows, shaped, block_scope, if_scope, while_scope, for_scope, block_core, actions_core, body_core, if_core, chain_core, else_core, branch_core, root_place, core}
 use Rattle.px_expand.specs.Forms.{where_found, where_not_found, test_variable, counter, loop_path}
 use Rattle.px_expand.specs.Items.{variables_of}
@@ -36,7 +37,7 @@ use Rattle.px_expand.specs.Size.{block_nodes, actions_nodes, body_nodes, guarded
 use Rattle.px_expand.specs.Typed.{is_typed}
 use Rattle.px_expand.proofs.Apart.{all_apart}
 use Rattle.px_expand.proofs.Declaring.{IsDeclared, items_declared}
-use Rattle.px_expand.proofs.Faultless.{neither, has_none}
+use Rattle.px_expand.proofs.Faultless.{has_none}
 use Rattle.px_expand.proofs.Naming.{are_identifiers, hash_from_named, named_from_hash, names_from, actions_differ}
 use Rattle.px_expand.proofs.Sizes.{actions_some, actions_few}
 

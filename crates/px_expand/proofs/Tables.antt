@@ -3,7 +3,9 @@ use Rattle.std.proofs.Common.{◌≡◌, ℕ, suc, Bool, true, false, cond, List
 use Rattle.std.specs.Prelude.{◌||◌}
 use Rattle.std.specs.List.{list_any, fold}
 use Rattle.std.specs.Map.{lookup}
+use Rattle.std.proofs.Math.Bool.{or_assoc, or_comm, or-false}
 use Rattle.std.proofs.lemmas.List.Folds.{list_any-append}
+use Rattle.std.proofs.lemmas.Slice.Eq.{bytes_eq-Decides}
 use Rattle.indexmap.specs.IndexMap.{insert_entry}
 use Rattle.indexmap.specs.IndexSet.{insert_key}
 use Rattle.px_value.specs.Path.{below}
@@ -13,12 +15,7 @@ use Rattle.px_expand.specs.Core.{name_of, actions_seen, children_seen}
 use Rattle.px_expand.specs.Kinds.{Shape, Rest, OneAction, Children}
 use Rattle.px_expand.specs.Nodes.{seen}
 use Rattle.px_expand.specs.Scope.{table, each_once}
-use Rattle.px_expand.proofs.Apart.{same_is_equal}
 use Rattle.px_expand.proofs.Naming.{names_from}
-
-or_swap : (a b c : Bool) → ((a || b) || c) ≡ (a || (b || c))
-or_swap true b c = refl
-or_swap false b c = refl
 
 -- ---- children
 
@@ -31,7 +28,7 @@ entry_put : (parent : List ℕ) (known : List (List ℕ)) (name : List ℕ)
     → insert_entry is_same (map (seen parent) known) name (below parent name) ≡ map (seen parent) (put known name)
 entry_put parent [] name = refl
 entry_put parent (first ∷ known) name =
-    of_test (is_same name first) (same_is_equal name first) (entry_put parent known name)
+    of_test (is_same name first) (bytes_eq-Decides name first).0 (entry_put parent known name)
   where
     of_test : (test : Bool) → (test ≡ true → name ≡ first)
         → insert_entry is_same (map (seen parent) known) name (below parent name) ≡ map (seen parent) (put known name)
@@ -43,13 +40,9 @@ entry_put parent (first ∷ known) name =
 
 put_among : (name : List ℕ) (known : List (List ℕ)) (added : List ℕ)
     → list_any (is_same name) (put known added) ≡ (list_any (is_same name) known || is_same name added)
-put_among name [] added = or_none (is_same name added)
-  where
-    or_none : (test : Bool) → (test || false) ≡ (false || test)
-    or_none true = refl
-    or_none false = refl
+put_among name [] added = or_comm (is_same name added) false
 put_among name (first ∷ known) added =
-    of_test (is_same added first) (λ same. ap (is_same name) (same_is_equal added first same)) (put_among name known added)
+    of_test (is_same added first) (λ same. ap (is_same name) ((bytes_eq-Decides added first).0 same)) (put_among name known added)
   where
     twice : (a b : Bool) → (a || b) ≡ ((a || b) || a)
     twice true b = refl
@@ -65,7 +58,7 @@ put_among name (first ∷ known) added =
         ∙ ap (λ test. (is_same name first || list_any (is_same name) known) || test) (sym (same refl))
     of_test false same more =
         ap (λ rest. is_same name first || rest) more
-        ∙ sym (or_swap (is_same name first) (list_any (is_same name) known) (is_same name added))
+        ∙ sym (or_assoc (is_same name first) (list_any (is_same name) known) (is_same name added))
 
 all_put : (parent : List ℕ) (known names : List (List ℕ))
     → fold (λ entries child. insert_entry is_same entries child.0 child.1) (map (seen parent) known) (map (seen parent) names)
@@ -78,21 +71,17 @@ all_put parent known (name ∷ names) =
 
 all_among : (name : List ℕ) (known names : List (List ℕ))
     → list_any (is_same name) (fold put known names) ≡ (list_any (is_same name) known || list_any (is_same name) names)
-all_among name known [] = or_nothing (list_any (is_same name) known)
-  where
-    or_nothing : (test : Bool) → test ≡ (test || false)
-    or_nothing true = refl
-    or_nothing false = refl
+all_among name known [] = sym (or-false (list_any (is_same name) known))
 all_among name known (first ∷ names) =
     all_among name (put known first) names
     ∙ ap (λ test. test || list_any (is_same name) names) (put_among name known first)
-    ∙ or_swap (list_any (is_same name) known) (is_same name first) (list_any (is_same name) names)
+    ∙ or_assoc (list_any (is_same name) known) (is_same name first) (list_any (is_same name) names)
 
 found_below : (parent name : List ℕ) (known : List (List ℕ))
     → lookup (is_same name) (map (seen parent) known) ≡ cond (list_any (is_same name) known) (Some (below parent name)) None
 found_below parent name [] = refl
 found_below parent name (first ∷ known) =
-    of_test (is_same name first) (same_is_equal name first) (found_below parent name known)
+    of_test (is_same name first) (bytes_eq-Decides name first).0 (found_below parent name known)
   where
     of_test : (test : Bool) → (test ≡ true → name ≡ first)
         → lookup (is_same name) (map (seen parent) known) ≡ cond (list_any (is_same name) known) (Some (below parent name)) None
@@ -132,16 +121,12 @@ children_named_so Children path all = actions_named_so path 1 all
 once_among : (name : List ℕ) (known names : List (List ℕ))
     → list_any (is_same name) (fold (insert_key is_same) known names)
     ≡ (list_any (is_same name) known || list_any (is_same name) names)
-once_among name known [] = or_nothing (list_any (is_same name) known)
-  where
-    or_nothing : (test : Bool) → test ≡ (test || false)
-    or_nothing true = refl
-    or_nothing false = refl
+once_among name known [] = sym (or-false (list_any (is_same name) known))
 once_among name known (first ∷ names) =
     once_among name (insert_key is_same known first) names
     ∙ ap (λ test. test || list_any (is_same name) names)
     (of_test (list_any (is_same first) known) (λ is. already is))
-    ∙ or_swap (list_any (is_same name) known) (is_same name first) (list_any (is_same name) names)
+    ∙ or_assoc (list_any (is_same name) known) (is_same name first) (list_any (is_same name) names)
   where
     absorbed : (a b : Bool) → (b ≡ true → a ≡ true) → a ≡ (a || b)
     absorbed true b implied = refl
@@ -150,18 +135,14 @@ once_among name known (first ∷ names) =
 
     present : (others : List (List ℕ)) → list_any (is_same first) others ≡ true → is_same name first ≡ true
         → list_any (is_same name) others ≡ true
-    present others is same = ap (λ text. list_any (is_same text) others) (same_is_equal name first same) ∙ is
+    present others is same = ap (λ text. list_any (is_same text) others) ((bytes_eq-Decides name first).0 same) ∙ is
 
     already : list_any (is_same first) known ≡ true
         → list_any (is_same name) known ≡ (list_any (is_same name) known || is_same name first)
     already is = absorbed (list_any (is_same name) known) (is_same name first) (present known is)
 
     pushed : list_any (is_same name) (known ++ first ∷ []) ≡ (list_any (is_same name) known || is_same name first)
-    pushed = list_any-append (is_same name) known (first ∷ []) ∙ ap (λ test. list_any (is_same name) known || test) (or_none (is_same name first))
-      where
-        or_none : (test : Bool) → (test || false) ≡ test
-        or_none true = refl
-        or_none false = refl
+    pushed = list_any-append (is_same name) known (first ∷ []) ∙ ap (λ test. list_any (is_same name) known || test) (or-false (is_same name first))
 
     of_test : (test : Bool) → (test ≡ true → list_any (is_same name) known ≡ (list_any (is_same name) known || is_same name first))
         → list_any (is_same name) (cond test known (known ++ first ∷ []))

@@ -1,9 +1,10 @@
-use Rattle.std.proofs.Common.{◌≡◌, ◌+◌, ◌≤◌, ℤ, ◌∷◌, length, map, drop, option_map, refl, ap, sym, ◌∙◌, arith, rules, None, Some, Result, Ok, Err, subst, length-append}
-use Rattle.std.specs.Result.{IfOk, OnOk}
+use Rattle.std.proofs.Common.{◌≡◌, ◌+◌, ◌≤◌, ℤ, ◌∷◌, length, map, drop, option_map, refl, ap, sym, ◌∙◌, arith, rules, None, Some, subst, length-append}
+use Rattle.std.specs.Result.{IfOk}
 use Rattle.std.proofs.lemmas.Int.{to_z-of_z}
 use mir.Syntax.{w32}
 use mir.Val.{SFits}
 use Rattle.std.proofs.lemmas.Result.{IfOk-weaker, on_ok_weaker}
+use Rattle.px_value.proofs.General.{on_ok}
 use Rattle.px_syntax.specs.declared.block.Action.{out-Action}
 use Rattle.px_syntax.specs.declared.block.Block.{out-Block}
 use Rattle.px_syntax.specs.declared.block.Guarded.{out-Guarded}
@@ -25,10 +26,6 @@ use Rattle.px_expand.proofs.Blocks.{block_inside, block_made, child_room, list_c
 use Rattle.px_expand.proofs.Chains.{chain_more, chain_opened, count_else, else_room, guarded_made, is_opened, room_before, room_for_set}
 use Rattle.px_expand.proofs.Loops.{branch_count, branch_made, branch_room, for_made, guarded_branch, guarded_count, guarded_room, while_made}
 use Rattle.px_expand.proofs.block.+block.Goals as goal
-
-holds : {T E P : Type 0} (r : Result T E) → P → OnOk r P
-holds (Ok value) is = is
-holds (Err error) is = tt
 
 pub actions-action_place-requires : goal.actions-action_place-requires
 actions-action_place-requires t c =
@@ -200,7 +197,7 @@ while_loop-repeated-requires t c =
 
 pub while_loop-returns-clause-scope : goal.while_loop-returns-clause-scope
 while_loop-returns-clause-scope t c =
-    holds c.repeated.result (c.leave.ensures ∙ ap (drop 1) (c.in_ok-node.ensures.scope ∙ c.in_ok-test.ensures.scope))
+    on_ok c.repeated.result (c.leave.ensures ∙ ap (drop 1) (c.in_ok-node.ensures.scope ∙ c.in_ok-test.ensures.scope))
 
 pub while_loop-returns-clause-node : goal.while_loop-returns-clause-node
 while_loop-returns-clause-node t c =
@@ -237,7 +234,7 @@ for_loop-counted-requires-clause-room t c = omega (arith, c.requires)
 
 pub for_loop-returns-clause-scope : goal.for_loop-returns-clause-scope
 for_loop-returns-clause-scope t c =
-    holds c.counted.result (c.leave.ensures ∙ ap (drop 1) (c.in_ok-node.ensures.scope ∙ c.in_ok-inner.ensures.scope))
+    on_ok c.counted.result (c.leave.ensures ∙ ap (drop 1) (c.in_ok-node.ensures.scope ∙ c.in_ok-inner.ensures.scope))
 
 pub for_loop-returns-clause-node : goal.for_loop-returns-clause-node
 for_loop-returns-clause-node t c =
