@@ -1,5 +1,5 @@
 -- Where a text may be cut: round blanks and before signs.
-use Rattle.std.proofs.Common.{◌≡◌, ℕ, ◌+◌, ◌-◌, ◌<◌, ◌≤◌, Bool, true, List, [], ◌∷◌, zero, suc, length, get_or, reverse, arith, inl, inr}
+use Rattle.std.proofs.Common.{◌≡◌, ℕ, ◌+◌, ◌-◌, ◌<◌, ◌≤◌, true, List, [], ◌∷◌, suc, length, get_or, reverse, arith, inl, inr}
 use Rattle.std.specs.Char.{is_ascii}
 use Rattle.std.specs.List.{prefix_len, suffix_len, position_or_len}
 use Rattle.std.specs.Prelude.{not}
@@ -7,11 +7,11 @@ use Rattle.std.specs.Str.{IsUtf8, IsCharBoundary}
 use Rattle.std.proofs.lemmas.Bool.{cases_Bool, cases_lt}
 use Rattle.std.proofs.lemmas.Bool.Decides.{nat_tests}
 use Rattle.std.proofs.lemmas.List.{get_or-reverse}
-use Rattle.std.proofs.lemmas.List.Sums.{passes_at_first, suffix_len-le-length}
+use Rattle.std.proofs.lemmas.List.Sums.{passes_at_first, prefix_len-le-length, prefix_len_passes, suffix_len-le-length}
 use Rattle.std.proofs.lemmas.Str.{IsCharBoundary-end, IsCharBoundary-before_ascii}
 use Rattle.px_value.proofs.Ascii.{list_all-weaker}
 use Rattle.px_lex.proofs.Cuts.{cut_behind}
-use Rattle.px_lex.proofs.Spans.{Span, span, prefix_within}
+use Rattle.px_lex.proofs.Spans.{Span, span}
 use Rattle.px_script.specs.Place.{is_sign, ends_place, behind_byte, place_length}
 use Rattle.px_script.specs.Text.{is_blank}
 use Rattle.px_script.specs.declared.place.Quoting.{Quoting}
@@ -37,21 +37,9 @@ pub cut_word : (text : List ℕ) → IsCharBoundary text (position_or_len is_bla
 cut_word text = elim (cases_lt (position_or_len is_blank text) (length text)) [
   | inl inside ↦ IsCharBoundary-before_ascii text (position_or_len is_blank text) inside (blank_small _ (passes_at_first is_blank text 0 inside))
   | inr out ↦
-      let end : position_or_len is_blank text ≡ length text = omega (arith, prefix_within (λ c. not (is_blank c)) text) in
+      let end : position_or_len is_blank text ≡ length text = omega (arith, prefix_len-le-length (λ c. not (is_blank c)) text) in
       rw end (IsCharBoundary-end text)
 ]
-
-passes_within : (p : ℕ → Bool) (xs : List ℕ) (k : ℕ) → k < prefix_len p xs → p (get_or xs k 0) ≡ true
-passes_within p [] k within = absurd (omega arith)
-passes_within p (x ∷ xs) k within = elim (cases_Bool (p x)) [
-  | inl is ↦ by k is (rw is at within) (passes_within p xs)
-  | inr isnt ↦ let none : k < 0 = rw isnt at within in absurd (omega arith)
-]
-  where
-    by : (k : ℕ) → p x ≡ true → k < 1 + prefix_len p xs → ((k : ℕ) → k < prefix_len p xs → p (get_or xs k 0) ≡ true)
-        → p (get_or (x ∷ xs) k 0) ≡ true
-    by zero is within each = is
-    by (suc k) is within each = each k (omega arith)
 
 -- before the blanks at the end
 pub cut_end : (text : List ℕ) → IsCharBoundary text (length text - suffix_len is_blank text)
@@ -60,7 +48,7 @@ cut_end text = elim (cases_lt 0 (suffix_len is_blank text)) [
       let few : suffix_len is_blank text ≤ length text = suffix_len-le-length is_blank text in
       let last : ℕ = suffix_len is_blank text - 1 in
       let blank : is_blank (get_or text (length text - 1 - last) 0) ≡ true
-      = rw (← get_or-reverse text last 0 (omega arith)) (passes_within is_blank (reverse text) last (omega arith)) in
+      = rw (← get_or-reverse text last 0 (omega arith)) (prefix_len_passes is_blank (reverse text) last 0 (omega arith)) in
       let place : length text - 1 - last ≡ length text - suffix_len is_blank text = omega arith in
       IsCharBoundary-before_ascii text (length text - suffix_len is_blank text) (omega arith) (blank_small _ (rw (← place) blank))
   | inr none ↦

@@ -1,13 +1,14 @@
 -- The names that lines give threads, as they are kept line by line.
-use Rattle.std.proofs.Common.{◌≡◌, ℕ, ◌+◌, Bool, true, false, List, [], ◌∷◌, ◌++◌, refl, sym, ap, ◌∙◌, subst, arith, Option, Some, None, cond, inl, inr}
+use Rattle.std.proofs.Common.{◌≡◌, ℕ, ◌+◌, Bool, true, false, List, [], ◌∷◌, ◌++◌, refl, sym, ap, ◌∙◌, subst, Option, Some, None, cond, inl, inr}
 use Rattle.std.specs.Prelude.{◌==◌, ◌&&◌, ◌||◌, not, is_none, nat_lt}
 use Rattle.std.specs.Cmp.Lexicographic.{bytes_decides}
 use Rattle.std.specs.List.{filter, cons_option, list_all, list_any}
+use Rattle.std.proofs.Math.Bool.{or-false}
 use Rattle.std.proofs.lemmas.List.{append-nil}
 use Rattle.std.proofs.lemmas.List.Elements.{filter-append, filter_map-append}
 use Rattle.std.proofs.lemmas.List.Folds.{list_any-append}
-use Rattle.std.proofs.lemmas.Bool.{and_parts, and_from, lt-ltb, le-ltb, eqb-true, eq-eqb, cases_Bool}
-use Rattle.std.proofs.lemmas.Bool.Decides.{nat_tests}
+use Rattle.std.proofs.lemmas.Bool.{and_parts, and_from, lt-ltb, le-ltb, eqb-true, eq-eqb, cases_Bool, not-false}
+use Rattle.px_value.proofs.General.{differs_turned}
 use Rattle.px_core.specs.Plan.{is_same}
 use Rattle.px_event.specs.Fit.{is_report_name}
 use Rattle.px_event.specs.Names.{name_of, are_names}
@@ -26,9 +27,6 @@ is_of_another thread row = not (row.thread == thread)
 
 abbrev row_of : ℕ → List ℕ → ThreadName
 row_of thread name = record { thread = thread; name = name }
-
-other_way : (a b : ℕ) → (a == b) ≡ false → (b == a) ≡ false
-other_way a b other = grind (arith, nat_tests)
 
 -- ---- the name of a thread among rows
 
@@ -93,7 +91,7 @@ first_push (first ∷ rows) row =
           let out : others row ≡ false = ap not (eq-eqb row.thread first.thread (sym (eqb-true first.thread row.thread is))) in
           rw is (ap (λ rows. first ∷ rows) (later ∙ dropped_with others name (first_names rows) row out))
       | inr isnt ↦
-          let within : others row ≡ true = ap not (other_way first.thread row.thread isnt) in
+          let within : others row ≡ true = ap not (differs_turned first.thread row.thread isnt) in
           rw isnt
           (ap (λ rows. first ∷ rows) (later ∙ kept_with others name (first_names rows) row within) ∙ behind_first first name (filter others (first_names rows)) row)
     ]
@@ -108,26 +106,18 @@ twice : (b : Bool) → (b || (b || false)) ≡ b
 twice true = refl
 twice false = refl
 
-once : (b : Bool) → (b || false) ≡ b
-once true = refl
-once false = refl
-
-not-false : (b : Bool) → not b ≡ false → b ≡ true
-not-false true none = refl
-not-false false none = cc
-
 -- the name that a thread has, and the row that may give it the same name, or be of another thread
 agree_one : (thread : ℕ) (name : List ℕ) (row : ThreadName) (found : Option (List ℕ)) → ((row.thread == thread) ≡ true → is_another (Some row.name) found ≡ false)
     → (is_another (Some name) found || (is_other_name thread name row || false)) ≡ is_another (Some name) (or_row thread row found)
 agree_one thread name row None same = elim (cases_Bool (row.thread == thread)) [
-  | inl is ↦ rw is (once (not (is_same row.name name)))
+  | inl is ↦ rw is (or-false (not (is_same row.name name)))
   | inr isnt ↦ rw isnt refl
 ]
 agree_one thread name row (Some kept) same = elim (cases_Bool (row.thread == thread)) [
   | inl is ↦
       let equal : kept ≡ row.name = (bytes_decides kept row.name).0 (not-false (is_same kept row.name) (same is)) in
       rw (is, equal) (twice (not (is_same row.name name)))
-  | inr isnt ↦ rw isnt (once (not (is_same kept name)))
+  | inr isnt ↦ rw isnt (or-false (not (is_same kept name)))
 ]
 
 agree_push : (rows : List ThreadName) (row : ThreadName) → Agree rows → is_another (Some row.name) (name_of row.thread rows) ≡ false → Agree (rows ++ row ∷ [])

@@ -1,12 +1,12 @@
 -- What is left of a script after a history.
-use Rattle.std.proofs.Common.{◌≡◌, ℕ, ◌<◌, ◌≤◌, Bool, true, false, List, [], ◌∷◌, ◌++◌, length, map, get_or, replicate, refl, sym, ap, ◌∙◌, arith, cond, eqb, inl, inr}
+use Rattle.std.proofs.Common.{◌≡◌, ℕ, ◌<◌, ◌≤◌, Bool, true, false, List, [], ◌∷◌, ◌++◌, length, map, get_or, refl, sym, ap, ◌∙◌, arith, cond, eqb, inl, inr}
 use Rattle.std.specs.Prelude.{◌&&◌, max, nat_le, nat_lt}
 use Rattle.std.specs.List.{filter, fold, list_all, All}
-use Rattle.std.proofs.lemmas.List.{map-append, get_or-replicate, get_or_past, length-replicate}
+use Rattle.std.proofs.lemmas.List.{map-append}
 use Rattle.std.proofs.lemmas.List.Elements.{filter-append, filter_passes, All-nil, All-cons, All-map, All-filter, All-weaker}
 use Rattle.std.proofs.lemmas.List.Folds.{list_all-map}
 use Rattle.std.proofs.lemmas.List.Sums.{fold-append, length-filter, count_by-le-length}
-use Rattle.std.proofs.lemmas.Bool.{ltb-true, ltb-false, lt-ltb, le-ltb, leb-true, le-leb, eqb-false, and_parts, and_from, cases_Bool, cases_lt}
+use Rattle.std.proofs.lemmas.Bool.{ltb-true, ltb-false, lt-ltb, le-ltb, leb-true, le-leb, eqb-false, and_parts, and_from, cases_Bool}
 use Rattle.px_event.specs.declared.entry.Entry.{Entry}
 use Rattle.px_script.specs.Fit.{rise_above, is_fit_line, are_fit_lines, IsFitScript}
 use Rattle.px_script.specs.Remainder.{entries_of, last_line, lines_above, left_of, has_a_line, rest, IsAhead}
@@ -35,14 +35,6 @@ last_line-append thread history more =
 
 last_line_grows : (thread : ℕ) (history more : List Entry) → last_line thread history ≤ last_line thread (history ++ more)
 last_line_grows thread history more = rw last_line-append (max_grows (last_line thread history) (numbers_of thread more))
-
--- before any entry
-pub get_or-zeros : (count k : ℕ) → ◌≡◌ {A = ℕ} (get_or (replicate count 0) k 0) 0
-get_or-zeros count k =
-    elim (cases_lt k count) [
-      | inl within ↦ get_or-replicate count k 0 0 within
-      | inr past ↦ get_or_past (replicate count 0) k 0 (omega (arith, length-replicate {A = ℕ} count 0))
-    ]
 
 -- no entry of the thread has a greater line
 abbrev IsUpTo : ℕ → ℕ → Entry → Type 0

@@ -3,9 +3,9 @@ use Rattle.std.proofs.Common.{◌≡◌, ℕ, zero, suc, ◌<◌, ◌++◌, Bool
 use Rattle.std.specs.Cmp.Lexicographic.{same_text}
 use Rattle.std.specs.List.{find, list_all}
 use Rattle.std.specs.Map.{lookup}
-use Rattle.std.specs.Option.{option_map}
+use Rattle.std.specs.Option.{option_map, option_or}
 use Rattle.std.proofs.lemmas.Bool.{and_parts, cases_Bool}
-use Rattle.std.proofs.lemmas.List.{map-append}
+use Rattle.std.proofs.lemmas.List.{map-append, nil_from_length}
 use Rattle.std.proofs.lemmas.List.Folds.{list_all-append, list_all-map}
 use Rattle.px_value.specs.Path.{below}
 use Rattle.px_core.proofs.Trees.{node_tree}
@@ -84,35 +84,23 @@ short_child parent (node ∷ nodes) (suc i) d within short =
 
 -- ---- what entries tell
 
--- what is told of a path first, or behind that
-abbrev first_of : Option Kind → Option Kind → Option Kind
-first_of None later = later
-first_of (Some kind) later = Some kind
-
+-- what is told of a path is told first, or behind that
 told_of_both : (path : List ℕ) (front behind : Told)
-    → lookup (is_same path) (front ++ behind) ≡ first_of (lookup (is_same path) front) (lookup (is_same path) behind)
+    → lookup (is_same path) (front ++ behind) ≡ option_or (lookup (is_same path) front) (lookup (is_same path) behind)
 told_of_both path [] behind = refl
 told_of_both path (told ∷ front) behind = by (is_same path told.0) (told_of_both path front behind)
   where
-    by : (here : Bool) → lookup (is_same path) (front ++ behind) ≡ first_of (lookup (is_same path) front) (lookup (is_same path) behind)
+    by : (here : Bool) → lookup (is_same path) (front ++ behind) ≡ option_or (lookup (is_same path) front) (lookup (is_same path) behind)
         → (if here then Some told.1 else lookup (is_same path) (front ++ behind))
-        ≡ first_of (if here then Some told.1 else lookup (is_same path) front) (lookup (is_same path) behind)
+        ≡ option_or (if here then Some told.1 else lookup (is_same path) front) (lookup (is_same path) behind)
     by true rest = refl
     by false rest = rest
 
 -- entries that tell the same tell the same with more behind them
 both_tell : (entries kinds behind : Told) → TellKinds entries kinds → TellKinds (entries ++ behind) (kinds ++ behind)
 both_tell entries kinds behind same path =
-    told_of_both path entries behind ∙ ap (λ told. first_of told (lookup (is_same path) behind)) (same path)
+    told_of_both path entries behind ∙ ap (λ told. option_or told (lookup (is_same path) behind)) (same path)
     ∙ sym (told_of_both path kinds behind)
-
--- nothing is told of a path
-pub not_told : (entries : Told) (path : List ℕ) → is_some (lookup (is_same path) entries) ≡ false → lookup (is_same path) entries ≡ None
-not_told entries path none = by (lookup (is_same path) entries) none
-  where
-    by : (told : Option Kind) → is_some told ≡ false → told ≡ None
-    by None none = refl
-    by (Some kind) none = absurd (cc)
 
 -- a path of which something is told already
 pub told_already : (entries : Told) (path : List ℕ) (kind : Kind) → is_some (lookup (is_same path) entries) ≡ true
@@ -128,9 +116,9 @@ told_already entries path kind there other = by (lookup (is_same other) entries)
 
     by : (told : Option Kind) → lookup (is_same other) entries ≡ told
         → lookup (is_same other) entries ≡ lookup (is_same other) (entries ++ (path, kind) ∷ [])
-    by None is = is ∙ sym (told_of_both other entries ((path, kind) ∷ []) ∙ ap (λ told. first_of told (lookup (is_same other) ((path, kind) ∷ []))) is
+    by None is = is ∙ sym (told_of_both other entries ((path, kind) ∷ []) ∙ ap (λ told. option_or told (lookup (is_same other) ((path, kind) ∷ []))) is
         ∙ ap (λ here. if here then Some kind else None) (none_else other is))
-    by (Some first) is = is ∙ sym (told_of_both other entries ((path, kind) ∷ []) ∙ ap (λ told. first_of told (lookup (is_same other) ((path, kind) ∷ []))) is)
+    by (Some first) is = is ∙ sym (told_of_both other entries ((path, kind) ∷ []) ∙ ap (λ told. option_or told (lookup (is_same other) ((path, kind) ∷ []))) is)
 
 -- one child more is told, and what is below it
 pub told_next : (parent : List ℕ) (old before own_told now : Told) (done : List CoreNode) (node : CoreNode)
@@ -151,7 +139,7 @@ pub root_told : (root : CoreNode) (before own_told now : Told) (path copy : List
 root_told root before own_told now path copy none here same mine below other =
     below other
     ∙ both_tell own_told (before ++ (copy, kind) ∷ []) (kinds_under path (below_it root)) mine other
-    ∙ ap (lookup (is_same other)) (ap (λ before. (before ++ (copy, kind) ∷ []) ++ kinds_under path (below_it root)) (empty before none)
+    ∙ ap (lookup (is_same other)) (ap (λ before. (before ++ (copy, kind) ∷ []) ++ kinds_under path (below_it root)) (nil_from_length before none)
     ∙ ap (λ copy. (copy, kind) ∷ kinds_under path (below_it root)) (same ∙ here)
     ∙ ap (λ path. (name, kind) ∷ kinds_under path (below_it root)) here
     ∙ sym (ap all_kinds (sites_of_root root) ∙ ap (λ all. (name, kind) ∷ all) (kinds_of_sites name [] (below_it root))))
@@ -161,10 +149,6 @@ root_told root before own_told now path copy none here same mine below other =
 
     kind : Kind
     kind = (node_head root).kind
-
-    empty : (entries : Told) → length entries ≡ 0 → entries ≡ []
-    empty [] none = refl
-    empty (told ∷ entries) none = absurd (omega arith)
 
 -- ---- what is found
 
