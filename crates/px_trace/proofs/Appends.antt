@@ -1,31 +1,18 @@
 -- What a failure leaves of a text that was appended to.
-use Rattle.std.proofs.Common.{◌≡◌, ℕ, List, ◌++◌, drop, length, ap, subst, ◌∙◌, sym, append_assoc, Result, Ok, Err, OnOk, OnErr}
+use Rattle.std.proofs.Common.{◌≡◌, ℕ, List, ◌++◌, Result, Ok, Err, OnOk, OnErr}
 use Rattle.std.proofs.Math.Seq.{take-append_seam}
-use Rattle.std.proofs.lemmas.List.{take-append-drop}
+use Rattle.px_value.proofs.General.{begins_further}
 use Rattle.px_trace.specs.Appending.{Keeps}
 
 -- what was there stays
 pub keeps_on : (old more new : List ℕ) → new ≡ old ++ more → Keeps old new
 keeps_on old more new e = rw e (take-append_seam old more)
 
-keeps_longer : (old more new : List ℕ) → Keeps (old ++ more) new → Keeps old new
-keeps_longer old more new h =
-    let rest : List ℕ = drop (length (old ++ more)) new in
-    let whole : new ≡ old ++ (more ++ rest) =
-    sym (take-append-drop (length (old ++ more)) new) ∙ ap (λ front. front ++ rest) h ∙ append_assoc old more rest in
-    keeps_on old (more ++ rest) new whole
-
-pub keeps_further : (old mid new : List ℕ) → Keeps old mid → Keeps mid new → Keeps old new
-keeps_further old mid new h k =
-    let rest : List ℕ = drop (length old) mid in
-    let whole : mid ≡ old ++ rest = sym (take-append-drop (length old) mid) ∙ ap (λ front. front ++ rest) h in
-    keeps_longer old rest new (subst (λ (x : List ℕ). Keeps x new) whole k)
-
--- the same where a call has failed
+-- where a call has failed
 pub err_further : {T E : Type 0} (r : Result T E) (old mid new : List ℕ) → Keeps old mid → OnErr r (Keeps mid new)
     → OnErr r (Keeps old new)
 err_further (Ok _) old mid new h k = tt
-err_further (Err _) old mid new h k = keeps_further old mid new h k
+err_further (Err _) old mid new h k = begins_further old mid new h k
 
 pub err_unchanged : {T E : Type 0} (r : Result T E) (old mid new : List ℕ) → Keeps old mid → OnErr r (new ≡ mid)
     → OnErr r (Keeps old new)

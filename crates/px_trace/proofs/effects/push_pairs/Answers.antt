@@ -2,9 +2,9 @@ use Rattle.std.proofs.Common.{◌++◌, codes}
 use Rattle.std.specs.Iterator.Adapters.{zip_first, zip_second}
 use Rattle.std.specs.Slice.Iter.{iter_rest}
 use Rattle.std.proofs.lemmas.Slice.Zip.{Zip-more, either_empty_from_Zip}
-use Rattle.px_value.proofs.General.{on_err}
+use Rattle.px_value.proofs.General.{begins_further, on_err}
 use Rattle.px_sem.specs.Text.{pair_text}
-use Rattle.px_trace.proofs.Appends.{keeps_on, keeps_further}
+use Rattle.px_trace.proofs.Appends.{keeps_on}
 use Rattle.px_trace.proofs.Parting.{pairs_begun, no_pairs, pairs_ended}
 use Rattle.px_trace.proofs.effects.push_pairs.Goals as goal
 
@@ -25,8 +25,8 @@ loop-name-init c =
 
 pub returns-in_err-push_pair-2-clause-err : goal.returns-in_err-push_pair-2-clause-err
 returns-in_err-push_pair-2-clause-err c =
-    let comma = keeps_further _ _ _ c.loop-name.invariant.1 (keeps_on _ _ _ c.in_ok-push_all.ensures.ok) in
-    on_err _ (keeps_further _ _ _ comma c.in_err-push_pair-2.ensures.err)
+    let comma = begins_further _ _ _ c.loop-name.invariant.1 (keeps_on _ _ _ c.in_ok-push_all.ensures.ok) in
+    on_err _ (begins_further _ _ _ comma c.in_err-push_pair-2.ensures.err)
 
 pub returns-in-None-clause-ok : goal.returns-in-None-clause-ok
 returns-in-None-clause-ok c =

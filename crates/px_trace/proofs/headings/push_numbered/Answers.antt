@@ -1,14 +1,14 @@
 use Rattle.std.proofs.Common.{◌≡◌, ℕ, List, ◌++◌, append_assoc}
-use Rattle.px_value.proofs.General.{on_err}
-use Rattle.px_trace.proofs.Appends.{keeps_on, keeps_further, ok_along}
+use Rattle.px_value.proofs.General.{begins_further, on_err}
+use Rattle.px_trace.proofs.Appends.{keeps_on, ok_along}
 use Rattle.px_trace.proofs.headings.push_numbered.Goals as goal
 
 pub returns-in_err-push_event-clause-err : goal.returns-in_err-push_event-clause-err
 returns-in_err-push_event-clause-err c =
     let number = keeps_on _ _ _ c.in_ok-push_all.ensures.ok in
-    let source = keeps_further _ _ _ number (keeps_on _ _ _ c.in_ok-push_source.ensures.ok) in
-    let blank = keeps_further _ _ _ source (keeps_on _ _ _ c.in_ok-push_all-2.ensures.ok) in
-    on_err _ (keeps_further _ _ _ blank c.in_err-push_event.ensures.err)
+    let source = begins_further _ _ _ number (keeps_on _ _ _ c.in_ok-push_source.ensures.ok) in
+    let blank = begins_further _ _ _ source (keeps_on _ _ _ c.in_ok-push_all-2.ensures.ok) in
+    on_err _ (begins_further _ _ _ blank c.in_err-push_event.ensures.err)
 
 -- five parts, one after another
 five_parts : (old first second third fourth fifth a b c d : List ℕ) → a ≡ old ++ first → b ≡ a ++ second

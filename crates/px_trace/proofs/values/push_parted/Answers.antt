@@ -1,6 +1,6 @@
-use Rattle.px_value.proofs.General.{on_err}
+use Rattle.px_value.proofs.General.{begins_further, on_err}
 use Rattle.px_sem.specs.Text.{value_text}
-use Rattle.px_trace.proofs.Appends.{keeps_on, keeps_further}
+use Rattle.px_trace.proofs.Appends.{keeps_on}
 use Rattle.px_trace.proofs.Parting.{parted_begun}
 use Rattle.px_trace.proofs.values.push_parted.Goals as goal
 
@@ -15,5 +15,5 @@ loop-value-init c =
 
 pub returns-in_err-push_value-2-clause-err : goal.returns-in_err-push_value-2-clause-err
 returns-in_err-push_value-2-clause-err c =
-    let comma = keeps_further _ _ _ c.loop-value.invariant.1 (keeps_on _ _ _ c.in_ok-push_all.ensures.ok) in
-    on_err _ (keeps_further _ _ _ comma c.in_err-push_value-2.ensures.err)
+    let comma = begins_further _ _ _ c.loop-value.invariant.1 (keeps_on _ _ _ c.in_ok-push_all.ensures.ok) in
+    on_err _ (begins_further _ _ _ comma c.in_err-push_value-2.ensures.err)
