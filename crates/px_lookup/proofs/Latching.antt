@@ -1,19 +1,22 @@
 -- Each tolerance has latched a value in each report, whatever is reported and taken back.
-use Rattle.std.proofs.Common.{◌≡◌, ℕ, zero, suc, ◌-◌, Bool, true, false, List, [], ◌∷◌, ◌++◌, length, map, take, Option, Some, None, IfSome, is_some, nat_eq, All, refl, ap, sym, subst, ◌∙◌, arith, if◌then◌else◌}
+use Rattle.std.proofs.Common.{◌≡◌, ℕ, zero, suc, ◌-◌, Bool, true, false, List, [], ◌∷◌, ◌++◌, length, map, slice_get, take, Option, Some, None, IfSome, is_some, nat_eq, All, refl, ap, sym, subst, ◌∙◌, if◌then◌else◌}
 use Rattle.std.specs.Borrow.{Bor}
 use Rattle.std.specs.List.{list_any}
 use Rattle.std.specs.Map.{keys_of, lookup, values_of}
 use Rattle.std.specs.Option.{option_copied}
-use Rattle.std.proofs.lemmas.List.Elements.{All-cons, All-head, All-nil, All-push, All-tail}
+use Rattle.std.proofs.lemmas.List.Elements.{All-cons, All-get_or, All-head, All-nil, All-push, All-tail}
 use Rattle.std.proofs.lemmas.Map.Made.{is_some-lookup}
 use Rattle.std.proofs.lemmas.Map.Views.{IfSome-lookup_from_All}
-use Rattle.indexmap.specs.IndexMap.{insert_entry, set_value_at}
+use Rattle.std.proofs.lemmas.Option.{get_or_from_slice_get, slice_get_within}
+use Rattle.indexmap.specs.IndexMap.{IndexMap, insert_entry, set_value_at}
+use Rattle.indexmap.proofs.MapLemmas.{Missing-position}
 use Rattle.px_value.specs.declared.value.Value.{Value}
+use Rattle.px_sem.specs.Events.{first_report, next_report}
 use Rattle.px_sem.specs.World.{LookState, Report, is_same_state, latched_at}
 use Rattle.px_lookup.specs.declared.reports.Change.{Change}
 use Rattle.px_lookup.specs.declared.reports.Change.TheVariants as changes
-use Rattle.px_lookup.specs.Undoing.{HadLatchedEach, LatchEach, report_after, undone}
-use Rattle.px_lookup.proofs.Reporting.{latched_then}
+use Rattle.px_lookup.specs.Undoing.{HadLatchedEach, IsChange, LatchEach, place_of, undone}
+use Rattle.px_lookup.proofs.Reporting.{latched_then, set_value_at-back, take-insert_entry}
 
 first_each : (tolerances : List ℕ) (given : Value) → keys_of (map (λ tolerance. (tolerance, given)) tolerances) ≡ tolerances
 first_each [] given = refl
@@ -23,14 +26,12 @@ next_each : (latched : List (ℕ × Value)) (given : Value) → keys_of (map (la
 next_each [] given = refl
 next_each (kept ∷ latched) given = ap (λ rest. kept.0 ∷ rest) (next_each latched given)
 
--- in the report of a state after one more, or in its first
-pub after_latches : (tolerances : List ℕ) (old : Option Report) (given : Value) → IfSome old (LatchEach tolerances)
-    → LatchEach tolerances (report_after tolerances old given)
-after_latches tolerances None given latches = first_each tolerances given
-after_latches tolerances (Some report) given latches = next_each report.latched given ∙ latches
+next_latches : (tolerances : List ℕ) (report : Report) (given : Value) → LatchEach tolerances report
+    → LatchEach tolerances (next_report report given)
+next_latches tolerances report given latches = next_each report.latched given ∙ latches
 
 module _ (P : Report → Type 0) where
-  pub inserted_all : (state : LookState) (report : Report) (es : List (LookState × Report)) → All P (values_of es) → P report
+  inserted_all : (state : LookState) (report : Report) (es : List (LookState × Report)) → All P (values_of es) → P report
       → All P (values_of (insert_entry is_same_state es state report))
   inserted_all state report [] all holds = All-cons P report [] holds (All-nil P)
   inserted_all state report (e ∷ es) all holds =
@@ -62,6 +63,33 @@ pub undone_latches : (tolerances : List ℕ) (change : Change) (es : List (LookS
 undone_latches tolerances (changes.Replaced at old) es all had = set_all (LatchEach tolerances) es at old all had
 undone_latches tolerances changes.Added es all had = front_all (LatchEach tolerances) (length es - 1) es all
 
+-- a report that took the place of one
+pub replaced_change : (tolerances : List ℕ) (given : Value) (es : List (LookState × Report)) (at : ℕ) (old : Report)
+    → slice_get (values_of es) at ≡ Some old
+    → IsChange tolerances es (set_value_at es at (next_report old given)) (changes.Replaced at old)
+replaced_change tolerances given es at old is = record {
+  back = set_value_at-back es at (next_report old given) old is;
+  latching = λ all.
+      set_all (LatchEach tolerances) es at (next_report old given) all (next_latches tolerances old given (had all));
+  had = had;
+}
+  where
+    had : All (LatchEach tolerances) (values_of es) → LatchEach tolerances old
+    had all = subst (LatchEach tolerances) (get_or_from_slice_get (values_of es) at old old is)
+        (All-get_or (LatchEach tolerances) (values_of es) at old (slice_get_within (values_of es) at old is) all)
+
+-- the first report of a state
+pub added_change : {S : Type 0} (tolerances : List ℕ) (state : LookState) (given : Value) (m : IndexMap LookState Report S)
+    → place_of state m.entries ≡ None
+    → IsChange tolerances m.entries (insert_entry is_same_state m.entries state (first_report tolerances given)) changes.Added
+added_change tolerances state given m nowhere = record {
+  back = take-insert_entry is_same_state m state (first_report tolerances given)
+      (Missing-position (is_same_state state) m.entries nowhere).value;
+  latching = λ all. inserted_all (LatchEach tolerances) state (first_report tolerances given) m.entries all
+      (first_each tolerances given);
+  had = λ _. tt;
+}
+
 -- all but the last, and the last
 pub all_parts : (P : Change → Type 0) (earlier : List Change) (change : Change) → All P (earlier ++ change ∷ [])
     → All P earlier × P change
@@ -91,18 +119,3 @@ pub latched_some : (tolerances : List ℕ) (report : Report) (tolerance : ℕ) �
     → is_some (latched_at report tolerance) ≡ list_any (nat_eq tolerance) tolerances
 latched_some tolerances report tolerance latches =
     is_some-lookup (nat_eq tolerance) report.latched ∙ ap (list_any (nat_eq tolerance)) latches
-
--- without a tolerance the next report does not depend on the one before
-pub first_alone : (found : Option Report) (given : Value) → IfSome found (LatchEach [])
-    → report_after [] None given ≡ report_after [] found given
-first_alone None given latches = refl
-first_alone (Some report) given latches = by report.latched latches
-  where
-    by : (latched : List (ℕ × Value)) → keys_of latched ≡ []
-        → report_after [] None given ≡ report_after [] (Some (record { last = report.last; latched = latched })) given
-    by [] none = refl
-    by (kept ∷ latched) none = absurd (cc none)
-
-pub no_tolerances : (tolerances : List ℕ) → length tolerances ≡ 0 → tolerances ≡ []
-no_tolerances [] none = refl
-no_tolerances (tolerance ∷ tolerances) none = absurd (omega (arith, none))

@@ -1,16 +1,18 @@
 -- What a report does to the reports, and how changes are taken back.
-use Rattle.std.proofs.Common.{◌≡◌, ℕ, zero, suc, ◌+◌, ◌-◌, ◌≤◌, Bool, true, false, not, cond, List, [], ◌∷◌, ◌++◌}
-use Rattle.std.proofs.Common.{length, take, refl, ap, ◌∙◌, arith, Option, Some, None, if◌then◌else◌, length-append}
-use Rattle.std.specs.List.{position_or_len}
-use Rattle.std.specs.Map.{keys_of, lookup}
+use Rattle.std.proofs.Common.{◌≡◌, ℕ, zero, suc, ◌-◌, ◌≤◌, Bool, true, false, cond, List, [], ◌∷◌, ◌++◌}
+use Rattle.std.proofs.Common.{length, position, slice_get, take, refl, ap, sym, ◌∙◌, arith, Option, Some, None, if◌then◌else◌, length-append}
+use Rattle.std.specs.List.{IsDistinct}
+use Rattle.std.specs.Map.{keys_of, lookup, values_of}
 use Rattle.std.proofs.Math.Seq.{take-append_seam}
 use Rattle.indexmap.specs.IndexMap.{IndexMap, get, insert_entry, set_value_at}
 use Rattle.indexmap.proofs.CallerLemmas.{insert_entry-new}
+use Rattle.indexmap.proofs.MapLemmas.{Found-position, Missing-position, index-first, insert_entry-first}
+use Rattle.indexmap.proofs.RemoveLemmas.{own_first}
 use Rattle.px_value.specs.declared.value.Value.{Value}
 use Rattle.px_sem.specs.World.{LookState, Report, is_same_state, report_at}
-use Rattle.px_sem.specs.Events.{is_latched, next_report, reported}
+use Rattle.px_sem.specs.Events.{first_report, is_latched, next_report, reported}
 use Rattle.px_lookup.specs.declared.reports.Change.{Change}
-use Rattle.px_lookup.specs.Undoing.{report_after, undone, undone_each}
+use Rattle.px_lookup.specs.Undoing.{place_of, undone, undone_each}
 use Rattle.px_lookup.specs.contracts.look_state.LookStateEq.TheImpl.Laws as same_states
 
 -- Either way round: the map asks of the state that is looked up, and the semantics of the one that was reported.
@@ -21,11 +23,16 @@ pub lookup-report_at : (state : LookState) (xs : List (LookState × Report))
     → lookup (is_same_state state) xs ≡ report_at xs state
 lookup-report_at state xs i = lookup (λ key. is_same_state-symm state key i) xs
 
+-- the report of a state after one more, or its first
+abbrev report_after : List ℕ → Option Report → Value → Report
+report_after tolerances None given = first_report tolerances given
+report_after tolerances (Some report) given = next_report report given
+
 -- what a tolerance keeps after one more report
 abbrev pub latched_then : Value → ℕ × Value → ℕ × Value
 latched_then given kept = (kept.0, if is_latched kept.0 kept.1 given then given else kept.1)
 
-pub insert_entry-reported : (tolerances : List ℕ) (state : LookState) (given : Value) (xs : List (LookState × Report))
+insert_entry-reported : (tolerances : List ℕ) (state : LookState) (given : Value) (xs : List (LookState × Report))
     → insert_entry is_same_state xs state (report_after tolerances (report_at xs state) given)
     ≡ reported tolerances state given xs
 insert_entry-reported tolerances state given [] = refl
@@ -46,27 +53,41 @@ insert_entry-reported tolerances state given (x ∷ xs) =
     by true rest = refl
     by false rest = ap (λ ys. x ∷ ys) rest
 
+-- where the state stands, one more report takes the place of the one before
+pub replaced-reported : (tolerances : List ℕ) (state : LookState) (given : Value) (xs : List (LookState × Report)) (at : ℕ)
+    (old : Report) → place_of state xs ≡ Some at → slice_get (values_of xs) at ≡ Some old
+    → set_value_at xs at (next_report old given) ≡ reported tolerances state given xs
+replaced-reported tolerances state given xs at old stands is =
+    let found = Found-position (is_same_state state) xs at stands in
+    sym (insert_entry-first is_same_state state (next_report old given) xs at found.first)
+    ∙ ap (λ found. insert_entry is_same_state xs state (report_after tolerances found given))
+    (sym is ∙ sym found.value ∙ lookup-report_at state xs)
+    ∙ insert_entry-reported tolerances state given xs
+
+-- where it does not, its first one goes behind all others
+pub added-reported : (tolerances : List ℕ) (state : LookState) (given : Value) (xs : List (LookState × Report))
+    → place_of state xs ≡ None
+    → insert_entry is_same_state xs state (first_report tolerances given) ≡ reported tolerances state given xs
+added-reported tolerances state given xs nowhere =
+    ap (λ found. insert_entry is_same_state xs state (report_after tolerances found given))
+    (sym (Missing-position (is_same_state state) xs nowhere).value ∙ lookup-report_at state xs)
+    ∙ insert_entry-reported tolerances state given xs
+
+-- a state is where one that is the same stands
+pub stands_there : (state key : LookState) (report : Report) (xs : List (LookState × Report)) (at : ℕ)
+    → IsDistinct is_same_state (keys_of xs) → slice_get xs at ≡ Some (key, report) → is_same_state state key ≡ true
+    → place_of state xs ≡ Some at
+stands_there state key report xs at distinct there same =
+    (λ i. position (λ other. same_states.laws-law.congr state key other same i) (keys_of xs))
+    ∙ index-first (is_same_state key) xs at (own_first is_same_state same_states.laws-law xs at key report distinct there)
+
 module _ {K X : Type 0} where
   -- an old value put back where a new one took its place
-  pub set_value_at-insert_entry : (eq : K → K → Bool) (k : K) (v old : X) (xs : List (K × X))
-      → lookup (eq k) xs ≡ Some old
-      → set_value_at (insert_entry eq xs k v) (position_or_len (eq k) (keys_of xs)) old ≡ xs
-  set_value_at-insert_entry eq k v old [] found = absurd (cc)
-  set_value_at-insert_entry eq k v old (x ∷ xs) found = by (eq k x.0) found (set_value_at-insert_entry eq k v old xs)
-    where
-      behind : ℕ
-      behind = position_or_len (eq k) (keys_of xs)
-
-      ys : List (K × X)
-      ys = insert_entry eq xs k v
-
-      by : (first : Bool) → cond first (Some x.1) (lookup (eq k) xs) ≡ Some old
-          → (lookup (eq k) xs ≡ Some old → set_value_at ys behind old ≡ xs)
-          → set_value_at (if first then (x.0, v) ∷ xs else x ∷ ys) (cond (not first) (1 + behind) 0) old ≡ x ∷ xs
-      by true found rest = let same : old ≡ x.1 = cc in ap (λ w. (x.0, w) ∷ xs) same
-      by false found rest =
-          let next : 1 + behind ≡ suc behind = omega arith in
-          rw next (ap (λ zs. x ∷ zs) (rest found))
+  pub set_value_at-back : (xs : List (K × X)) (at : ℕ) (v old : X) → slice_get (values_of xs) at ≡ Some old
+      → set_value_at (set_value_at xs at v) at old ≡ xs
+  set_value_at-back [] at v old is = refl
+  set_value_at-back (x ∷ xs) zero v old is = let same : old ≡ x.1 = cc in ap (λ w. (x.0, w) ∷ xs) same
+  set_value_at-back (x ∷ xs) (suc at) v old is = ap (λ ys. x ∷ ys) (set_value_at-back xs at v old is)
 
   -- there is nothing to write behind the last entry
   pub set_value_at-behind : (xs : List (K × X)) (i : ℕ) (v : X) → length xs ≤ i → set_value_at xs i v ≡ xs

@@ -1,20 +1,17 @@
 -- How reports keep those of the mark: by what each report since has changed.
-use Rattle.std.specs.Prelude.{◌≡◌, ℕ, ◌-◌, false, List, [], ◌∷◌, length, take, slice_get, Option, Some, None, All, if◌then◌else◌}
+use Rattle.std.specs.Prelude.{◌≡◌, ℕ, ◌-◌, false, List, [], ◌∷◌, length, position, take, slice_get, Option, Some, None, All, if◌then◌else◌}
 use Rattle.std.specs.Map.{keys_of, values_of}
 use Rattle.std.specs.Option.{ForSome}
 use Rattle.indexmap.specs.IndexMap.{set_value_at}
-use Rattle.px_value.specs.declared.value.Value.{Value}
-use Rattle.px_sem.specs.Events.{first_report, next_report}
-use Rattle.px_sem.specs.World.{LookState, Report, latched_at}
+use Rattle.px_sem.specs.World.{LookState, Report, is_same_state, latched_at}
 use Rattle.px_lookup.specs.declared.reports.Change.{Change}
 use Rattle.px_lookup.specs.declared.reports.Change.TheVariants as changes
 use Rattle.px_lookup.specs.declared.reports.Reports.TheInside.{Inside}
 use Rattle.px_lookup.specs.Reports.{ReportsData}
 
--- the report of a state after one more, or its first
-abbrev pub report_after : List ℕ → Option Report → Value → Report
-report_after tolerances None given = first_report tolerances given
-report_after tolerances (Some report) given = next_report report given
+-- where a state stands, if it was reported
+abbrev pub place_of : LookState → List (LookState × Report) → Option ℕ
+place_of state reports = position (is_same_state state) (keys_of reports)
 
 -- the reports before a change of them
 abbrev pub undone : Change → List (LookState × Report) → List (LookState × Report)
@@ -47,6 +44,13 @@ LatchEach tolerances report = keys_of report.latched ≡ tolerances
 abbrev pub HadLatchedEach : List ℕ → Change → Type 0
 HadLatchedEach tolerances (changes.Replaced at old) = LatchEach tolerances old
 HadLatchedEach tolerances changes.Added = Unit {0}
+
+-- One report made the new list of the old one: the change leads back, and where each tolerance had latched a value of each
+-- state it still has, and had in the report that was replaced.
+pub record IsChange (tolerances : List ℕ) (old new : List (LookState × Report)) (change : Change) : Type 0 where
+  pub back : undone change new ≡ old
+  pub latching : All (LatchEach tolerances) (values_of old) → All (LatchEach tolerances) (values_of new)
+  pub had : All (LatchEach tolerances) (values_of old) → HadLatchedEach tolerances change
 
 -- nothing is kept where no mark stands, and each tolerance has latched a value of each state, now and before each change
 pub record IsKept (r : Inside) : Type 0 where

@@ -1,5 +1,6 @@
 // A state of the outside.
 ghost use Rattle.std.specs.Prelude.{◌≡◌};
+ghost use Rattle.px_sem.specs.World.{is_same_state};
 
 use px_event::Values;
 use px_value::Name;
@@ -28,5 +29,12 @@ impl LookState {
         ensures { result ≡ record { name = name; args = args } }
     {
         LookState { name, args }
+    }
+
+    /// Whether it is the state of this name and these arguments.
+    pub(crate) fn is_of(&self, name: &Name, args: &Values) -> bool
+        ensures { result ≡ is_same_state (record { name = name.now; args = args.now }) self.now }
+    {
+        *name == self.name && *args == self.args
     }
 }

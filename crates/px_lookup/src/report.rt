@@ -1,5 +1,5 @@
 // What was reported of one state.
-ghost use Rattle.std.specs.Prelude.{◌≡◌, [], IfOk};
+ghost use Rattle.std.specs.Prelude.{◌≡◌, IfOk};
 ghost use Rattle.std.specs.Option.{option_copied};
 ghost use Rattle.px_sem.specs.Events.{first_report, is_latched, next_report};
 ghost use Rattle.px_sem.specs.World.{latched_at};
@@ -7,6 +7,7 @@ ghost use Rattle.px_sem.specs.World.{latched_at};
 use px_value::{NoMemory, Value};
 use std::alloc::Global;
 use std::marker::Model;
+use std::mem;
 
 /// What was reported of a state: the last value, and the one that each tolerance has latched.
 #[derive(Drop)]
@@ -53,17 +54,35 @@ impl Report {
         })
     }
 
-    /// The report of the state after one more, in an empty vector.
+    /// The report of the state after one more. What it has latched is kept in the room of a vector.
     pub(crate) fn next(
         &self,
         alloc: Global,
         given: &Value,
-        empty: Vec<(u32, Value)>,
+        room: &mut Vec<(u32, Value)>,
     ) -> Result<Report, NoMemory>
-        requires { empty.items ≡ [] }
         ensures { IfOk result (λ report. report ≡ next_report self.now given.now) }
     {
-        let mut latched = empty;
+        Ok(Report {
+            last: given.copy(alloc)?,
+            latched: self.latched_after(alloc, given, room)?,
+        })
+    }
+
+    // What each tolerance has latched after one more report. Without a tolerance it is nothing, and the room stays.
+    fn latched_after(
+        &self,
+        alloc: Global,
+        given: &Value,
+        room: &mut Vec<(u32, Value)>,
+    ) -> Result<Vec<(u32, Value)>, NoMemory>
+        ensures { IfOk result (λ latched. latched.items ≡ (next_report self.now given.now).latched) }
+    {
+        if self.latched.is_empty() {
+            return Ok(Vec::new(alloc));
+        }
+        let mut latched = mem::replace(room, Vec::new(alloc));
+        latched.clear();
         latched.reserve(self.latched.len())?;
         for kept in &self.latched {
             let value = if is_latched(kept.0, &kept.1, given) {
@@ -73,10 +92,7 @@ impl Report {
             };
             latched.push((kept.0, value.copy(alloc)?))?;
         }
-        Ok(Report {
-            last: given.copy(alloc)?,
-            latched,
-        })
+        Ok(latched)
     }
 
     /// The last value.
@@ -98,12 +114,8 @@ impl Report {
         None
     }
 
-    /// The vector of what was latched, emptied.
-    pub(crate) fn into_empty(self) -> Vec<(u32, Value)>
-        ensures { result.items ≡ [] }
-    {
-        let mut latched = self.latched;
-        latched.clear();
-        latched
+    /// The vector of what was latched, for another report.
+    pub(crate) fn into_room(self) -> Vec<(u32, Value)> {
+        self.latched
     }
 }

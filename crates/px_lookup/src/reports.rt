@@ -1,14 +1,12 @@
 // What was reported of the outside, and how it goes back to a mark.
-ghost use Rattle.std.specs.Prelude.{◌≡◌, ℕ, List, All, ◌<◌, ◌&&◌, ◌++◌, ◌∷◌, [], is_some, length, nat_eq, if◌then◌else◌, Some, IsSome, IsNone, IsTrue, IsFalse, IfOk, OnOk, OnErr};
+ghost use Rattle.std.specs.Prelude.{◌≡◌, ℕ, List, ◌<◌, ◌&&◌, ◌++◌, ◌∷◌, [], is_some, length, nat_eq, if◌then◌else◌, None, Some, IsSome, IsNone, IsTrue, IsFalse, IfOk, OnOk, OnErr};
 ghost use Rattle.std.specs.List.{list_any};
-ghost use Rattle.std.specs.Map.{values_of};
 ghost use Rattle.std.specs.Option.{option_copied};
 ghost use Rattle.std.specs.Vec.{vec_capacity};
-ghost use Rattle.indexmap.specs.IndexMap.{insert_entry};
-ghost use Rattle.px_sem.specs.World.{is_same_state, last_report, latched_report, report_at};
+ghost use Rattle.px_sem.specs.World.{LookState as State, last_report, latched_report, report_at};
 ghost use Rattle.px_sem.specs.Events.{reported};
 ghost use Rattle.px_lookup.specs.Reports.{HasStayed, unmarked, with_mark, rolled_back, committed, taken};
-ghost use Rattle.px_lookup.specs.Undoing.{HadLatchedEach, IsAsLatched, LatchEach, report_after, undone};
+ghost use Rattle.px_lookup.specs.Undoing.{IsAsLatched, IsChange, place_of, undone};
 
 use crate::look_state::LookState;
 use crate::report::Report;
@@ -37,6 +35,9 @@ pub struct Reports {
     /// What each report since the mark changed, in their order.
     changes: Vec<Change>,
     is_marked: bool,
+    /// Where the state stands that was reported last: mostly the next report is of it too, and then neither its name nor
+    /// its arguments are copied, and nothing is hashed.
+    recent: usize,
     /// Room for what is latched by the next report of a known state.
     spare: Vec<(u32, Value)>,
 }
@@ -53,56 +54,101 @@ impl Model for Reports {
     ghost invariant = { IsKept };
 }
 
-// The report of a state, if the next one depends on it: without a tolerance it doesn't.
-fn old_report<'a>(
-    values: &'a IndexMap<LookState, Report>,
-    tolerances: &[u32],
-    state: &LookState,
-) -> Option<&'a Report>
-    requires { All (LatchEach tolerances.now) (values_of values.now.entries) }
-    ensures { (given : Value) → report_after tolerances.now (option_copied result) given
-        ≡ report_after tolerances.now (report_at values.now.entries state.now) given }
+// Whether this state stands at a place.
+fn stands_at(values: &IndexMap<LookState, Report>, at: usize, name: &Name, args: &Values) -> bool
+    ensures place { IsTrue result
+        → place_of (record { name = name.now; args = args.now }) values.now.entries ≡ Some at }
+    ensures within { IsTrue result → at < length values.now.entries }
 {
-    if tolerances.is_empty() {
-        return None;
+    match values.as_slice().get_index(at) {
+        Some((state, _)) => state.is_of(name, args),
+        None => false,
     }
-    values.get(state)
 }
 
-// The report of a state after one more, or its first.
-fn report_after(
+// A report of the state that stands at a place takes the place of the one before.
+fn replace(
     alloc: Global,
-    tolerances: &[u32],
-    old: Option<&Report>,
-    given: &Value,
-    empty: Vec<(u32, Value)>,
-) -> Result<Report, NoMemory>
-    requires { empty.items ≡ [] }
-    ensures { IfOk result (λ report. report ≡ report_after tolerances.now (option_copied old.entry) given.now) }
-{
-    match old {
-        Some(old) => old.next(alloc, given, empty),
-        None => Report::first(alloc, tolerances, given),
-    }
-}
-
-// Puts a report in its place.
-fn insert(
     values: &mut IndexMap<LookState, Report>,
-    state: LookState,
-    report: Report,
+    at: usize,
+    given: &Value,
+    room: &mut Vec<(u32, Value)>,
 ) -> Result<Change, NoMemory>
-    ensures ok { OnOk result (values.new.entries ≡ insert_entry is_same_state values.old.entries state report) }
-    ensures undone { IfOk result (λ change. undone change values.new.entries ≡ values.old.entries) }
-    ensures old { IfOk result (λ change. (tolerances : List ℕ)
-        → All (LatchEach tolerances) (values_of values.old.entries) → HadLatchedEach tolerances change) }
+    requires within { at < length values.old.entries }
+    ensures ok { (tolerances : List ℕ) (state : State) → place_of state values.old.entries ≡ Some at
+        → OnOk result (values.new.entries ≡ reported tolerances state given.now values.old.entries) }
+    ensures change { (tolerances : List ℕ)
+        → IfOk result (IsChange tolerances values.old.entries values.new.entries) }
     ensures err { OnErr result (values.new.entries ≡ values.old.entries) }
 {
-    let (at, old) = values.insert_full(state, report)?;
-    Ok(match old {
-        Some(old) => Change::Replaced { at, old },
-        None => Change::Added,
-    })
+    let next = values[at].next(alloc, given, room)?;
+    let old = mem::replace(&mut values[at], next);
+    Ok(Change::Replaced { at, old })
+}
+
+// The first report of a state is put behind all others.
+fn add(
+    alloc: Global,
+    tolerances: &[u32],
+    values: &mut IndexMap<LookState, Report>,
+    state: LookState,
+    given: &Value,
+) -> Result<Change, NoMemory>
+    requires new { place_of state values.old.entries ≡ None }
+    ensures ok { OnOk result (values.new.entries ≡ reported tolerances.now state given.now values.old.entries) }
+    ensures change { IfOk result (IsChange tolerances.now values.old.entries values.new.entries) }
+    ensures err { OnErr result (values.new.entries ≡ values.old.entries) }
+{
+    let report = Report::first(alloc, tolerances, given)?;
+    values.insert(state, report)?;
+    Ok(Change::Added)
+}
+
+// Puts a report of this state in its place.
+fn put_state(
+    alloc: Global,
+    tolerances: &[u32],
+    values: &mut IndexMap<LookState, Report>,
+    recent: &mut usize,
+    room: &mut Vec<(u32, Value)>,
+    state: LookState,
+    given: &Value,
+) -> Result<Change, NoMemory>
+    ensures ok { OnOk result (values.new.entries ≡ reported tolerances.now state given.now values.old.entries) }
+    ensures change { IfOk result (IsChange tolerances.now values.old.entries values.new.entries) }
+    ensures err { OnErr result (values.new.entries ≡ values.old.entries) }
+{
+    match values.get_index_of(&state) {
+        Some(at) => {
+            drop(state);
+            *recent = at;
+            replace(alloc, values, at, given, room)
+        }
+        None => add(alloc, tolerances, values, state, given),
+    }
+}
+
+// Puts a report in its place. It is sought first where the state stands that was reported last.
+fn put(
+    alloc: Global,
+    tolerances: &[u32],
+    values: &mut IndexMap<LookState, Report>,
+    recent: &mut usize,
+    room: &mut Vec<(u32, Value)>,
+    name: &Name,
+    args: &Values,
+    given: &Value,
+) -> Result<Change, NoMemory>
+    ensures ok { OnOk result (values.new.entries
+        ≡ reported tolerances.now (record { name = name.now; args = args.now }) given.now values.old.entries) }
+    ensures change { IfOk result (IsChange tolerances.now values.old.entries values.new.entries) }
+    ensures err { OnErr result (values.new.entries ≡ values.old.entries) }
+{
+    if stands_at(values, *recent, name, args) {
+        return replace(alloc, values, *recent, given, room);
+    }
+    let state = LookState::new(name.copy(alloc)?, args.copy(alloc)?);
+    put_state(alloc, tolerances, values, recent, room, state, given)
 }
 
 // Keeps a change where a mark stands.
@@ -166,6 +212,7 @@ impl Reports {
             values: IndexMap::new(alloc),
             changes: Vec::new(alloc),
             is_marked: false,
+            recent: 0,
             spare: Vec::new(alloc),
         }
     }
@@ -230,13 +277,17 @@ impl Reports {
         ensures marked { self.new.marked ≡ self.old.marked }
         ensures err { OnErr result (self.new ≡ self.old) }
     {
-        let state = LookState::new(name.copy(alloc)?, args.copy(alloc)?);
         self.changes.reserve(1)?;
-        let mut empty = mem::replace(&mut self.spare, Vec::new(alloc));
-        empty.clear();
-        let old = old_report(&self.values, &self.tolerances, &state);
-        let report = report_after(alloc, &self.tolerances, old, value, empty)?;
-        let change = insert(&mut self.values, state, report)?;
+        let change = put(
+            alloc,
+            &self.tolerances,
+            &mut self.values,
+            &mut self.recent,
+            &mut self.spare,
+            name,
+            args,
+            value,
+        )?;
         note(&mut self.changes, self.is_marked, change);
         Ok(())
     }
@@ -265,8 +316,10 @@ impl Reports {
         requires { IsSome self.old.marked }
         ensures { self.new ≡ committed self.old }
     {
-        if let Some(Change::Replaced { old, .. }) = self.changes.pop() {
-            self.spare = old.into_empty();
+        if !self.tolerances.is_empty()
+            && let Some(Change::Replaced { old, .. }) = self.changes.pop()
+        {
+            self.spare = old.into_room();
         }
         self.changes.clear();
         self.is_marked = false;

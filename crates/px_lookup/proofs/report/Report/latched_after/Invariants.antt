@@ -1,6 +1,6 @@
 use Rattle.std.proofs.Common.{◌≡◌, map, take}
 use Rattle.px_lookup.proofs.Reporting.{latched_then}
-use Rattle.px_lookup.proofs.report.Report.next.Given as goal
+use Rattle.px_lookup.proofs.report.Report.latched_after.Given as goal
 
 abbrev pub invariant-loop-kept : goal.invariant-loop-kept
 invariant-loop-kept l = l.latched.items ≡ map (latched_then l.given) (take l.kept-index l.kept-items)
