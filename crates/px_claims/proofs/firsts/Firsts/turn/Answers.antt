@@ -1,7 +1,7 @@
-use Rattle.std.proofs.Common.{◌≡◌, ◌<◌, ◌≤◌, ℕ, Bool, length, get_or, min, subst, sym, ◌∙◌, arith}
+use Rattle.std.proofs.Common.{◌<◌, ◌≤◌, ℕ, Bool, length, get_or, min, subst, sym, ◌∙◌, arith}
 use Rattle.std.proofs.lemmas.List.{get_or_read}
 use Rattle.px_tally.specs.Tally.{is_counted}
-use Rattle.px_claims.specs.Ordering.{but_for, place_wanting}
+use Rattle.px_claims.specs.Ordering.{place_wanting}
 use Rattle.px_claims.proofs.Places.{coming, leaving}
 use Rattle.px_claims.proofs.firsts.Firsts.turn.Goals as goal
 use Rattle.px_claims.proofs.firsts.Firsts.turn.Goals.{then-counts, else-counts}
