@@ -1,4 +1,5 @@
 pub mod Counting
+pub mod Drafted
 pub mod Listing
 pub mod Logging
 pub mod Naming

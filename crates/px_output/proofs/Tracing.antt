@@ -37,7 +37,7 @@ stepped_on : (from now next : State) (count : ℕ) (shown : List Move) → IsUnd
 stepped_on from now next count shown u s = underway_after_step from now next count s.made s.answer u s.yes s.steps
 
 -- the text of one step more
-text_more : (from now next : State) (count : ℕ) (shown : List Move) → IsUnderway from now count → IsStepped now next shown
+pub text_more : (from now next : State) (count : ℕ) (shown : List Move) → IsUnderway from now count → IsStepped now next shown
     → steps_text from.nodes from.world (count + 1) ≡ steps_text from.nodes from.world count ++ step_text (count + 1) shown
 text_more from now next count shown u s =
     let steps = subst (λ answer. Steps now next s.made answer) s.yes s.steps in

@@ -7,12 +7,16 @@
 //! way to the sink, `specs/Stalls.antt` which lines tell of the waits, and `specs/Summary.antt` what the summary is.
 #![tactic(auto)]
 
+mod draft;
+mod drafting;
 mod log;
 mod names;
 mod printer;
 mod summary;
 
-pub use log::{print_log, print_stalled};
+pub use draft::Draft;
+pub use drafting::{post_each_drafted, start_drafted};
+pub use log::{print_drafted, print_log, print_stalled};
 pub use names::print_names;
 pub use printer::{PrintFault, emit_all};
 pub use summary::print_summary;

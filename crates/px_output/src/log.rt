@@ -7,16 +7,18 @@ ghost use Rattle.px_event.specs.declared.entry.Entry.{Entry as Posted};
 ghost use Rattle.px_sem.specs.Log.{events_of, accepted, HasRun};
 ghost use Rattle.px_sem.specs.Run.{run, settled};
 ghost use Rattle.px_sem.specs.Stepper.{Pending, is_pending, fresh, settled_state};
-ghost use Rattle.px_sem.specs.Text.{settled_text, trace, log_lines, text_of};
+ghost use Rattle.px_sem.specs.Text.{settled_text, trace, log_lines, standing_text, text_of};
+ghost use Rattle.px_output.specs.Drafts.{Holds};
 ghost use Rattle.px_output.specs.Printing.{Prints, run_text};
 ghost use Rattle.px_output.specs.Stalls.{stall_lines};
 ghost use Rattle.px_output.specs.View.{view, OnlyPrints};
 
+use crate::draft::Draft;
 use crate::printer::{PrintFault, Printer};
 use px_event::Entry;
 use px_ports::Host;
 use px_script::Stall;
-use px_sem::{LogEntry, Stepper};
+use px_sem::{LogEntry, Standing, Stepper};
 use std::alloc::Global;
 
 /// Prints the text of a log that goes on from a history. The stepper is settled, and stands for the plan; it goes back to
@@ -43,6 +45,52 @@ pub fn print_log<H: Host, S: Stepper>(
 {
     let mut printer = Printer::new(alloc);
     print_text(alloc, stepper, history, log, &mut printer, host)?;
+    printer.finish(host)
+}
+
+/// Prints the text of a log that goes on from a history, as `print_log` does, by the draft of its trace. Where that was given
+/// up, the history is run again. The stepper has run it.
+///
+/// `SinkFailed` comes only where an emit failed or took nothing, `NoMemory` where memory ran out; a front of the text is
+/// emitted then, and the stepper is anywhere in the run.
+pub fn print_drafted<H: Host, S: Stepper>(
+    alloc: Global,
+    stepper: &mut S,
+    draft: Draft,
+    history: &[Entry],
+    log: &[LogEntry],
+    host: &mut H,
+) -> Result<(), PrintFault>
+    requires events { IsTrue (list_all is_fit_entry history.now) }
+    requires within { length history.now < 2 ^ 32 }
+    requires runs { HasRun (S.state stepper.old).nodes history.now (S.state stepper.old) }
+    requires holds { Holds draft (trace (S.state stepper.old).nodes history.now) }
+    ensures prints { (before : List Posted) → history.now ≡ before ++ accepted log.now
+        → Prints (view H.Host host.old) [] (view H.Host host.new) []
+        (text_of (S.state stepper.old).nodes before log.now) result }
+    ensures only { OnlyPrints (view H.Host host.old) (view H.Host host.new) }
+{
+    match draft.into_text() {
+        Some(trace) => print_gathered(alloc, trace, log, stepper.standing(), host),
+        None => print_log(alloc, stepper, history, log, host),
+    }
+}
+
+// Prints a trace, the line of each post, and how the plan stands.
+fn print_gathered<H: Host>(
+    alloc: Global,
+    trace: Vec<u8>,
+    log: &[LogEntry],
+    standing: Standing,
+    host: &mut H,
+) -> Result<(), PrintFault>
+    ensures prints { Prints (view H.Host host.old) [] (view H.Host host.new) []
+        (trace.items ++ (log_lines log.now ++ standing_text standing)) result }
+    ensures only { OnlyPrints (view H.Host host.old) (view H.Host host.new) }
+{
+    let mut printer = Printer::new(alloc);
+    printer.text(host, trace)?;
+    print_end(log, standing, &mut printer, host)?;
     printer.finish(host)
 }
 
@@ -96,8 +144,7 @@ fn print_text<H: Host, S: Stepper>(
 {
     stepper.rewind();
     print_trace(alloc, stepper, history, printer, host)?;
-    print_replies(log, printer, host)?;
-    printer.standing(host, stepper.standing())
+    print_end(log, stepper.standing(), printer, host)
 }
 
 // Runs the history from the start, and prints its trace.
@@ -175,6 +222,21 @@ fn print_steps<H: Host, S: Stepper>(
         printer.step(host, count, stepper.moves())?;
     }
     Ok(count)
+}
+
+// Prints the line of each post, and how the plan stands.
+fn print_end<H: Host>(
+    log: &[LogEntry],
+    standing: Standing,
+    printer: &mut Printer,
+    host: &mut H,
+) -> Result<(), PrintFault>
+    ensures prints { Prints (view H.Host host.old) printer.old (view H.Host host.new) printer.new
+        (log_lines log.now ++ standing_text standing) result }
+    ensures only { OnlyPrints (view H.Host host.old) (view H.Host host.new) }
+{
+    print_replies(log, printer, host)?;
+    printer.standing(host, standing)
 }
 
 // Prints the line of each post.

@@ -82,6 +82,15 @@ impl Printer {
         }
     }
 
+    /// Prints a text that was gathered before, by a printer that has nothing to emit. It takes no memory.
+    pub fn text<H: Host>(&mut self, host: &mut H, text: Vec<u8>) -> Result<(), PrintFault>
+        requires { self.old ≡ [] }
+        ensures { Gathers H.Host host.old self.old host.new self.new text.items result }
+    {
+        self.buffer = text;
+        self.emit_piece(host)
+    }
+
     /// Prints the heading of the start.
     #[tactic(auto, using(crate::proofs::Gathered::piece_gathered, crate::proofs::Gathered::nothing_gathered))]
     pub fn start<H: Host>(&mut self, host: &mut H) -> Result<(), PrintFault>
