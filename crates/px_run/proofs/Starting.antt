@@ -2,16 +2,17 @@
 use Rattle.std.proofs.Common.{◌≡◌, ℕ, List, [], ◌++◌, Option, Some, None, IsSome, Result, refl, ap, subst, sym, ◌∙◌}
 use Rattle.px_core.specs.Plan.{Site, Tree, sites}
 use Rattle.px_event.specs.declared.entry.Entry.{Entry}
+use Rattle.px_output.specs.Drafts.{Keeps, Holds}
 use Rattle.px_output.specs.Printing.{Prints}
 use Rattle.px_output.specs.View.{View}
 use Rattle.px_output.specs.declared.printer.PrintFault.{PrintFault}
 use Rattle.px_script.specs.Order.{InFileOrder}
 use Rattle.px_script.specs.declared.todo.Todo.{Todo}
-use Rattle.px_sem.proofs.Logs.{run_on_none, run_at_start}
-use Rattle.px_sem.specs.Log.{Log, AnswersEach, accepted, posted_in}
+use Rattle.px_sem.proofs.Logs.{run_on_none, run_at_start, run_started}
+use Rattle.px_sem.specs.Log.{Log, AnswersEach, HasRun, accepted, posted_in}
 use Rattle.px_sem.specs.Run.{started, settled_world, run}
 use Rattle.px_sem.specs.Stepper.{State, settled_state}
-use Rattle.px_sem.specs.Text.{text_of}
+use Rattle.px_sem.specs.Text.{text_of, trace}
 use Rattle.px_sem.specs.World.{World}
 use Rattle.px_words.specs.Limited.{event_limit}
 use Rattle.px_run.specs.Course.{Untouched}
@@ -29,8 +30,26 @@ runs_away tree none = sym (ap (of_start (sites tree)) none)
 pub nodes_at_rest : (plan : List Site) (now : State) → now ≡ settled_state plan now.world → now.nodes ≡ plan
 nodes_at_rest plan now rest = ap (λ (s : State). s.nodes) rest
 
-pub run_exists : (plan : List Site) (world : World) → (count : ℕ) × (started plan ≡ Some (world, count)) → IsSome (run plan [])
-run_exists plan world (count, start) = rw (run_at_start plan world count start) refl
+-- a stepper that has settled after the start has run the empty history
+pub started_has_run : (plan : List Site) (now : State) → (count : ℕ) × (started plan ≡ Some (now.world, count)) → now ≡ settled_state plan now.world
+    → HasRun now.nodes [] now
+started_has_run plan now start rest =
+    (run_started plan now start rest, rest ∙ ap (λ nodes. settled_state nodes now.world) (sym (nodes_at_rest plan now rest)))
+
+-- a stepper that has run a history, by the history and the nodes that it shows
+pub has_run_still : (plan : List Site) (shown history : List Entry) (now : State) → shown ≡ history → HasRun plan history now → HasRun now.nodes shown now
+has_run_still plan shown history now is ran =
+    rw is (subst (λ nodes. HasRun nodes history now) (sym (nodes_at_rest plan now ran.1)) ran)
+
+-- the draft of a trace, by the history and the nodes that are shown
+pub holds_still : (plan nodes : List Site) (shown history : List Entry) (draft : Option (List ℕ)) → nodes ≡ plan → shown ≡ history
+    → Holds draft (trace plan history) → Holds draft (trace nodes shown)
+holds_still plan nodes shown history draft same is holds = rw (same, is) holds
+
+-- a draft that was new at the start
+pub start_held : (plan nodes : List Site) (new draft : Option (List ℕ)) → nodes ≡ plan → new ≡ Some [] → Keeps new draft (trace plan [])
+    → Holds draft (trace nodes [])
+start_held plan nodes new draft same is keeps = rw same (subst (λ new. Keeps new draft (trace plan [])) is keeps)
 
 -- where an empty history has a run, the start settles
 some_settled : (found : Option (World × ℕ)) → IsSome (settled_world found) → (settled : World × ℕ) × (found ≡ Some settled)

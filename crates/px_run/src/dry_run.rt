@@ -11,9 +11,9 @@ ghost use Rattle.px_output.specs.View.{view, KeepsFiles};
 use crate::ending::{End, Stop};
 use crate::reading::{fetch_plan, fetch_script};
 use px_core::Plan;
-use px_output::print_log;
+use px_output::{Draft, post_each_drafted, print_drafted, start_drafted};
 use px_ports::Host;
-use px_sem::{Stepper, post_each, start};
+use px_sem::Stepper;
 use px_words::EVENT_LIMIT;
 use std::alloc::Global;
 
@@ -50,8 +50,16 @@ fn dry_run_plan<H: Host, S: Stepper>(
     ensures keeps { KeepsFiles (view H.Host host.old) (view H.Host host.new) }
 {
     let entries = fetch_script(alloc, script, plan, host)?.into_entries(alloc)?;
-    let mut stepper = start::<S>(alloc, plan)?;
-    let posted = post_each(&mut stepper, alloc, EVENT_LIMIT, entries)?;
-    print_log(alloc, &mut stepper, &posted.history, &posted.log, host)?;
+    let mut draft = Draft::new(alloc);
+    let mut stepper = start_drafted::<S>(alloc, plan, &mut draft)?;
+    let posted = post_each_drafted(alloc, &mut stepper, EVENT_LIMIT, entries, &mut draft)?;
+    print_drafted(
+        alloc,
+        &mut stepper,
+        draft,
+        &posted.history,
+        &posted.log,
+        host,
+    )?;
     Ok(End::Done)
 }

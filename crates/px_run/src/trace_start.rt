@@ -7,9 +7,9 @@ ghost use Rattle.px_output.specs.View.{view, KeepsFiles};
 
 use crate::ending::{End, Stop};
 use crate::reading::fetch_plan;
-use px_output::print_log;
+use px_output::{Draft, print_drafted, start_drafted};
 use px_ports::Host;
-use px_sem::{Stepper, start};
+use px_sem::Stepper;
 use std::alloc::Global;
 use std::mem::forget;
 
@@ -25,8 +25,9 @@ pub fn trace_start<H: Host, S: Stepper>(
     ensures keeps { KeepsFiles (view H.Host host.old) (view H.Host host.new) }
 {
     let plan = fetch_plan(alloc, plan, host)?;
-    let mut stepper = start::<S>(alloc, &plan)?;
-    print_log(alloc, &mut stepper, &[], &[], host)?;
+    let mut draft = Draft::new(alloc);
+    let mut stepper = start_drafted::<S>(alloc, &plan, &mut draft)?;
+    print_drafted(alloc, &mut stepper, draft, &[], &[], host)?;
     // Left to the end of the process, since to free a large plan piece by piece takes a fifth of the time.
     forget(stepper);
     forget(plan);
