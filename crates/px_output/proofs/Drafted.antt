@@ -1,7 +1,7 @@
 -- A text in a draft, and the trace of what was posted as it grows there.
-use Rattle.std.proofs.Common.{◌≡◌, ℕ, suc, ◌+◌, List, [], ◌∷◌, ◌++◌, length, take, Option, Some, None, refl, ap, sym, subst, ◌∙◌, arith, append_assoc, append-nil, length-append, map}
+use Rattle.std.proofs.Common.{◌≡◌, ℕ, suc, ◌+◌, List, [], ◌∷◌, ◌++◌, length, take, Option, Some, None, refl, ap, sym, subst, ◌∙◌, arith, append_assoc, append-nil, length-append}
 use Rattle.std.proofs.Math.Seq.{take-append_seam}
-use Rattle.std.proofs.lemmas.List.{map-append}
+use Rattle.std.proofs.lemmas.List.{length-map}
 use Rattle.std.specs.Option.{option_map, ForSome}
 use Rattle.px_core.specs.Plan.{Site}
 use Rattle.px_event.specs.declared.entry.Entry.{Entry}
@@ -43,7 +43,7 @@ pub taken_back : (a b : Option (List ℕ)) (text : List ℕ) (len : ℕ) → For
 taken_back a None text len is keeps = tt
 taken_back None (Some y) text len is keeps = absurd keeps
 taken_back (Some x) (Some y) text len is keeps =
-    ap (take len) keeps ∙ ap (λ n. take n (x ++ text)) is ∙ take-append_seam x text ∙ sym (append-nil x)
+    ap (take len) keeps ∙ ap (λ n. take n (x ++ text)) (is x refl) ∙ take-append_seam x text ∙ sym (append-nil x)
 
 -- ---- a trace with one event more
 
@@ -113,7 +113,9 @@ holds_more : (plan : List Site) (history : List Entry) (now : State) (log : Log)
     → Holds behind (trace plan (history_after history entry reply))
 holds_more plan history now log count entry (replies.Accepted position) behind runs accepts counted held =
     let all : position ≡ length (events_of (history ++ entry ∷ [])) = counted ∙ ap (λ h. length (events_of h)) (sym accepts) in
-    let one_more : length (events_of (history ++ entry ∷ [])) ≡ 1 + length history = grind (arith, length-append) in
+    let events : length (events_of (history ++ entry ∷ [])) ≡ length (history ++ entry ∷ []) = length-map (history ++ entry ∷ []) (λ e. e.event) in
+    let appended = length-append history (entry ∷ []) in
+    let one_more : length (events_of (history ++ entry ∷ [])) ≡ 1 + length history = omega (arith, events, appended) in
     subst (Holds behind) (sym (trace_more plan position history entry now.world (all ∙ one_more) runs)) held
 holds_more plan history now log count entry replies.PlanFinished behind runs accepts counted held = subst (Holds behind) (append-nil (trace plan history)) held
 holds_more plan history now log count entry replies.Full behind runs accepts counted held = subst (Holds behind) (append-nil (trace plan history)) held
