@@ -10,10 +10,10 @@ use Rattle.px_event.specs.declared.reply.Reply.TheVariants as replies
 use Rattle.px_sem.specs.Events.{take as taken}
 use Rattle.px_sem.specs.Log.{Log, events_of, accepted, answer, world_after}
 use Rattle.px_sem.specs.Run.{started, posted, settled_world, run_on, run}
-use Rattle.px_sem.specs.Stepper.{State, Nothing, settled_state}
+use Rattle.px_sem.specs.Stepper.{State, settled_state}
 use Rattle.px_sem.specs.Text.{start_text, heading_text, settled_text, events_trace, trace}
 use Rattle.px_sem.specs.World.{World, initial_world}
-use Rattle.px_sem.proofs.Logs.{IsPosting, posting_at_once, posting_more, logged_as, history_after, counted_after}
+use Rattle.px_sem.proofs.Logs.{IsPosting, posting_more, logged_as, history_after, counted_after}
 use Rattle.px_output.specs.Drafts.{Keeps, Holds, post_text}
 
 -- ---- what is kept
@@ -28,15 +28,6 @@ pub keeps_none : (a : Option (List ℕ)) → Keeps a a []
 keeps_none None = tt
 keeps_none (Some x) = sym (append-nil x)
 
-pub keeps_given_up : (a b : Option (List ℕ)) (text : List ℕ) → a ≡ None → b ≡ a → Keeps a b text
-keeps_given_up a None text none same = tt
-keeps_given_up a (Some y) text none same = cc
-
--- a text that was pushed to is taken back into the draft
-pub keeps_pushed : (had text piece : List ℕ) (b : Option (List ℕ)) → text ≡ had ++ piece → Keeps (Some text) b [] → Keeps (Some had) b piece
-keeps_pushed had text piece None is keeps = tt
-keeps_pushed had text piece (Some y) is keeps = keeps ∙ append-nil text ∙ is
-
 -- all behind a length is taken back
 pub taken_back : (a b : Option (List ℕ)) (text : List ℕ) (len : ℕ) → ForSome a (λ t. len ≡ length t) → Keeps a b text
     → Keeps a (option_map (take len) b) []
@@ -44,6 +35,11 @@ taken_back a None text len is keeps = tt
 taken_back None (Some y) text len is keeps = absurd keeps
 taken_back (Some x) (Some y) text len is keeps =
     ap (take len) keeps ∙ ap (λ n. take n (x ++ text)) (is x refl) ∙ take-append_seam x text ∙ sym (append-nil x)
+
+-- the text that a draft hands out
+pub handed_out : {V : Type 0} (items : V → List ℕ) (out : Option V) (v : V) (draft : Option (List ℕ)) (text : List ℕ)
+    → option_map items out ≡ draft → out ≡ Some v → Holds draft text → items v ≡ text
+handed_out items out v draft text hands is holds = subst (λ draft. Holds draft text) (sym hands ∙ ap (option_map items) is) holds
 
 -- ---- a trace with one event more
 
@@ -76,7 +72,7 @@ events_more plan position at (Some now) (first ∷ history) entry world counted 
     ∙ ap (λ more. heading ++ more) (sym (append_assoc steps others last))
     ∙ sym (append_assoc heading (steps ++ others) last)
 
-pub trace_more : (plan : List Site) (at : ℕ) (history : List Entry) (entry : Entry) (world : World)
+trace_more : (plan : List Site) (at : ℕ) (history : List Entry) (entry : Entry) (world : World)
     → at ≡ 1 + length history → run plan (events_of history) ≡ Some world
     → trace plan (history ++ entry ∷ []) ≡ trace plan history ++ post_text plan world entry (replies.Accepted at)
 trace_more plan at history entry world counted is =
@@ -100,11 +96,6 @@ pub record IsDrafting (plan : List Site) (limit : ℕ) (entries : List Entry) (l
     (draft : Option (List ℕ)) : Type 0 where
   pub posting : IsPosting plan limit entries log history now count
   pub holds : Holds draft (trace plan history)
-
-pub drafting_at_once : (plan : List Site) (limit : ℕ) (now : State) (draft : Option (List ℕ)) → now.nodes ≡ plan → now.pending ≡ Nothing
-    → run plan [] ≡ Some now.world → Holds draft (trace plan []) → IsDrafting plan limit [] [] [] now 0 draft
-drafting_at_once plan limit now draft nodes pending runs holds =
-    record { posting = posting_at_once plan limit now nodes pending runs; holds = holds }
 
 -- and so it does behind one post more
 holds_more : (plan : List Site) (history : List Entry) (now : State) (log : Log) (count : ℕ) (entry : Entry) (reply : Reply)

@@ -1,5 +1,4 @@
-use Rattle.std.proofs.Common.{◌≡◌, [], ap, sym, subst, ◌∙◌}
-use Rattle.px_sem.specs.Run.{settled}
+use Rattle.std.proofs.Common.{[], subst}
 use Rattle.px_sem.specs.Stepper.{State}
 use Rattle.px_sem.specs.Text.{settled_text}
 use Rattle.px_output.specs.Drafts.{Keeps}

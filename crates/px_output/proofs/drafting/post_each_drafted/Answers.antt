@@ -1,10 +1,10 @@
-use Rattle.std.proofs.Common.{◌≡◌, ap, sym, ◌∙◌, List, ◌++◌, ◌∷◌, [], refl, append_assoc}
+use Rattle.std.proofs.Common.{◌≡◌, ap, sym, ◌∙◌, List, ◌++◌, ◌∷◌, [], append_assoc}
 use Rattle.px_event.specs.declared.entry.Entry.{Entry}
 use Rattle.px_event.specs.declared.reply.Reply.{Reply}
 use Rattle.px_sem.specs.Log.{Log}
 use Rattle.px_sem.specs.Stepper.{State}
 use Rattle.px_sem.proofs.Logs.{logged_as, counted_after, counted_other, history_after, history_other}
-use Rattle.px_output.proofs.Drafted.{drafting_at_once, drafting_more, drafting_as}
+use Rattle.px_output.proofs.Drafted.{drafting_more, drafting_as}
 use Rattle.px_output.proofs.drafting.post_each_drafted.Goals as goal
 use Rattle.px_output.proofs.drafting.post_each_drafted.Goals.{in-Accepted+in_ok-copy+in_ok-push, in_default}
 
@@ -29,15 +29,15 @@ loop-entry-preserved g c =
       | in-Accepted+in_ok-copy+in_ok-push w ↦ record {
         drafting = drafting_as plan limit (entries ++ entry ∷ []) _ _ _ _ next _ _ c.post_drafted.new.draft
             (logged c.match-reply.reply (w.reply-is ∙ sym w.in-Accepted.is) c.in_ok-push-2.ensures.items)
-            (ap (λ v. v.items) w.history-is ∙ w.in_ok-push.ensures.items ∙ ap (λ e. before ++ e ∷ []) w.in_ok-copy.ensures
-            ∙ ap (history_after before entry) (sym w.in-Accepted.is))
+            (◌∙◌ {A = List Entry} (ap (λ v. v.items) w.history-is) (◌∙◌ {A = List Entry} w.in_ok-push.ensures.items
+            (ap (λ e. before ++ e ∷ []) w.in_ok-copy.ensures ∙ ap (history_after before entry) (sym w.in-Accepted.is))))
             (w.count-is ∙ ap (counted_after c.loop-entry.count) (sym w.in-Accepted.is)) made;
         front = front;
       }
       | in_default w ↦ record {
         drafting = drafting_as plan limit (entries ++ entry ∷ []) _ _ _ _ next _ _ c.post_drafted.new.draft
             (logged c.match-reply.reply w.reply-is c.in_ok-push-2.ensures.items)
-            (ap (λ v. v.items) w.history-is ∙ history_other before entry reply w.in_default.not-Accepted)
+            (◌∙◌ {A = List Entry} (ap (λ v. v.items) w.history-is) (history_other before entry reply w.in_default.not-Accepted))
             (w.count-is ∙ counted_other c.loop-entry.count reply w.in_default.not-Accepted) made;
         front = front;
       }

@@ -1,4 +1,4 @@
-use Rattle.std.proofs.Common.{◌≡◌, true, ap, sym, subst}
+use Rattle.std.proofs.Common.{sym, subst}
 use Rattle.px_core.specs.Plan.{tree_of, sites}
 use Rattle.px_sem.specs.Stepper.{State}
 use Rattle.px_sem.specs.Text.{start_text, settled_text}
