@@ -49,7 +49,7 @@ pub post_each_drafted-requires-clause-holds : goal.post_each_drafted-requires-cl
 post_each_drafted-requires-clause-holds g c =
     let plan = sites (tree_of c.args.plan.now) in
     let now : State = g.S.Stepper.state c.in_ok-stepper.stepper in
-    start_held plan now.nodes c.new-draft.result c.start_drafted-stepper.new.draft (nodes_at_rest plan now c.in_ok-stepper.ensures.rest) c.new-draft.ensures
+    start_held plan now.nodes c.new-draft.result c.start_drafted.new.draft (nodes_at_rest plan now c.in_ok-stepper.ensures.rest) c.new-draft.ensures
     c.in_ok-stepper.ensures.keeps
 
 pub print_drafted-requires-clause-events : goal.print_drafted-requires-clause-events
@@ -60,13 +60,13 @@ print_drafted-requires-clause-events g c =
 pub print_drafted-requires-clause-runs : goal.print_drafted-requires-clause-runs
 print_drafted-requires-clause-runs g c =
     has_run_still (g.S.Stepper.state c.in_ok-stepper.stepper).nodes c.deref.result.now c.in_ok-posted.posted.history.items
-    (g.S.Stepper.state c.post_each_drafted-posted.new.stepper) c.deref.ensures.value c.in_ok-posted.ensures.runs
+    (g.S.Stepper.state c.post_each_drafted.new.stepper) c.deref.ensures.value c.in_ok-posted.ensures.runs
 
 pub print_drafted-requires-clause-holds : goal.print_drafted-requires-clause-holds
 print_drafted-requires-clause-holds g c =
     let before : State = g.S.Stepper.state c.in_ok-stepper.stepper in
-    let now : State = g.S.Stepper.state c.post_each_drafted-posted.new.stepper in
-    holds_still before.nodes now.nodes c.deref.result.now c.in_ok-posted.posted.history.items c.post_each_drafted-posted.new.draft
+    let now : State = g.S.Stepper.state c.post_each_drafted.new.stepper in
+    holds_still before.nodes now.nodes c.deref.result.now c.in_ok-posted.posted.history.items c.post_each_drafted.new.draft
     (nodes_at_rest before.nodes now c.in_ok-posted.ensures.runs.1) c.deref.ensures.value c.in_ok-posted.ensures.holds
 
 pub returns-in_err-print_drafted-clause-performs : goal.returns-in_err-print_drafted-clause-performs

@@ -32,7 +32,7 @@ pub print_drafted-requires-clause-holds : goal.print_drafted-requires-clause-hol
 print_drafted-requires-clause-holds g c =
     let plan = sites (tree_of c.in_ok-plan.plan) in
     let now : State = g.S.Stepper.state c.in_ok-stepper.stepper in
-    start_held plan now.nodes c.new-draft.result c.start_drafted-stepper.new.draft (nodes_at_rest plan now c.in_ok-stepper.ensures.rest) c.new-draft.ensures
+    start_held plan now.nodes c.new-draft.result c.start_drafted.new.draft (nodes_at_rest plan now c.in_ok-stepper.ensures.rest) c.new-draft.ensures
     c.in_ok-stepper.ensures.keeps
 
 pub returns-in_err-print_drafted-clause-performs : goal.returns-in_err-print_drafted-clause-performs
