@@ -29,7 +29,7 @@ returns-in-Some-clause-prints g c =
     prints_text plan history log old new [] [] c.print_gathered.result (rw c.requires.runs.0 refl)
     (λ world is.
     let stands : c.standing.result ≡ standing_of plan world =
-    c.standing.ensures ∙ ap (standing_of plan) (world_is plan plan history now.world world refl c.requires.runs.0 is) in
+    ◌∙◌ {b = standing_of plan now.world} c.standing.ensures (ap (standing_of plan) (world_is plan plan history now.world world refl c.requires.runs.0 is)) in
     subst (λ (t : List ℕ). Prints old [] new [] (t ++ (log_lines log ++ standing_text (standing_of plan world))) c.print_gathered.result) held
     (subst (λ (s : Standing). Prints old [] new [] (text ++ (log_lines log ++ standing_text s)) c.print_gathered.result) stands
     c.print_gathered.ensures.prints))

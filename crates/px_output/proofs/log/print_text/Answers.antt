@@ -40,8 +40,9 @@ returns-clause-prints g c =
     prints_text plan history log old new c.args.printer.now c.print_end.new.printer _ c.requires.runs
     (λ world is.
     let stands : c.standing.result ≡ standing_of plan world =
-    c.standing.ensures ∙ ap (λ nodes. standing_of nodes end.world) (ap (λ (s : State). s.nodes) c.in_ok-print_trace.ensures.runs.1 ∙ fresh)
-    ∙ ap (standing_of plan) (world_is plan _ history end.world world fresh c.in_ok-print_trace.ensures.runs.0 is) in
+    ◌∙◌ {b = standing_of end.nodes end.world} c.standing.ensures
+    (ap (λ nodes. standing_of nodes end.world) (ap (λ (s : State). s.nodes) c.in_ok-print_trace.ensures.runs.1 ∙ fresh)
+    ∙ ap (standing_of plan) (world_is plan _ history end.world world fresh c.in_ok-print_trace.ensures.runs.0 is)) in
     ends old mid new c.args.printer.now buffer c.print_end.new.printer (trace plan history) (log_lines log ++ standing_text (standing_of plan world))
     _ _ refl traced c.in_ok-print_trace.ensures.only
     (subst (λ (s : Standing). Prints mid buffer new c.print_end.new.printer (log_lines log ++ standing_text s) c.print_end.result) stands
