@@ -1,6 +1,6 @@
 // A text of which isn't known yet whether it will be printed, kept while it is short.
-ghost use Rattle.std.specs.Prelude.{◌≡◌, [], None, Some, take, length, IsTrue};
-ghost use Rattle.std.specs.Option.{option_map, ForSome};
+ghost use Rattle.std.specs.Prelude.{◌≡◌, [], None, Some, take, length};
+ghost use Rattle.std.specs.Option.{option_map, is_some, ForSome};
 ghost use Rattle.px_output.specs.Drafts.{Keeps};
 ghost use Rattle.px_sem.specs.Text.{start_text, heading_text, step_text, quiet_text};
 
@@ -49,11 +49,11 @@ impl Draft {
         self.text
     }
 
-    /// Whether the text was given up.
-    pub fn is_given_up(&self) -> bool
-        ensures { IsTrue result → self.now ≡ None }
+    /// Whether the text is kept still.
+    pub fn is_kept(&self) -> bool
+        ensures { result ≡ is_some self.now }
     {
-        self.text.is_none()
+        self.text.is_some()
     }
 
     /// How much there is of it, to take back by what comes behind.

@@ -44,7 +44,7 @@ pub fn start_drafted<S: Stepper>(
 
 /// Posts entries one after another to a stepper that has taken no event since the start, as `post_each` of px_sem does.
 /// The log is legal for a history of at most `limit` events, and the world is the run over the accepted ones, of which the
-/// draft keeps the trace.
+/// draft keeps the trace. After `NoMemory` the stepper is anywhere in the run.
 pub fn post_each_drafted<S: Stepper>(
     alloc: Global,
     stepper: &mut S,
@@ -99,7 +99,7 @@ fn post_drafted<S: Stepper>(
     ensures keeps { IfOk result (λ reply. Keeps draft.old draft.new
         (post_text (S.state stepper.old).nodes (S.state stepper.old).world entry.now reply)) }
 {
-    if draft.is_given_up() {
+    if !draft.is_kept() {
         return post(stepper, alloc, limit, count, &entry.event);
     }
     if let Standing::Finished { .. } = stepper.standing() {
