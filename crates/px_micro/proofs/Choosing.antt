@@ -240,7 +240,7 @@ all_going plan now nodes are = record {
       subst (λ numbers. Contains numbers node) (sym (numbers_are plan now nodes))
       (Contains-from_any (λ x y same. eqb-true x y same) node (filter goes nodes)
       (any-filter_same (nat_eq node) goes (goes node) (λ other same. ap goes (sym (eqb-true node other same))) nodes
-      ∙ both_true (goes node) (list_any (nat_eq node) nodes) some
+      ∙ and_from (goes node) (list_any (nat_eq node) nodes) some
       (list_any-from_Contains nat_eq_equiv node nodes
       (are.all node here (goes_somewhere (is_loser_in plan now node) (destination plan now (site_in plan node)) some)))));
 }
