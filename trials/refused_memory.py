@@ -69,6 +69,8 @@ def rows(program, folder):
     yield Row("a journal of one byte", "run P S J", DRIVE, handle, b"\7")
     yield Row("a check", "check P", drive, "")
     yield Row("a layout", "format P", drive, "")
+    yield Row("a start", "trace-start P", drive, "")
+    yield Row("a drive that is tried", "dry-run P S", drive, script)
     yield Row("a drive", "run P S J", drive, script)
     half = "".join(script.splitlines(keepends=True)[:4])
     yield Row("a drive that is resumed", "resume S J", drive, script, begun(program, folder, drive, half))
