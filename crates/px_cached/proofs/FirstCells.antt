@@ -21,7 +21,7 @@ use Rattle.px_flat.specs.Row.{site_in}
 use Rattle.px_flat.specs.Sources.{Source, Cells, Reports, sources_in, sources_in_each}
 use Rattle.px_flat.proofs.Known.{IsSound, AreKnown, back, each_known, front, site_known}
 use Rattle.px_flat.proofs.NumberedValues.{first_variable}
-use Rattle.px_flat.proofs.Sums.{sum_more, sum_front}
+use Rattle.px_flat.proofs.Sums.{sum_more, sum_front, sum_rest}
 use Rattle.px_flat.proofs.VariableValues.{HasPlace, has_place, place_of-node}
 use Rattle.px_flat.proofs.Variables.{place_behind}
 use Rattle.px_flat.proofs.Worlds.{IsThere, site_there}
@@ -30,16 +30,12 @@ use Rattle.px_cached.specs.Firsts.{HasCell, firsts_from, firsts_of, source_of}
 
 -- ---- variables one after another
 
-total : (variable : VariableData) (variables : List VariableData)
-    → sum (map cells_of (variable ∷ variables)) ≡ cells_of variable + sum (map cells_of variables)
-total variable variables = sum_by-cons (λ n. n) (cells_of variable) (map cells_of variables)
-
 pub length-firsts_from : (cell : ℕ) (variables : List VariableData)
     → length (firsts_from cell variables) ≡ sum (map cells_of variables)
 length-firsts_from cell [] = refl
 length-firsts_from cell (variable ∷ variables) = omega (
   arith,
-  total variable variables,
+  sum_rest cells_of variable variables,
   length-append (replicate (cells_of variable) cell) (firsts_from (cell + cells_of variable) variables),
   length-replicate (cells_of variable) cell,
   length-firsts_from (cell + cells_of variable) variables,
@@ -53,7 +49,7 @@ firsts_from-append cell [] behind =
 firsts_from-append cell (variable ∷ front) behind =
     let own = replicate (cells_of variable) cell in
     let next : ℕ = cell + cells_of variable in
-    let far : next + sum (map cells_of front) ≡ cell + sum (map cells_of (variable ∷ front)) = omega (arith, total variable front) in
+    let far : next + sum (map cells_of front) ≡ cell + sum (map cells_of (variable ∷ front)) = omega (arith, sum_rest cells_of variable front) in
     ap (λ rest. own ++ rest) (firsts_from-append next front behind)
     ∙ sym (append_assoc own (firsts_from next front) (firsts_from (next + sum (map cells_of front)) behind))
     ∙ ap (λ cell. (own ++ firsts_from next front) ++ firsts_from cell behind) far

@@ -5,7 +5,6 @@ use Rattle.std.specs.Option.{option_and_then, unwrap_or}
 use Rattle.std.specs.Cmp.Lexicographic.{same_text}
 use Rattle.std.proofs.lemmas.Bool.{and_parts, or_cases, leb-true, lt-ltb}
 use Rattle.std.proofs.lemmas.List.{get_or-take, get_or-drop}
-use Rattle.std.proofs.lemmas.List.Sums.{sum_by-cons}
 use Rattle.px_value.specs.declared.value.Value.{Value}
 use Rattle.px_value.specs.declared.value.Value.TheVariants.{Unknown}
 use Rattle.px_core.specs.Fit.{cells_of, has_right_cells, has_right_size, AreDistinct}
@@ -18,6 +17,7 @@ use Rattle.px_flat.specs.Parts.{world_of}
 use Rattle.px_flat.specs.Row.{site_in}
 use Rattle.px_flat.proofs.Numbers.{number_is}
 use Rattle.px_flat.proofs.Sites.{found_site}
+use Rattle.px_flat.proofs.Sums.{sum_rest}
 use Rattle.px_flat.proofs.Worlds.{record_at-world_of, of_variable-values_in}
 
 -- ---- places
@@ -54,9 +54,6 @@ has_place test cell (variable ∷ variables) name right there =
     both : (has_right_cells variable ≡ true) × (list_all has_right_cells variables ≡ true)
     both = and_parts (has_right_cells variable) (list_all has_right_cells variables) right
 
-    total : sum (map cells_of (variable ∷ variables)) ≡ cells_of variable + sum (map cells_of variables)
-    total = sum_by-cons (λ n. n) (cells_of variable) (map cells_of variables)
-
     by : (same : Bool) → is_same variable.name name ≡ same
         → ((is_same variable.name name && test variable) ≡ true)
         ⊎ (list_any (λ variable. is_same variable.name name && test variable) variables ≡ true)
@@ -68,7 +65,7 @@ has_place test cell (variable ∷ variables) name right there =
       is = ap (λ b. if b then Some (record { first = cell; size = cells_of variable })
           else place_from (cell + cells_of variable) variables name) is;
       some_cells = right_size variable both.0;
-      within = omega (arith, total);
+      within = omega (arith, sum_rest cells_of variable variables);
     }
     by false is (inl here) rest = absurd (cc (sym here ∙ ap (λ b. b && test variable) is))
     by false is (inr behind) rest =
@@ -78,7 +75,7 @@ has_place test cell (variable ∷ variables) name right there =
           is = ap (λ b. if b then Some (record { first = cell; size = cells_of variable })
               else place_from (cell + cells_of variable) variables name) is ∙ found.is;
           some_cells = found.some_cells;
-          within = omega (arith, found.within, total);
+          within = omega (arith, found.within, sum_rest cells_of variable variables);
         }
 
 -- the place of a variable by the node that declares it

@@ -6,7 +6,6 @@ use Rattle.std.proofs.Math.Seq.{drop-cons}
 use Rattle.std.proofs.lemmas.Cmp.{nat_list_eq_equiv}
 use Rattle.std.proofs.lemmas.Iterator.Adapters.{position_from-zero}
 use Rattle.std.proofs.lemmas.List.{drop-drop}
-use Rattle.std.proofs.lemmas.List.Sums.{sum_by-cons}
 use Rattle.px_value.specs.declared.value.Value.{Value}
 use Rattle.px_value.specs.declared.value.Value.TheVariants as values
 use Rattle.px_core.proofs.Cells.{cells_are}
@@ -22,6 +21,7 @@ use Rattle.px_flat.specs.Numbered.{held}
 use Rattle.px_flat.specs.Parts.{values_in}
 use Rattle.px_flat.specs.Row.{head_data, site_in, paths_of, number_at}
 use Rattle.px_flat.proofs.Sites.{found_site}
+use Rattle.px_flat.proofs.Sums.{sum_rest}
 use Rattle.px_flat.proofs.Tables.{flat_sound}
 use Rattle.px_flat.proofs.Worlds.{record_at-world_of}
 use Rattle.px_command.proofs.Told.{told_path, no_site_at}
@@ -106,9 +106,6 @@ cell_within [] first name cell is = absurd (cc)
 cell_within (variable ∷ variables) first name cell is =
     by (is_same variable.name name) variable.size refl is (cell_within variables (first + cells_of variable) name cell)
   where
-    total : sum (map cells_of (variable ∷ variables)) ≡ cells_of variable + sum (map cells_of variables)
-    total = sum_by-cons (λ n. n) (cells_of variable) (map cells_of variables)
-
     by : (same : Bool) (size : Option ℕ) → variable.size ≡ size
         → (if same then (if is_some variable.size then None else Some first)
         else scalar_from (first + cells_of variable) variables name) ≡ Some cell
@@ -119,11 +116,11 @@ cell_within (variable ∷ variables) first name cell is =
         let one : cells_of variable ≡ 1 = cells_are variable ∙ ap (λ size. unwrap_or size 1) size in
         let here : Some first ≡ Some cell = ap (λ size. if is_some size then None else Some first) (sym size) ∙ is in
         let same : first ≡ cell = cc here in
-        omega (arith, total)
+        omega (arith, sum_rest cells_of variable variables)
     by true (Some many) size is rest =
         let none : None ≡ Some cell = ap (λ size. if is_some size then None else Some first) (sym size) ∙ is in
         absurd (cc none)
-    by false size sized is rest = omega (arith, total, rest is)
+    by false size sized is rest = omega (arith, sum_rest cells_of variable variables, rest is)
 
 pub scalar_within : (parts : Parts) (node : ℕ) (name : List ℕ) (cell : ℕ) → node < length (plan_in parts)
     → scalar_from (first_cell (plan_in parts) node) (site_in (plan_in parts) node).head.variables name ≡ Some cell
