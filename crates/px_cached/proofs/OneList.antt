@@ -1,35 +1,29 @@
 -- Numbers that are noted in linked cells of one list.
-use Rattle.std.proofs.Common.{◌≡◌, ℕ, ◌<◌, Bool, true, false, nat_eq, List, [], ◌∷◌, length, set, drop, slice_get, Some, None, ◌⊎◌, inl, inr, refl, ap, sym, ◌∙◌, subst, arith, if◌then◌else◌}
+use Rattle.std.proofs.Common.{◌≡◌, ℕ, ◌<◌, Bool, true, false, nat_eq, List, [], length, Option, Some, None, ◌⊎◌, inl, inr, refl, ap, sym, ◌∙◌, subst, arith, if◌then◌else◌}
 use Rattle.std.specs.Prelude.{is_none}
-use Rattle.std.specs.List.{position}
 use Rattle.std.proofs.lemmas.Bool.{eq-eqb}
 use Rattle.std.proofs.lemmas.Bool.Decides.{eqb_tells}
+use Rattle.std.proofs.lemmas.List.Quantifiers.{position-Some}
 use Rattle.px_links.specs.Links.{LinksData, HoldsOthersAsBefore, first_of, holder_of, is_absent, popped}
 use Rattle.px_links.specs.Lists.{has, nth}
+use Rattle.px_links.proofs.Popping.{nobody_in, shorter_at}
 
 -- where the list is empty nothing is noted
-none_in : (lists : List (List ℕ)) → length lists ≡ 1 → slice_get (nth lists 0) 0 ≡ None
-    → (cell : ℕ) → is_none (position (λ list. has list cell) lists) ≡ true
-none_in [] long none cell = absurd (omega arith)
-none_in ([] ∷ []) long none cell = refl
-none_in ((first ∷ list) ∷ []) long none cell = absurd (cc)
-none_in (list ∷ (other ∷ lists)) long none cell = absurd (omega arith)
-
 pub none_noted : (links : LinksData) → length links.lists ≡ 1 → first_of links 0 ≡ None
     → (cell : ℕ) → is_absent links cell ≡ true
-none_noted links long none cell = none_in links.lists long none cell
+none_noted links long none cell = by (holder_of links cell) refl
+  where
+    by : (held : Option ℕ) → holder_of links cell ≡ held → is_absent links cell ≡ true
+    by None is = ap is_none is
+    by (Some list) is =
+        let inside : list < length links.lists = (position-Some (λ cells. has cells cell) links.lists list [] is).0 in
+        let first : list ≡ 0 = omega (arith, inside, long) in
+        absurd (nobody_in links 0 none cell (is ∙ ap Some first))
 
 -- without its first one it is shorter
-shorter_in : (lists : List (List ℕ)) (cell : ℕ) → length lists ≡ 1 → slice_get (nth lists 0) 0 ≡ Some cell
-    → length (nth (set lists 0 (drop 1 (nth lists 0))) 0) < length (nth lists 0)
-shorter_in [] cell long first = absurd (omega arith)
-shorter_in ([] ∷ []) cell long first = absurd (cc)
-shorter_in ((head ∷ list) ∷ []) cell long first = omega arith
-shorter_in (list ∷ (other ∷ lists)) cell long first = absurd (omega arith)
-
-pub shorter : (links : LinksData) (cell : ℕ) → length links.lists ≡ 1 → first_of links 0 ≡ Some cell
+pub shorter : (links : LinksData) (cell : ℕ) → first_of links 0 ≡ Some cell
     → length (nth (popped links 0).lists 0) < length (nth links.lists 0)
-shorter links cell long first = shorter_in links.lists cell long first
+shorter links cell first = shorter_at links 0 cell first
 
 -- ---- one is noted
 

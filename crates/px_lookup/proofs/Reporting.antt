@@ -3,6 +3,8 @@ use Rattle.std.proofs.Common.{◌≡◌, ℕ, zero, suc, ◌-◌, ◌≤◌, Boo
 use Rattle.std.proofs.Common.{length, position, slice_get, take, refl, ap, sym, ◌∙◌, arith, Option, Some, None, if◌then◌else◌, length-append}
 use Rattle.std.specs.List.{IsDistinct}
 use Rattle.std.specs.Map.{keys_of, lookup, values_of}
+use Rattle.std.specs.Option.{option_map}
+use Rattle.std.proofs.lemmas.Option.{slice_get-map}
 use Rattle.std.proofs.Math.Seq.{take-append_seam}
 use Rattle.indexmap.specs.IndexMap.{IndexMap, get, insert_entry, set_value_at}
 use Rattle.indexmap.proofs.CallerLemmas.{insert_entry-new}
@@ -80,6 +82,15 @@ pub stands_there : (state key : LookState) (report : Report) (xs : List (LookSta
 stands_there state key report xs at distinct there same =
     (λ i. position (λ other. same_states.laws-law.congr state key other same i) (keys_of xs))
     ∙ index-first (is_same_state key) xs at (own_first is_same_state same_states.laws-law xs at key report distinct there)
+
+-- its report is the one that stands there
+pub report_there : (state key : LookState) (report : Report) (xs : List (LookState × Report)) (at : ℕ)
+    → IsDistinct is_same_state (keys_of xs) → slice_get xs at ≡ Some (key, report) → is_same_state key state ≡ true
+    → Some report ≡ report_at xs state
+report_there state key report xs at distinct there same =
+    let stands = stands_there state key report xs at distinct there (is_same_state-symm state key ∙ same) in
+    sym (slice_get-map (λ (entry : LookState × Report). entry.1) xs at ∙ ap (option_map (λ (entry : LookState × Report). entry.1)) there)
+    ∙ sym (Found-position (is_same_state state) xs at stands).value ∙ lookup-report_at state xs
 
 module _ {K X : Type 0} where
   -- an old value put back where a new one took its place

@@ -35,8 +35,8 @@ pub struct Reports {
     /// What each report since the mark changed, in their order.
     changes: Vec<Change>,
     is_marked: bool,
-    /// Where the state stands that was reported last: mostly the next report is of it too, and then neither its name nor
-    /// its arguments are copied, and nothing is hashed.
+    /// Where the state stands that was reported last. Mostly what is read or reported next is of it too, and then nothing is
+    /// hashed, and a report copies neither a name nor arguments.
     recent: usize,
     /// Room for what is latched by the next report of a known state.
     spare: Vec<(u32, Value)>,
@@ -63,6 +63,20 @@ fn stands_at(values: &IndexMap<LookState, Report>, at: usize, name: &Name, args:
     match values.as_slice().get_index(at) {
         Some((state, _)) => state.is_of(name, args),
         None => false,
+    }
+}
+
+// The report of a state, sought first at this place.
+fn found<'a>(
+    values: &'a IndexMap<LookState, Report>,
+    first: usize,
+    state: &LookState,
+) -> Option<&'a Report>
+    ensures { option_copied result ≡ report_at values.now.entries state.now }
+{
+    match values.as_slice().get_index(first) {
+        Some((known, report)) if known == state => Some(report),
+        _ => values.get(state),
     }
 }
 
@@ -221,7 +235,7 @@ impl Reports {
     pub fn last(&self, state: &LookState) -> Option<&Value>
         ensures { option_copied result ≡ last_report self.now.reports state.now }
     {
-        match self.values.get(state) {
+        match found(&self.values, self.recent, state) {
             Some(report) => Some(report.last()),
             None => None,
         }
@@ -234,7 +248,7 @@ impl Reports {
         ensures there { is_some result
             ≡ (is_some (report_at self.now.reports state.now) && list_any (nat_eq tolerance) self.now.tolerances) }
     {
-        match self.values.get(state) {
+        match found(&self.values, self.recent, state) {
             Some(report) => report.latched(tolerance),
             None => None,
         }

@@ -1,15 +1,14 @@
 -- The queue's two lists.
-use Rattle.std.proofs.Common.{◌≡◌, ◌≢◌, ◌⊎◌, ℕ, zero, suc, ◌<◌, Bool, true, false, nat_eq, List, [], ◌∷◌, ◌++◌, length, map, drop, Contains, Option, Some, None, is_none, slice_get, refl, ap, sym, ◌∙◌, subst, arith, inl, inr, if◌then◌else◌}
+use Rattle.std.proofs.Common.{◌≡◌, ◌≢◌, ◌⊎◌, ℕ, zero, suc, ◌<◌, Bool, true, false, nat_eq, List, [], ◌∷◌, ◌++◌, length, map, Contains, Option, Some, None, is_none, slice_get, refl, ap, sym, ◌∙◌, subst, arith, inl, inr, if◌then◌else◌}
 use Rattle.std.specs.Cmp.{nat_eq_equiv}
 use Rattle.std.specs.List.{list_any}
 use Rattle.std.proofs.lemmas.Bool.{cases_eq, cases_lt, eq-eqb, eqb-true, false≢true, ne_eqb}
-use Rattle.std.proofs.lemmas.List.{get_or_past, get_or-set_other, get_or-set_same, length-drop, map-append}
+use Rattle.std.proofs.lemmas.List.{get_or-set_other, map-append}
 use Rattle.std.proofs.lemmas.List.Elements.{Contains-append_cases, Contains-append_left, Contains-append_right}
 use Rattle.std.proofs.lemmas.List.Quantifiers.{position-Some}
-use Rattle.std.proofs.lemmas.Option.{slice_get_within}
 use Rattle.std.proofs.lemmas.Map.Views.{Contains-from_any, list_any-from_Contains}
-use Rattle.px_links.specs.Links.{LinksData, HoldsOthersAsBefore, SameCounts, first_of, holder_of, is_absent, popped, pushed}
-use Rattle.px_links.specs.Lists.{has, nth}
+use Rattle.px_links.specs.Links.{LinksData, HoldsOthersAsBefore, SameCounts, holder_of, is_absent, pushed}
+use Rattle.px_links.specs.Lists.{has}
 use Rattle.px_cached.proofs.OneList.{holders_then, now_noted}
 use Rattle.px_micro.specs.declared.sight.Going.{Going}
 use Rattle.px_machine.specs.Queue.{AddsTo, FallBehind, HaveGone, IsBehind, IsWoken, NobodyIsWoken, Wakes, behind_in}
@@ -19,27 +18,6 @@ pub not_both : (queue : LinksData) (node list : ℕ) → holder_of queue node �
 not_both queue node list held absent =
     let none : is_none (Some list) ≡ true = ap is_none (sym held) ∙ absent in
     absurd (cc)
-
--- where a list is empty nobody is in it
-no_cell : (cells : List ℕ) (node : ℕ) → slice_get cells 0 ≡ None → has cells node ≡ true → ⊥
-no_cell [] node none has_it = absurd (cc)
-no_cell (first ∷ cells) node none has_it = absurd (cc)
-
-pub nobody_in : (queue : LinksData) (list : ℕ) → first_of queue list ≡ None → (node : ℕ) → holder_of queue node ≢ Some list
-nobody_in queue list none node held =
-    no_cell (nth queue.lists list) node none (position-Some (λ list. has list node) queue.lists list [] held).1
-
--- without its first one a list is shorter
-pub shorter_at : (queue : LinksData) (list node : ℕ) → first_of queue list ≡ Some node
-    → length (nth (popped queue list).lists list) < length (nth queue.lists list)
-shorter_at queue list node first =
-    let cells : List ℕ = nth queue.lists list in
-    let some : 0 < length cells = slice_get_within cells 0 node first in
-    let inside : list < length queue.lists = elim (cases_lt list (length queue.lists)) [
-      | inl below ↦ below
-      | inr past ↦ absurd (omega (arith, some, ap length (get_or_past queue.lists list [] past)))
-    ] in
-    omega (arith, some, ap length (get_or-set_same queue.lists list (drop 1 cells) [] inside), length-drop 1 cells)
 
 -- who waits at all waits in one of the two
 pub in_one_of_two : (queue : LinksData) (node : ℕ) → length queue.lists ≡ 2 → is_absent queue node ≡ false
