@@ -1,5 +1,5 @@
 -- Conditions by number, and what is laid for them one after another.
-use Rattle.std.proofs.Common.{◌≡◌, ℕ, ◌+◌, ◌*◌, ◌/◌, ◌%◌, ◌<◌, List, [], ◌∷◌, ◌++◌, length, get_or, inl, inr, refl, ap, sym, ◌∙◌, subst, arith}
+use Rattle.std.proofs.Common.{◌≡◌, ℕ, zero, suc, ◌+◌, ◌*◌, ◌/◌, ◌%◌, ◌<◌, ◌≤◌, List, [], ◌∷◌, ◌++◌, length, get_or, inl, inr, refl, ap, sym, ◌∙◌, subst, arith}
 use Rattle.std.proofs.lemmas.Bool.{cases_lt}
 use Rattle.std.proofs.lemmas.List.{get_or_append_left, length-append}
 use Rattle.std.proofs.Math.Seq.{get_or-append_seam}
@@ -15,9 +15,9 @@ use Rattle.px_cached.specs.declared.part.Above.{Above}
 use Rattle.px_cached.specs.declared.part.Part.{Part}
 use Rattle.px_cached.specs.declared.part.Part.TheVariants as parts
 use Rattle.px_cached.specs.Conditions.{condition_at, condition_in, kind_at, number_of, of_kind, place_of}
-use Rattle.px_cached.specs.Laying.{HasLaid, IsLaid, IsRead, IsReadIn, IsRoot}
-use Rattle.px_cached.specs.Network.{part_at}
-use Rattle.px_cached.proofs.Layers.{spells_inside, spells_on}
+use Rattle.px_cached.specs.Laying.{HasLaid, IsLaid, IsRead, IsReadIn, IsRoot, begin}
+use Rattle.px_cached.specs.Network.{Stands, part_at}
+use Rattle.px_cached.proofs.Layers.{spells_inside, spells_on, stands_on}
 
 -- ---- numbers
 
@@ -99,6 +99,8 @@ none_laid plan = record {
   rooted = λ other below. absurd (omega (arith, below));
   named = λ part node inside top. absurd (omega (arith, inside));
   read = λ part inside. absurd (omega (arith, inside));
+  stands = λ other below. absurd (omega (arith, below));
+  end = refl;
 }
 
 module _ (plan : List Site) (number root : ℕ) (inside : number < 8 * length plan) (old new : List Part)
@@ -108,6 +110,9 @@ module _ (plan : List Site) (number root : ℕ) (inside : number < 8 * length pl
   read_then (parts.Whole expr) read =
       (read.0, (number / 8, kind_at (number % 8), (node_below (length plan) number inside, read.1)))
   read_then (parts.Joined joint left right) read = tt
+
+  root_now : get_or (roots ++ root ∷ []) number 0 ≡ root
+  root_now = ap (λ at. get_or (roots ++ root ∷ []) at 0) (sym before.count) ∙ get_or-append_seam roots root [] 0
 
   rooted_then : (other : ℕ) → other < number + 1 → IsRoot plan new new_above other (get_or (roots ++ root ∷ []) other 0)
   rooted_then other below = elim (cases_lt other number) [
@@ -121,9 +126,31 @@ module _ (plan : List Site) (number root : ℕ) (inside : number < 8 * length pl
     | inr now ↦
         let last : other ≡ number = omega (arith, now, below) in
         subst (λ other. IsRoot plan new new_above other (get_or (roots ++ root ∷ []) other 0)) (sym last)
-        (subst (IsRoot plan new new_above number)
-        (sym (ap (λ at. get_or (roots ++ root ∷ []) at 0) (sym before.count) ∙ get_or-append_seam roots root [] 0))
-        (laid.spells, laid.top))
+        (subst (IsRoot plan new new_above number) (sym root_now) (laid.spells, laid.top))
+  ]
+
+  begin_same : (other : ℕ) → other ≤ number → begin (roots ++ root ∷ []) other ≡ begin roots other
+  begin_same zero below = refl
+  begin_same (suc other) below =
+      ap (λ root. root + 1) (get_or_append_left roots (root ∷ []) 0 other (omega (arith, below, before.count)))
+
+  stands_then : (other : ℕ) → other < number + 1
+      → Stands new (begin (roots ++ root ∷ []) other) (get_or (roots ++ root ∷ []) other 0) (condition_at plan other)
+  stands_then other below = elim (cases_lt other number) [
+    | inl sooner ↦
+        let same = get_or_append_left roots (root ∷ []) 0 other (omega (arith, sooner, before.count)) in
+        subst (λ last. Stands new (begin (roots ++ root ∷ []) other) last (condition_at plan other)) (sym same)
+        (subst (λ from. Stands new from (get_or roots other 0) (condition_at plan other))
+        (sym (begin_same other (omega (arith, sooner))))
+        (stands_on old new laid.longer laid.same (begin roots other) (get_or roots other 0) (condition_at plan other)
+        (before.stands other sooner)))
+    | inr now ↦
+        let last : other ≡ number = omega (arith, now, below) in
+        subst (λ other. Stands new (begin (roots ++ root ∷ []) other) (get_or (roots ++ root ∷ []) other 0) (condition_at plan other))
+        (sym last)
+        (subst (λ last. Stands new (begin (roots ++ root ∷ []) number) last (condition_at plan number)) (sym root_now)
+        (subst (λ from. Stands new from root (condition_at plan number))
+        (before.end ∙ sym (begin_same number (omega arith))) laid.stands))
   ]
 
   pub has_laid : HasLaid plan new new_above (roots ++ root ∷ []) (number + 1)
@@ -141,4 +168,8 @@ module _ (plan : List Site) (number root : ℕ) (inside : number < 8 * length pl
       | inl sooner ↦ subst (IsRead plan) (sym (laid.same part sooner)) (before.read part sooner)
       | inr now ↦ read_then (part_at new part) (laid.read part now there)
     ];
+    stands = stands_then;
+    end =
+        let next : suc number ≡ number + 1 = omega arith in
+        laid.end ∙ ap (λ root. root + 1) (sym root_now) ∙ ap (begin (roots ++ root ∷ [])) next;
   }

@@ -6,7 +6,7 @@ use Rattle.std.proofs.lemmas.Bool.{cases_lt}
 use Rattle.std.proofs.lemmas.Grind.{flat_map-append}
 use Rattle.std.proofs.lemmas.List.{append_assoc, append-nil, get_or_append_left, get_or-append-add, get_or-replicate, length-append, length-replicate, take_more}
 use Rattle.std.proofs.lemmas.List.Elements.{All-append, All-cons, All-nil}
-use Rattle.std.proofs.lemmas.List.Sums.{AllPass-from_list_all, sum_by-cons}
+use Rattle.std.proofs.lemmas.List.Sums.{AllPass-from_list_all}
 use Rattle.std.proofs.lemmas.Option.{slice_get_past, slice_get-get_or}
 use Rattle.px_core.specs.declared.conditions.ConditionKind.{ConditionKind}
 use Rattle.px_core.specs.declared.conditions.ConditionKind.TheVariants as which
@@ -134,8 +134,7 @@ all_long : (cell : ℕ) (plan : List Site) → length (firsts_from cell (variabl
 all_long cell [] = refl
 all_long cell (site ∷ plan) =
     let own = site.head.variables in
-    let more : variable_cells (site ∷ plan) ≡ cells_of_site site + variable_cells plan =
-    sum_by-cons (λ n. n) (cells_of_site site) (map cells_of_site plan) in
+    let more : variable_cells (site ∷ plan) ≡ cells_of_site site + variable_cells plan = sum_rest cells_of_site site plan in
     omega (
       arith,
       more,
@@ -182,7 +181,7 @@ at_node cell (site ∷ plan) (suc node) j within inside =
     let before = first_cell plan node in
     let next : ℕ = cell + cells_of_site site in
     let more : first_cell (site ∷ plan) (suc node) ≡ cells_of_site site + before =
-    sum_by-cons (λ n. n) (cells_of_site site) (map cells_of_site (take node plan)) in
+    sum_rest cells_of_site site (take node plan) in
     let at : first_cell (site ∷ plan) (suc node) + j ≡ length (firsts_from cell own) + (before + j) =
     omega (arith, more, length-firsts_from cell own) in
     let far : next + before ≡ cell + first_cell (site ∷ plan) (suc node) = omega (arith, more) in

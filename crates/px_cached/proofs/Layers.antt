@@ -17,7 +17,7 @@ use Rattle.px_cached.specs.declared.part.Joint.TheVariants as joints
 use Rattle.px_cached.specs.declared.part.Part.{Part}
 use Rattle.px_cached.specs.declared.part.Part.TheVariants as parts
 use Rattle.px_cached.specs.Laying.{IsLaid, IsReadIn, IsStretch}
-use Rattle.px_cached.specs.Network.{IsNetwork, IsOver, IsUnder, Spells, Whole, Joined, above_at, joined, part_at}
+use Rattle.px_cached.specs.Network.{IsNetwork, IsOver, IsUnder, Spells, Whole, Joined, Stands, One, Two, above_at, joined, part_at}
 
 abbrev no_part : Part
 no_part = parts.Joined joints.And 0 0
@@ -39,6 +39,15 @@ spells_on old new longer same part expr (Whole of inside at is) =
 spells_on old new longer same part expr (Joined joint left right a b inside at is one other) =
     Joined joint left right a b (omega (arith, longer, inside)) (same part inside ∙ at) is
     (spells_on old new longer same left a one) (spells_on old new longer same right b other)
+
+pub stands_on : (old new : List Part) → length old ≤ length new
+    → ((part : ℕ) → part < length old → part_at new part ≡ part_at old part)
+    → (from last : ℕ) (expr : Numbered) → Stands old from last expr → Stands new from last expr
+stands_on old new longer same from last expr (One of inside first at is) =
+    One of (omega (arith, longer, inside)) first (same last inside ∙ at) is
+stands_on old new longer same from last expr (Two joint left right a b inside behind at is one other) =
+    Two joint left right a b (omega (arith, longer, inside)) behind (same last inside ∙ at) is
+    (stands_on old new longer same from left a one) (stands_on old new longer same (left + 1) right b other)
 
 module _ (old : List Part) (part : Part) where
   pub pushed_long : length (old ++ part ∷ []) ≡ length old + 1
@@ -148,6 +157,8 @@ module _ (plan : List Site) (node : ℕ) (expr : Numbered) (of : NumberedExpr) (
     same_above = whole_stays;
     behind = omega arith;
     spells = Whole of (omega (arith, pushed_long old (parts.Whole of))) (pushed_at old (parts.Whole of)) (sym is);
+    stands = One of (omega (arith, pushed_long old (parts.Whole of))) refl (pushed_at old (parts.Whole of)) (sym is);
+    end = pushed_long old (parts.Whole of);
     top = whole_top;
     named = λ k other past inside top.
         let same : aboves.Condition other ≡ aboves.Condition node =
@@ -330,6 +341,12 @@ module _ (plan : List Site) (node : ℕ) (joint : Joint) (a b : Numbered) (old o
         (spells_on one two right_laid.longer right_laid.same left a left_laid.spells))
         (spells_on two joined_new (omega (arith, pushed_long two joined_part)) (pushed_same two joined_part) right b
         right_laid.spells);
+    stands = Two joint left right a b (omega (arith, pushed_long two joined_part)) right_laid.end (pushed_at two joined_part) refl
+        (stands_on two joined_new (omega (arith, pushed_long two joined_part)) (pushed_same two joined_part) (length old) left a
+        (stands_on one two right_laid.longer right_laid.same (length old) left a left_laid.stands))
+        (stands_on two joined_new (omega (arith, pushed_long two joined_part)) (pushed_same two joined_part) (left + 1) right b
+        (subst (λ from. Stands two from right b) left_laid.end right_laid.stands));
+    end = pushed_long two joined_part;
     top = at_new;
     named = joined_named;
     read = joined_read;

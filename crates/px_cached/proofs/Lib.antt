@@ -1,11 +1,15 @@
 pub mod Climbing
 pub mod Conditions
+pub mod Costing
+pub mod Distinct
 pub mod FirstCells
 pub mod Freshness
+pub mod Heights
 pub mod Layers
 pub mod Listening
 pub mod Marking
 pub mod OneList
+pub mod Owing
 pub mod Pushing
 pub mod Refreshing
 pub mod Reported

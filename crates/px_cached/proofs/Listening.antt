@@ -1,11 +1,11 @@
 -- Readers one after another, and listeners to which they are added.
 use Rattle.std.specs.List.{list_any}
-use Rattle.std.proofs.Common.{◌≡◌, ℕ, ◌+◌, ◌<◌, ◌≤◌, Bool, true, false, nat_eq, List, [], ◌∷◌, ◌++◌, length, get_or, refl, ap, sym, ◌∙◌, subst, arith, inl, inr, All, if◌then◌else◌}
-use Rattle.std.proofs.lemmas.Bool.{cases_lt, eq-eqb, or_left, or_right}
+use Rattle.std.proofs.Common.{◌≡◌, ℕ, ◌+◌, ◌<◌, ◌≤◌, Bool, true, false, nat_eq, ◌||◌, List, [], ◌∷◌, ◌++◌, length, get_or, refl, ap, sym, ◌∙◌, subst, arith, inl, inr, ◌⊎◌, All, if◌then◌else◌}
+use Rattle.std.proofs.lemmas.Bool.{cases_lt, eq-eqb, or_from, or_left, or_right}
 use Rattle.std.proofs.lemmas.Bool.Decides.{eqb_tells}
 use Rattle.std.proofs.lemmas.List.{get_or_append_left, get_or-append-add, get_or-set_same, get_or-set_other, get_or-map, length-append, length-map, length-set}
 use Rattle.std.proofs.lemmas.List.Elements.{All-append, All-map, All-nil, All-push}
-use Rattle.std.proofs.lemmas.List.Folds.{list_any-append}
+use Rattle.std.proofs.lemmas.List.Folds.{list_any-append, list_any_at}
 use Rattle.std.proofs.lemmas.List.Sums.{sum_by-set}
 use Rattle.px_core.specs.Plan.{Site}
 use Rattle.px_flat.specs.Layout.{all_cells, state_cell, outcome_cell, failure_cell, handle_cell, acknowledgement_cell}
@@ -18,7 +18,7 @@ use Rattle.px_listen.specs.Listening.{ListenData, dependents_of, is_dependent, p
 use Rattle.px_cached.specs.declared.part.Part.{Part}
 use Rattle.px_cached.specs.declared.part.Part.TheVariants as parts
 use Rattle.px_cached.specs.declared.reading.Reader.{Reader}
-use Rattle.px_cached.specs.Conditions.{all_sources, source_number}
+use Rattle.px_cached.specs.Conditions.{all_sources, has_source, source_number}
 use Rattle.px_cached.specs.Laying.{IsRead}
 use Rattle.px_cached.specs.Network.{part_at}
 use Rattle.px_cached.specs.Reading.{AreListening, AreReadersBelow, IsAmong, reader_of, readers_of, sources_at}
@@ -94,10 +94,14 @@ module _ (plan : List Site) (network : List Part) where
   abbrev IsFine : Reader → Type 0
   IsFine reader = (reader.source < all_sources plan) × (reader.part < length network)
 
+  abbrev IsOfPart : Reader → Type 0
+  IsOfPart reader = has_source plan reader.source (sources_at plan (part_at network reader.part)) ≡ true
+
   pub none_below : AreReadersBelow plan network [] 0
   none_below = record {
     each = λ part below. absurd (omega (arith, below));
     within = All-nil IsFine;
+    only = All-nil IsOfPart;
   }
 
   pub more_below : (readers : List Reader) (part : ℕ) → part < length network → IsRead plan (part_at network part)
@@ -115,6 +119,10 @@ module _ (plan : List Site) (network : List Part) where
     within = All-append IsFine readers (readers_of plan part sources) before.within
         (All-map IsFine (reader_of plan part) sources
         (λ k d inside. (number_there plan (get_or sources k d) (part_there plan (part_at network part) read k d inside), there)));
+    only = All-append IsOfPart readers (readers_of plan part sources) before.only
+        (All-map IsOfPart (reader_of plan part) sources (λ k d inside.
+        list_any_at (λ source. nat_eq (source_number plan (get_or sources k d)) (source_number plan source)) sources k d inside
+        (eq-eqb (source_number plan (get_or sources k d)) (source_number plan (get_or sources k d)) refl)));
   }
 
 -- ---- one pair more
@@ -147,6 +155,33 @@ module _ (listeners : ListenData) (source watcher : ℕ) (there : source < lengt
         ∙ depends
   ]
 
+  -- there is no other pair
+  depended : (other_source other : ℕ) → is_dependent added other_source other ≡ true
+      → ((other_source ≡ source) × (other ≡ watcher)) ⊎ (is_dependent listeners other_source other ≡ true)
+  depended other_source other depends = elim (eqb_tells other_source source) [
+    | inr apart ↦ inr (sym (ap (list_any (nat_eq other))
+        (get_or-set_other listeners.dependents source other_source (dependents ++ watcher ∷ []) [] apart.1)) ∙ depends)
+    | inl same ↦ elim (eqb_tells other watcher) [
+      | inl is ↦ inl (same.1, is.1)
+      | inr apart ↦ inr (
+          ap (λ source. is_dependent listeners source other) same.1
+          ∙ sym (
+          list_any-append (nat_eq other) dependents (watcher ∷ [])
+          ∙ or_none (list_any (nat_eq other) dependents) (list_any (nat_eq other) (watcher ∷ [])) (only_other apart.0)
+          )
+          ∙ sym (ap (list_any (nat_eq other)) dependents_here)
+          ∙ sym (ap (λ source. is_dependent added source other) same.1) ∙ depends
+          )
+    ]
+  ]
+    where
+      only_other : nat_eq other watcher ≡ false → list_any (nat_eq other) (watcher ∷ []) ≡ false
+      only_other apart = or_from (nat_eq other watcher) false apart refl
+
+      or_none : (one rest : Bool) → rest ≡ false → (one || rest) ≡ one
+      or_none true rest none = refl
+      or_none false rest none = none
+
   pairs_then : pairs_of added ≡ pairs_of listeners + 1
   pairs_then = omega (
     arith,
@@ -162,6 +197,8 @@ pub record AreAdded (source_count part_count : ℕ) (readers : List Reader) (lis
   pub few : pairs_of listeners ≤ count
   pub each : (at : ℕ) (d : Reader) → at < count
       → is_dependent listeners (get_or readers at d).source (get_or readers at d).part ≡ true
+  pub only : (source part : ℕ) → is_dependent listeners source part ≡ true
+      → IsAmong readers (record { source = source; part = part })
 
 module _ (sources watchers : ℕ) (readers : List Reader) (listeners : ListenData) (count : ℕ) (inside : count < length readers)
     (added_so_far : AreAdded sources watchers readers listeners count) (reader : Reader)
@@ -184,6 +221,7 @@ module _ (sources watchers : ℕ) (readers : List Reader) (listeners : ListenDat
           ap (λ (reader : Reader). is_dependent listeners reader.source reader.part)
           (ap (λ at. get_or readers at d) last ∙ is d) ∙ depends
     ];
+    only = added_so_far.only;
   }
   added_then false depends = record {
     sources = length-set listeners.dependents reader.source (dependents_of listeners reader.source ++ reader.part ∷ []) ∙ added_so_far.sources;
@@ -198,6 +236,13 @@ module _ (sources watchers : ℕ) (readers : List Reader) (listeners : ListenDat
           ap (λ (other : Reader). is_dependent (with_dependent listeners reader.source reader.part) other.source other.part)
           (ap (λ at. get_or readers at d) last ∙ is d)
           ∙ depends_now listeners reader.source reader.part in_range
+    ];
+    only = λ source part depends_then. elim (depended listeners reader.source reader.part in_range source part depends_then) [
+      | inr before ↦ added_so_far.only source part before
+      | inl now ↦
+          let same : reader ≡ record { source = source; part = part } =
+          (λ i. record { source = sym now.0 i; part = sym now.1 i }) in
+          (count, (inside, (λ d. is d ∙ same)))
     ];
   }
 
@@ -219,4 +264,9 @@ all_added plan network readers listeners below added = record {
       let none : Reader = record { source = 0; part = 0 } in
       ap (λ (reader : Reader). is_dependent listeners reader.source reader.part) (sym (at.1.1 none))
       ∙ added.each at.0 none at.1.0;
+  only = λ source part depends.
+      let at = added.only source part depends in
+      let none : Reader = record { source = 0; part = 0 } in
+      ap (λ (reader : Reader). has_source plan reader.source (sources_at plan (part_at network reader.part))) (sym (at.1.1 none))
+      ∙ below.only at.0 none at.1.0;
 }

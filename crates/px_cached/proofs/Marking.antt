@@ -1,13 +1,15 @@
 -- What is to be looked at, while touched sources are gone through.
-use Rattle.std.proofs.Common.{◌≡◌, ℕ, Bool, true, false, nat_eq, List, length, get_or, ◌⊎◌, inl, inr, refl, ap, sym, ◌∙◌, All, None}
+use Rattle.std.proofs.Common.{◌≡◌, ℕ, ◌+◌, ◌≤◌, true, false, nat_eq, List, length, get_or, ◌⊎◌, inl, inr, refl, ap, sym, ◌∙◌, All, None, Some, sum_by, arith}
 use Rattle.std.specs.List.{list_any}
 use Rattle.std.proofs.lemmas.Bool.{cases_Bool}
 use Rattle.std.proofs.lemmas.Bool.Decides.{eqb_tells}
 use Rattle.std.proofs.lemmas.List.Folds.{list_any_none}
-use Rattle.px_links.specs.Links.{LinksData, HoldsOthersAsBefore, first_of, is_absent, SameCounts}
+use Rattle.px_links.specs.Links.{LinksData, HoldsOthersAsBefore, first_of, is_absent, popped, SameCounts}
 use Rattle.px_listen.specs.Listening.{ListenData, dependents_of, is_dependent}
+use Rattle.px_cached.specs.Costs.{in_all}
 use Rattle.px_cached.specs.Noticing.{IsNoticed}
 use Rattle.px_cached.proofs.OneList.{none_noted, noted_then}
+use Rattle.px_cached.proofs.Owing.{in_all-none, in_all-popped}
 
 -- what is in a list all of which is noted is noted
 pub noted_in : (stale : LinksData) (parts : List ℕ) (part : ℕ) → All (λ part. is_absent stale part ≡ false) parts
@@ -25,10 +27,16 @@ noted_in stale parts part all is = elim (cases_Bool (is_absent stale part)) [
       absurd (cc)
 ]
 
+-- what all costs that depends on a source
+abbrev source_cost : ListenData → (ℕ → ℕ) → ℕ → ℕ
+source_cost listeners cost source = sum_by cost (dependents_of listeners source)
+
 pub record IsSoFar (listeners : ListenData) (first_touched touched first_stale stale : LinksData) : Type 0 where
   pub marked : (source part : ℕ) → is_absent first_touched source ≡ false → is_dependent listeners source part ≡ true
       → (is_absent touched source ≡ false) ⊎ (is_absent stale part ≡ false)
   pub still : (part : ℕ) → is_absent first_stale part ≡ false → is_absent stale part ≡ false
+  pub owed : (cost : ℕ → ℕ) → in_all cost stale + in_all (source_cost listeners cost) touched
+      ≤ in_all cost first_stale + in_all (source_cost listeners cost) first_touched
   pub touched_counts : SameCounts first_touched touched
   pub stale_counts : SameCounts first_stale stale
 
@@ -37,18 +45,20 @@ module _ (listeners : ListenData) (first_touched first_stale : LinksData) where
   starts = record {
     marked = λ source part noted depends. inl noted;
     still = λ part noted. noted;
+    owed = λ cost. omega arith;
     touched_counts = (refl, refl);
     stale_counts = (refl, refl);
   }
 
   module _ (touched stale : LinksData) (so_far : IsSoFar listeners first_touched touched first_stale stale) where
     pub goes_on : (source : ℕ) (then_touched then_stale : LinksData) → HoldsOthersAsBefore touched then_touched source None
-        → SameCounts touched then_touched
+        → first_of touched 0 ≡ Some source → then_touched ≡ popped touched 0 → SameCounts touched then_touched
         → All (λ part. is_absent then_stale part ≡ false) (dependents_of listeners source)
         → ((part : ℕ) → is_absent stale part ≡ false → is_absent then_stale part ≡ false)
+        → ((cost : ℕ → ℕ) → in_all cost then_stale ≤ in_all cost stale + source_cost listeners cost source)
         → SameCounts stale then_stale
         → IsSoFar listeners first_touched then_touched first_stale then_stale
-    goes_on source then_touched then_stale holders counts noted still stale_counts = record {
+    goes_on source then_touched then_stale holders first popped_is counts noted still owed stale_counts = record {
       marked = λ other part was depends. elim (so_far.marked other part was depends) [
         | inr marked ↦ inr (still part marked)
         | inl left ↦ elim (noted_then touched then_touched source holders other left) [
@@ -58,6 +68,13 @@ module _ (listeners : ListenData) (first_touched first_stale : LinksData) where
         ]
       ];
       still = λ part was. still part (so_far.still part was);
+      owed = λ cost. omega (
+        arith,
+        owed cost,
+        so_far.owed cost,
+        in_all-popped (source_cost listeners cost) touched source first,
+        ap (in_all (source_cost listeners cost)) popped_is,
+      );
       touched_counts = (counts.0 ∙ so_far.touched_counts.0, counts.1 ∙ so_far.touched_counts.1);
       stale_counts = (stale_counts.0 ∙ so_far.stale_counts.0, stale_counts.1 ∙ so_far.stale_counts.1);
     }
@@ -72,6 +89,8 @@ module _ (listeners : ListenData) (first_touched first_stale : LinksData) where
             absurd (cc)
       ];
       still = so_far.still;
+      paid = λ cost. in_all-none cost touched none;
+      owed = λ cost. omega (arith, so_far.owed cost);
       touched_counts = so_far.touched_counts;
       stale_counts = so_far.stale_counts;
     }

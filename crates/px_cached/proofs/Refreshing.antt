@@ -1,13 +1,12 @@
 -- One look after another: what is kept stays sound, and what changes is told.
-use Rattle.std.proofs.Common.{◌≡◌, ℕ, ◌*◌, ◌<◌, Bool, false, List, length, replicate, Option, Some, None, IfSome, inl, inr, refl, ap, sym, ◌∙◌, subst, arith, if◌then◌else◌}
+use Rattle.std.proofs.Common.{◌≡◌, ℕ, ◌+◌, ◌*◌, ◌<◌, ◌≤◌, Bool, false, List, length, replicate, Option, Some, None, IfSome, inl, inr, refl, ap, sym, ◌∙◌, subst, arith, if◌then◌else◌}
 use Rattle.std.specs.Prelude.{is_none}
-use Rattle.std.proofs.lemmas.Bool.{cases_lt}
 use Rattle.std.proofs.lemmas.Bool.Decides.{eqb_tells}
 use Rattle.std.proofs.lemmas.List.{length-replicate}
 use Rattle.px_value.proofs.General.{replicate-same}
 use Rattle.px_core.specs.Plan.{Site}
 use Rattle.px_flat.specs.Sources.{Present}
-use Rattle.px_links.specs.Links.{LinksData, HoldsOthersAsBefore, SameCounts, holder_of, is_absent}
+use Rattle.px_links.specs.Links.{LinksData, HoldsOthersAsBefore, SameCounts, first_of, holder_of, is_absent, popped}
 use Rattle.px_cached.specs.declared.laying.Network.{Network}
 use Rattle.px_cached.specs.declared.looking.Kept.{Kept}
 use Rattle.px_cached.specs.declared.part.Above.{Above}
@@ -15,11 +14,15 @@ use Rattle.px_cached.specs.declared.part.Joint.{Joint}
 use Rattle.px_cached.specs.declared.part.Joint.TheVariants as joints
 use Rattle.px_cached.specs.declared.part.Part.{Part}
 use Rattle.px_cached.specs.declared.part.Part.TheVariants as parts
-use Rattle.px_cached.specs.Carrying.{AreWholesKept, IsKept, IsOfPart, IsOnlyChanged}
+use Rattle.px_cached.specs.Carrying.{AreWholesKept, IsKept, IsOfPart, IsOnlyChanged, LooksUp}
+use Rattle.px_cached.specs.Climbs.{climb}
+use Rattle.px_cached.specs.Costs.{in_all}
 use Rattle.px_cached.specs.Laying.{HasLaid}
 use Rattle.px_cached.specs.Looking.{AreRight, IsRight, IsSound, Tells, truth_now}
 use Rattle.px_cached.specs.Network.{Agree, IsSettled, kleene, part_at, truth_at}
+use Rattle.px_cached.proofs.Heights.{looked as looked_up}
 use Rattle.px_cached.proofs.OneList.{absent_then, holders_then, now_noted, still_noted}
+use Rattle.px_cached.proofs.Owing.{in_all-popped}
 
 -- ---- all is to be looked at
 
@@ -169,7 +172,27 @@ module _ (above : List Above) (first old new : List (Option Bool)) (before betwe
   }
 
 -- what holds while looks go on
-pub record IsLooking (plan : List Site) (present : Present) (first kept : Kept) (before after : LinksData) (list : ℕ) : Type 0 where
+pub record IsLooking (plan : List Site) (present : Present) (first kept : Kept) (before after : LinksData) (list looks : ℕ) : Type 0 where
   pub network : kept.network ≡ first.network
   pub sound : IsSound plan present kept
   pub tells : Tells first.network.above.items first.truths.items kept.truths.items before after list
+  pub owed : looks + in_all (climb first.network.above.items) kept.stale ≤ in_all (climb first.network.above.items) first.stale
+
+-- one look is paid for by what is no longer to be looked at
+pub owed_then : (plan : List Site) (present : Present) (first kept : Kept) (stale : LinksData) (part looks more sum due : ℕ)
+    → IsSound plan present kept → kept.network ≡ first.network → part < length kept.network.parts.items
+    → first_of kept.stale 0 ≡ Some part → stale ≡ popped kept.stale 0
+    → LooksUp kept.network.above.items part more → sum ≤ looks + more
+    → looks + in_all (climb first.network.above.items) kept.stale ≤ due
+    → sum + in_all (climb first.network.above.items) stale ≤ due
+owed_then plan present first kept stale part looks more sum due sound same there is_first popped_is up few owed =
+    let same_above = ap (λ (network : Network). climb network.above.items part) same in
+    omega (
+      arith,
+      few,
+      owed,
+      looked_up kept.network.parts.items kept.network.above.items sound.laid.shape part more there up,
+      same_above,
+      in_all-popped (climb first.network.above.items) kept.stale part is_first,
+      ap (in_all (climb first.network.above.items)) popped_is,
+    )

@@ -1,5 +1,6 @@
 -- What kept conditions are to contracts.
-use Rattle.std.specs.Prelude.{◌≡◌, ℕ, ◌<◌, ◌≤◌, Bool, true, false, not, List, length, slice_index_or, Option, Some, None, All, ◌⊎◌}
+use Rattle.std.specs.Prelude.{◌≡◌, ℕ, ◌+◌, ◌-◌, ◌<◌, ◌≤◌, Bool, true, false, not, List, length, map, sum, slice_index_or, Option, Some, None, All, ◌⊎◌}
+use Rattle.std.specs.List.{range_with_len}
 use Rattle.px_core.specs.declared.conditions.ConditionKind.{ConditionKind}
 use Rattle.px_core.specs.Plan.{Site}
 use Rattle.px_cells.specs.Cells.{CellsData}
@@ -10,15 +11,17 @@ use Rattle.px_flat.specs.Sources.{Present, IsSame, sources_in}
 use Rattle.px_links.specs.Links.{LinksData, holder_of, is_absent, SameCounts}
 use Rattle.px_lookup.specs.Reports.{ReportsData}
 use Rattle.px_cached.specs.Conditions.{all_sources, condition_in, number_of, source_number, truth_in}
-use Rattle.px_cached.specs.Firsts.{HasCell}
+use Rattle.px_cached.specs.Costs.{cost, in_all}
+use Rattle.px_cached.specs.Firsts.{HasCell, source_of}
 
--- the plan's tables, the truth of each condition as it is kept, the cells and reports in which it was last looked at, and
--- the sources that were touched since
+-- The plan's tables, the truth of each condition as it is kept, the cells and reports in which it was last looked at, and
+-- the sources that were touched since; and so many looks at most are left from before, as after want of memory.
 pub record CachedData : Type 0 where
   pub flat : Flat
   pub truths : List (Option Bool)
   pub seen : Present
   pub touched : LinksData
+  pub left : ℕ
 
 abbrev pub plan_in : CachedData → List Site
 plan_in cached = plan_of cached.flat
@@ -29,17 +32,22 @@ kept_truth cached node kind = slice_index_or cached.truths (number_of node kind)
 abbrev pub is_touched : CachedData → ℕ → Bool
 is_touched cached source = not (is_absent cached.touched source)
 
+-- at how many parts `refresh` looks at most: what is left, and what the touched sources cost
+abbrev pub due : CachedData → ℕ
+due cached = cached.left + in_all (cost (plan_in cached)) cached.touched
+
 -- what cells and reports hold
 abbrev pub present_in : CellsData → ReportsData → Present
 present_in cells reports = record { cells = cells.contents.values; reports = reports.reports }
 
--- this source is touched, and each that was
+-- this source is touched, and each that was, and what it costs is due at most
 pub record IsTouched (old new : CachedData) (source : ℕ) : Type 0 where
   pub flat : new.flat ≡ old.flat
   pub truths : new.truths ≡ old.truths
   pub seen : new.seen ≡ old.seen
   pub this : is_touched new source ≡ true
   pub others : (other : ℕ) → is_touched old other ≡ true → is_touched new other ≡ true
+  pub owed : due new ≤ due old + cost (plan_in old) source
 
 -- each source of a condition that has this cell is touched
 abbrev pub IsTouchedAt : CachedData → ℕ → Type 0
@@ -55,6 +63,8 @@ pub record HasTouchedReports (old new : CachedData) : Type 0 where
   pub all : (source : ℕ) → all_cells (plan_in old) ≤ source → source < all_sources (plan_in old)
       → is_touched new source ≡ true
   pub others : (source : ℕ) → is_touched old source ≡ true → is_touched new source ≡ true
+  pub owed : due new ≤ due old + sum (map (cost (plan_in old))
+      (range_with_len (all_cells (plan_in old)) (all_sources (plan_in old) - all_cells (plan_in old))))
 
 -- the source that has the cell is touched, and each that was
 pub record HasTouchedCell (old new : CachedData) (cell : ℕ) : Type 0 where
@@ -63,6 +73,7 @@ pub record HasTouchedCell (old new : CachedData) (cell : ℕ) : Type 0 where
   pub seen : new.seen ≡ old.seen
   pub this : IsTouchedAt new cell
   pub others : (source : ℕ) → is_touched old source ≡ true → is_touched new source ≡ true
+  pub owed : due new ≤ due old + cost (plan_in old) (source_of (plan_in old) cell)
 
 -- each source of a condition that was not touched is as it was seen: what `refresh` needs
 abbrev pub IsSeenBut : CachedData → Present → Type 0

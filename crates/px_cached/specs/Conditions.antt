@@ -1,6 +1,6 @@
 -- The conditions of a plan's nodes by number, and the sources of all by number.
 use Rattle.std.specs.Prelude.{ℕ, ◌+◌, ◌*◌, ◌/◌, ◌%◌, Bool, nat_eq, List, length, slice_index_or, Option, Some, None}
-use Rattle.std.specs.List.{position_or_len}
+use Rattle.std.specs.List.{list_any, position_or_len}
 use Rattle.px_value.specs.Truth.{truth_of}
 use Rattle.px_core.specs.declared.conditions.ConditionKind.{ConditionKind}
 use Rattle.px_core.specs.declared.conditions.ConditionKind.TheVariants as which
@@ -62,6 +62,10 @@ abbrev pub source_number : List Site → Source → ℕ
 source_number plan (Cells first size) = first
 source_number plan (Reports lookup tolerance) =
     all_cells plan + (place_among (tolerances plan) tolerance * length (lookups_of plan) + lookup)
+
+-- whether the source of this number is one of these
+abbrev pub has_source : List Site → ℕ → List Source → Bool
+has_source plan number sources = list_any (λ source. nat_eq number (source_number plan source)) sources
 
 -- how many numbers of sources there are
 abbrev pub all_sources : List Site → ℕ

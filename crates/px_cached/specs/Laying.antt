@@ -1,5 +1,5 @@
 -- The parts that are laid for an expression, and for all conditions so far.
-use Rattle.std.specs.Prelude.{◌≡◌, ℕ, ◌/◌, ◌<◌, ◌≤◌, List, ◌++◌, length, slice_index_or}
+use Rattle.std.specs.Prelude.{◌≡◌, ℕ, zero, suc, ◌+◌, ◌/◌, ◌<◌, ◌≤◌, List, ◌++◌, length, slice_index_or}
 use Rattle.px_core.specs.declared.conditions.ConditionKind.{ConditionKind}
 use Rattle.px_core.specs.Plan.{Site}
 use Rattle.px_flat.specs.Numbered.{Numbered}
@@ -11,7 +11,7 @@ use Rattle.px_cached.specs.declared.part.Above.TheVariants as aboves
 use Rattle.px_cached.specs.declared.part.Part.{Part}
 use Rattle.px_cached.specs.declared.part.Part.TheVariants as parts
 use Rattle.px_cached.specs.Conditions.{condition_at, condition_in}
-use Rattle.px_cached.specs.Network.{IsNetwork, Spells, above_at, part_at}
+use Rattle.px_cached.specs.Network.{IsNetwork, Spells, Stands, above_at, part_at}
 
 -- some sources stand among others, one after another
 abbrev pub IsStretch : List Source → List Source → Type 0
@@ -32,6 +32,8 @@ pub record IsLaid (plan : List Site) (node : ℕ) (expr : Numbered) (old new : L
   pub same_above : (part : ℕ) → part < length old → above_at new_above part ≡ above_at old_above part
   pub behind : length old ≤ last
   pub spells : Spells new last expr
+  pub stands : Stands new (length old) last expr
+  pub end : length new ≡ last + 1
   pub top : above_at new_above last ≡ aboves.Condition node
   pub named : (part other : ℕ) → length old ≤ part → part < length new
       → above_at new_above part ≡ aboves.Condition other → other ≡ node
@@ -51,6 +53,11 @@ IsRead plan (parts.Whole expr) = IsWithin plan (expr_data expr)
     × IsStretch (sources_in plan (expr_data expr)) (sources_in plan (condition_in plan node kind))))
 IsRead plan (parts.Joined joint left right) = Unit {0}
 
+-- where the parts of a number's condition begin: behind those of the one before
+abbrev pub begin : List ℕ → ℕ → ℕ
+begin roots zero = 0
+begin roots (suc before) = slice_index_or roots before 0 + 1
+
 -- the parts of the conditions below this number are laid
 pub record HasLaid (plan : List Site) (network : List Part) (above : List Above) (roots : List ℕ) (number : ℕ) : Type 0 where
   pub shape : IsNetwork network above
@@ -58,3 +65,6 @@ pub record HasLaid (plan : List Site) (network : List Part) (above : List Above)
   pub rooted : (other : ℕ) → other < number → IsRoot plan network above other (slice_index_or roots other 0)
   pub named : (part node : ℕ) → part < length network → above_at above part ≡ aboves.Condition node → node < length plan
   pub read : (part : ℕ) → part < length network → IsRead plan (part_at network part)
+  pub stands : (other : ℕ) → other < number
+      → Stands network (begin roots other) (slice_index_or roots other 0) (condition_at plan other)
+  pub end : length network ≡ begin roots number

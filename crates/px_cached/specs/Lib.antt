@@ -1,6 +1,8 @@
 pub mod Cached
 pub mod Carrying
+pub mod Climbs
 pub mod Conditions
+pub mod Costs
 pub mod Firsts
 pub mod Keeping
 pub mod Laying

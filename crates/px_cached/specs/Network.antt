@@ -1,5 +1,5 @@
 -- Parts of conditions, what each spells, and when their truths agree.
-use Rattle.std.specs.Prelude.{◌≡◌, ℕ, ◌<◌, ◌^◌, Bool, List, length, slice_index_or, Option, None}
+use Rattle.std.specs.Prelude.{◌≡◌, ℕ, ◌+◌, ◌<◌, ◌^◌, Bool, List, length, slice_index_or, Option, None}
 use Rattle.px_value.specs.Truth.{kleene_and, kleene_not, kleene_or}
 use Rattle.px_core.specs.declared.expr.BinaryOp.TheVariants as operators
 use Rattle.px_core.specs.declared.expr.UnaryOp.TheVariants.{Not}
@@ -37,6 +37,14 @@ pub data Spells (network : List Part) : ℕ → Numbered → Type 0 where
   Joined : {part : ℕ} {expr : Numbered} (joint : Joint) (left right : ℕ) (a b : Numbered) → part < length network
       → part_at network part ≡ parts.Joined joint left right → expr ≡ joined joint a b
       → Spells network left a → Spells network right b → Spells network part expr
+
+-- The parts of an expression stand one after another, from this one on; the last is its own.
+pub data Stands (network : List Part) : ℕ → ℕ → Numbered → Type 0 where
+  One : {from last : ℕ} {expr : Numbered} (of : NumberedExpr) → last < length network → last ≡ from
+      → part_at network last ≡ parts.Whole of → expr ≡ expr_data of → Stands network from last expr
+  Two : {from last : ℕ} {expr : Numbered} (joint : Joint) (left right : ℕ) (a b : Numbered) → last < length network
+      → last ≡ right + 1 → part_at network last ≡ parts.Joined joint left right → expr ≡ joined joint a b
+      → Stands network from left a → Stands network (left + 1) right b → Stands network from last expr
 
 -- ---- how parts stand
 

@@ -7,7 +7,7 @@ use Rattle.px_listen.specs.Listening.{ListenData, is_dependent}
 use Rattle.px_cached.specs.declared.part.Part.{Part}
 use Rattle.px_cached.specs.declared.part.Part.TheVariants as parts
 use Rattle.px_cached.specs.declared.reading.Reader.{Reader}
-use Rattle.px_cached.specs.Conditions.{all_sources, source_number}
+use Rattle.px_cached.specs.Conditions.{all_sources, has_source, source_number}
 use Rattle.px_cached.specs.Network.{part_at}
 
 -- the sources of what is evaluated whole
@@ -31,11 +31,14 @@ pub record AreReadersBelow (plan : List Site) (network : List Part) (readers : L
   pub each : (part : ℕ) → part < count
       → All (λ source. IsAmong readers (reader_of plan part source)) (sources_at plan (part_at network part))
   pub within : All (λ (reader : Reader). (reader.source < all_sources plan) × (reader.part < length network)) readers
+  pub only : All (λ (reader : Reader). has_source plan reader.source (sources_at plan (part_at network reader.part)) ≡ true) readers
 
--- each part is a dependent of each of its sources
+-- each part is a dependent of each of its sources, and of no other
 pub record AreListening (plan : List Site) (network : List Part) (listeners : ListenData) : Type 0 where
   pub sources : length listeners.dependents ≡ all_sources plan
   pub watchers : listeners.watchers ≡ length network
   pub each : (part : ℕ) → part < length network
       → All (λ source. is_dependent listeners (source_number plan source) part ≡ true)
       (sources_at plan (part_at network part))
+  pub only : (number part : ℕ) → is_dependent listeners number part ≡ true
+      → has_source plan number (sources_at plan (part_at network part)) ≡ true

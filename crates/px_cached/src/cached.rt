@@ -1,11 +1,12 @@
 // The truth of each condition, kept.
-ghost use Rattle.std.specs.Prelude.{◌≡◌, ◌<◌, ◌≤◌, ◌^◌, length, IfOk, OnOk};
+ghost use Rattle.std.specs.Prelude.{◌≡◌, ℕ, ◌<◌, ◌≤◌, ◌^◌, length, IfOk, OnOk};
 ghost use Rattle.px_flat.specs.Flat.{plan_of};
 ghost use Rattle.px_flat.specs.Layout.{all_cells};
 ghost use Rattle.px_flat.specs.Lookups.{lookups_of};
 ghost use Rattle.px_flat.specs.Sources as sources;
-ghost use Rattle.px_cached.specs.Cached.{AreFresh, HasTouchedCell, HasTouchedReports, IsSeen, IsSeenBut, IsTouched, TellsChanged, kept_truth, plan_in, present_in};
+ghost use Rattle.px_cached.specs.Cached.{AreFresh, HasTouchedCell, HasTouchedReports, IsSeen, IsSeenBut, IsTouched, TellsChanged, due, kept_truth, plan_in, present_in};
 ghost use Rattle.px_cached.specs.Conditions.{all_sources, source_number};
+ghost use Rattle.px_cached.specs.Costs.{full_cost, in_all};
 
 use crate::firsts::{first_cells, source_of};
 use crate::kinds::place_of;
@@ -69,9 +70,11 @@ impl Cached {
         ensures flat { IfOk result (λ made. made.flat ≡ flat.now) }
         ensures seen { IfOk result (λ made. IsSeen made (present_in cells.now reports.now)) }
         ensures few { IfOk result (λ _. all_sources (plan_of flat.now) < 2 ^ 32) }
+        ensures owed { IfOk result (λ made. due made ≤ full_cost (plan_of flat.now)) }
     {
         let kept = Kept::of(alloc, flat)?;
         let listeners = listeners(alloc, flat, &kept.network.parts)?;
+        listeners.each_once();
         let Some(count) = source_count(flat) else {
             return Err(AllocError);
         };
@@ -133,10 +136,11 @@ impl Cached {
 
     /// Looks again at what reads a touched source, and at the way up as far as something changes. Each node with a condition
     /// that changed is put behind the others of that list of `changed`, where it is in no list yet. The answer is at how
-    /// many parts was looked, or the most that it can say.
+    /// many parts was looked, or the most that it can say: for each part that reads a touched source one, and one for each
+    /// part above it, at most, and what was left.
     ///
-    /// Ok: each condition is kept with its truth in these cells and reports. `NoMemory`: some conditions may not be, and
-    /// are looked at by the next call.
+    /// Ok: each condition is kept with its truth in these cells and reports, and nothing is left. `NoMemory`: some
+    /// conditions may not be, and are looked at by the next call.
     pub fn refresh(
         &mut self,
         alloc: Global,
@@ -153,6 +157,9 @@ impl Cached {
         requires nodes { length (plan_of flat.now) ≤ changed.old.cells }
         ensures flat { self.new.flat ≡ self.old.flat }
         ensures seen { IsSeen self.new (present_in cells.now reports.now) }
+        ensures looks { IfOk result (λ looks. looks ≤ due self.old) }
+        ensures owed { due self.new ≤ due self.old }
+        ensures paid { OnOk result (due self.new ≡ 0) }
         ensures fresh { OnOk result (AreFresh self.new (present_in cells.now reports.now)) }
         ensures told { TellsChanged self.old self.new changed.old changed.new list }
     {
@@ -169,6 +176,8 @@ impl Cached {
         ensures flat { self.new.flat ≡ self.old.flat }
         ensures truths { self.new.truths ≡ self.old.truths }
         ensures seen { IsSeen self.new (present_in cells.now reports.now) }
+        ensures owed { self.new.left ≤ due self.old }
+        ensures paid { (cost : ℕ → ℕ) → in_all cost self.new.touched ≡ 0 }
     {
         notice(&mut self.touched, &self.listeners, &mut self.kept.stale);
         self.seen_cells = Snapshot::of(cells);

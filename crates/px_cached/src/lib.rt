@@ -7,8 +7,9 @@
 //! the source that has a cell. `cached` is the table.
 //!
 //! `specs/Network.antt` says what parts spell and when their truths agree, `specs/Laying.antt` which parts are laid,
-//! `specs/Carrying.antt` what a change does, `specs/Firsts.antt` which source has a cell, `specs/Cached.antt` what the table
-//! is to contracts, and `specs/Keeping.antt` what every table keeps.
+//! `specs/Carrying.antt` what a change does, `specs/Costs.antt` at how many parts is looked for a touched source,
+//! `specs/Firsts.antt` which source has a cell, `specs/Cached.antt` what the table is to contracts, and
+//! `specs/Keeping.antt` what every table keeps.
 #![tactic(auto)]
 
 mod cached;

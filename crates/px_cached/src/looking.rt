@@ -7,9 +7,11 @@ ghost use Rattle.px_flat.specs.NumberedData.{expr_data};
 ghost use Rattle.px_flat.specs.Sources.{Present};
 ghost use Rattle.px_flat.specs.Within.{IsWithin};
 ghost use Rattle.px_links.specs.Links.{first_of, is_absent, popped};
-ghost use Rattle.px_cached.specs.Carrying.{IsOnlyChanged};
+ghost use Rattle.px_cached.specs.Carrying.{IsOnlyChanged, LooksUp};
 ghost use Rattle.px_cached.specs.Cached.{present_in};
+ghost use Rattle.px_cached.specs.Climbs.{climb};
 ghost use Rattle.px_cached.specs.Conditions.{truth_in};
+ghost use Rattle.px_cached.specs.Costs.{full_cost, in_all};
 ghost use Rattle.px_cached.specs.Looking.{IsSound, Tells, truth_now};
 ghost use Rattle.px_cached.specs.Network.{part_at};
 
@@ -54,7 +56,9 @@ fn truth(
 impl Kept {
     /// The conditions of a plan's nodes, all parts of which are to be looked at.
     pub(crate) fn of(alloc: Global, flat: &Flat) -> Result<Kept, NoMemory>
-        ensures { IfOk result (λ made. (seen : Present) → IsSound (plan_of flat.now) seen made) }
+        ensures sound { IfOk result (λ made. (seen : Present) → IsSound (plan_of flat.now) seen made) }
+        ensures owed { IfOk result (λ made.
+            in_all (climb made.network.above.items) made.stale ≤ full_cost (plan_of flat.now)) }
     {
         let network = Network::of(alloc, flat)?;
         let truths = vec![in alloc; None; network.parts.len()]?;
@@ -106,6 +110,7 @@ impl Kept {
         ensures changed { IfOk result (λ carried. IsOnlyChanged self.old.network.above.items
             self.old.truths.items self.new.truths.items carried.changed) }
         ensures node { IfOk result (λ carried. IfSome carried.changed (λ node. node < length (plan_of flat.now))) }
+        ensures looks { IfOk result (λ carried. LooksUp self.old.network.above.items part carried.looks) }
         ensures err { OnErr result (self.new ≡ self.old) }
     {
         let truth = self.truth_now(alloc, flat, cells, reports, part)?;
@@ -121,7 +126,8 @@ impl Kept {
     }
 
     /// Looks again at each part that is to be looked at, and at the way up as far as something changes. The answer is at
-    /// how many parts was looked, or the most that it can say.
+    /// how many parts was looked, or the most that it can say: for each that was to be looked at one, and one for each
+    /// above it, at most.
     pub(crate) fn refresh(
         &mut self,
         alloc: Global,
@@ -138,6 +144,10 @@ impl Kept {
         ensures network { self.new.network ≡ self.old.network }
         ensures sound { IsSound (plan_of flat.now) (present_in cells.now reports.now) self.new }
         ensures none { OnOk result ((part : ℕ) → is_absent self.new.stale part ≡ true) }
+        ensures looks { IfOk result (λ looks. looks ≤ in_all (climb self.old.network.above.items) self.old.stale) }
+        ensures left { in_all (climb self.old.network.above.items) self.new.stale
+            ≤ in_all (climb self.old.network.above.items) self.old.stale }
+        ensures paid { OnOk result (in_all (climb self.old.network.above.items) self.new.stale ≡ 0) }
         ensures told { Tells self.old.network.above.items self.old.truths.items self.new.truths.items
             changed.old changed.new list }
     {

@@ -1,11 +1,13 @@
-use Rattle.std.proofs.Common.{◌≡◌, ℕ, ◌<◌, true, length, map, get_or, None, inl, inr, ap, sym, ◌∙◌, subst}
+use Rattle.std.proofs.Common.{◌≡◌, ℕ, ◌<◌, ◌≤◌, true, length, map, get_or, None, inl, inr, ap, sym, ◌∙◌, subst, arith}
 use Rattle.std.proofs.lemmas.Result.{IfOk-weaker}
 use Rattle.px_flat.specs.declared.flat.Flat.{Flat}
 use Rattle.px_flat.specs.Flat.{plan_of}
 use Rattle.px_links.specs.Links.{is_absent}
 use Rattle.px_cached.specs.declared.laying.Network.{Network}
-use Rattle.px_cached.specs.Cached.{CachedData, AreFresh, is_touched, kept_truth, plan_in, present_in}
+use Rattle.px_cached.specs.Cached.{CachedData, AreFresh, due, is_touched, kept_truth, plan_in, present_in}
+use Rattle.px_cached.specs.Climbs.{climb}
 use Rattle.px_cached.specs.Conditions.{number_of}
+use Rattle.px_cached.specs.Costs.{cost, in_all}
 use Rattle.px_cached.specs.Keeping.{cached_data}
 use Rattle.px_cached.specs.Looking.{IsSound}
 use Rattle.px_cached.specs.Network.{truth_at}
@@ -60,3 +62,27 @@ returns-clause-told c =
       holders = told.holders;
       counts = told.counts;
     }
+
+pub returns-clause-looks : goal.returns-clause-looks
+returns-clause-looks c =
+    let t = c.self.inside in
+    let most = in_all (climb t.kept.network.above.items) t.kept.stale in
+    let few : most ≤ due c.args.self.now = omega (arith, c.see.ensures.owed, ap (λ (cached : CachedData). cached.left) c.self.view_is) in
+    IfOk-weaker c.refresh.result (λ looks. looks ≤ most) (λ looks. looks ≤ due c.args.self.now)
+    (λ looks below. omega (arith, below, few)) c.refresh.ensures.looks
+
+pub returns-clause-owed : goal.returns-clause-owed
+returns-clause-owed c =
+    let t = c.self.inside in
+    let stale = c.refresh.new.self.stale in
+    let none : in_all (cost (plan_of t.flat.value)) t.touched ≡ 0 =
+    ap (λ (cached : CachedData). in_all (cost (plan_in cached)) cached.touched) c.self.view_is
+    ∙ c.see.ensures.paid (cost (plan_in c.see.new.self)) in
+    omega (
+      arith,
+      none,
+      c.refresh.ensures.left,
+      ap (λ (network : Network). in_all (climb network.above.items) stale) c.refresh.ensures.network,
+      c.see.ensures.owed,
+      ap (λ (cached : CachedData). cached.left) c.self.view_is,
+    )

@@ -1,9 +1,14 @@
-use Rattle.std.proofs.Common.{◌≡◌, length, ap, sym, ◌∙◌, subst}
+use Rattle.std.proofs.Common.{◌≡◌, length, sum_by, ap, sym, ◌∙◌, subst, arith}
+use Rattle.std.proofs.lemmas.List.Sums.{sum_by-le-sum_by}
 use Rattle.px_cells.specs.Cells.{CellsData}
 use Rattle.px_flat.specs.Flat.{plan_of}
 use Rattle.px_flat.specs.Layout.{all_cells}
+use Rattle.px_links.specs.Lists.{nth}
+use Rattle.px_listen.specs.Listening.{dependents_of}
 use Rattle.px_cached.specs.declared.looking.Kept.{Kept}
-use Rattle.px_cached.specs.Cached.{CachedData, IsSeenBut, plan_in, present_in}
+use Rattle.px_cached.specs.Cached.{CachedData, IsSeenBut, due, plan_in, present_in}
+use Rattle.px_cached.specs.Climbs.{climb}
+use Rattle.px_cached.specs.Costs.{cost}
 use Rattle.px_cached.specs.Looking.{IsSound}
 use Rattle.px_cached.proofs.Seeing.{right_present}
 use Rattle.px_cached.proofs.cached.Cached.see.Goals as goal
@@ -33,8 +38,21 @@ invariant_of-self c =
     record {
       sound = subst (λ present. IsSound plan present later) (sym (λ i. present_in (c.of.ensures i) (c.of-2.ensures i))) sound;
       listening = before.listening;
+      costs = before.costs;
       firsts = before.firsts;
       touched_cells = c.notice.ensures.touched_counts.0 ∙ before.touched_cells;
       touched_lists = c.notice.ensures.touched_counts.1 ∙ before.touched_lists;
       seen_sized = ap (λ (cells : CellsData). length cells.contents.values) c.of.ensures ∙ sized;
     }
+
+pub returns-clause-owed : goal.returns-clause-owed
+returns-clause-owed c =
+    let t = c.self.inside in
+    let climbs = climb t.kept.network.above.items in
+    omega (
+      arith,
+      c.notice.ensures.owed climbs,
+      sum_by-le-sum_by (λ source. sum_by climbs (dependents_of t.listeners source)) (cost (plan_of t.flat.value))
+          (nth t.touched.lists 0) c.self.invariant.costs,
+      ap due c.self.view_is,
+    )

@@ -5,6 +5,7 @@ use Rattle.px_core.specs.Plan.{Site}
 use Rattle.px_flat.specs.Flat.{plan_of}
 use Rattle.px_flat.proofs.Tables.{flat_sound}
 use Rattle.px_cached.specs.Cached.{CachedData, is_touched, plan_in}
+use Rattle.px_cached.specs.Costs.{cost}
 use Rattle.px_cached.specs.Firsts.{source_of}
 use Rattle.px_cached.proofs.FirstCells.{begin_there, source_low}
 use Rattle.px_cached.proofs.cached.Cached.touch_cell.Goals as goal
@@ -44,4 +45,9 @@ returns c =
           ap (is_touched later) (begin_there plan (flat_sound later.flat) c.args.cell node kind there k d inside in_it ∙ sym is)
           ∙ touched.this;
       others = touched.others;
+      owed = omega (
+        arith,
+        touched.owed,
+        ap (cost (plan_in c.args.self.now)) (source ((goal.at.returns c).After-source_of-source)),
+      );
     }

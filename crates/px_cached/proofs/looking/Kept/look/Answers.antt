@@ -3,7 +3,7 @@ use Rattle.std.proofs.Math.Seq.{take-append_seam}
 use Rattle.px_flat.specs.Flat.{plan_of}
 use Rattle.px_cached.specs.declared.part.Part.{Part}
 use Rattle.px_cached.specs.Cached.{present_in}
-use Rattle.px_cached.specs.Carrying.{IsOfPart, IsOnlyChanged}
+use Rattle.px_cached.specs.Carrying.{IsOfPart, IsOnlyChanged, LooksUp}
 use Rattle.px_cached.proofs.Refreshing.{within_plan}
 use Rattle.px_cached.proofs.looking.Kept.look.Goals as goal
 
@@ -31,3 +31,7 @@ returns-clause-node c =
     c.deref-2.ensures.value
     (subst (λ (parts : List Part). IfSome c.carry.result.changed (IsOfPart c.deref-2.result.now (length parts)))
     c.deref.ensures.value c.carry.ensures.node))
+
+pub returns-clause-looks : goal.returns-clause-looks
+returns-clause-looks c =
+    subst (λ above. LooksUp above c.args.part c.carry.result.looks) c.deref-2.ensures.value c.carry.ensures.looks
