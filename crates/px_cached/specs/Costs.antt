@@ -44,13 +44,15 @@ full_cost_in looks (Binary op left right) =
 full_cost_in looks (Unary op arg) = if makes_nor op arg then full_cost_in looks arg else looks
 full_cost_in looks expr = looks
 
--- of all conditions
+-- so much the conditions of all nodes cost together
 abbrev pub in_conditions : List Site → (Numbered → ℕ) → ℕ
 in_conditions plan cost = sum (map (λ number. cost (condition_at plan number)) (range_with_len 0 (8 * length plan)))
 
+-- a source, by its number
 abbrev pub cost : List Site → ℕ → ℕ
 cost plan source = in_conditions plan (cost_in plan source 1)
 
+-- all parts
 abbrev pub full_cost : List Site → ℕ
 full_cost plan = in_conditions plan (full_cost_in 1)
 

@@ -5,7 +5,7 @@ use Rattle.px_listen.specs.Listening.{ListenData, dependents_of, is_dependent}
 use Rattle.px_cached.specs.Costs.{in_all}
 
 -- Nothing is touched any more. The dependents of what was touched are to be looked at, and what was to be looked at still
--- is, and nothing else.
+-- is; together that costs no more than each by itself.
 pub record IsNoticed (listeners : ListenData) (touched_old touched_new stale_old stale_new : LinksData) : Type 0 where
   pub none : (source : ℕ) → is_absent touched_new source ≡ true
   pub marked : (source part : ℕ) → is_absent touched_old source ≡ false → is_dependent listeners source part ≡ true
