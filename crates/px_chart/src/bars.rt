@@ -4,131 +4,122 @@ use crate::layout::{BAR, BASELINE, MARGIN, ROW, indent};
 use crate::paths::last_name;
 use crate::rows::{Change, Mark, Row};
 use indexmap::IndexMap;
-use px_value::{NoMemory, NodeState, Path};
+use px_value::{NodeState, Path};
 
 impl Drawing {
     /// Draws a band behind every second row, under all else.
-    pub fn bands(&mut self, rows: usize) -> Result<(), NoMemory> {
+    pub fn bands(&mut self, rows: usize) {
         for number in 0..rows {
             if number % 2 == 0 {
                 let top = self.layout.row(number);
-                self.band(top)?;
+                self.band(top);
             }
         }
-        Ok(())
     }
 
-    fn band(&mut self, top: u32) -> Result<(), NoMemory> {
+    fn band(&mut self, top: u32) {
         let width = self.layout.width;
-        self.begin("rect", "band")?;
-        self.measure("y", top)?;
-        self.measure("width", width)?;
-        self.measure("height", ROW)?;
-        self.text.push_str("/>\n")
+        self.begin("rect", "band");
+        self.measure("y", top);
+        self.measure("width", width);
+        self.measure("height", ROW);
+        self.pen.push("/>\n");
     }
 
     /// Draws the rows, with their names again at these slots.
-    pub fn rows(&mut self, rows: &IndexMap<Path, Row>, again: &[u32]) -> Result<(), NoMemory> {
+    pub fn rows(&mut self, rows: &IndexMap<Path, Row>, again: &[u32]) {
         for (number, (path, row)) in rows.iter().enumerate() {
             let top = self.layout.row(number);
-            self.name(path.as_str(), row.depth, top)?;
-            self.row(path.as_str(), row, top)?;
-            self.names_again(path.as_str(), again, top)?;
+            self.name(path.as_str(), row.depth, top);
+            self.row(path.as_str(), row, top);
+            self.names_again(path.as_str(), again, top);
         }
-        Ok(())
     }
 
-    fn name(&mut self, path: &str, depth: usize, top: u32) -> Result<(), NoMemory> {
+    fn name(&mut self, path: &str, depth: usize, top: u32) {
         let y = top.saturating_add(BASELINE);
-        self.text.push_str("<g><title>")?;
-        self.spell(path)?;
-        self.text.push_str("</title>")?;
-        self.words("name", indent(depth), y, last_name(path))?;
-        self.text.push_str("</g>\n")
+        self.pen.push("<g><title>");
+        self.spell(path);
+        self.pen.push("</title>");
+        self.words("name", indent(depth), y, last_name(path));
+        self.pen.push("</g>\n");
     }
 
     // In a wide picture the name stands again and again, so that one is always in sight.
-    fn names_again(&mut self, path: &str, again: &[u32], top: u32) -> Result<(), NoMemory> {
+    fn names_again(&mut self, path: &str, again: &[u32], top: u32) {
         let y = top.saturating_add(BASELINE);
         for slot in again {
             let x = self.layout.x(*slot).saturating_add(4);
-            self.words("again", x, y, last_name(path))?;
+            self.words("again", x, y, last_name(path));
         }
-        Ok(())
     }
 
-    fn row(&mut self, path: &str, row: &Row, top: u32) -> Result<(), NoMemory> {
-        self.bars(path, &row.changes, top)?;
+    fn row(&mut self, path: &str, row: &Row, top: u32) {
+        self.bars(path, &row.changes, top);
         for mark in &row.marks {
-            self.mark(path, mark, top)?;
+            self.mark(path, mark, top);
         }
-        match row.changes.last() {
-            Some(last) => self.end(last, top),
-            None => Ok(()),
+        if let Some(last) = row.changes.last() {
+            self.end(last, top);
         }
     }
 
-    fn bars(&mut self, path: &str, changes: &[Change], top: u32) -> Result<(), NoMemory> {
+    fn bars(&mut self, path: &str, changes: &[Change], top: u32) {
         for (place, change) in changes.iter().enumerate() {
             let end = match changes.get(place.saturating_add(1)) {
                 Some(next) => self.layout.x(next.slot),
                 None => self.layout.right,
             };
             if change.state != NodeState::Inactive {
-                self.bar(change, end, top)?;
-                self.begin_title(path)?;
-                self.standing(change)?;
-                self.text.push_str("</title></rect>\n")?;
+                self.bar(change, end, top);
+                self.begin_title(path);
+                self.standing(change);
+                self.pen.push("</title></rect>\n");
             }
         }
-        Ok(())
     }
 
-    fn bar(&mut self, change: &Change, end: u32, top: u32) -> Result<(), NoMemory> {
+    fn bar(&mut self, change: &Change, end: u32, top: u32) {
         let x = self.layout.x(change.slot);
-        self.begin("rect", change.state.word())?;
-        self.measure("x", x)?;
-        self.measure("y", top.saturating_add(4))?;
-        self.measure("width", end.saturating_sub(x))?;
-        self.measure("height", BAR)?;
-        self.text.push_str(">")
+        self.begin("rect", change.state.word());
+        self.measure("x", x);
+        self.measure("y", top.saturating_add(4));
+        self.measure("width", end.saturating_sub(x));
+        self.measure("height", BAR);
+        self.pen.push(">");
     }
 
-    fn mark(&mut self, path: &str, mark: &Mark, top: u32) -> Result<(), NoMemory> {
+    fn mark(&mut self, path: &str, mark: &Mark, top: u32) {
         let x = self.layout.x(mark.slot).saturating_add(2);
         let y = top.saturating_add(11);
-        self.begin_shape("mark", mark.deed.form(), x, y)?;
-        self.begin_title(path)?;
-        self.spell(mark.says.as_str())?;
-        self.text.push_str("</title></path>\n")
+        self.begin_shape("mark", mark.deed.form(), x, y);
+        self.begin_title(path);
+        self.spell(mark.says.as_str());
+        self.pen.push("</title></path>\n");
     }
 
     // How the node has ended, or where it stands, at the right.
-    fn end(&mut self, last: &Change, top: u32) -> Result<(), NoMemory> {
+    fn end(&mut self, last: &Change, top: u32) {
         let x = self.layout.right.saturating_add(MARGIN);
-        self.begin("text", last.class())?;
-        self.measure("x", x)?;
-        self.measure("y", top.saturating_add(BASELINE))?;
-        self.text.push_str(">")?;
-        self.standing(last)?;
-        self.text.push_str("</text>\n")
+        self.begin("text", last.class());
+        self.measure("x", x);
+        self.measure("y", top.saturating_add(BASELINE));
+        self.pen.push(">");
+        self.standing(last);
+        self.pen.push("</text>\n");
     }
 
-    // Appends the state, the outcome and the failure; of a node that has finished, no state.
-    fn standing(&mut self, change: &Change) -> Result<(), NoMemory> {
+    // Writes the state, the outcome and the failure; of a node that has finished, no state.
+    fn standing(&mut self, change: &Change) {
         match change.outcome {
-            Some(outcome) if change.state == NodeState::Finished => {
-                self.text.push_str(outcome.word())?;
-            }
-            Some(outcome) => {
-                self.text.push_str(change.state.word())?;
-                write!(self.text, " {}", outcome.word())?;
-            }
-            None => self.text.push_str(change.state.word())?,
+            Some(outcome) if change.state == NodeState::Finished => self.pen.push(outcome.word()),
+            Some(outcome) => self
+                .pen
+                .push_all(&[change.state.word(), " ", outcome.word()]),
+            None => self.pen.push(change.state.word()),
         }
-        match change.failure {
-            Some(failure) => write!(self.text, " {}", failure.word()),
-            None => Ok(()),
+        if let Some(failure) = change.failure {
+            self.pen.push_all(&[" ", failure.word()]);
         }
     }
 }

@@ -1,6 +1,7 @@
 // The columns of a picture: the start, and what was posted.
 use crate::labels::{event_label, push_event};
 use px_event::Entry;
+use px_pen::Pen;
 use px_value::NoMemory;
 use std::alloc::Global;
 
@@ -63,10 +64,15 @@ impl Column {
 }
 
 fn title_of(alloc: Global, entry: &Entry, fate: Fate) -> Result<String, NoMemory> {
-    let mut title = format!(in alloc; "thread {} line {}: ", entry.thread, entry.line)?;
-    push_event(&entry.event, &mut title)?;
+    let mut title = Pen::new(alloc);
+    title.push("thread ");
+    title.show(&entry.thread);
+    title.push(" line ");
+    title.show(&entry.line);
+    title.push(": ");
+    push_event(&entry.event, &mut title);
     if let Fate::Refused(why) = fate {
-        write!(title, " (refused: {why})")?;
+        title.push_all(&[" (refused: ", why, ")"]);
     }
-    Ok(title)
+    title.written()
 }

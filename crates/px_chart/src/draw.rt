@@ -1,6 +1,7 @@
 // The picture.
 use crate::layout::Layout;
 use crate::recording::Recording;
+use px_pen::Pen;
 use px_value::NoMemory;
 use std::alloc::Global;
 
@@ -8,8 +9,8 @@ use std::alloc::Global;
 #[derive(Drop)]
 pub struct Drawing {
     pub layout: Layout,
-    /// What is drawn so far.
-    pub text: String,
+    /// Writes what is drawn.
+    pub pen: Pen,
 }
 
 /// The picture of a run, as SVG under a title: a row for each node and a column for each event, light or dark as its
@@ -17,14 +18,20 @@ pub struct Drawing {
 pub fn picture_of(alloc: Global, title: &str, recording: &Recording) -> Result<String, NoMemory> {
     let mut drawing = Drawing {
         layout: Layout::of(title, recording),
-        text: String::new(alloc),
+        pen: Pen::new(alloc),
     };
-    drawing.frame(title)?;
-    drawing.bands(recording.rows.len())?;
-    drawing.columns(&recording.columns)?;
-    drawing.rows(&recording.rows, &recording.again)?;
-    drawing.numbers_again(&recording.columns, recording.rows.len())?;
-    drawing.text.push_str("</svg>\n")?;
-    let Drawing { text, .. } = drawing;
-    Ok(text)
+    drawing.draw(title, recording);
+    let Drawing { pen, .. } = drawing;
+    pen.written()
+}
+
+impl Drawing {
+    fn draw(&mut self, title: &str, recording: &Recording) {
+        self.frame(title);
+        self.bands(recording.rows.len());
+        self.columns(&recording.columns);
+        self.rows(&recording.rows, &recording.again);
+        self.numbers_again(&recording.columns, recording.rows.len());
+        self.pen.push("</svg>\n");
+    }
 }

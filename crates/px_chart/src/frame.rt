@@ -3,7 +3,7 @@ use crate::draw::Drawing;
 use crate::layout::{MARGIN, text_width};
 use crate::rows::Deed;
 use crate::style::STYLE;
-use px_value::{NoMemory, NodeState};
+use px_value::NodeState;
 
 /// The states that have a colour.
 const STATES: [NodeState; 6] = [
@@ -49,56 +49,56 @@ impl Deed {
 
 impl Drawing {
     /// Draws the paper, the title and the legend.
-    pub fn frame(&mut self, title: &str) -> Result<(), NoMemory> {
-        self.size()?;
-        self.text.push_str(STYLE)?;
-        self.text
-            .push_str("<rect class=\"paper\" width=\"100%\" height=\"100%\"/>\n")?;
-        self.words("title", MARGIN, 28, title)?;
-        self.legend()
+    pub fn frame(&mut self, title: &str) {
+        self.size();
+        self.pen.push(STYLE);
+        self.pen
+            .push("<rect class=\"paper\" width=\"100%\" height=\"100%\"/>\n");
+        self.words("title", MARGIN, 28, title);
+        self.legend();
     }
 
-    fn size(&mut self) -> Result<(), NoMemory> {
+    fn size(&mut self) {
         let width = self.layout.width;
         let height = self.layout.height;
-        self.text
-            .push_str("<svg xmlns=\"http://www.w3.org/2000/svg\"")?;
-        self.measure("width", width)?;
-        self.measure("height", height)?;
-        write!(self.text, " viewBox=\"0 0 {width} {height}\">\n")
+        self.pen.push("<svg xmlns=\"http://www.w3.org/2000/svg\"");
+        self.measure("width", width);
+        self.measure("height", height);
+        self.pen.push(" viewBox=\"0 0 ");
+        self.pair(width, height);
+        self.pen.push("\">\n");
     }
 
-    fn legend(&mut self) -> Result<(), NoMemory> {
+    fn legend(&mut self) {
         let mut x = MARGIN;
-        for state in STATES {
-            self.sample(state.word(), x)?;
-            x = self.legend_word(state.word(), x)?;
+        for state in &STATES {
+            self.sample(state.word(), x);
+            x = self.legend_word(state.word(), x);
         }
-        for deed in DEEDS {
-            self.sign("mark", deed.form(), x)?;
-            x = self.legend_word(deed.word(), x)?;
+        for deed in &DEEDS {
+            self.sign("mark", deed.form(), x);
+            x = self.legend_word(deed.word(), x);
         }
-        self.sign("cross", CROSS, x)?;
-        self.legend_word("refused", x)?;
-        Ok(())
+        self.sign("cross", CROSS, x);
+        self.legend_word("refused", x);
     }
 
     // Draws the colour of a state.
-    fn sample(&mut self, state: &str, x: u32) -> Result<(), NoMemory> {
-        self.begin("rect", state)?;
-        self.measure("x", x)?;
-        self.text.push_str(" y=\"46\" width=\"14\" height=\"14\"/>")
+    fn sample(&mut self, state: &str, x: u32) {
+        self.begin("rect", state);
+        self.measure("x", x);
+        self.pen.push(" y=\"46\" width=\"14\" height=\"14\"/>");
     }
 
-    fn sign(&mut self, class: &str, form: &str, x: u32) -> Result<(), NoMemory> {
-        self.begin_shape(class, form, x, LEGEND_BASELINE.saturating_sub(4))?;
-        self.text.push_str("</path>")
+    fn sign(&mut self, class: &str, form: &str, x: u32) {
+        self.begin_shape(class, form, x, LEGEND_BASELINE.saturating_sub(4));
+        self.pen.push("</path>");
     }
 
     // Draws a word behind its sign, and answers where the next sign stands.
-    fn legend_word(&mut self, word: &str, x: u32) -> Result<u32, NoMemory> {
+    fn legend_word(&mut self, word: &str, x: u32) -> u32 {
         let x = x.saturating_add(SIGN);
-        self.words("word", x, LEGEND_BASELINE, word)?;
-        Ok(x.saturating_add(text_width(word)).saturating_add(MARGIN))
+        self.words("word", x, LEGEND_BASELINE, word);
+        x.saturating_add(text_width(word)).saturating_add(MARGIN)
     }
 }

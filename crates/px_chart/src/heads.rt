@@ -3,83 +3,87 @@ use crate::columns::{Column, Fate};
 use crate::draw::Drawing;
 use crate::frame::CROSS;
 use crate::layout::{NUMBERS, NUMBERS_EVERY};
-use px_value::NoMemory;
 
 /// How far above the rows the events' numbers stand.
 const FOOT: u32 = 6;
 
 impl Drawing {
     /// Draws the columns.
-    pub fn columns(&mut self, columns: &[Column]) -> Result<(), NoMemory> {
+    pub fn columns(&mut self, columns: &[Column]) {
         let top = self.layout.top;
         for column in columns {
-            self.line(column.begin)?;
-            self.head(column)?;
+            self.line(column.begin);
+            self.head(column);
         }
-        self.numbers(columns, top)
+        self.numbers(columns, top);
     }
 
-    fn line(&mut self, slot: u32) -> Result<(), NoMemory> {
+    fn line(&mut self, slot: u32) {
         let x = self.layout.x(slot);
         let top = self.layout.top.saturating_sub(NUMBERS);
         let bottom = self.layout.height;
-        self.begin("path", "line")?;
-        write!(self.text, " d=\"M{x} {top} V{bottom}\"/>\n")
+        self.begin("path", "line");
+        self.pen.push(" d=\"M");
+        self.pair(x, top);
+        self.pen.push(" V");
+        self.pen.show(&bottom);
+        self.pen.push("\"/>\n");
     }
 
     // The label rises from the foot of the head.
-    fn head(&mut self, column: &Column) -> Result<(), NoMemory> {
+    fn head(&mut self, column: &Column) {
         let x = self.layout.x(column.begin).saturating_add(14);
         let y = self.layout.top.saturating_sub(NUMBERS);
         let class = match column.fate {
             Fate::Accepted => "label",
             Fate::Refused(_) => "refused",
         };
-        self.text.push_str("<g><title>")?;
-        self.spell(column.title.as_str())?;
-        self.text.push_str("</title>")?;
-        self.begin("text", class)?;
-        write!(self.text, " transform=\"translate({x} {y}) rotate(-90)\">")?;
-        self.spell(column.label.as_str())?;
-        self.text.push_str("</text></g>\n")
+        self.pen.push("<g><title>");
+        self.spell(column.title.as_str());
+        self.pen.push("</title>");
+        self.begin("text", class);
+        self.translate(x, y);
+        self.pen.push(" rotate(-90)\">");
+        self.spell(column.label.as_str());
+        self.pen.push("</text></g>\n");
     }
 
     /// Draws the events' numbers again and again where the picture is high, so that they are always in sight.
-    pub fn numbers_again(&mut self, columns: &[Column], rows: usize) -> Result<(), NoMemory> {
+    pub fn numbers_again(&mut self, columns: &[Column], rows: usize) {
         for row in 1..rows {
             if row % NUMBERS_EVERY == 0 {
                 let y = self.layout.row(row);
-                self.numbers(columns, y)?;
+                self.numbers(columns, y);
             }
         }
-        Ok(())
     }
 
     // Draws the number of each event above this height, and a cross where one was refused.
-    fn numbers(&mut self, columns: &[Column], y: u32) -> Result<(), NoMemory> {
+    fn numbers(&mut self, columns: &[Column], y: u32) {
         let mut number: u32 = 0;
         for column in columns {
             let x = self.layout.x(column.begin).saturating_add(4);
             match column.fate {
                 Fate::Accepted => {
-                    self.number(number, x, y.saturating_sub(FOOT))?;
+                    self.number(number, x, y.saturating_sub(FOOT));
                     number = number.saturating_add(1);
                 }
-                Fate::Refused(_) => self.cross(x, y.saturating_sub(10))?,
+                Fate::Refused(_) => self.cross(x, y.saturating_sub(10)),
             }
         }
-        Ok(())
     }
 
-    fn number(&mut self, number: u32, x: u32, y: u32) -> Result<(), NoMemory> {
-        self.begin("text", "faint")?;
-        self.measure("x", x)?;
-        self.measure("y", y)?;
-        write!(self.text, ">{number}</text>\n")
+    fn number(&mut self, number: u32, x: u32, y: u32) {
+        self.begin("text", "faint");
+        self.measure("x", x);
+        self.measure("y", y);
+        self.pen.push(">");
+        self.pen.show(&number);
+        self.pen.push("</text>\n");
     }
 
-    fn cross(&mut self, x: u32, y: u32) -> Result<(), NoMemory> {
-        self.begin_shape("cross", CROSS, x, y)?;
-        self.text.push_str("</path>\n")
+    fn cross(&mut self, x: u32, y: u32) {
+        self.begin_shape("cross", CROSS, x, y);
+        self.pen.push("</path>\n");
     }
 }

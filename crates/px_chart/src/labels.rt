@@ -2,8 +2,9 @@
 use crate::paths::last_name;
 use crate::values::{push_value, push_values};
 use px_event::Event;
+use px_pen::Pen;
 use px_sem::Effect;
-use px_value::{Name, NoMemory, Value};
+use px_value::{Name, NoMemory, Path, Value};
 use std::alloc::Global;
 
 /// The most characters of a label.
@@ -11,113 +12,112 @@ const LABEL: usize = 36;
 
 /// What stands at the head of an event's column: the event with the last name of its node, of a long one the front.
 pub fn event_label(alloc: Global, event: &Event) -> Result<String, NoMemory> {
-    let mut label = String::new(alloc);
+    let mut whole = Pen::new(alloc);
+    push_label(event, &mut whole);
+    let whole = whole.written()?;
+    let mut label = Pen::new(alloc);
+    label.push_front(whole.as_str(), LABEL, "..");
+    label.written()
+}
+
+fn push_label(event: &Event, pen: &mut Pen) {
     match event {
-        Event::Report { name, args, value } => {
-            push_report(name, args.as_slice(), value, &mut label)?;
-        }
+        Event::Report { name, args, value } => push_report(name, args.as_slice(), value, pen),
         Event::Handle { node, handle } => {
-            write!(label, "{}: {}", last_name(node.as_str()), handle.word())?;
+            push_last(node, ": ", pen);
+            pen.push(handle.word());
         }
         Event::Return { node, value } => {
-            write!(label, "{} returns ", last_name(node.as_str()))?;
-            push_value(value, &mut label)?;
+            push_last(node, " returns ", pen);
+            push_value(value, pen);
         }
-        Event::AbortDone { node } => write!(label, "{} is aborted", last_name(node.as_str()))?,
-        Event::Acknowledged { node } => {
-            write!(label, "{} is acknowledged", last_name(node.as_str()))?;
-        }
+        Event::AbortDone { node } => push_last(node, " is aborted", pen),
+        Event::Acknowledged { node } => push_last(node, " is acknowledged", pen),
     }
-    shortened(alloc, label.as_str())
 }
 
-fn shortened(alloc: Global, label: &str) -> Result<String, NoMemory> {
-    let mut front = String::new(alloc);
-    for (place, c) in label.chars().enumerate() {
-        if place >= LABEL {
-            front.push_str("..")?;
-            return Ok(front);
-        }
-        front.push(c)?;
-    }
-    Ok(front)
+fn push_last(node: &Path, says: &str, pen: &mut Pen) {
+    pen.push(last_name(node.as_str()));
+    pen.push(says);
 }
 
-/// Appends an event as a script spells it.
-pub fn push_event(event: &Event, out: &mut String) -> Result<(), NoMemory> {
+/// Writes an event as a script spells it.
+pub fn push_event(event: &Event, pen: &mut Pen) {
     match event {
         Event::Report { name, args, value } => {
-            out.push_str("set ")?;
-            push_report(name, args.as_slice(), value, out)
+            pen.push("set ");
+            push_report(name, args.as_slice(), value, pen);
         }
         Event::Handle { node, handle } => {
-            write!(out, "handle {} {}", node.as_str(), handle.word())
+            push_word("handle ", node, pen);
+            pen.push_all(&[" ", handle.word()]);
         }
         Event::Return { node, value } => {
-            write!(out, "return {} ", node.as_str())?;
-            push_value(value, out)
+            push_word("return ", node, pen);
+            pen.push(" ");
+            push_value(value, pen);
         }
-        Event::AbortDone { node } => write!(out, "abort {}", node.as_str()),
-        Event::Acknowledged { node } => write!(out, "ack {}", node.as_str()),
+        Event::AbortDone { node } => push_word("abort ", node, pen),
+        Event::Acknowledged { node } => push_word("ack ", node, pen),
     }
 }
 
-fn push_report(
-    name: &Name,
-    args: &[Value],
-    value: &Value,
-    out: &mut String,
-) -> Result<(), NoMemory> {
-    out.push_str(name.as_str())?;
+fn push_word(word: &str, node: &Path, pen: &mut Pen) {
+    pen.push(word);
+    pen.push(node.as_str());
+}
+
+fn push_report(name: &Name, args: &[Value], value: &Value, pen: &mut Pen) {
+    pen.push(name.as_str());
     if !args.is_empty() {
-        push_values(args, out)?;
+        push_values(args, pen);
     }
-    out.push_str(" = ")?;
-    push_value(value, out)
+    pen.push(" = ");
+    push_value(value, pen);
 }
 
 /// What an effect does, in words.
 pub fn effect_label(alloc: Global, effect: &Effect) -> Result<String, NoMemory> {
-    let mut label = String::new(alloc);
+    let mut label = Pen::new(alloc);
+    push_effect(effect, &mut label);
+    label.written()
+}
+
+fn push_effect(effect: &Effect, pen: &mut Pen) {
     match effect {
         Effect::Wrote {
             name,
             index,
             value,
             ..
-        } => push_written(name, *index, value, &mut label)?,
-        Effect::NoWrite => label.push_str("writes nothing")?,
+        } => push_written(name, *index, value, pen),
+        Effect::NoWrite => pen.push("writes nothing"),
         Effect::Sent { command, args } => {
-            write!(label, "command {}", command.as_str())?;
-            push_values(args.as_slice(), &mut label)?;
+            pen.push_all(&["command ", command.as_str()]);
+            push_values(args.as_slice(), pen);
         }
-        Effect::Aborted { command } => write!(label, "abort {}", command.as_str())?,
-        Effect::Updated { names, values } => {
-            push_updated(names.as_slice(), values.as_slice(), &mut label)?;
-        }
+        Effect::Aborted { command } => pen.push_all(&["abort ", command.as_str()]),
+        Effect::Updated { names, values } => push_updated(names.as_slice(), values.as_slice(), pen),
     }
-    Ok(label)
 }
 
-fn push_written(
-    name: &Name,
-    index: Option<u32>,
-    value: &Value,
-    out: &mut String,
-) -> Result<(), NoMemory> {
-    out.push_str(name.as_str())?;
+fn push_written(name: &Name, index: Option<u32>, value: &Value, pen: &mut Pen) {
+    pen.push(name.as_str());
     if let Some(index) = index {
-        write!(out, "[{index}]")?;
+        pen.push("[");
+        pen.show(&index);
+        pen.push("]");
     }
-    out.push_str(" = ")?;
-    push_value(value, out)
+    pen.push(" = ");
+    push_value(value, pen);
 }
 
-fn push_updated(names: &[Name], values: &[Value], out: &mut String) -> Result<(), NoMemory> {
-    out.push_str("update")?;
-    for (name, value) in names.iter().zip(values.iter()) {
-        write!(out, " {} = ", name.as_str())?;
-        push_value(value, out)?;
+fn push_updated(names: &[Name], values: &[Value], pen: &mut Pen) {
+    pen.push("update");
+    for (place, name) in names.iter().enumerate() {
+        if let Some(value) = values.get(place) {
+            pen.push_all(&[" ", name.as_str(), " = "]);
+            push_value(value, pen);
+        }
     }
-    Ok(())
 }

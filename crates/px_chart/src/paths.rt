@@ -1,5 +1,6 @@
 // The nodes of a plan by their paths.
 use px_core::{CoreNode, Kind, Plan};
+use px_pen::Pen;
 use px_value::NoMemory;
 use std::alloc::Global;
 
@@ -15,8 +16,7 @@ pub struct NodePath<'a> {
 /// All nodes of a plan, each before those below it.
 pub fn paths_of(alloc: Global, plan: &Plan) -> Result<Vec<NodePath<'_>>, NoMemory> {
     let mut list = Vec::new(alloc);
-    let path = String::from_str(alloc, plan.root.name.as_str())?;
-    push_nodes(alloc, &plan.root, path, 0, &mut list)?;
+    push_nodes(alloc, &plan.root, plan.root.name.as_str(), 0, &mut list)?;
     Ok(list)
 }
 
@@ -24,17 +24,34 @@ pub fn paths_of(alloc: Global, plan: &Plan) -> Result<Vec<NodePath<'_>>, NoMemor
 fn push_nodes<'a>(
     alloc: Global,
     node: &'a CoreNode,
-    path: String,
+    path: &str,
     depth: usize,
     list: &mut Vec<NodePath<'a>>,
 ) -> Result<(), NoMemory> {
-    let below = format!(in alloc; "{}.", path.as_str())?;
-    list.push(NodePath { path, depth, node })?;
+    push_node(alloc, node, path, depth, list)?;
     for child in &node.children {
-        let path = format!(in alloc; "{}{}", below.as_str(), child.name.as_str())?;
-        push_nodes(alloc, child, path, depth.saturating_add(1), list)?;
+        let path = path_below(alloc, path, child)?;
+        push_nodes(alloc, child, path.as_str(), depth.saturating_add(1), list)?;
     }
     Ok(())
+}
+
+fn push_node<'a>(
+    alloc: Global,
+    node: &'a CoreNode,
+    path: &str,
+    depth: usize,
+    list: &mut Vec<NodePath<'a>>,
+) -> Result<(), NoMemory> {
+    let path = String::from_str(alloc, path)?;
+    list.push(NodePath { path, depth, node })?;
+    Ok(())
+}
+
+fn path_below(alloc: Global, path: &str, child: &CoreNode) -> Result<String, NoMemory> {
+    let mut below = Pen::new(alloc);
+    below.push_all(&[path, ".", child.name.as_str()]);
+    below.written()
 }
 
 impl<'a> NodePath<'a> {

@@ -131,28 +131,11 @@ fn post<S: Stepper>(
     if !event.is_fit() {
         return Ok(Fate::Refused("no event"));
     }
-    let fate = fate_of(alloc, stepper, count, event)?;
-    if fate.is_accepted() {
-        take(alloc, stepper, event, recording)?;
-    }
-    Ok(fate)
-}
-
-// What becomes of an event, which isn't taken yet.
-fn fate_of<S: Stepper>(
-    alloc: Global,
-    stepper: &mut S,
-    count: u32,
-    event: &Event,
-) -> Result<Fate, NoMemory>
-    requires nothing { (S.state stepper.old).pending ≡ Pending.Nothing }
-    requires fit { IsTrue (is_fit_event event.now) }
-    ensures rest { OnOk result ((S.state stepper.new).pending ≡ Pending.Nothing) }
-{
     match offer(stepper, alloc, EVENT_LIMIT, count, event)? {
         Offered::Refused(reply) => Ok(fate_by(reply)),
         Offered::Pending { .. } => {
             stepper.give_up();
+            take(alloc, stepper, event, recording)?;
             Ok(Fate::Accepted)
         }
     }

@@ -1,42 +1,51 @@
 // Values as a plan spells them.
-use px_value::{NoMemory, Value};
+use px_pen::Pen;
+use px_value::Value;
 
-/// Appends a value.
-pub fn push_value(value: &Value, out: &mut String) -> Result<(), NoMemory> {
+/// Writes a value.
+pub fn push_value(value: &Value, pen: &mut Pen) {
     match value {
-        Value::Unknown => out.push_str("UNKNOWN"),
-        Value::Boolean(truth) => write!(out, "{truth}"),
-        Value::Integer(number) => write!(out, "{number}"),
-        Value::Text(text) => push_text(text.as_str(), out),
-        Value::State(state) => out.push_str(state.word()),
-        Value::Outcome(outcome) => out.push_str(outcome.word()),
-        Value::Failure(failure) => out.push_str(failure.word()),
-        Value::Handle(handle) => out.push_str(handle.word()),
+        Value::Unknown => pen.push("UNKNOWN"),
+        Value::Boolean(truth) => pen.show(truth),
+        Value::Integer(number) => pen.show(number),
+        Value::Text(text) => push_text(text.as_str(), pen),
+        Value::State(state) => pen.push(state.word()),
+        Value::Outcome(outcome) => pen.push(outcome.word()),
+        Value::Failure(failure) => pen.push(failure.word()),
+        Value::Handle(handle) => pen.push(handle.word()),
     }
 }
 
-/// Appends values in parentheses.
-pub fn push_values(values: &[Value], out: &mut String) -> Result<(), NoMemory> {
-    out.push_str("(")?;
+/// Writes values in parentheses.
+pub fn push_values(values: &[Value], pen: &mut Pen) {
+    pen.push("(");
     for (place, value) in values.iter().enumerate() {
         if place > 0 {
-            out.push_str(", ")?;
+            pen.push(", ");
         }
-        push_value(value, out)?;
+        push_value(value, pen);
     }
-    out.push_str(")")
+    pen.push(")");
 }
 
-fn push_text(text: &str, out: &mut String) -> Result<(), NoMemory> {
-    out.push_str("\"")?;
+fn push_text(text: &str, pen: &mut Pen) {
+    pen.push("\"");
     for c in text.chars() {
-        match c {
-            '"' => out.push_str("\\\"")?,
-            '\\' => out.push_str("\\\\")?,
-            '\n' => out.push_str("\\n")?,
-            '\t' => out.push_str("\\t")?,
-            _ => out.push(c)?,
+        match escaped(c) {
+            Some(escaped) => pen.push(escaped),
+            None => pen.push_char(c),
         }
     }
-    out.push_str("\"")
+    pen.push("\"");
+}
+
+// What stands for a character; None where it stands for itself.
+fn escaped(c: char) -> Option<&'static str> {
+    match c {
+        '"' => Some("\\\""),
+        '\\' => Some("\\\\"),
+        '\n' => Some("\\n"),
+        '\t' => Some("\\t"),
+        _ => None,
+    }
 }

@@ -1,4 +1,5 @@
 // What is answered: a text, where it goes, and the status.
+use px_pen::Pen;
 use px_value::NoMemory;
 use std::alloc::AllocFailed;
 
@@ -37,6 +38,11 @@ impl Answer {
             file: None,
         }
     }
+
+    /// What a pen has written, for standard output.
+    pub fn written(status: u8, pen: Pen) -> Result<Answer, NoMemory> {
+        Ok(Answer::new(status, pen.written()?))
+    }
 }
 
 /// Why a command was not carried out to its end.
@@ -46,6 +52,16 @@ pub enum Stop {
     Refused(Answer),
     /// Memory has run out.
     NoMemory,
+}
+
+impl Stop {
+    /// The refusal that a pen has written.
+    pub fn saying(status: u8, pen: Pen) -> Stop {
+        match pen.written() {
+            Ok(text) => Stop::Refused(Answer::new(status, text)),
+            Err(_) => Stop::NoMemory,
+        }
+    }
 }
 
 impl From<NoMemory> for Stop {

@@ -11,6 +11,7 @@ use px_compile::TEXT_LIMIT;
 use px_core::Plan;
 use px_event::Entry;
 use px_journal::RecoverWhy;
+use px_pen::Pen;
 use px_ports::Host;
 use px_script::{SCRIPT_LIMIT, ScriptFault};
 use px_sem::Stepper;
@@ -47,9 +48,9 @@ fn chart_lines<S: Stepper>(
         Ok(entries) => chart_entries::<S>(alloc, title, plan, &entries),
         Err(ScriptFault::NoMemory) => Err(Stop::NoMemory),
         Err(ScriptFault::Fault { .. }) => {
-            let mut text = String::new(alloc);
-            let _ = why_script(alloc, name, lines, plan, &mut text)?;
-            Ok(Answer::new(SCRIPT_REFUSED, text))
+            let mut out = Pen::new(alloc);
+            let _ = why_script(alloc, name, lines, plan, &mut out)?;
+            Ok(Answer::written(SCRIPT_REFUSED, out)?)
         }
     }
 }
@@ -87,9 +88,9 @@ fn chart_entries<S: Stepper>(
         Ok(recording) => Ok(Answer::new(DONE, drawn(alloc, title, recording)?)),
         Err(RecordFault::NoMemory) => Err(Stop::NoMemory),
         Err(RecordFault::Runaway) => {
-            let mut text = String::new(alloc);
-            let _ = why_start::<S>(alloc, title, plan, &mut text)?;
-            Ok(Answer::new(RUNAWAY, text))
+            let mut out = Pen::new(alloc);
+            let _ = why_start::<S>(alloc, title, plan, &mut out)?;
+            Ok(Answer::written(RUNAWAY, out)?)
         }
     }
 }

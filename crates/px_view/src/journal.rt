@@ -6,6 +6,7 @@ use crate::gates::last_gate;
 use crate::reading::fetch;
 use px_event::Entry;
 use px_journal::{Journal, RecoverWhy, Recovered};
+use px_pen::Pen;
 use px_ports::{Disk, Host, MemDisk};
 use px_trace::push_heading;
 use px_value::NoMemory;
@@ -69,55 +70,68 @@ fn disk_of(alloc: Global, bytes: &[u8]) -> Result<MemDisk, RecoverWhy>
 }
 
 fn whole(alloc: Global, name: &str, bytes: &[u8], read: Held) -> Result<Answer, Stop> {
-    let mut out = String::new(alloc);
-    let length = bytes.len();
-    let text = read.text.len();
-    write!(
-        out,
-        "{name}: a journal of {length} bytes, {text} of them the plan's text\n"
-    )?;
+    let mut out = Pen::new(alloc);
+    push_sizes(name, bytes.len(), read.text.len(), &mut out);
     push_history(alloc, &read.history, &mut out)?;
-    let end = last_gate(bytes, length).saturating_add(1);
-    let behind = length.saturating_sub(end);
-    write!(
-        out,
-        "the history ends at byte {end}; {behind} bytes behind it are nobody's\n"
-    )?;
-    Ok(Answer::new(DONE, out))
+    push_end(bytes, &mut out);
+    Ok(Answer::written(DONE, out)?)
 }
 
-fn push_history(alloc: Global, history: &[Entry], out: &mut String) -> Result<(), NoMemory> {
+fn push_sizes(name: &str, length: usize, text: usize, out: &mut Pen) {
+    out.push_all(&[name, ": a journal of "]);
+    out.show(&length);
+    out.push(" bytes, ");
+    out.show(&text);
+    out.push(" of them the plan's text\n");
+}
+
+fn push_end(bytes: &[u8], out: &mut Pen) {
+    let length = bytes.len();
+    let end = last_gate(bytes, length).saturating_add(1);
+    out.push("the history ends at byte ");
+    out.show(&end);
+    out.push("; ");
+    out.show(&length.saturating_sub(end));
+    out.push(" bytes behind it are nobody's\n");
+}
+
+fn push_history(alloc: Global, history: &[Entry], out: &mut Pen) -> Result<(), NoMemory> {
     let mut lines = Vec::new(alloc);
+    push_headings(alloc, history, &mut lines)?;
+    out.push(from_utf8(&lines).unwrap_or("(a text of the history is no UTF-8)\n"));
+    let count = history.len();
+    out.show(&count);
+    out.push(if count == 1 { " event\n" } else { " events\n" });
+    Ok(())
+}
+
+fn push_headings(alloc: Global, history: &[Entry], lines: &mut Vec<u8>) -> Result<(), NoMemory> {
     let mut position: u32 = 0;
     for entry in history {
         position = position.saturating_add(1);
-        push_heading(alloc, position, entry, &mut lines)?;
+        push_heading(alloc, position, entry, lines)?;
     }
-    match from_utf8(&lines) {
-        Ok(text) => out.push_str(text)?,
-        Err(_) => out.push_str("(a text of the history is no UTF-8)\n")?,
-    }
-    let count = history.len();
-    match count {
-        1 => out.push_str("1 event\n"),
-        _ => write!(out, "{count} events\n"),
-    }
+    Ok(())
 }
 
 fn nothing(alloc: Global, name: &str, length: usize) -> Result<Answer, Stop> {
-    let text = format!(in alloc;
-        "{name}: no journal, in {length} bytes: it was never made to its end\n"
-    )?;
-    Ok(Answer::new(JOURNAL_REFUSED, text))
+    let mut out = Pen::new(alloc);
+    out.push_all(&[name, ": no journal, in "]);
+    out.show(&length);
+    out.push(" bytes: it was never made to its end\n");
+    Ok(Answer::written(JOURNAL_REFUSED, out)?)
 }
 
 fn damaged(alloc: Global, name: &str, bytes: Vec<u8>, at: usize) -> Result<Answer, Stop> {
-    let length = bytes.len();
     let gate = last_gate(&bytes, at);
-    let why = why_at(at, gate);
-    let mut out = format!(in alloc; "{name}: damaged at byte {at} of {length}: {why}\n")?;
+    let mut out = Pen::new(alloc);
+    out.push_all(&[name, ": damaged at byte "]);
+    out.show(&at);
+    out.push(" of ");
+    out.show(&bytes.len());
+    out.push_all(&[": ", why_at(at, gate), "\n"]);
     push_before(alloc, bytes, gate, &mut out)?;
-    Ok(Answer::new(JOURNAL_REFUSED, out))
+    Ok(Answer::written(JOURNAL_REFUSED, out)?)
 }
 
 fn why_at(at: usize, gate: usize) -> &'static str {
@@ -136,14 +150,14 @@ fn push_before(
     alloc: Global,
     mut bytes: Vec<u8>,
     gate: usize,
-    out: &mut String,
+    out: &mut Pen,
 ) -> Result<(), NoMemory> {
     if gate < bytes.len() {
         bytes[gate] = 0;
     }
     match recovered(alloc, &bytes) {
         Ok(read) => {
-            out.push_str("before it:\n")?;
+            out.push("before it:\n");
             push_history(alloc, &read.history, out)
         }
         Err(_) => Ok(()),

@@ -5,13 +5,14 @@ ghost use Rattle.px_core.specs.Plan.{tree_of};
 use px_chart::{NodePath, last_name, paths_of};
 use px_core::Plan;
 use px_event::Entry;
+use px_pen::Pen;
 use px_script::{SCRIPT_LIMIT, ScriptFault, read_script};
 use px_value::NoMemory;
-use px_why::{Nearest, Place, Words, is_meant, push_fault, push_whole};
+use px_why::{Nearest, Place, Words, push_fault, push_meant, push_whole};
 use std::alloc::{AllocError, Global};
 use std::str::from_utf8;
 
-/// How many paths are told.
+/// How many paths are told behind the first.
 const TOLD: usize = 5;
 
 /// The first words of lines, and the shapes that they have.
@@ -37,20 +38,23 @@ const SHAPES: [(&str, &str); 7] = [
     ),
 ];
 
-/// Appends why the bytes of a file are no script for a plan, in words, and answers whether there is a reason: the first
+/// Writes why the bytes of a file are no script for a plan, in words, and answers whether there is a reason: the first
 /// faulty line.
 pub fn why_script(
     alloc: Global,
     name: &str,
     bytes: &[u8],
     plan: &Plan,
-    out: &mut String,
+    out: &mut Pen,
 ) -> Result<bool, NoMemory>
     requires fit { IsFit (tree_of plan.now) }
 {
     if bytes.len() > SCRIPT_LIMIT {
-        let message = "the file is no script: it has over 16,777,216 bytes";
-        push_whole(out, name, &Words::fixed_plain(alloc, message)?)?;
+        let mut words = Words::new(alloc);
+        words
+            .message
+            .push("the file is no script: it has over 16,777,216 bytes");
+        push_whole(out, name, &words);
         return Ok(true);
     }
     match read_script(alloc, bytes, plan) {
@@ -91,14 +95,18 @@ fn push_line(
     line: u32,
     kind: u8,
     plan: &Plan,
-    out: &mut String,
+    out: &mut Pen,
 ) -> Result<(), NoMemory> {
+    let mut words = Words::new(alloc);
     let Ok(content) = from_utf8(line_of(bytes, line)) else {
-        let message = format!(in alloc; "line {line} is no text (UTF-8)")?;
-        return push_whole(out, name, &Words::plain(message));
+        words.message.push("line ");
+        words.message.show(&line);
+        words.message.push(" is no text (UTF-8)");
+        push_whole(out, name, &words);
+        return Ok(());
     };
     let content = content.strip_suffix('\r').unwrap_or(content);
-    let words = words_for(alloc, content, kind, plan)?;
+    explain(alloc, content, kind, plan, &mut words)?;
     let number = word_meant(content, kind);
     let place = Place {
         line: line as usize,
@@ -106,7 +114,8 @@ fn push_line(
         width: word(content, number).chars().count().max(1),
         content,
     };
-    push_fault(out, name, &place, &words)
+    push_fault(out, name, &place, &words);
+    Ok(())
 }
 
 // The number of the word, from 0, that is wrong.
@@ -140,170 +149,174 @@ fn before_word(content: &str, number: usize) -> usize {
     0
 }
 
-fn words_for(alloc: Global, content: &str, kind: u8, plan: &Plan) -> Result<Words, NoMemory> {
+fn explain(
+    alloc: Global,
+    content: &str,
+    kind: u8,
+    plan: &Plan,
+    words: &mut Words,
+) -> Result<(), NoMemory> {
     match kind {
-        1 => no_shape(alloc, content),
-        2 => no_node(alloc, content, plan),
-        3 => Words::fixed(
-            alloc,
+        1 => return no_shape(alloc, word(content, 0), words),
+        2 => return no_node(alloc, content, plan, words),
+        3 => words.say(
             "a VALUE of this line is none",
             "a VALUE is `true`, `false`, an Integer from -2147483648 to 2147483647, a String in double quotes, or `UNKNOWN`, which is no argument",
         ),
-        4 => Words::fixed_plain(alloc, "threads are numbered from 1 to 8"),
-        6 => Words::fixed(
-            alloc,
+        4 => words.say("threads are numbered from 1 to 8", ""),
+        6 => words.say(
             "an earlier line names this thread otherwise",
             "a thread has one name; a later line of it may have that name again, or none",
         ),
-        _ => Words::fixed_plain(
-            alloc,
+        _ => words.say(
             "a thread has at most 100,000 lines that post or wait, and this is one more",
+            "",
         ),
     }
+    Ok(())
 }
 
-fn no_shape(alloc: Global, content: &str) -> Result<Words, NoMemory> {
-    let first = word(content, 0);
-    match SHAPES.iter().find(|shape| shape.0 == first) {
-        Some((_, shape)) => of_shape(alloc, first, *shape),
-        None => no_first_word(alloc, first),
+// Of a line that begins with this word.
+fn no_shape(alloc: Global, first: &str, words: &mut Words) -> Result<(), NoMemory> {
+    for (known, shape) in &SHAPES {
+        if *known == first {
+            words.message.push_all(&["this is no `", first, "` line"]);
+            words.help.push("it is ");
+            words.help.push(*shape);
+            return Ok(());
+        }
     }
+    no_first_word(alloc, first, words)
 }
 
-fn of_shape(alloc: Global, first: &str, shape: &str) -> Result<Words, NoMemory> {
-    let message = format!(in alloc; "this is no `{first}` line")?;
-    let help = format!(in alloc; "it is {shape}")?;
-    Ok(Words::with_help(message, help))
-}
-
-fn no_first_word(alloc: Global, first: &str) -> Result<Words, NoMemory> {
-    let message = format!(in alloc; "no line of a script begins with `{first}`")?;
-    match first_word_meant(alloc, first)? {
-        Some(near) => Ok(Words::with_help(message, is_meant(alloc, near)?)),
-        None => Words::with_fixed_help(
-            alloc,
-            message,
+fn no_first_word(alloc: Global, first: &str, words: &mut Words) -> Result<(), NoMemory> {
+    let mut nearest = Nearest::to(first);
+    for (word, _) in &SHAPES {
+        nearest.look_at(alloc, *word);
+    }
+    words
+        .message
+        .push_all(&["no line of a script begins with `", first, "`"]);
+    match nearest.found()? {
+        Some(near) => push_meant(near, &mut words.help),
+        None => words.help.push(
             "a line begins with `set`, `handle`, `return`, `abort`, `ack`, `wait` or `thread`, a comment with `#`",
         ),
     }
+    Ok(())
 }
 
-fn first_word_meant<'a>(alloc: Global, first: &'a str) -> Result<Option<&'a str>, NoMemory> {
-    let mut nearest = Nearest::to(first);
-    for (word, _) in SHAPES {
-        nearest.look_at(alloc, word)?;
-    }
-    Ok(nearest.found())
-}
-
-fn no_node(alloc: Global, content: &str, plan: &Plan) -> Result<Words, NoMemory> {
+fn no_node(alloc: Global, content: &str, plan: &Plan, words: &mut Words) -> Result<(), NoMemory> {
     let path = word(content, word_meant(content, 2));
     let nodes = paths_of(alloc, plan)?;
-    match nodes.iter().find(|node| node.path.as_str() == path) {
-        Some(node) => of_other_kind(alloc, &nodes, node, word(content, 0)),
-        None => no_path(alloc, &nodes, path),
+    for node in &nodes {
+        if node.path.as_str() == path {
+            of_other_kind(&nodes, node, word(content, 0), words);
+            return Ok(());
+        }
     }
+    no_path(alloc, &nodes, path, words)
 }
 
 // Of a line that isn't for nodes of this one's kind.
-fn of_other_kind(
-    alloc: Global,
-    nodes: &[NodePath<'_>],
-    node: &NodePath<'_>,
-    first: &str,
-) -> Result<Words, NoMemory> {
+fn of_other_kind(nodes: &[NodePath<'_>], node: &NodePath<'_>, first: &str, words: &mut Words) {
     let path = node.path.as_str();
-    let a_kind = node.a_kind();
     let wanted = match first {
         "ack" => "an Update",
         _ => "a Command",
     };
-    let message = format!(in alloc; "`{path}` is {a_kind}; `{first}` is for {wanted}")?;
-    let help = kin(alloc, nodes, path, wanted)?;
-    Ok(Words { message, help })
+    words.message.push_all(&["`", path, "` is "]);
+    words.message.push(node.a_kind());
+    words.message.push_all(&["; `", first, "` is for "]);
+    words.message.push(wanted);
+    push_below(nodes, path, wanted, &mut words.help);
 }
 
-fn no_path(alloc: Global, nodes: &[NodePath<'_>], path: &str) -> Result<Words, NoMemory> {
-    let message = format!(in alloc; "the plan has no node `{path}`")?;
-    let help = alike(alloc, nodes, path)?;
-    Ok(Words { message, help })
-}
-
-// The nodes of the kind that is wanted below a path.
-fn kin(
+fn no_path(
     alloc: Global,
     nodes: &[NodePath<'_>],
     path: &str,
-    wanted: &str,
-) -> Result<Option<String>, NoMemory> {
-    let above = format!(in alloc; "{path}.")?;
-    let mut told = Vec::new(alloc);
-    for node in nodes {
-        if node.a_kind() == wanted && node.path.as_str().starts_with(above.as_str()) {
-            told.push(node.path.as_str())?;
-        }
-    }
-    one_of(alloc, &told)
-}
-
-// The path that is nearest to this one, or else the nodes with the nearest last name.
-fn alike(alloc: Global, nodes: &[NodePath<'_>], path: &str) -> Result<Option<String>, NoMemory> {
+    words: &mut Words,
+) -> Result<(), NoMemory> {
+    words
+        .message
+        .push_all(&["the plan has no node `", path, "`"]);
     let mut nearest = Nearest::to(path);
     for node in nodes {
-        nearest.look_at(alloc, node.path.as_str())?;
+        nearest.look_at(alloc, node.path.as_str());
     }
-    match nearest.found() {
-        Some(near) => Ok(Some(is_meant(alloc, near)?)),
-        None => alike_at_last(alloc, nodes, last_name(path)),
+    match nearest.found()? {
+        Some(near) => push_meant(near, &mut words.help),
+        None => alike_at_last(alloc, nodes, last_name(path), &mut words.help)?,
     }
+    Ok(())
 }
 
-// The nodes with the last name that is nearest to this one.
+// Writes the nodes with the last name that is nearest to this one.
 fn alike_at_last(
     alloc: Global,
     nodes: &[NodePath<'_>],
     last: &str,
-) -> Result<Option<String>, NoMemory> {
+    help: &mut Pen,
+) -> Result<(), NoMemory> {
     let mut nearest = Nearest::to(last);
     for node in nodes {
-        nearest.look_at(alloc, last_name(node.path.as_str()))?;
+        nearest.look_at(alloc, last_name(node.path.as_str()));
     }
-    match nearest.found() {
-        Some(last) => named(alloc, nodes, last),
-        None => Ok(Some(String::from_str(
-            alloc,
-            "`plexil-view nodes PLAN` prints the paths of a plan",
-        )?)),
+    match nearest.found()? {
+        Some(last) => push_named(nodes, last, help),
+        None => help.push("`plexil-view nodes PLAN` prints the paths of a plan"),
     }
+    Ok(())
 }
 
-// The nodes with this last name.
-fn named(alloc: Global, nodes: &[NodePath<'_>], last: &str) -> Result<Option<String>, NoMemory> {
-    let mut told = Vec::new(alloc);
+// Writes the nodes of the kind that is wanted below a path.
+fn push_below(nodes: &[NodePath<'_>], above: &str, wanted: &str, help: &mut Pen) {
+    let mut told: usize = 0;
     for node in nodes {
-        if last_name(node.path.as_str()) == last {
-            told.push(node.path.as_str())?;
+        let path = node.path.as_str();
+        if node.a_kind() == wanted && is_below(path, above) {
+            push_one(told, path, help);
+            told = told.saturating_add(1);
         }
     }
-    one_of(alloc, &told)
+    end_meant(told, help);
 }
 
-fn one_of(alloc: Global, paths: &[&str]) -> Result<Option<String>, NoMemory> {
-    match paths.split_first() {
-        Some((first, others)) => Ok(Some(first_or_other(alloc, *first, others)?)),
-        None => Ok(None),
+fn is_below(path: &str, above: &str) -> bool {
+    match path.strip_prefix(above) {
+        Some(rest) => rest.starts_with('.'),
+        None => false,
     }
 }
 
-fn first_or_other(alloc: Global, first: &str, others: &[&str]) -> Result<String, NoMemory> {
-    let mut help = format!(in alloc; "is `{first}` meant")?;
-    for path in others.iter().take(TOLD) {
-        write!(help, ", or `{path}`")?;
+// Writes the nodes with this last name.
+fn push_named(nodes: &[NodePath<'_>], last: &str, help: &mut Pen) {
+    let mut told: usize = 0;
+    for node in nodes {
+        let path = node.path.as_str();
+        if last_name(path) == last {
+            push_one(told, path, help);
+            told = told.saturating_add(1);
+        }
     }
-    help.push_str(if others.len() > TOLD {
-        ", or another one of that name?"
-    } else {
-        "?"
-    })?;
-    Ok(help)
+    end_meant(told, help);
+}
+
+// Writes a path that may be meant, behind so many others.
+fn push_one(others: usize, path: &str, help: &mut Pen) {
+    if others == 0 {
+        help.push_all(&["is `", path, "` meant"]);
+    } else if others <= TOLD {
+        help.push_all(&[", or `", path, "`"]);
+    }
+}
+
+// Ends the question for so many paths.
+fn end_meant(paths: usize, help: &mut Pen) {
+    if paths > TOLD.saturating_add(1) {
+        help.push(", or another one of that name?");
+    } else if paths > 0 {
+        help.push("?");
+    }
 }

@@ -1,10 +1,11 @@
 // The command `nodes`.
 use crate::answer::{Answer, DONE, Stop};
 use crate::reading::{fetch, plan_in};
-use crate::terms::{push_args, push_expr};
+use crate::terms::{push_args, push_expr, push_index};
 use px_chart::{NodePath, paths_of};
 use px_compile::TEXT_LIMIT;
-use px_core::{BinaryOp, Body, Expr, Plan, Target, UnaryOp};
+use px_core::{BinaryOp, Body, Expr, Pair, Plan, Target, UnaryOp};
+use px_pen::Pen;
 use px_ports::Host;
 use px_value::{CompareOp, NoMemory, Value};
 use std::alloc::Global;
@@ -21,72 +22,87 @@ pub fn nodes_file<H: Host>(
 ) -> Result<Answer, Stop> {
     let bytes = fetch(alloc, name, TEXT_LIMIT, host)?;
     let plan = plan_in(alloc, name, &bytes)?;
-    let text = listed(alloc, &plan, like);
+    let answer = listed(alloc, &plan, like);
     drop(plan);
-    Ok(Answer::new(DONE, text?))
+    Ok(answer?)
 }
 
-fn listed(alloc: Global, plan: &Plan, like: &str) -> Result<String, NoMemory> {
-    let mut text = String::new(alloc);
-    for node in &paths_of(alloc, plan)? {
+fn listed(alloc: Global, plan: &Plan, like: &str) -> Result<Answer, NoMemory> {
+    let nodes = paths_of(alloc, plan)?;
+    let mut out = Pen::new(alloc);
+    push_nodes(alloc, &nodes, like, &mut out)?;
+    if out.is_empty() {
+        out.push_all(&["no path has `", like, "` in it\n"]);
+    }
+    Answer::written(DONE, out)
+}
+
+fn push_nodes(
+    alloc: Global,
+    nodes: &[NodePath<'_>],
+    like: &str,
+    out: &mut Pen,
+) -> Result<(), NoMemory> {
+    for node in nodes {
         if node.path.as_str().contains(like) {
-            push_node(alloc, node, &mut text)?;
+            push_node(alloc, node, out)?;
         }
-    }
-    if text.is_empty() {
-        write!(text, "no path has `{like}` in it\n")?;
-    }
-    Ok(text)
-}
-
-fn push_node(alloc: Global, node: &NodePath<'_>, out: &mut String) -> Result<(), NoMemory> {
-    for _ in 0..node.depth {
-        out.push_str("  ")?;
-    }
-    write!(out, "{}: {}", node.path.as_str(), node.a_kind())?;
-    push_body(&node.node.body, out)?;
-    out.push_str("\n")?;
-    push_conditions(alloc, node, out)?;
-    push_lines(node, out)
-}
-
-fn push_body(body: &Body, out: &mut String) -> Result<(), NoMemory> {
-    match body {
-        Body::Nothing => Ok(()),
-        Body::Assign { target, value } => {
-            out.push_str(", ")?;
-            push_target(target, out)?;
-            out.push_str(" = ")?;
-            push_expr(value, out)
-        }
-        Body::Command { name, args, result } => {
-            out.push_str(", ")?;
-            if let Some(target) = result {
-                push_target(target, out)?;
-                out.push_str(" = ")?;
-            }
-            out.push_str(name.as_str())?;
-            push_args(args, out)
-        }
-        Body::Update { pairs } => {
-            for (place, pair) in pairs.iter().enumerate() {
-                out.push_str(if place == 0 { " of " } else { ", " })?;
-                write!(out, "{} = ", pair.name.as_str())?;
-                push_expr(&pair.value, out)?;
-            }
-            Ok(())
-        }
-    }
-}
-
-fn push_target(target: &Target, out: &mut String) -> Result<(), NoMemory> {
-    out.push_str(target.name.as_str())?;
-    if let Some(index) = &target.index {
-        out.push_str("[")?;
-        push_expr(index, out)?;
-        out.push_str("]")?;
     }
     Ok(())
+}
+
+fn push_node(alloc: Global, node: &NodePath<'_>, out: &mut Pen) -> Result<(), NoMemory> {
+    push_blanks(node.depth, out);
+    out.push_all(&[node.path.as_str(), ": "]);
+    out.push(node.a_kind());
+    push_body(&node.node.body, out);
+    out.push("\n");
+    push_conditions(alloc, node, out)?;
+    push_lines(node, out);
+    Ok(())
+}
+
+fn push_blanks(levels: usize, out: &mut Pen) {
+    for _ in 0..levels {
+        out.push("  ");
+    }
+}
+
+fn push_body(body: &Body, out: &mut Pen) {
+    match body {
+        Body::Nothing => {}
+        Body::Assign { target, value } => {
+            out.push(", ");
+            push_target(target, out);
+            push_expr(value, out);
+        }
+        Body::Command { name, args, result } => {
+            out.push(", ");
+            if let Some(target) = result {
+                push_target(target, out);
+            }
+            out.push(name.as_str());
+            push_args(args, out);
+        }
+        Body::Update { pairs } => push_pairs(pairs, out),
+    }
+}
+
+fn push_pairs(pairs: &[Pair], out: &mut Pen) {
+    for (place, pair) in pairs.iter().enumerate() {
+        out.push(if place == 0 { " of " } else { ", " });
+        out.push_all(&[pair.name.as_str(), " = "]);
+        push_expr(&pair.value, out);
+    }
+}
+
+// Writes what is assigned to, and the sign.
+fn push_target(target: &Target, out: &mut Pen) {
+    out.push(target.name.as_str());
+    if let Some(index) = &target.index {
+        push_index(index, out);
+    }
+    out.push(" = ");
 }
 
 fn is_truth(expr: &Expr, truth: bool) -> bool {
@@ -97,53 +113,18 @@ fn is_truth(expr: &Expr, truth: bool) -> bool {
 }
 
 // What it waits for, and the other conditions that are given.
-fn push_conditions(alloc: Global, node: &NodePath<'_>, out: &mut String) -> Result<(), NoMemory> {
-    let conditions = &node.node.conditions;
-    push_condition(alloc, node, "waits for", &conditions.start, true, out)?;
-    push_condition(
-        alloc,
-        node,
-        "is skipped where",
-        &conditions.skip,
-        false,
-        out,
-    )?;
-    push_condition(alloc, node, "begins only where", &conditions.pre, true, out)?;
-    push_condition(
-        alloc,
-        node,
-        "needs meanwhile",
-        &conditions.invariant,
-        true,
-        out,
-    )?;
-    if !is_usual_end(&conditions.end) {
-        push_condition(alloc, node, "ends where", &conditions.end, true, out)?;
+fn push_conditions(alloc: Global, node: &NodePath<'_>, out: &mut Pen) -> Result<(), NoMemory> {
+    let given = &node.node.conditions;
+    push_condition(alloc, node, "waits for", &given.start, true, out)?;
+    push_condition(alloc, node, "is skipped where", &given.skip, false, out)?;
+    push_condition(alloc, node, "begins only where", &given.pre, true, out)?;
+    push_condition(alloc, node, "needs meanwhile", &given.invariant, true, out)?;
+    if !is_usual_end(&given.end) {
+        push_condition(alloc, node, "ends where", &given.end, true, out)?;
     }
-    push_condition(
-        alloc,
-        node,
-        "is interrupted where",
-        &conditions.exit,
-        false,
-        out,
-    )?;
-    push_condition(
-        alloc,
-        node,
-        "has succeeded where",
-        &conditions.post,
-        true,
-        out,
-    )?;
-    push_condition(
-        alloc,
-        node,
-        "begins again where",
-        &conditions.repeat,
-        false,
-        out,
-    )
+    push_condition(alloc, node, "is interrupted where", &given.exit, false, out)?;
+    push_condition(alloc, node, "has succeeded where", &given.post, true, out)?;
+    push_condition(alloc, node, "begins again where", &given.repeat, false, out)
 }
 
 fn push_condition(
@@ -152,27 +133,17 @@ fn push_condition(
     says: &str,
     condition: &Expr,
     default: bool,
-    out: &mut String,
+    out: &mut Pen,
 ) -> Result<(), NoMemory> {
     if is_truth(condition, default) {
         return Ok(());
     }
-    push_margin(node, out)?;
-    write!(out, "{says} ")?;
-    push_shortly(alloc, condition, out)?;
-    out.push_str("\n")
-}
-
-// Appends an expression, of a long one the front.
-fn push_shortly(alloc: Global, condition: &Expr, out: &mut String) -> Result<(), NoMemory> {
-    let mut whole = String::new(alloc);
-    push_expr(condition, &mut whole)?;
-    for (place, c) in whole.chars().enumerate() {
-        if place >= SHOWN {
-            return out.push_str(" ..");
-        }
-        out.push(c)?;
-    }
+    push_margin(node, out);
+    out.push_all(&[says, " "]);
+    let mut whole = Pen::new(alloc);
+    push_expr(condition, &mut whole);
+    out.push_front(whole.written()?.as_str(), SHOWN, " ..");
+    out.push("\n");
     Ok(())
 }
 
@@ -199,31 +170,29 @@ fn is_usual_end(end: &Expr) -> bool {
     }
 }
 
-fn push_margin(node: &NodePath<'_>, out: &mut String) -> Result<(), NoMemory> {
-    for _ in 0..node.depth.saturating_add(2) {
-        out.push_str("  ")?;
-    }
-    Ok(())
+fn push_margin(node: &NodePath<'_>, out: &mut Pen) {
+    push_blanks(node.depth.saturating_add(2), out);
 }
 
 // The lines that a script may have for the node.
-fn push_lines(node: &NodePath<'_>, out: &mut String) -> Result<(), NoMemory> {
-    let path = node.path.as_str();
+fn push_lines(node: &NodePath<'_>, out: &mut Pen) {
     match &node.node.body {
         Body::Command { result, .. } => {
-            push_margin(node, out)?;
-            write!(out, "script: handle {path} COMMAND_SUCCESS\n")?;
+            push_line(node, "handle ", " COMMAND_SUCCESS\n", out);
             if result.is_some() {
-                push_margin(node, out)?;
-                write!(out, "script: return {path} VALUE\n")?;
+                push_line(node, "return ", " VALUE\n", out);
             }
-            push_margin(node, out)?;
-            write!(out, "script: abort {path}\n")
+            push_line(node, "abort ", "\n", out);
         }
-        Body::Update { .. } => {
-            push_margin(node, out)?;
-            write!(out, "script: ack {path}\n")
-        }
-        Body::Nothing | Body::Assign { .. } => Ok(()),
+        Body::Update { .. } => push_line(node, "ack ", "\n", out),
+        Body::Nothing | Body::Assign { .. } => {}
     }
+}
+
+fn push_line(node: &NodePath<'_>, word: &str, rest: &str, out: &mut Pen) {
+    push_margin(node, out);
+    out.push("script: ");
+    out.push(word);
+    out.push(node.path.as_str());
+    out.push(rest);
 }

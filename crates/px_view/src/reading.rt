@@ -3,9 +3,10 @@ ghost use Rattle.std.specs.Prelude.{IfOk};
 ghost use Rattle.px_core.specs.Fit.{IsFit};
 ghost use Rattle.px_core.specs.Plan.{tree_of};
 
-use crate::answer::{Answer, PLAN_REFUSED, READ_FAULT, Stop};
+use crate::answer::{PLAN_REFUSED, READ_FAULT, Stop};
 use px_compile::{TEXT_LIMIT, compile};
 use px_core::Plan;
+use px_pen::Pen;
 use px_ports::{Fetched, Host, HostFault};
 use px_syntax::PlanFault;
 use px_why::why_plan;
@@ -20,18 +21,24 @@ pub fn fetch<H: Host>(
 ) -> Result<Vec<u8>, Stop> {
     match host.fetch(alloc, name, limit) {
         Ok(Fetched::Whole(bytes)) => Ok(bytes),
-        Ok(Fetched::Longer) => {
-            Err(refusal(format!(in alloc; "{name}: the file has over {limit} bytes\n")?))
-        }
-        Err(HostFault::Failed) => {
-            Err(refusal(format!(in alloc; "{name}: the file can't be read\n")?))
-        }
+        Ok(Fetched::Longer) => Err(too_long(alloc, name, limit)),
+        Err(HostFault::Failed) => Err(unread(alloc, name)),
         Err(HostFault::NoMemory) => Err(Stop::NoMemory),
     }
 }
 
-fn refusal(text: String) -> Stop {
-    Stop::Refused(Answer::new(READ_FAULT, text))
+fn too_long(alloc: Global, name: &str, limit: usize) -> Stop {
+    let mut out = Pen::new(alloc);
+    out.push_all(&[name, ": the file has over "]);
+    out.show(&limit);
+    out.push(" bytes\n");
+    Stop::saying(READ_FAULT, out)
+}
+
+fn unread(alloc: Global, name: &str) -> Stop {
+    let mut out = Pen::new(alloc);
+    out.push_all(&[name, ": the file can't be read\n"]);
+    Stop::saying(READ_FAULT, out)
 }
 
 /// The plan that bytes spell. Where they spell none, the answer says why.
@@ -49,9 +56,9 @@ pub fn plan_in(alloc: Global, name: &str, bytes: &[u8]) -> Result<Plan, Stop>
 }
 
 fn no_plan(alloc: Global, name: &str, bytes: &[u8]) -> Stop {
-    let mut text = String::new(alloc);
-    match why_plan(alloc, name, bytes, &mut text) {
-        Ok(_) => Stop::Refused(Answer::new(PLAN_REFUSED, text)),
+    let mut out = Pen::new(alloc);
+    match why_plan(alloc, name, bytes, &mut out) {
+        Ok(_) => Stop::saying(PLAN_REFUSED, out),
         Err(_) => Stop::NoMemory,
     }
 }

@@ -1,86 +1,112 @@
 // Expressions of a plan in words of the language, with the paths of the nodes that they read.
 use px_chart::push_value;
 use px_core::{BinaryOp, Expr, LookWord, UnaryOp};
-use px_value::{ArithOp, CompareOp, NoMemory};
+use px_pen::Pen;
+use px_value::{ArithOp, CompareOp, Path};
 
-/// Appends an expression.
+/// Writes an expression.
 #[cycle(terms)]
-pub fn push_expr(expr: &Expr, out: &mut String) -> Result<(), NoMemory> {
+pub fn push_expr(expr: &Expr, out: &mut Pen) {
     match expr {
         Expr::Literal(value) => push_value(value, out),
-        Expr::Var { name, .. } => out.push_str(name.as_str()),
+        Expr::Var { name, .. } => out.push(name.as_str()),
         Expr::Cell { name, index, .. } => {
-            write!(out, "{}[", name.as_str())?;
-            push_expr(index, out)?;
-            out.push_str("]")
+            out.push(name.as_str());
+            push_index(index, out);
         }
-        Expr::StateOf(path) => write!(out, "{}.state", path.as_str()),
-        Expr::OutcomeOf(path) => write!(out, "{}.outcome", path.as_str()),
-        Expr::FailureOf(path) => write!(out, "{}.failure", path.as_str()),
-        Expr::HandleOf(path) => write!(out, "{}.command_handle", path.as_str()),
-        Expr::Acknowledged(path) => write!(out, "{} is acknowledged", path.as_str()),
+        Expr::StateOf(path) => push_attribute(path, ".state", out),
+        Expr::OutcomeOf(path) => push_attribute(path, ".outcome", out),
+        Expr::FailureOf(path) => push_attribute(path, ".failure", out),
+        Expr::HandleOf(path) => push_attribute(path, ".command_handle", out),
+        Expr::Acknowledged(path) => push_attribute(path, " is acknowledged", out),
         Expr::Look {
             word,
             name,
             args,
             ..
         } => {
-            write!(out, "{}({}", look_word(*word), name.as_str())?;
+            out.push_all(&[look_word(*word), "("]);
+            out.push(name.as_str());
             if !args.is_empty() {
-                push_args(args, out)?;
+                push_args(args, out);
             }
-            out.push_str(")")
+            out.push(")");
         }
-        Expr::Unary { op, arg } => match unary_function(*op) {
-            Some(function) => {
-                out.push_str(function)?;
-                push_expr(arg, out)?;
-                out.push_str(")")
-            }
-            None => {
-                out.push_str(unary_sign(*op))?;
-                push_operand(arg, out)
-            }
-        },
-        Expr::Binary { op, left, right } => match binary_function(*op) {
-            Some(function) => {
-                out.push_str(function)?;
-                push_expr(left, out)?;
-                out.push_str(", ")?;
-                push_expr(right, out)?;
-                out.push_str(")")
-            }
-            None => {
-                push_operand(left, out)?;
-                out.push_str(binary_sign(*op))?;
-                push_operand(right, out)
-            }
-        },
+        Expr::Unary { op, arg } => push_unary(*op, arg, out),
+        Expr::Binary { op, left, right } => push_binary(*op, left, right, out),
     }
 }
 
-// Appends an operand, in parentheses where it is an operation.
-#[cycle(terms)]
-fn push_operand(operand: &Expr, out: &mut String) -> Result<(), NoMemory> {
-    if !is_operation(operand) {
-        return push_expr(operand, out);
-    }
-    out.push_str("(")?;
-    push_expr(operand, out)?;
-    out.push_str(")")
+fn push_attribute(path: &Path, says: &str, out: &mut Pen) {
+    out.push(path.as_str());
+    out.push(says);
 }
 
-/// Appends expressions in parentheses.
+/// Writes an index in brackets.
 #[cycle(terms)]
-pub fn push_args(args: &[Expr], out: &mut String) -> Result<(), NoMemory> {
-    out.push_str("(")?;
+pub fn push_index(index: &Expr, out: &mut Pen) {
+    out.push("[");
+    push_expr(index, out);
+    out.push("]");
+}
+
+#[cycle(terms)]
+fn push_unary(op: UnaryOp, arg: &Expr, out: &mut Pen) {
+    match unary_function(op) {
+        Some(function) => {
+            out.push(function);
+            push_expr(arg, out);
+            out.push(")");
+        }
+        None => {
+            out.push(unary_sign(op));
+            push_operand(arg, out);
+        }
+    }
+}
+
+#[cycle(terms)]
+fn push_binary(op: BinaryOp, left: &Expr, right: &Expr, out: &mut Pen) {
+    match binary_function(op) {
+        Some(function) => {
+            out.push(function);
+            push_expr(left, out);
+            out.push(", ");
+            push_expr(right, out);
+            out.push(")");
+        }
+        None => {
+            push_operand(left, out);
+            out.push(binary_sign(op));
+            push_operand(right, out);
+        }
+    }
+}
+
+// Writes an operand, in parentheses where it is an operation.
+#[cycle(terms)]
+fn push_operand(operand: &Expr, out: &mut Pen) {
+    let (open, close) = if is_operation(operand) {
+        ("(", ")")
+    } else {
+        ("", "")
+    };
+    out.push(open);
+    push_expr(operand, out);
+    out.push(close);
+}
+
+/// Writes expressions in parentheses.
+#[cycle(terms)]
+pub fn push_args(args: &[Expr], out: &mut Pen) {
+    out.push("(");
     for (place, arg) in args.iter().enumerate() {
         if place > 0 {
-            out.push_str(", ")?;
+            out.push(", ");
         }
-        push_expr(arg, out)?;
+        push_expr(arg, out);
     }
-    out.push_str(")")
+    out.push(")");
 }
 
 fn unary_function(op: UnaryOp) -> Option<&'static str> {

@@ -6,6 +6,7 @@ use crate::nodes::nodes_file;
 use crate::why::{why_plan_file, why_script_file};
 use crate::words::{Task, task_in};
 use px_machine::Machine;
+use px_pen::Pen;
 use px_ports::Host;
 use px_sem::Stepper;
 use std::alloc::Global;
@@ -43,10 +44,10 @@ fn answer<H: Host, S: Stepper>(
 fn spare(alloc: Global, to: Option<&str>, sources: &[&str]) -> Result<(), Stop> {
     match to {
         Some(name) if sources.iter().any(|source| *source == name) => {
-            let text = format!(in alloc;
-                "{name}: the picture is made of this file, and can't take its place\n"
-            )?;
-            Err(Stop::Refused(Answer::new(USAGE, text)))
+            let mut out = Pen::new(alloc);
+            out.push(name);
+            out.push(": the picture is made of this file, and can't take its place\n");
+            Err(Stop::saying(USAGE, out))
         }
         _ => Ok(()),
     }

@@ -8,6 +8,7 @@ use crate::reading::{fetch, plan_in};
 use px_chart::paths_of;
 use px_compile::TEXT_LIMIT;
 use px_core::Plan;
+use px_pen::Pen;
 use px_ports::Host;
 use px_script::SCRIPT_LIMIT;
 use px_sem::Stepper;
@@ -22,11 +23,11 @@ pub fn why_plan_file<H: Host, S: Stepper>(
     host: &mut H,
 ) -> Result<Answer, Stop> {
     let bytes = fetch(alloc, name, TEXT_LIMIT, host)?;
-    let mut text = String::new(alloc);
-    let faults = why_plan(alloc, name, &bytes, &mut text)?;
+    let mut out = Pen::new(alloc);
+    let faults = why_plan(alloc, name, &bytes, &mut out)?;
     if faults > 0 {
-        push_count(&mut text, name, faults)?;
-        return Ok(Answer::new(PLAN_REFUSED, text));
+        push_count(&mut out, name, faults);
+        return Ok(Answer::written(PLAN_REFUSED, out)?);
     }
     let plan = plan_in(alloc, name, &bytes)?;
     let answer = why_settling::<S>(alloc, name, &plan);
@@ -34,28 +35,26 @@ pub fn why_plan_file<H: Host, S: Stepper>(
     Ok(answer?)
 }
 
-fn push_count(text: &mut String, name: &str, faults: u32) -> Result<(), NoMemory> {
-    match faults {
-        1 => write!(text, "{name}: 1 fault\n"),
-        _ => write!(text, "{name}: {faults} faults\n"),
-    }
+fn push_count(out: &mut Pen, name: &str, faults: u32) {
+    out.push_all(&[name, ": "]);
+    out.show(&faults);
+    out.push(if faults == 1 { " fault\n" } else { " faults\n" });
 }
 
 // Of a plan without a fault.
 fn why_settling<S: Stepper>(alloc: Global, name: &str, plan: &Plan) -> Result<Answer, NoMemory>
     requires fit { IsFit (tree_of plan.now) }
 {
-    let mut text = String::new(alloc);
-    if !why_start::<S>(alloc, name, plan, &mut text)? {
-        push_count(&mut text, name, 1)?;
-        return Ok(Answer::new(RUNAWAY, text));
+    let mut out = Pen::new(alloc);
+    if !why_start::<S>(alloc, name, plan, &mut out)? {
+        push_count(&mut out, name, 1);
+        return Answer::written(RUNAWAY, out);
     }
     let nodes = paths_of(alloc, plan)?.len();
-    match nodes {
-        1 => write!(text, "{name}: no fault, 1 node\n")?,
-        _ => write!(text, "{name}: no fault, {nodes} nodes\n")?,
-    }
-    Ok(Answer::new(DONE, text))
+    out.push_all(&[name, ": no fault, "]);
+    out.show(&nodes);
+    out.push(if nodes == 1 { " node\n" } else { " nodes\n" });
+    Answer::written(DONE, out)
 }
 
 /// Says what the script in a file is refused for, over the plan in another, or that it has no fault.
@@ -76,11 +75,11 @@ pub fn why_script_file<H: Host>(
 fn why_lines(alloc: Global, name: &str, lines: &[u8], plan: &Plan) -> Result<Answer, NoMemory>
     requires fit { IsFit (tree_of plan.now) }
 {
-    let mut text = String::new(alloc);
-    if why_script(alloc, name, lines, plan, &mut text)? {
-        push_count(&mut text, name, 1)?;
-        return Ok(Answer::new(SCRIPT_REFUSED, text));
+    let mut out = Pen::new(alloc);
+    if why_script(alloc, name, lines, plan, &mut out)? {
+        push_count(&mut out, name, 1);
+        return Answer::written(SCRIPT_REFUSED, out);
     }
-    write!(text, "{name}: no fault\n")?;
-    Ok(Answer::new(DONE, text))
+    out.push_all(&[name, ": no fault\n"]);
+    Answer::written(DONE, out)
 }

@@ -8,14 +8,30 @@ use std::alloc::{AllocError, Global};
 /// The tokens of a plan up to one that can't stand there.
 #[derive(Drop)]
 pub struct Front {
+    alloc: Global,
     tokens: Vec<Token>,
+    // Whether memory has run out in a try; its answer is then worth nothing.
+    has_failed: bool,
 }
 
 impl Front {
     /// The tokens before this one.
-    pub fn of(mut tokens: Vec<Token>, end: usize) -> Front {
+    pub fn of(alloc: Global, mut tokens: Vec<Token>, end: usize) -> Front {
         tokens.truncate(end);
-        Front { tokens }
+        Front {
+            alloc,
+            tokens,
+            has_failed: false,
+        }
+    }
+
+    /// `NoMemory` where memory has run out in a try.
+    pub fn tried(&self) -> Result<(), NoMemory> {
+        if self.has_failed {
+            Err(AllocError)
+        } else {
+            Ok(())
+        }
     }
 
     /// Leaves the last token away.
@@ -24,85 +40,88 @@ impl Front {
     }
 
     /// Whether the tokens are a plan.
-    pub fn is_plan(&self, alloc: Global) -> Result<bool, NoMemory> {
-        match parse(alloc, &self.tokens) {
-            Ok(tree) => {
-                drop(tree);
-                Ok(true)
-            }
-            Err(ParseFault::NoMemory) => Err(AllocError),
-            Err(_) => Ok(false),
-        }
+    pub fn is_plan(&mut self) -> bool {
+        self.fault_at().is_none()
     }
 
     /// Whether a plan goes on with the sign.
-    pub fn takes_sign(&mut self, alloc: Global, sign: Sign) -> Result<bool, NoMemory> {
-        self.takes(alloc, TokenKind::Sign(sign))
+    pub fn takes_sign(&mut self, sign: Sign) -> bool {
+        self.takes(TokenKind::Sign(sign))
     }
 
     /// Whether a plan goes on with the keyword.
-    pub fn takes_keyword(&mut self, alloc: Global, keyword: Keyword) -> Result<bool, NoMemory> {
-        self.takes(alloc, TokenKind::Keyword(keyword))
+    pub fn takes_keyword(&mut self, keyword: Keyword) -> bool {
+        self.takes(TokenKind::Keyword(keyword))
     }
 
     /// Whether a plan goes on with the keyword that is spelled so.
-    pub fn takes_word(&mut self, alloc: Global, word: &str) -> Result<bool, NoMemory> {
-        match lex(alloc, word) {
-            Ok(tokens) => self.takes_one(alloc, tokens),
-            Err(LexFault::NoMemory) => Err(AllocError),
-            Err(_) => Ok(false),
+    pub fn takes_word(&mut self, word: &str) -> bool {
+        match lex(self.alloc, word) {
+            Ok(tokens) => self.takes_last(tokens),
+            Err(fault) => self.fails(matches!(fault, LexFault::NoMemory)),
         }
     }
 
     /// Whether a plan goes on with a number.
-    pub fn takes_number(&mut self, alloc: Global) -> Result<bool, NoMemory> {
-        self.takes(alloc, TokenKind::Integer(1))
+    pub fn takes_number(&mut self) -> bool {
+        self.takes(TokenKind::Integer(1))
     }
 
     /// Whether a plan goes on with this name.
-    pub fn takes_name(&mut self, alloc: Global, name: &str) -> Result<bool, NoMemory> {
-        match Name::new(alloc, name) {
-            Ok(name) => self.takes(alloc, TokenKind::Identifier(name)),
-            Err(NameFault::NotAName) => Ok(false),
-            Err(NameFault::NoMemory) => Err(AllocError),
+    pub fn takes_name(&mut self, name: &str) -> bool {
+        match Name::new(self.alloc, name) {
+            Ok(name) => self.takes(TokenKind::Identifier(name)),
+            Err(fault) => self.fails(matches!(fault, NameFault::NoMemory)),
         }
     }
 
     /// Whether a plan goes on with a string.
-    pub fn takes_text(&mut self, alloc: Global) -> Result<bool, NoMemory> {
-        match Text::new(alloc, "") {
-            Ok(text) => self.takes(alloc, TokenKind::Text(text)),
-            Err(TextFault::TooLong) => Ok(false),
-            Err(TextFault::NoMemory) => Err(AllocError),
+    pub fn takes_text(&mut self) -> bool {
+        match Text::new(self.alloc, "") {
+            Ok(text) => self.takes(TokenKind::Text(text)),
+            Err(fault) => self.fails(matches!(fault, TextFault::NoMemory)),
         }
     }
 
     // Whether a plan goes on with the last of these tokens.
-    fn takes_one(&mut self, alloc: Global, mut tokens: Vec<Token>) -> Result<bool, NoMemory> {
+    fn takes_last(&mut self, mut tokens: Vec<Token>) -> bool {
         match tokens.pop() {
-            Some(Token { kind, .. }) => self.takes(alloc, kind),
-            None => Ok(false),
+            Some(Token { kind, .. }) => self.takes(kind),
+            None => false,
         }
     }
 
-    fn takes(&mut self, alloc: Global, kind: TokenKind) -> Result<bool, NoMemory> {
+    fn takes(&mut self, kind: TokenKind) -> bool {
         let end = self.tokens.len();
-        self.tokens.push(Token { kind, at: 0 })?;
-        let answer = goes_on(alloc, &self.tokens, end);
-        self.tokens.truncate(end);
-        answer
-    }
-}
-
-// Whether some plan begins with the tokens up to this one, the last.
-fn goes_on(alloc: Global, tokens: &[Token], last: usize) -> Result<bool, NoMemory> {
-    match parse(alloc, tokens) {
-        Ok(tree) => {
-            drop(tree);
-            Ok(true)
+        if self.tokens.push(Token { kind, at: 0 }).is_err() {
+            return self.fails(true);
         }
-        Err(ParseFault::SyntaxFault { token }) => Ok(token > last),
-        Err(ParseFault::Deep { .. }) => Ok(false),
-        Err(ParseFault::NoMemory) => Err(AllocError),
+        let goes_on = match self.fault_at() {
+            Some(token) => token > end,
+            None => true,
+        };
+        self.tokens.truncate(end);
+        goes_on
+    }
+
+    // The token with which no plan goes on; None where the tokens are a plan.
+    fn fault_at(&mut self) -> Option<usize> {
+        match parse(self.alloc, &self.tokens) {
+            Ok(tree) => {
+                drop(tree);
+                None
+            }
+            Err(ParseFault::SyntaxFault { token }) => Some(token),
+            Err(fault) => {
+                self.fails(matches!(fault, ParseFault::NoMemory));
+                Some(0)
+            }
+        }
+    }
+
+    // Notes whether memory has run out; the try itself has failed in any case.
+    fn fails(&mut self, for_memory: bool) -> bool {
+        self.has_failed = self.has_failed || for_memory;
+        false
     }
 }

@@ -3,7 +3,7 @@ use px_syntax::{
     Action, Block, Body, Branch, Declaration, Guarded, Identifier, Item, Surface, TypeName,
 };
 use px_value::NoMemory;
-use std::alloc::Global;
+use std::alloc::{AllocError, Global};
 
 /// What a name is declared as.
 #[derive(Clone, Copy)]
@@ -48,6 +48,14 @@ impl What {
                 | (What::Lookup { .. }, What::Lookup { .. })
         )
     }
+
+    /// How many arguments it takes.
+    pub fn parameters(self) -> usize {
+        match self {
+            What::Command { parameters, .. } | What::Lookup { parameters } => parameters,
+            What::Variable { .. } | What::Node => 0,
+        }
+    }
 }
 
 /// A name that is declared.
@@ -66,6 +74,8 @@ pub struct Declared<'a> {
 struct Names<'a> {
     list: Vec<Declared<'a>>,
     places: usize,
+    // Whether memory has run out, so that names are missing.
+    has_failed: bool,
 }
 
 /// All names that a tree declares.
@@ -73,38 +83,51 @@ pub fn names_in(alloc: Global, tree: &Surface) -> Result<Vec<Declared<'_>>, NoMe
     let mut names = Names {
         list: Vec::new(alloc),
         places: 0,
+        has_failed: false,
     };
-    names.globals(&tree.declarations)?;
-    let place = names.new_place();
-    names.label(&tree.label, place)?;
-    names.block(&tree.root)?;
-    let Names { list, places: _ } = names;
-    Ok(list)
+    names.tree(tree);
+    names.listed()
 }
 
 impl<'a> Names<'a> {
+    fn listed(self) -> Result<Vec<Declared<'a>>, NoMemory> {
+        let Names {
+            list,
+            has_failed,
+            ..
+        } = self;
+        if has_failed {
+            Err(AllocError)
+        } else {
+            Ok(list)
+        }
+    }
+
+    fn tree(&mut self, tree: &'a Surface) {
+        self.globals(&tree.declarations);
+        let place = self.new_place();
+        self.label(&tree.label, place);
+        self.block(&tree.root);
+    }
+
     fn new_place(&mut self) -> usize {
         self.places = self.places.saturating_add(1);
         self.places
     }
 
-    fn add(
-        &mut self,
-        identifier: &'a Identifier,
-        what: What,
-        place: usize,
-    ) -> Result<(), NoMemory> {
+    fn add(&mut self, identifier: &'a Identifier, what: What, place: usize) {
         let declared = Declared {
             name: identifier.name.as_str(),
             token: identifier.token,
             what,
             place,
         };
-        self.list.push(declared)?;
-        Ok(())
+        if !self.has_failed {
+            self.has_failed = self.list.push(declared).is_err();
+        }
     }
 
-    fn globals(&mut self, declarations: &'a [Declaration]) -> Result<(), NoMemory> {
+    fn globals(&mut self, declarations: &'a [Declaration]) {
         let place = self.new_place();
         for declaration in declarations {
             match declaration {
@@ -117,7 +140,7 @@ impl<'a> Names<'a> {
                         answer: *answer,
                         parameters: parameters.len(),
                     };
-                    self.add(name, what, place)?;
+                    self.add(name, what, place);
                 }
                 Declaration::Lookup {
                     name,
@@ -127,21 +150,19 @@ impl<'a> Names<'a> {
                     let what = What::Lookup {
                         parameters: parameters.len(),
                     };
-                    self.add(name, what, place)?;
+                    self.add(name, what, place);
                 }
             }
         }
-        Ok(())
     }
 
-    fn label(&mut self, label: &'a Option<Identifier>, place: usize) -> Result<(), NoMemory> {
-        match label {
-            Some(identifier) => self.add(identifier, What::Node, place),
-            None => Ok(()),
+    fn label(&mut self, label: &'a Option<Identifier>, place: usize) {
+        if let Some(identifier) = label {
+            self.add(identifier, What::Node, place);
         }
     }
 
-    fn items(&mut self, items: &'a [Item], place: usize) -> Result<(), NoMemory> {
+    fn items(&mut self, items: &'a [Item], place: usize) {
         for item in items {
             if let Item::Variables { of_type, variables } = item {
                 for variable in variables {
@@ -149,31 +170,29 @@ impl<'a> Names<'a> {
                         of_type: *of_type,
                         is_array: variable.size.is_some(),
                     };
-                    self.add(&variable.name, what, place)?;
+                    self.add(&variable.name, what, place);
                 }
             }
         }
-        Ok(())
     }
 
     #[cycle(names)]
-    fn block(&mut self, block: &'a Block) -> Result<(), NoMemory> {
+    fn block(&mut self, block: &'a Block) {
         let place = self.new_place();
-        self.items(&block.items, place)?;
+        self.items(&block.items, place);
         for action in &block.actions {
-            self.action(action, place)?;
+            self.action(action, place);
         }
-        Ok(())
     }
 
     #[cycle(names)]
-    fn action(&mut self, action: &'a Action, place: usize) -> Result<(), NoMemory> {
-        self.label(&action.label, place)?;
+    fn action(&mut self, action: &'a Action, place: usize) {
+        self.label(&action.label, place);
         self.body(&action.body)
     }
 
     #[cycle(names)]
-    fn body(&mut self, body: &'a Body) -> Result<(), NoMemory> {
+    fn body(&mut self, body: &'a Body) {
         let place = self.new_place();
         match body {
             Body::Block(block) => self.block(block),
@@ -182,11 +201,10 @@ impl<'a> Names<'a> {
                 others,
                 otherwise,
             } => {
-                self.branch(&first.branch, place)?;
-                self.else_ifs(others, place)?;
-                match otherwise {
-                    Some(branch) => self.branch(branch, place),
-                    None => Ok(()),
+                self.branch(&first.branch, place);
+                self.else_ifs(others, place);
+                if let Some(branch) = otherwise {
+                    self.branch(branch, place);
                 }
             }
             Body::While(guarded) => self.branch(&guarded.branch, place),
@@ -199,26 +217,23 @@ impl<'a> Names<'a> {
                     of_type: TypeName::Integer,
                     is_array: false,
                 };
-                self.add(variable, what, place)?;
+                self.add(variable, what, place);
                 self.branch(branch, place)
             }
-            Body::Assign { .. } | Body::CallInto { .. } | Body::Call(_) | Body::Update { .. } => {
-                Ok(())
-            }
+            Body::Assign { .. } | Body::CallInto { .. } | Body::Call(_) | Body::Update { .. } => {}
         }
     }
 
     #[cycle(names)]
-    fn else_ifs(&mut self, others: &'a [Guarded], place: usize) -> Result<(), NoMemory> {
+    fn else_ifs(&mut self, others: &'a [Guarded], place: usize) {
         for guarded in others {
-            self.branch(&guarded.branch, place)?;
+            self.branch(&guarded.branch, place);
         }
-        Ok(())
     }
 
     #[cycle(names)]
-    fn branch(&mut self, branch: &'a Branch, place: usize) -> Result<(), NoMemory> {
-        self.label(&branch.label, place)?;
+    fn branch(&mut self, branch: &'a Branch, place: usize) {
+        self.label(&branch.label, place);
         self.block(&branch.block)
     }
 }

@@ -4,40 +4,45 @@ use crate::report::Words;
 use crate::seen::Seen;
 use px_check::Spot;
 use px_lex::{Keyword, Sign};
+use px_pen::Pen;
 use px_syntax::FaultKind;
 use px_value::NoMemory;
 use std::alloc::Global;
 
 impl<'a> Seen<'a> {
-    /// What is said of a fault.
-    pub fn words(&self, alloc: Global, spot: Spot) -> Result<Words, NoMemory> {
+    /// Says what a fault is.
+    pub fn explain(&self, alloc: Global, spot: Spot, words: &mut Words) -> Result<(), NoMemory> {
         let token = spot.token;
         match spot.kind {
-            FaultKind::Undeclared => self.undeclared(alloc, token),
-            FaultKind::Redeclared => self.redeclared(alloc, token),
+            FaultKind::Undeclared => return self.undeclared(alloc, token, words),
+            FaultKind::NoSuchNode => return self.no_such_node(alloc, token, words),
+            FaultKind::Redeclared => self.redeclared(token, words),
             FaultKind::TypeDiffers => match spot.misfit {
-                Some(misfit) => self.misfit(alloc, token, misfit),
-                None => self.misuse(alloc, token),
+                Some(misfit) => self.misfit(token, misfit, words),
+                None => self.misuse(token, words),
             },
-            FaultKind::NotAssignable => self.not_assignable(alloc, token),
-            FaultKind::NoSuchNode => self.no_such_node(alloc, token),
-            FaultKind::ArgCount => self.arguments(alloc, token),
-            FaultKind::DoubleCondition => self.doubled(alloc, token),
-            FaultKind::TooLarge => self.too_large(alloc, token),
+            FaultKind::NotAssignable => self.not_assignable(token, words),
+            FaultKind::ArgCount => self.arguments(token, words),
+            FaultKind::DoubleCondition => self.doubled(token, words),
+            FaultKind::TooLarge => self.too_large(token, words),
         }
+        Ok(())
     }
 
-    fn redeclared(&self, alloc: Global, token: usize) -> Result<Words, NoMemory> {
+    fn redeclared(&self, token: usize, words: &mut Words) {
         let name = self.name(token);
-        let message = format!(in alloc; "`{name}` is declared a second time in one place")?;
         let line = match self.declared_at(token) {
             Some(declared) => self.line_of_first(declared),
             None => 0,
         };
-        let help = format!(in alloc;
-            "it stands in line {line} already: give one of the two another name"
-        )?;
-        Ok(Words::with_help(message, help))
+        words
+            .message
+            .push_all(&["`", name, "` is declared a second time in one place"]);
+        words.help.push("it stands in line ");
+        words.help.show(&line);
+        words
+            .help
+            .push(" already: give one of the two another name");
     }
 
     fn line_of_first(&self, declared: Declared<'a>) -> usize {
@@ -47,23 +52,28 @@ impl<'a> Seen<'a> {
         }
     }
 
-    fn not_assignable(&self, alloc: Global, token: usize) -> Result<Words, NoMemory> {
+    fn not_assignable(&self, token: usize, words: &mut Words) {
         let name = self.name(token);
         match self.sign(token.saturating_add(1)) {
-            Some(Sign::OpenBracket) => no_array(alloc, name),
-            _ => whole_array(alloc, name),
+            Some(Sign::OpenBracket) => no_array(name, words),
+            _ => whole_array(name, words),
         }
     }
 
-    fn arguments(&self, alloc: Global, token: usize) -> Result<Words, NoMemory> {
+    fn arguments(&self, token: usize, words: &mut Words) {
         let name = self.name(token);
         let is_lookup = token > 1 && self.is_lookup(token.saturating_sub(2));
         let like = if is_lookup { A_LOOKUP } else { A_COMMAND };
-        let message = match self.first_of(like, name) {
-            Some(declared) => self.declared_count(alloc, declared)?,
-            None => format!(in alloc; "`{name}` is declared with another number of arguments")?,
-        };
-        Words::with_fixed_help(alloc, message, "give it as many, or change its declaration")
+        words.message.push_all(&["`", name, "` "]);
+        match self.first_of(like, name) {
+            Some(declared) => self.push_count(declared, &mut words.message),
+            None => words
+                .message
+                .push("is declared with another number of arguments"),
+        }
+        words
+            .help
+            .push("give it as many, or change its declaration");
     }
 
     fn is_lookup(&self, token: usize) -> bool {
@@ -73,83 +83,69 @@ impl<'a> Seen<'a> {
         )
     }
 
-    fn declared_count(&self, alloc: Global, declared: Declared<'a>) -> Result<String, NoMemory> {
-        let name = declared.name;
-        let line = self.line(declared.token);
-        let count = match declared.what {
-            What::Command { parameters, .. } | What::Lookup { parameters } => parameters,
-            What::Variable { .. } | What::Node => 0,
-        };
-        match count {
-            0 => format!(in alloc; "`{name}` takes no argument, by its declaration in line {line}"),
-            1 => format!(in alloc; "`{name}` takes 1 argument, by its declaration in line {line}"),
-            _ => {
-                format!(in alloc;
-                    "`{name}` takes {count} arguments, by its declaration in line {line}"
-                )
+    fn push_count(&self, declared: Declared<'a>, message: &mut Pen) {
+        message.push("takes ");
+        match declared.what.parameters() {
+            0 => message.push("no argument"),
+            1 => message.push("1 argument"),
+            count => {
+                message.show(&count);
+                message.push(" arguments");
             }
         }
+        message.push(", by its declaration in line ");
+        message.show(&self.line(declared.token));
     }
 
-    fn doubled(&self, alloc: Global, token: usize) -> Result<Words, NoMemory> {
+    fn doubled(&self, token: usize, words: &mut Words) {
         match self.keyword(token) {
-            Some(Keyword::Priority) => Words::fixed(
-                alloc,
+            Some(Keyword::Priority) => words.say(
                 "this block has a Priority already",
                 "leave one of the two away",
             ),
-            _ => Words::fixed(
-                alloc,
+            _ => words.say(
                 "this block has the same condition already",
                 "join the two by `&&` or `||` in one condition",
             ),
         }
     }
 
-    fn too_large(&self, alloc: Global, token: usize) -> Result<Words, NoMemory> {
+    fn too_large(&self, token: usize, words: &mut Words) {
         if self.is_number(token) {
-            return Words::fixed(
-                alloc,
+            return words.say(
                 "this plan has 16 other tolerances already",
                 "let lookups share a tolerance where they can",
             );
         }
         let name = self.name(token);
         if name.is_empty() {
-            return Words::fixed(
-                alloc,
+            return words.say(
                 "this update has over 8 values",
                 "tell the others in a second `Update`",
             );
         }
+        words.message.push_all(&["`", name, "` "]);
         match self.declared_at(token) {
-            Some(declared) if declared.what.is_like(A_VARIABLE) => large_variable(alloc, name),
-            Some(_) => Ok(Words::plain(format!(in alloc;
-                "`{name}` is declared with over 8 parameters"
-            )?)),
-            None => Ok(Words::plain(format!(in alloc; "`{name}` has over 8 arguments")?)),
+            Some(declared) if declared.what.is_like(A_VARIABLE) => words.say(
+                "is too large",
+                "an array has 1 to 256 elements, at most as many initial values, and all variables of a plan together at most 65,536 elements",
+            ),
+            Some(_) => words.message.push("is declared with over 8 parameters"),
+            None => words.message.push("has over 8 arguments"),
         }
     }
 }
 
 // Of an element of a variable that isn't an array.
-fn no_array(alloc: Global, name: &str) -> Result<Words, NoMemory> {
-    let message = format!(in alloc; "`{name}` is no array, and has no elements to write")?;
-    let help = format!(in alloc; "leave the index away: `{name} = ..`")?;
-    Ok(Words::with_help(message, help))
+fn no_array(name: &str, words: &mut Words) {
+    words.message.push_all(&["`", name, "` is no array, and has no elements to write"]);
+    words
+        .help
+        .push_all(&["leave the index away: `", name, " = ..`"]);
 }
 
 // Of an array without an index.
-fn whole_array(alloc: Global, name: &str) -> Result<Words, NoMemory> {
-    let message = format!(in alloc; "`{name}` is an array, which isn't written as a whole")?;
-    let help = format!(in alloc; "write its elements one by one, as `{name}[0] = ..`")?;
-    Ok(Words::with_help(message, help))
-}
-
-fn large_variable(alloc: Global, name: &str) -> Result<Words, NoMemory> {
-    Words::with_fixed_help(
-        alloc,
-        format!(in alloc; "`{name}` is too large")?,
-        "an array has 1 to 256 elements, at most as many initial values, and all variables of a plan together at most 65,536 elements",
-    )
+fn whole_array(name: &str, words: &mut Words) {
+    words.message.push_all(&["`", name, "` is an array, which isn't written as a whole"]);
+    words.help.push_all(&["write its elements one by one, as `", name, "[0] = ..`"]);
 }

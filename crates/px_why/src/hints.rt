@@ -1,8 +1,10 @@
 // What helps where a plan can't go on, as far as the words there tell.
 use crate::candidates::Front;
 use crate::cut::Cut;
+use crate::nearest::push_meant;
 use crate::spellings::keyword_meant;
 use crate::wanted::Wanted;
+use px_pen::Pen;
 use px_value::NoMemory;
 use std::alloc::Global;
 
@@ -18,13 +20,13 @@ pub enum Hint<'a> {
 }
 
 impl<'a> Hint<'a> {
-    /// Appends the hint.
-    pub fn push(self, out: &mut String) -> Result<(), NoMemory> {
+    /// Writes the hint.
+    pub fn push(self, out: &mut Pen) {
         match self {
-            Hint::Rule(rule) => out.push_str(rule),
-            Hint::Here(keyword) => write!(out, "is `{keyword}` meant?"),
+            Hint::Rule(rule) => out.push(rule),
+            Hint::Here(keyword) => push_meant(keyword, out),
             Hint::Before { keyword, word } => {
-                write!(out, "is `{keyword}` meant in place of `{word}`?")
+                out.push_all(&["is `", keyword, "` meant in place of `", word, "`?"]);
             }
         }
     }
@@ -61,10 +63,12 @@ fn keyword_taken<'a>(
     front: &mut Front,
     word: &'a str,
 ) -> Result<Option<&'a str>, NoMemory> {
-    match keyword_meant(alloc, word)? {
-        Some(keyword) if front.takes_word(alloc, keyword)? => Ok(Some(keyword)),
-        _ => Ok(None),
-    }
+    let meant = match keyword_meant(alloc, word)? {
+        Some(keyword) if front.takes_word(keyword) => Some(keyword),
+        _ => None,
+    };
+    front.tried()?;
+    Ok(meant)
 }
 
 // The rule that is broken where the second stands behind the first.

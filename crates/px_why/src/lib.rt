@@ -27,7 +27,7 @@ mod spellings;
 mod syntax;
 mod wanted;
 
-pub use nearest::{Nearest, is_meant};
+pub use nearest::{Nearest, push_meant};
 pub use place::Place;
 pub use plan::why_plan;
 pub use report::{Words, push_fault, push_whole};

@@ -5,26 +5,25 @@ use crate::report::Words;
 use crate::seen::Seen;
 use px_check::{Allowed, Misfit};
 use px_lex::{Keyword, Sign};
+use px_pen::Pen;
 use px_syntax::ValueType;
-use px_value::NoMemory;
-use std::alloc::Global;
 
 impl<'a> Seen<'a> {
-    /// What is said where something of another type is wanted.
-    pub fn misfit(&self, alloc: Global, token: usize, misfit: Misfit) -> Result<Words, NoMemory> {
+    /// Says of a place that something of another type is wanted there.
+    pub fn misfit(&self, token: usize, misfit: Misfit, words: &mut Words) {
         let given = a_value(misfit.given);
         let wanted = an_allowed(misfit.wanted);
         let name = self.name(token);
         let is_named = !name.is_empty() && self.is_alone(token, misfit.given);
-        let message = if is_named {
-            format!(in alloc; "`{name}` is {given}; {wanted} is wanted here")?
+        if is_named {
+            words.message.push_all(&["`", name, "` is "]);
         } else {
-            format!(in alloc; "what begins here is {given}; {wanted} is wanted here")?
-        };
-        match help_for(misfit, is_named) {
-            Some(help) => Words::with_fixed_help(alloc, message, help),
-            None => Ok(Words::plain(message)),
+            words.message.push("what begins here is ");
         }
+        words
+            .message
+            .push_all(&[given, "; ", wanted, " is wanted here"]);
+        words.help.push(help_for(misfit, is_named));
     }
 
     // Whether the identifier at a token is the whole expression that has this type, as far as the next token tells.
@@ -49,123 +48,134 @@ impl<'a> Seen<'a> {
         }
     }
 
-    /// What is said where an array stands without an index, a scalar with one, a single value in place of a list, or a
-    /// tolerance where there can be none.
-    pub fn misuse(&self, alloc: Global, token: usize) -> Result<Words, NoMemory> {
+    /// Says that an array stands without an index, a scalar with one, a single value in place of a list, or a tolerance
+    /// where there can be none.
+    pub fn misuse(&self, token: usize, words: &mut Words) {
         let name = self.name(token);
         let next = self.sign(token.saturating_add(1));
         if self.is_number(token) && next == Some(Sign::CloseParen) {
-            return Words::fixed(
-                alloc,
+            return words.say(
                 "a tolerance stands here, and the lookup is not declared as Integer",
                 "leave it away with the comma before it, or declare the lookup as Integer",
             );
         }
         if name.is_empty() {
-            return self.misplaced_initial(alloc, token);
+            return self.misplaced_initial(token, words);
         }
         match next {
-            Some(Sign::OpenParen) => self.no_result(alloc, name),
-            Some(Sign::OpenBracket) => Ok(Words::with_help(
-                format!(in alloc; "`{name}` is no array, and has no elements")?,
-                format!(in alloc; "leave the index away: `{name}`")?,
-            )),
-            _ => Ok(Words::with_help(
-                format!(in alloc; "`{name}` is an array; one value is wanted here")?,
-                format!(in alloc; "name one of its elements, as `{name}[0]`")?,
-            )),
+            Some(Sign::OpenParen) => self.no_result(name, words),
+            Some(Sign::OpenBracket) => no_elements(name, words),
+            _ => no_index(name, words),
         }
     }
 
-    fn misplaced_initial(&self, alloc: Global, token: usize) -> Result<Words, NoMemory> {
-        let (message, help) = match self.sign(token) {
-            Some(Sign::OpenList) => (
+    fn misplaced_initial(&self, token: usize, words: &mut Words) {
+        match self.sign(token) {
+            Some(Sign::OpenList) => words.say(
                 "a list of values stands here, and the variable is no array",
                 "give the variable one value, or a size, as in `Integer x[2] = #(1 2);`",
             ),
-            _ => (
+            _ => words.say(
                 "one value stands here, and the variable is an array",
                 "give a list of values, as in `Integer x[2] = #(1 2);`",
             ),
-        };
-        Words::fixed(alloc, message, help)
+        }
     }
 
     // Of a command whose result is put into a variable.
-    fn no_result(&self, alloc: Global, name: &str) -> Result<Words, NoMemory> {
-        let message = match self.first_of(A_COMMAND, name) {
-            Some(declared) => match declared.what {
-                What::Command {
-                    answer: Some(answer),
-                    ..
-                } => {
-                    let answer = a_declared(answer);
-                    format!(in alloc;
-                        "`{name}` returns {answer}, and the variable is of another type"
-                    )?
-                }
-                _ => format!(in alloc;
-                    "`{name}` is declared without a result, and one is put into a variable"
-                )?,
-            },
-            None => format!(in alloc; "`{name}` has no result that fits the variable")?,
-        };
-        let help = format!(in alloc;
-            "declare what it returns before the plan, as in `Integer Command {name};`"
-        )?;
-        Ok(Words::with_help(message, help))
+    fn no_result(&self, name: &str, words: &mut Words) {
+        words.message.push_all(&["`", name, "` "]);
+        match self.first_of(A_COMMAND, name) {
+            Some(declared) => push_answer(declared.what, &mut words.message),
+            None => words.message.push("has no result that fits the variable"),
+        }
+        words.help.push_all(&[
+            "declare what it returns before the plan, as in `Integer Command ",
+            name,
+            ";`",
+        ]);
     }
 }
 
-fn help_for(misfit: Misfit, is_named: bool) -> Option<&'static str> {
+// Of a command as it is declared.
+fn push_answer(what: What, message: &mut Pen) {
+    match what {
+        What::Command {
+            answer: Some(answer),
+            ..
+        } => {
+            message.push_all(&["returns ", a_declared(answer)]);
+            message.push(", and the variable is of another type");
+        }
+        _ => message.push("is declared without a result, and one is put into a variable"),
+    }
+}
+
+fn no_elements(name: &str, words: &mut Words) {
+    words
+        .message
+        .push_all(&["`", name, "` is no array, and has no elements"]);
+    words.help.push_all(&["leave the index away: `", name, "`"]);
+}
+
+fn no_index(name: &str, words: &mut Words) {
+    words
+        .message
+        .push_all(&["`", name, "` is an array; one value is wanted here"]);
+    words
+        .help
+        .push_all(&["name one of its elements, as `", name, "[0]`"]);
+}
+
+// What helps; empty where nothing is known to.
+fn help_for(misfit: Misfit, is_named: bool) -> &'static str {
     match misfit.wanted {
         Allowed::Only(ValueType::Boolean) => help_for_test(misfit.given),
-        Allowed::Only(ValueType::Integer) if misfit.given == ValueType::String => Some(
-            "Strings stand between quotes and Integers don't; `strlen(x)` is the length of a String",
-        ),
+        Allowed::Only(ValueType::Integer) if misfit.given == ValueType::String => {
+            "Strings stand between quotes and Integers don't; `strlen(x)` is the length of a String"
+        }
         Allowed::Only(ValueType::String) if is_named => {
-            Some("nothing makes a String of another value: write the String itself")
+            "nothing makes a String of another value: write the String itself"
         }
-        Allowed::Only(ValueType::String) => {
-            Some("a String stands between double quotes, as `\"x\"`")
-        }
+        Allowed::Only(ValueType::String) => { "a String stands between double quotes, as `\"x\"`" }
         Allowed::Only(wanted) => help_for_word(wanted, misfit.given),
-        _ => None,
+        _ => "",
     }
 }
 
 // What stands beside the attribute of a node.
-fn help_for_word(wanted: ValueType, given: ValueType) -> Option<&'static str> {
-    match (wanted, given) {
-        (_, ValueType::State) => Some("it is compared with `.state`, as in `A.state == FINISHED`"),
-        (_, ValueType::Outcome) => {
-            Some("it is compared with `.outcome`, as in `A.outcome == SUCCESS`")
+fn help_for_word(wanted: ValueType, given: ValueType) -> &'static str {
+    match given {
+        ValueType::State => "it is compared with `.state`, as in `A.state == FINISHED`",
+        ValueType::Outcome => "it is compared with `.outcome`, as in `A.outcome == SUCCESS`",
+        ValueType::Failure => "it is compared with `.failure`, as in `A.failure == PARENT_FAILED`",
+        ValueType::Handle => {
+            "it is compared with `.command_handle`, as in `A.command_handle == COMMAND_SUCCESS`"
         }
-        (_, ValueType::Failure) => {
-            Some("it is compared with `.failure`, as in `A.failure == PARENT_FAILED`")
+        _ => help_for_attribute(wanted),
+    }
+}
+
+// What is compared with the attribute of a node.
+fn help_for_attribute(wanted: ValueType) -> &'static str {
+    match wanted {
+        ValueType::State => "write it without quotes, as in `A.state == FINISHED`",
+        ValueType::Outcome => "write it without quotes, as in `A.outcome == SUCCESS`",
+        ValueType::Failure => "write it without quotes, as in `A.failure == PARENT_FAILED`",
+        ValueType::Handle => {
+            "write it without quotes, as in `A.command_handle == COMMAND_SUCCESS`"
         }
-        (_, ValueType::Handle) => Some(
-            "it is compared with `.command_handle`, as in `A.command_handle == COMMAND_SUCCESS`",
-        ),
-        (ValueType::State, _) => Some("write it without quotes, as in `A.state == FINISHED`"),
-        (ValueType::Outcome, _) => Some("write it without quotes, as in `A.outcome == SUCCESS`"),
-        (ValueType::Failure, _) => {
-            Some("write it without quotes, as in `A.failure == PARENT_FAILED`")
-        }
-        (ValueType::Handle, _) => {
-            Some("write it without quotes, as in `A.command_handle == COMMAND_SUCCESS`")
-        }
-        _ => None,
+        _ => "",
     }
 }
 
 // What makes a test of a value.
-fn help_for_test(given: ValueType) -> Option<&'static str> {
+fn help_for_test(given: ValueType) -> &'static str {
     match given {
-        ValueType::Integer => Some("make a comparison of it, as `x > 0`"),
-        ValueType::String => Some("make a comparison of it, as `x == \"a\"`"),
-        ValueType::State => Some("compare it with a state, as `A.state == FINISHED`"),
-        ValueType::Outcome => Some("compare it with an outcome, as `A.outcome == SUCCESS`"),
-        _ => None,
+        ValueType::Integer => "make a comparison of it, as `x > 0`",
+        ValueType::String => "make a comparison of it, as `x == \"a\"`",
+        ValueType::State => "compare it with a state, as `A.state == FINISHED`",
+        ValueType::Outcome => "compare it with an outcome, as `A.outcome == SUCCESS`",
+        _ => "",
     }
 }

@@ -1,61 +1,66 @@
 // Names of variables and nodes that aren't there.
 use crate::declared::{A_LOOKUP, A_VARIABLE, What};
-use crate::nearest::is_meant;
+use crate::nearest::push_meant;
 use crate::report::Words;
 use crate::seen::Seen;
 use crate::spellings::value_meant;
 use px_lex::{Keyword, Sign};
+use px_pen::Pen;
 use px_value::NoMemory;
 use std::alloc::Global;
 
 impl<'a> Seen<'a> {
-    /// What is said of a variable that isn't declared.
-    pub fn undeclared(&self, alloc: Global, token: usize) -> Result<Words, NoMemory> {
+    /// Says of a variable that it isn't declared.
+    pub fn undeclared(
+        &self,
+        alloc: Global,
+        token: usize,
+        words: &mut Words,
+    ) -> Result<(), NoMemory> {
         let name = self.name(token);
-        let message = format!(in alloc; "no variable `{name}` is declared here")?;
-        let help = match self.first_of(A_VARIABLE, name) {
-            Some(other) => seen_elsewhere(alloc, name, self.line(other.token)),
-            None => self.variable_meant(alloc, name),
-        };
-        Ok(Words::with_help(message, help?))
+        words
+            .message
+            .push_all(&["no variable `", name, "` is declared here"]);
+        match self.first_of(A_VARIABLE, name) {
+            Some(other) => {
+                seen_elsewhere(name, self.line(other.token), &mut words.help);
+                Ok(())
+            }
+            None => self.variable_meant(alloc, name, &mut words.help),
+        }
     }
 
-    fn variable_meant(&self, alloc: Global, name: &'a str) -> Result<String, NoMemory> {
+    fn variable_meant(&self, alloc: Global, name: &'a str, help: &mut Pen) -> Result<(), NoMemory> {
         if self.first_of(A_LOOKUP, name).is_some() {
-            return to_look_up(alloc, name);
+            to_look_up(name, help);
+            return Ok(());
         }
-        match self.nearest(alloc, A_VARIABLE, name)? {
-            Some(near) => is_meant(alloc, near),
-            None => self.other_meant(alloc, name),
+        let near = match self.nearest(alloc, A_VARIABLE, name)? {
+            Some(near) => Some(near),
+            None => value_meant(alloc, name)?,
+        };
+        match near {
+            Some(near) => push_meant(near, help),
+            None if self.first_of(What::Node, name).is_some() => to_ask_node(name, help),
+            None => to_declare(name, help),
         }
+        Ok(())
     }
 
-    // What is meant by the name of no variable, if it is near to none either.
-    fn other_meant(&self, alloc: Global, name: &'a str) -> Result<String, NoMemory> {
-        match value_meant(alloc, name)? {
-            Some(value) => is_meant(alloc, value),
-            None if self.first_of(What::Node, name).is_some() => to_ask_node(alloc, name),
-            None => to_declare(alloc, name),
-        }
-    }
-
-    /// What is said of a node that isn't there, or that is no command where its handle is asked for.
-    pub fn no_such_node(&self, alloc: Global, token: usize) -> Result<Words, NoMemory> {
+    /// Says of a node that it isn't there, or that it is no command where its handle is asked for.
+    pub fn no_such_node(
+        &self,
+        alloc: Global,
+        token: usize,
+        words: &mut Words,
+    ) -> Result<(), NoMemory> {
         match self.keyword(token) {
-            Some(Keyword::Parent | Keyword::Sibling) if !self.asks_for_handle(token) => {
-                Words::fixed_plain(
-                    alloc,
-                    "there is no such node: the root has no parent and no siblings, and a sibling needs the name of one",
-                )
+            Some(keyword) => {
+                let asks_for_handle = self.asks_for_handle(token);
+                words.message.push(no_related(keyword, asks_for_handle));
+                Ok(())
             }
-            Some(Keyword::Child) if !self.asks_for_handle(token) => {
-                Words::fixed_plain(alloc, "this node has no child of that name")
-            }
-            Some(_) => Words::fixed_plain(
-                alloc,
-                "there is no such command here: only a node that is one command has a `command_handle`",
-            ),
-            None => self.no_named_node(alloc, token),
+            None => self.no_named_node(alloc, token, words),
         }
     }
 
@@ -68,58 +73,113 @@ impl<'a> Seen<'a> {
         self.name(dot.saturating_add(1)) == "command_handle"
     }
 
-    fn no_named_node(&self, alloc: Global, token: usize) -> Result<Words, NoMemory> {
+    fn no_named_node(
+        &self,
+        alloc: Global,
+        token: usize,
+        words: &mut Words,
+    ) -> Result<(), NoMemory> {
         let name = self.name(token);
-        let known = self.first_of(What::Node, name);
-        if self.asks_for_handle(token) && known.is_some() {
-            return no_command(alloc, name);
+        match self.first_of(What::Node, name) {
+            Some(_) if self.asks_for_handle(token) => no_command(name, words),
+            Some(other) => stands_elsewhere(name, self.line(other.token), words),
+            None => return self.node_meant(alloc, name, words),
         }
-        let message = format!(in alloc; "no node `{name}` is seen from here")?;
-        let help = match known {
-            Some(other) => stands_elsewhere(alloc, name, self.line(other.token)),
-            None => self.node_meant(alloc, name),
-        };
-        Ok(Words::with_help(message, help?))
+        Ok(())
     }
 
-    fn node_meant(&self, alloc: Global, name: &'a str) -> Result<String, NoMemory> {
+    fn node_meant(&self, alloc: Global, name: &'a str, words: &mut Words) -> Result<(), NoMemory> {
+        not_seen(name, &mut words.message);
         match self.nearest(alloc, What::Node, name)? {
-            Some(near) => is_meant(alloc, near),
-            None => format!(in alloc; "give the node that is meant the label `{name}:`"),
+            Some(near) => push_meant(near, &mut words.help),
+            None => to_label(name, &mut words.help),
+        }
+        Ok(())
+    }
+}
+
+fn seen_elsewhere(name: &str, line: usize, help: &mut Pen) {
+    push_line(name, line, help);
+    help.push(" is seen in its own block alone: declare it in a block round both places");
+}
+
+fn push_line(name: &str, line: usize, help: &mut Pen) {
+    help.push_all(&["the `", name, "` of line "]);
+    help.show(&line);
+}
+
+fn to_look_up(name: &str, help: &mut Pen) {
+    help.push_all(&[
+        "`",
+        name,
+        "` is a state of the outside: write `Lookup(",
+        name,
+        ")`",
+    ]);
+}
+
+fn to_ask_node(name: &str, help: &mut Pen) {
+    help.push_all(&[
+        "`",
+        name,
+        "` is a node: write `",
+        name,
+        ".state` or `",
+        name,
+        ".outcome`",
+    ]);
+}
+
+fn to_declare(name: &str, help: &mut Pen) {
+    help.push_all(&[
+        "declare it in this block or in one round it, as in `Integer ",
+        name,
+        ";`; a state of the outside is read by `Lookup(",
+        name,
+        ")`",
+    ]);
+}
+
+fn to_label(name: &str, help: &mut Pen) {
+    help.push_all(&["give the node that is meant the label `", name, ":`"]);
+}
+
+// Of a node that is named by how it is related.
+fn no_related(keyword: Keyword, asks_for_handle: bool) -> &'static str {
+    match keyword {
+        Keyword::Parent | Keyword::Sibling if !asks_for_handle => {
+            "there is no such node: the root has no parent and no siblings, and a sibling needs the name of one"
+        }
+        Keyword::Child if !asks_for_handle => "this node has no child of that name",
+        _ => {
+            "there is no such command here: only a node that is one command has a `command_handle`"
         }
     }
 }
 
-fn seen_elsewhere(alloc: Global, name: &str, line: usize) -> Result<String, NoMemory> {
-    format!(in alloc;
-        "the `{name}` of line {line} is seen in its own block alone: declare it in a block round both places"
-    )
+fn not_seen(name: &str, message: &mut Pen) {
+    message.push_all(&["no node `", name, "` is seen from here"]);
 }
 
-fn to_look_up(alloc: Global, name: &str) -> Result<String, NoMemory> {
-    format!(in alloc; "`{name}` is a state of the outside: write `Lookup({name})`")
+fn stands_elsewhere(name: &str, line: usize, words: &mut Words) {
+    not_seen(name, &mut words.message);
+    push_line(name, line, &mut words.help);
+    words.help.push(
+        " stands elsewhere: a node sees its children, itself, and the nodes round it with their children",
+    );
 }
 
-fn to_ask_node(alloc: Global, name: &str) -> Result<String, NoMemory> {
-    format!(in alloc; "`{name}` is a node: write `{name}.state` or `{name}.outcome`")
-}
-
-fn to_declare(alloc: Global, name: &str) -> Result<String, NoMemory> {
-    format!(in alloc;
-        "declare it in this block or in one round it, as in `Integer {name};`; a state of the outside is read by `Lookup({name})`"
-    )
-}
-
-fn stands_elsewhere(alloc: Global, name: &str, line: usize) -> Result<String, NoMemory> {
-    format!(in alloc;
-        "the `{name}` of line {line} stands elsewhere: a node sees its children, itself, and the nodes round it with their children"
-    )
-}
-
-fn no_command(alloc: Global, name: &str) -> Result<Words, NoMemory> {
-    let message = format!(in alloc; "`{name}` is no command here, and has no `command_handle`")?;
-    let help = format!(in alloc;
-        "only a node that is one command has one; `{name}.state` and `{name}.outcome` every node has"
-    )?;
-    Ok(Words::with_help(message, help))
+fn no_command(name: &str, words: &mut Words) {
+    words.message.push_all(&[
+        "`",
+        name,
+        "` is no command here, and has no `command_handle`",
+    ]);
+    words.help.push_all(&[
+        "only a node that is one command has one; `",
+        name,
+        ".state` and `",
+        name,
+        ".outcome` every node has",
+    ]);
 }

@@ -1,6 +1,7 @@
 // The name that is meant where another one is written.
+use px_pen::Pen;
 use px_value::NoMemory;
-use std::alloc::Global;
+use std::alloc::{AllocError, Global};
 use strsim::levenshtein;
 
 /// The best of the names that were looked at so far.
@@ -10,6 +11,8 @@ pub struct Nearest<'a> {
     found: Option<&'a str>,
     /// An edit more than may be made for the next name.
     edits: usize,
+    /// Whether memory has run out at a name.
+    has_failed: bool,
 }
 
 impl<'a> Nearest<'a> {
@@ -19,30 +22,37 @@ impl<'a> Nearest<'a> {
             meant,
             found: None,
             edits: (meant.len() / 3).max(1).saturating_add(1),
+            has_failed: false,
         }
     }
 
     /// Looks at a name.
-    pub fn look_at(&mut self, alloc: Global, name: &'a str) -> Result<(), NoMemory> {
+    pub fn look_at(&mut self, alloc: Global, name: &'a str) {
         // Each letter more or less is an edit.
         if name.len().abs_diff(self.meant.len()) >= self.edits {
-            return Ok(());
+            return;
         }
-        let edits = levenshtein(alloc, self.meant, name)?;
-        if edits < self.edits {
-            self.edits = edits;
-            self.found = Some(name);
+        match levenshtein(alloc, self.meant, name) {
+            Ok(edits) if edits < self.edits => {
+                self.edits = edits;
+                self.found = Some(name);
+            }
+            Ok(_) => {}
+            Err(_) => self.has_failed = true,
         }
-        Ok(())
     }
 
-    /// The nearest name, if one is near.
-    pub fn found(&self) -> Option<&'a str> {
-        self.found
+    /// The nearest name, if one is near; `NoMemory` where memory ran out at one of them.
+    pub fn found(&self) -> Result<Option<&'a str>, NoMemory> {
+        if self.has_failed {
+            Err(AllocError)
+        } else {
+            Ok(self.found)
+        }
     }
 }
 
-/// The hint that this name may be meant.
-pub fn is_meant(alloc: Global, name: &str) -> Result<String, NoMemory> {
-    format!(in alloc; "is `{name}` meant?")
+/// Writes the hint that this name may be meant.
+pub fn push_meant(name: &str, out: &mut Pen) {
+    out.push_all(&["is `", name, "` meant?"]);
 }

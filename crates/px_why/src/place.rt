@@ -1,5 +1,4 @@
 // Places in a text: the line, the column and what stands there.
-use std::iter::{Skip, Take};
 use std::str::Chars;
 
 /// The most characters of a line that are shown.
@@ -48,11 +47,16 @@ fn place_in(content: &str, line: usize, before: usize) -> Place<'_> {
     }
 }
 
+// How many characters begin before this byte.
 fn characters_before(content: &str, at: usize) -> usize {
-    content
-        .char_indices()
-        .filter(|(place, _)| *place < at)
-        .count()
+    let mut characters: usize = 0;
+    for (place, _) in content.char_indices() {
+        if place >= at {
+            return characters;
+        }
+        characters = characters.saturating_add(1);
+    }
+    characters
 }
 
 /// Whether a character may stand within a name or a number.
@@ -74,16 +78,12 @@ impl<'a> Place<'a> {
 
     /// What stands here, of a long string the front; empty at the end of the line.
     pub fn spelled(&self) -> &'a str {
-        let rest = skipped(self.content, self.before);
-        match rest.char_indices().nth(self.width.min(SPELLED)) {
-            Some((end, _)) => rest.get(..end).unwrap_or(rest),
-            None => rest,
-        }
+        front(skipped(self.content, self.before), self.width.min(SPELLED))
     }
 
     /// The character at the place; None at the end of the line.
     pub fn first(&self) -> Option<char> {
-        self.content.chars().skip(self.before).next()
+        skipped(self.content, self.before).chars().next()
     }
 
     /// The first character of the line that is shown.
@@ -95,9 +95,17 @@ impl<'a> Place<'a> {
         }
     }
 
-    /// The characters of the line that are shown.
-    pub fn shown(&self) -> Take<Skip<Chars<'a>>> {
-        self.content.chars().skip(self.shown_from()).take(SHOWN)
+    /// What is shown of the line.
+    pub fn shown(&self) -> &'a str {
+        front(skipped(self.content, self.shown_from()), SHOWN)
+    }
+}
+
+// So many characters of a text, or all where there are fewer.
+fn front(text: &str, characters: usize) -> &str {
+    match text.char_indices().nth(characters) {
+        Some((end, _)) => text.get(..end).unwrap_or(text),
+        None => text,
     }
 }
 
@@ -111,29 +119,41 @@ fn skipped(text: &str, characters: usize) -> &str {
 
 // How many characters what a plan has at a place of a line has: a word, a number, a string, or a sign.
 fn width_behind(content: &str, before: usize) -> usize {
-    let mut behind = content.chars().skip(before);
+    let mut behind = skipped(content, before).chars();
     let Some(first) = behind.next() else {
         return 1;
     };
     let others = match first {
-        '"' => string_behind(content, before),
-        '0'..='9' => behind.take_while(|c| is_of_word(*c) || *c == '.').count(),
-        _ if is_of_word(first) => behind.take_while(|c| is_of_word(*c)).count(),
+        '"' => string_behind(behind),
+        '0'..='9' => word_behind(behind, '.'),
+        _ if is_of_word(first) => word_behind(behind, '_'),
         _ => sign_behind(first, behind.next()),
     };
     others.saturating_add(1)
 }
 
 // How many characters a string has behind its first quote.
-fn string_behind(content: &str, before: usize) -> usize {
+fn string_behind(behind: Chars<'_>) -> usize {
     let mut width: usize = 0;
     let mut is_escaped = false;
-    for c in content.chars().skip(before.saturating_add(1)) {
+    for c in behind {
         width = width.saturating_add(1);
         if c == '"' && !is_escaped {
             return width;
         }
         is_escaped = c == '\\' && !is_escaped;
+    }
+    width
+}
+
+// How many characters a word has behind its first, where this one may stand in it too.
+fn word_behind(behind: Chars<'_>, other: char) -> usize {
+    let mut width: usize = 0;
+    for c in behind {
+        if !is_of_word(c) && c != other {
+            return width;
+        }
+        width = width.saturating_add(1);
     }
     width
 }

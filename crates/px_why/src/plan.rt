@@ -1,6 +1,6 @@
 // All faults of a plan, told one after another.
 use crate::declared::names_in;
-use crate::lexical::{byte_of, lexical_words};
+use crate::lexical::{byte_of, not_a_token};
 use crate::place::place_of;
 use crate::report::{Words, push_fault, push_whole};
 use crate::seen::Seen;
@@ -8,6 +8,7 @@ use crate::syntax::{cut_short, place_at, too_deep};
 use px_check::{Spot, first_behind};
 use px_compile::{TEXT_LIMIT, compile_tree};
 use px_lex::{LexFault, Token, lex};
+use px_pen::Pen;
 use px_plan_parse::parse;
 use px_syntax::{ExpandFault, ParseFault, PlanFault, Surface};
 use px_value::NoMemory;
@@ -17,50 +18,50 @@ use std::str::from_utf8;
 /// The most faults that are told of one plan.
 const FAULT_LIMIT: u32 = 1_000;
 
-/// Appends why the bytes of a file are no plan that can be run, in words, and answers how many reasons there are: all
+/// Writes why the bytes of a file are no plan that can be run, in words, and answers how many reasons there are: all
 /// faults of its tree, by their tokens, or the one reason for which it has no tree or is too large. None where there is no
 /// reason.
-pub fn why_plan(
-    alloc: Global,
-    name: &str,
-    bytes: &[u8],
-    out: &mut String,
-) -> Result<u32, NoMemory> {
+pub fn why_plan(alloc: Global, name: &str, bytes: &[u8], out: &mut Pen) -> Result<u32, NoMemory> {
     if bytes.len() > TEXT_LIMIT {
-        let message = "the file is no plan: it has over 1,048,576 bytes";
-        push_whole(out, name, &Words::fixed_plain(alloc, message)?)?;
+        let mut words = Words::new(alloc);
+        words
+            .message
+            .push("the file is no plan: it has over 1,048,576 bytes");
+        push_whole(out, name, &words);
         return Ok(1);
     }
     match from_utf8(bytes) {
         Ok(text) => why_text(alloc, name, text, out),
         Err(error) => {
-            not_text(alloc, name, bytes, error.valid_up_to(), out)?;
+            not_text(alloc, name, bytes, error.valid_up_to(), out);
             Ok(1)
         }
     }
 }
 
-fn not_text(
-    alloc: Global,
-    name: &str,
-    bytes: &[u8],
-    at: usize,
-    out: &mut String,
-) -> Result<(), NoMemory> {
-    let line = bytes
-        .iter()
-        .take(at)
-        .filter(|byte| **byte == b'\n')
-        .count()
-        .saturating_add(1);
-    let message = format!(in alloc;
-        "the byte {at} of the file, in line {line}, is no text (UTF-8)"
-    )?;
-    let words = Words::with_fixed_help(alloc, message, "save the plan as UTF-8")?;
-    push_whole(out, name, &words)
+fn not_text(alloc: Global, name: &str, bytes: &[u8], at: usize, out: &mut Pen) {
+    let mut words = Words::new(alloc);
+    words.message.push("the byte ");
+    words.message.show(&at);
+    words.message.push(" of the file, in line ");
+    words.message.show(&line_at(bytes, at));
+    words.message.push(", is no text (UTF-8)");
+    words.help.push("save the plan as UTF-8");
+    push_whole(out, name, &words);
 }
 
-fn why_text(alloc: Global, name: &str, text: &str, out: &mut String) -> Result<u32, NoMemory> {
+// The number of the line in which a byte stands.
+fn line_at(bytes: &[u8], at: usize) -> usize {
+    let mut line: usize = 1;
+    for byte in bytes.iter().take(at) {
+        if *byte == b'\n' {
+            line = line.saturating_add(1);
+        }
+    }
+    line
+}
+
+fn why_text(alloc: Global, name: &str, text: &str, out: &mut Pen) -> Result<u32, NoMemory> {
     match lex(alloc, text) {
         Ok(tokens) => why_tokens(alloc, name, text, tokens, out),
         Err(fault) => {
@@ -75,12 +76,14 @@ fn no_token(
     name: &str,
     text: &str,
     fault: &LexFault,
-    out: &mut String,
+    out: &mut Pen,
 ) -> Result<(), NoMemory> {
     let at = byte_of(fault).ok_or(AllocError)?;
     let place = place_of(text, at);
-    let words = lexical_words(alloc, fault, &place)?;
-    push_fault(out, name, &place, &words)
+    let mut words = Words::new(alloc);
+    not_a_token(fault, &place, &mut words);
+    push_fault(out, name, &place, &words);
+    Ok(())
 }
 
 fn why_tokens(
@@ -88,7 +91,7 @@ fn why_tokens(
     name: &str,
     text: &str,
     tokens: Vec<Token>,
-    out: &mut String,
+    out: &mut Pen,
 ) -> Result<u32, NoMemory> {
     match parse(alloc, &tokens) {
         Ok(tree) => {
@@ -109,19 +112,19 @@ fn no_tree(
     text: &str,
     tokens: Vec<Token>,
     fault: ParseFault,
-    out: &mut String,
+    out: &mut Pen,
 ) -> Result<(), NoMemory> {
-    match fault {
-        ParseFault::SyntaxFault { token } => {
-            let told = cut_short(alloc, text, tokens, token)?;
-            push_fault(out, name, &told.place, &told.words)
-        }
+    let mut words = Words::new(alloc);
+    let place = match fault {
+        ParseFault::SyntaxFault { token } => cut_short(alloc, text, tokens, token, &mut words)?,
         ParseFault::Deep { token } => {
-            let words = too_deep(alloc, &tokens, token)?;
-            push_fault(out, name, &place_at(text, &tokens, token), &words)
+            too_deep(&tokens, token, &mut words);
+            place_at(text, &tokens, token)
         }
-        ParseFault::NoMemory => Err(AllocError),
-    }
+        ParseFault::NoMemory => return Err(AllocError),
+    };
+    push_fault(out, name, &place, &words);
+    Ok(())
 }
 
 fn why_tree(
@@ -130,7 +133,7 @@ fn why_tree(
     text: &str,
     tokens: &[Token],
     tree: &Surface,
-    out: &mut String,
+    out: &mut Pen,
 ) -> Result<u32, NoMemory> {
     let names = names_in(alloc, tree)?;
     let seen = Seen {
@@ -150,23 +153,24 @@ fn each_fault(
     name: &str,
     seen: &Seen<'_>,
     tree: &Surface,
-    out: &mut String,
+    out: &mut Pen,
 ) -> Result<u32, NoMemory> {
     let mut floor: Option<Spot> = None;
     for told in 0..FAULT_LIMIT {
         let Some(spot) = first_behind(alloc, tree, floor)? else {
             return Ok(told);
         };
-        let words = seen.words(alloc, spot)?;
-        push_fault(out, name, &seen.place(spot.token), &words)?;
+        let mut words = Words::new(alloc);
+        seen.explain(alloc, spot, &mut words)?;
+        push_fault(out, name, &seen.place(spot.token), &words);
         floor = Some(spot);
     }
-    out.push_str("these are the first 1,000 faults\n\n")?;
+    out.push("these are the first 1,000 faults\n\n");
     Ok(FAULT_LIMIT)
 }
 
 // Of a tree without a fault.
-fn too_large(alloc: Global, name: &str, text: &str, out: &mut String) -> Result<u32, NoMemory> {
+fn too_large(alloc: Global, name: &str, text: &str, out: &mut Pen) -> Result<u32, NoMemory> {
     let bytes = text.as_bytes();
     if bytes.len() > TEXT_LIMIT {
         return Ok(0);
@@ -177,13 +181,20 @@ fn too_large(alloc: Global, name: &str, text: &str, out: &mut String) -> Result<
             Ok(0)
         }
         Err(PlanFault::Expand(ExpandFault::TooMany { nodes })) => {
-            let message = format!(in alloc;
-                "the plan has {nodes} nodes, of at most 4,096, or one of them a path of over 5,000 bytes"
-            )?;
-            let help = "make it of fewer nodes, or nest them less deep";
-            push_whole(out, name, &Words::with_fixed_help(alloc, message, help)?)?;
+            too_many(alloc, name, nodes, out);
             Ok(1)
         }
         Err(_) => Err(AllocError),
     }
+}
+
+fn too_many(alloc: Global, name: &str, nodes: u32, out: &mut Pen) {
+    let mut words = Words::new(alloc);
+    words.message.push("the plan has ");
+    words.message.show(&nodes);
+    words.message.push(" nodes, of at most 4,096, or one of them a path of over 5,000 bytes");
+    words
+        .help
+        .push("make it of fewer nodes, or nest them less deep");
+    push_whole(out, name, &words);
 }

@@ -1,99 +1,81 @@
 // What is told of a fault: in words, with its line, and with what helps.
 use crate::place::Place;
-use px_value::NoMemory;
+use px_pen::Pen;
 use std::alloc::Global;
 
 /// What is wrong, and what to do about it.
 #[derive(Drop)]
 pub struct Words {
-    pub message: String,
-    pub help: Option<String>,
+    pub message: Pen,
+    /// Empty where there is nothing to say.
+    pub help: Pen,
 }
 
 impl Words {
-    /// A message and a hint that are the same for every plan.
-    pub fn fixed(alloc: Global, message: &str, help: &str) -> Result<Words, NoMemory> {
-        let message = String::from_str(alloc, message)?;
-        let help = String::from_str(alloc, help)?;
-        Ok(Words::with_help(message, help))
-    }
-
-    /// A message that is the same for every plan.
-    pub fn fixed_plain(alloc: Global, message: &str) -> Result<Words, NoMemory> {
-        Ok(Words::plain(String::from_str(alloc, message)?))
-    }
-
-    /// With a hint that is the same for every plan.
-    pub fn with_fixed_help(alloc: Global, message: String, help: &str) -> Result<Words, NoMemory> {
-        let help = String::from_str(alloc, help)?;
-        Ok(Words::with_help(message, help))
-    }
-
-    /// Without a hint.
-    pub fn plain(message: String) -> Words {
+    /// No words yet.
+    pub fn new(alloc: Global) -> Words {
         Words {
-            message,
-            help: None,
+            message: Pen::new(alloc),
+            help: Pen::new(alloc),
         }
     }
 
-    /// With a hint.
-    pub fn with_help(message: String, help: String) -> Words {
-        Words {
-            message,
-            help: Some(help),
-        }
+    /// Writes both.
+    pub fn say(&mut self, message: &str, help: &str) {
+        self.message.push(message);
+        self.help.push(help);
     }
 }
 
-/// Appends a fault at a place of a file.
-pub fn push_fault(
-    out: &mut String,
-    name: &str,
-    place: &Place<'_>,
-    words: &Words,
-) -> Result<(), NoMemory> {
-    let line = place.line;
-    let column = place.column();
-    write!(out, "error: {}\n", words.message)?;
-    write!(out, "  --> {name}:{line}:{column}\n")?;
-    push_excerpt(out, place)?;
-    push_help(out, words)
+/// Writes a fault at a place of a file.
+pub fn push_fault(out: &mut Pen, name: &str, place: &Place<'_>, words: &Words) {
+    out.push("error: ");
+    out.append(&words.message);
+    out.push_all(&["\n  --> ", name, ":"]);
+    out.show(&place.line);
+    out.push(":");
+    out.show(&place.column());
+    out.push("\n");
+    push_excerpt(out, place);
+    push_help(out, words);
 }
 
-/// Appends a fault that has no place in a file.
-pub fn push_whole(out: &mut String, name: &str, words: &Words) -> Result<(), NoMemory> {
-    write!(out, "error: {}\n  --> {name}\n", words.message)?;
-    push_help(out, words)
+/// Writes a fault that has no place in a file.
+pub fn push_whole(out: &mut Pen, name: &str, words: &Words) {
+    out.push("error: ");
+    out.append(&words.message);
+    out.push_all(&["\n  --> ", name, "\n"]);
+    push_help(out, words);
 }
 
-fn push_help(out: &mut String, words: &Words) -> Result<(), NoMemory> {
-    if let Some(help) = &words.help {
-        write!(out, "   = help: {help}\n")?;
+fn push_help(out: &mut Pen, words: &Words) {
+    if !words.help.is_empty() {
+        out.push("   = help: ");
+        out.append(&words.help);
+        out.push("\n");
     }
-    out.push_str("\n")
+    out.push("\n");
 }
 
 // The line, and marks under what is meant.
-fn push_excerpt(out: &mut String, place: &Place<'_>) -> Result<(), NoMemory> {
+fn push_excerpt(out: &mut Pen, place: &Place<'_>) {
     let line = place.line;
-    write!(out, "     |\n{line:>4} | ")?;
-    for c in place.shown() {
-        out.push(if c.is_control() && c != '\t' { ' ' } else { c })?;
+    write!(out, "     |\n{line:>4} | ");
+    for c in place.shown().chars() {
+        out.push_char(if c.is_control() && c != '\t' { ' ' } else { c });
     }
-    out.push_str("\n     | ")?;
-    push_marks(out, place)?;
-    out.push_str("\n")
+    out.push("\n     | ");
+    push_marks(out, place);
+    out.push("\n");
 }
 
-fn push_marks(out: &mut String, place: &Place<'_>) -> Result<(), NoMemory> {
+fn push_marks(out: &mut Pen, place: &Place<'_>) {
     let before = place.before.saturating_sub(place.shown_from());
-    for c in place.shown().take(before) {
-        out.push(if c == '\t' { '\t' } else { ' ' })?;
+    for c in place.shown().chars().take(before) {
+        out.push_char(if c == '\t' { '\t' } else { ' ' });
     }
-    let left = place.shown().skip(before).count();
+    let left = place.shown().chars().skip(before).count();
     for _ in 0..place.width.min(left.max(1)) {
-        out.push('^')?;
+        out.push_char('^');
     }
-    Ok(())
 }

@@ -4,6 +4,7 @@ ghost use Rattle.px_core.specs.Plan.{tree_of};
 
 use crate::report::{Words, push_whole};
 use px_core::Plan;
+use px_pen::Pen;
 use px_sem::{Move, STEP_LIMIT, Stepper};
 use px_value::NoMemory;
 use std::alloc::Global;
@@ -11,12 +12,12 @@ use std::alloc::Global;
 /// How many nodes are told.
 const TOLD: usize = 5;
 
-/// Appends, where the start of a plan doesn't settle, which nodes go on, and answers whether it settles.
+/// Writes, where the start of a plan doesn't settle, which nodes go on, and answers whether it settles.
 pub fn why_start<S: Stepper>(
     alloc: Global,
     name: &str,
     plan: &Plan,
-    out: &mut String,
+    out: &mut Pen,
 ) -> Result<bool, NoMemory>
     requires fit { IsFit (tree_of plan.now) }
 {
@@ -26,23 +27,19 @@ pub fn why_start<S: Stepper>(
             return Ok(true);
         }
     }
-    let words = runaway_words(alloc, stepper.moves())?;
+    let mut words = Words::new(alloc);
+    push_going(stepper.moves(), &mut words);
     drop(stepper);
-    push_whole(out, name, &words)?;
+    push_whole(out, name, &words);
     Ok(false)
 }
 
-fn runaway_words(alloc: Global, moves: &[Move]) -> Result<Words, NoMemory> {
-    let mut message = String::from_str(
-        alloc,
+fn push_going(moves: &[Move], words: &mut Words) {
+    words.say(
         "the start doesn't settle within 100,000 steps: these nodes go on without an event from outside:",
-    )?;
-    for moved in moves.iter().take(TOLD) {
-        write!(message, " {}", moved.node.as_str())?;
-    }
-    Words::with_fixed_help(
-        alloc,
-        message,
         "let a node that repeats wait for the outside, as by `Start Lookup(go);`, or give it a Repeat that becomes false",
-    )
+    );
+    for moved in moves.iter().take(TOLD) {
+        words.message.push_all(&[" ", moved.node.as_str()]);
+    }
 }

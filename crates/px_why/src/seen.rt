@@ -67,22 +67,32 @@ impl<'a> Seen<'a> {
 
     /// The first declaration of a name that is of this sort.
     pub fn first_of(&self, like: What, name: &str) -> Option<Declared<'a>> {
-        self.names
-            .iter()
-            .copied()
-            .find(|one| one.what.is_like(like) && one.name == name)
+        for one in self.names {
+            if one.what.is_like(like) && one.name == name {
+                return Some(*one);
+            }
+        }
+        None
     }
 
     /// What is declared at a token.
     pub fn declared_at(&self, token: usize) -> Option<Declared<'a>> {
-        self.names.iter().copied().find(|one| one.token == token)
+        for one in self.names {
+            if one.token == token {
+                return Some(*one);
+            }
+        }
+        None
     }
 
     /// The first declaration of the same sort, name and place.
     pub fn first_like(&self, other: Declared<'a>) -> Option<Declared<'a>> {
-        self.names.iter().copied().find(|one| {
-            one.place == other.place && one.what.is_like(other.what) && one.name == other.name
-        })
+        for one in self.names {
+            if one.place == other.place && one.what.is_like(other.what) && one.name == other.name {
+                return Some(*one);
+            }
+        }
+        None
     }
 
     /// The declared name of this sort that is nearest to one, if one is near.
@@ -95,9 +105,9 @@ impl<'a> Seen<'a> {
         let mut nearest = Nearest::to(name);
         for one in self.names {
             if one.what.is_like(like) {
-                nearest.look_at(alloc, one.name)?;
+                nearest.look_at(alloc, one.name);
             }
         }
-        Ok(nearest.found())
+        nearest.found()
     }
 }

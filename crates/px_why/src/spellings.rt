@@ -111,8 +111,8 @@ fn nearest_of<'a>(
             return Ok(Some(*spelling));
         }
         if word.len() >= LEAST {
-            nearest.look_at(alloc, *spelling)?;
+            nearest.look_at(alloc, *spelling);
         }
     }
-    Ok(nearest.found())
+    nearest.found()
 }

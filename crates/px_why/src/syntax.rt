@@ -6,72 +6,71 @@ use crate::place::{Place, place_of};
 use crate::report::Words;
 use crate::wanted::Wanted;
 use px_lex::{Sign, Token, TokenKind};
+use px_pen::Pen;
 use px_value::NoMemory;
 use std::alloc::Global;
 
-/// A token that a plan can't go on with, or its end.
-#[derive(Drop)]
-pub struct Unexpected<'a> {
-    /// Of the token; of the end of the last token where the plan ends too early.
-    pub place: Place<'a>,
-    pub words: Words,
-}
-
-/// What is said where a plan can't go on with a token.
+/// Says why a plan can't go on with a token, or that it ends too early, and answers the place: that of the token, or the
+/// end of the last one.
 pub fn cut_short<'a>(
     alloc: Global,
     text: &'a str,
     tokens: Vec<Token>,
     token: usize,
-) -> Result<Unexpected<'a>, NoMemory> {
+    words: &mut Words,
+) -> Result<Place<'a>, NoMemory> {
     let cut = Cut::at(alloc, text, &tokens, token)?;
-    let help = help_for(alloc, &cut, Front::of(tokens, token))?;
-    let words = Words::with_help(message_for(alloc, &cut)?, help);
-    Ok(Unexpected {
-        place: cut.place,
-        words,
-    })
+    push_message(&cut, &mut words.message);
+    push_hints(
+        alloc,
+        &cut,
+        Front::of(alloc, tokens, token),
+        &mut words.help,
+    )?;
+    Ok(cut.place)
 }
 
-fn message_for(alloc: Global, cut: &Cut<'_>) -> Result<String, NoMemory> {
+fn push_message(cut: &Cut<'_>, out: &mut Pen) {
     match cut.place.spelled() {
-        "" => String::from_str(alloc, "the plan ends here, and something is missing"),
-        found => format!(in alloc; "`{found}` can't stand here"),
+        "" => out.push("the plan ends here, and something is missing"),
+        found => out.push_all(&["`", found, "` can't stand here"]),
     }
 }
 
-fn help_for(alloc: Global, cut: &Cut<'_>, mut front: Front) -> Result<String, NoMemory> {
+fn push_hints(
+    alloc: Global,
+    cut: &Cut<'_>,
+    mut front: Front,
+    out: &mut Pen,
+) -> Result<(), NoMemory> {
     let wanted = Wanted::behind(alloc, &mut front)?;
-    let mut help = String::new(alloc);
     match hint_for(alloc, cut, &wanted, front)? {
-        Some(hint) => hint.push(&mut help)?,
-        None => push_wanted(cut, &wanted, &mut help)?,
+        Some(hint) => hint.push(out),
+        None => push_wanted(cut, &wanted, out),
     }
-    Ok(help)
+    Ok(())
 }
 
-fn push_wanted(cut: &Cut<'_>, wanted: &Wanted, out: &mut String) -> Result<(), NoMemory> {
+fn push_wanted(cut: &Cut<'_>, wanted: &Wanted, out: &mut Pen) {
     if wanted.is_complete {
-        return out.push_str("the plan is complete before it: leave the rest away");
+        return out.push("the plan is complete before it: leave the rest away");
     }
     if let Some(open) = cut.open {
-        write!(
-            out,
-            "the `{}` of line {} isn't closed; ",
-            open.spelled(),
-            open.line
-        )?;
+        out.push_all(&["the `", open.spelled(), "` of line "]);
+        out.show(&open.line);
+        out.push(" isn't closed; ");
     }
     if wanted.semicolon && cut.before.line < cut.place.line {
-        let line = cut.before.line;
-        write!(out, "a `;` may be missing at the end of line {line}; ")?;
+        out.push("a `;` may be missing at the end of line ");
+        out.show(&cut.before.line);
+        out.push("; ");
     }
-    out.push_str("what may stand here is ")?;
-    wanted.push_phrase(out)
+    out.push("what may stand here is ");
+    wanted.push_phrase(out);
 }
 
-/// What is said of a bracket or an operator that is too deep.
-pub fn too_deep(alloc: Global, tokens: &[Token], token: usize) -> Result<Words, NoMemory> {
+/// Says of a bracket or an operator that it is too deep.
+pub fn too_deep(tokens: &[Token], token: usize, words: &mut Words) {
     let is_bracket = match tokens.get(token) {
         Some(token) => matches!(
             token.kind,
@@ -79,18 +78,17 @@ pub fn too_deep(alloc: Global, tokens: &[Token], token: usize) -> Result<Words, 
         ),
         None => false,
     };
-    let (message, help) = if is_bracket {
-        (
+    if is_bracket {
+        words.say(
             "64 brackets are open before this one",
             "close some, or put what stands inside into a plan of fewer levels",
-        )
+        );
     } else {
-        (
+        words.say(
             "the statement has 64 operators before this one",
             "put a part of it into a variable first",
-        )
-    };
-    Words::fixed(alloc, message, help)
+        );
+    }
 }
 
 /// The place of a token; behind the last, the end of the last.
