@@ -1,4 +1,5 @@
 // Colours, where the answer goes to a terminal.
+use px_pen::Pen;
 use std::alloc::{AllocError, Global};
 
 const PLAIN: &str = "\u{1b}[0m";
@@ -11,14 +12,23 @@ const CYAN: &str = "\u{1b}[36m";
 
 /// The text, with the lines of each fault in their colours.
 pub fn painted(alloc: Global, text: &str) -> Result<String, AllocError> {
-    let mut out = String::new(alloc);
+    let mut out = Pen::new(alloc);
     for line in text.lines() {
-        match colour_of(line) {
-            Some(colour) => write!(out, "{colour}{line}{PLAIN}\n")?,
-            None => write!(out, "{line}\n")?,
-        }
+        push_line(line, &mut out);
     }
-    Ok(out)
+    out.written()
+}
+
+fn push_line(line: &str, out: &mut Pen) {
+    match colour_of(line) {
+        Some(colour) => {
+            out.push(colour);
+            out.push(line);
+            out.push(PLAIN);
+        }
+        None => out.push(line),
+    }
+    out.push("\n");
 }
 
 fn colour_of(line: &str) -> Option<&'static str> {

@@ -14,9 +14,8 @@ const LABEL: usize = 36;
 pub fn event_label(alloc: Global, event: &Event) -> Result<String, NoMemory> {
     let mut whole = Pen::new(alloc);
     push_label(event, &mut whole);
-    let whole = whole.written()?;
     let mut label = Pen::new(alloc);
-    label.push_front(whole.as_str(), LABEL, "..");
+    label.append_front(&whole, LABEL, "..");
     label.written()
 }
 

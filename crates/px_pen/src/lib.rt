@@ -64,9 +64,10 @@ impl Pen {
         self.has_failed = self.has_failed || other.has_failed;
     }
 
-    /// Writes a text; of one that has more characters than `most` the front, and `dots` behind it.
-    pub fn push_front(&mut self, text: &str, most: usize, dots: &str) {
-        for (place, c) in text.chars().enumerate() {
+    /// As `append`; of a text that has more characters than `most` the front, and dots behind it.
+    pub fn append_front(&mut self, other: &Pen, most: usize, dots: &str) {
+        self.has_failed = self.has_failed || other.has_failed;
+        for (place, c) in other.text.as_str().chars().enumerate() {
             if place >= most {
                 return self.push(dots);
             }
@@ -74,9 +75,9 @@ impl Pen {
         }
     }
 
-    /// Whether nothing was written.
+    /// Whether nothing was to be written yet.
     pub fn is_empty(&self) -> bool {
-        self.text.is_empty()
+        !self.has_failed && self.text.is_empty()
     }
 
     /// What was written; `AllocError` where memory ran out meanwhile.

@@ -14,9 +14,11 @@ const RECORDS: usize = 100_000;
 
 /// The number that these bytes spell, the highest first.
 fn number(bytes: &[u8]) -> usize {
-    bytes.iter().fold(0, |number: usize, byte| {
-        number.saturating_mul(256).saturating_add(*byte as usize)
-    })
+    let mut number: usize = 0;
+    for byte in bytes {
+        number = number.saturating_mul(256).saturating_add(*byte as usize);
+    }
+    number
 }
 
 fn number_at(bytes: &[u8], at: usize, width: usize) -> Option<usize> {

@@ -30,36 +30,29 @@ pub fn nodes_file<H: Host>(
 fn listed(alloc: Global, plan: &Plan, like: &str) -> Result<Answer, NoMemory> {
     let nodes = paths_of(alloc, plan)?;
     let mut out = Pen::new(alloc);
-    push_nodes(alloc, &nodes, like, &mut out)?;
+    push_nodes(alloc, &nodes, like, &mut out);
     if out.is_empty() {
         out.push_all(&["no path has `", like, "` in it\n"]);
     }
     Answer::written(DONE, out)
 }
 
-fn push_nodes(
-    alloc: Global,
-    nodes: &[NodePath<'_>],
-    like: &str,
-    out: &mut Pen,
-) -> Result<(), NoMemory> {
+fn push_nodes(alloc: Global, nodes: &[NodePath<'_>], like: &str, out: &mut Pen) {
     for node in nodes {
         if node.path.as_str().contains(like) {
-            push_node(alloc, node, out)?;
+            push_node(alloc, node, out);
         }
     }
-    Ok(())
 }
 
-fn push_node(alloc: Global, node: &NodePath<'_>, out: &mut Pen) -> Result<(), NoMemory> {
+fn push_node(alloc: Global, node: &NodePath<'_>, out: &mut Pen) {
     push_blanks(node.depth, out);
     out.push_all(&[node.path.as_str(), ": "]);
     out.push(node.a_kind());
     push_body(&node.node.body, out);
     out.push("\n");
-    push_conditions(alloc, node, out)?;
+    push_conditions(alloc, node, out);
     push_lines(node, out);
-    Ok(())
 }
 
 fn push_blanks(levels: usize, out: &mut Pen) {
@@ -113,18 +106,18 @@ fn is_truth(expr: &Expr, truth: bool) -> bool {
 }
 
 // What it waits for, and the other conditions that are given.
-fn push_conditions(alloc: Global, node: &NodePath<'_>, out: &mut Pen) -> Result<(), NoMemory> {
+fn push_conditions(alloc: Global, node: &NodePath<'_>, out: &mut Pen) {
     let given = &node.node.conditions;
-    push_condition(alloc, node, "waits for", &given.start, true, out)?;
-    push_condition(alloc, node, "is skipped where", &given.skip, false, out)?;
-    push_condition(alloc, node, "begins only where", &given.pre, true, out)?;
-    push_condition(alloc, node, "needs meanwhile", &given.invariant, true, out)?;
+    push_condition(alloc, node, "waits for", &given.start, true, out);
+    push_condition(alloc, node, "is skipped where", &given.skip, false, out);
+    push_condition(alloc, node, "begins only where", &given.pre, true, out);
+    push_condition(alloc, node, "needs meanwhile", &given.invariant, true, out);
     if !is_usual_end(&given.end) {
-        push_condition(alloc, node, "ends where", &given.end, true, out)?;
+        push_condition(alloc, node, "ends where", &given.end, true, out);
     }
-    push_condition(alloc, node, "is interrupted where", &given.exit, false, out)?;
-    push_condition(alloc, node, "has succeeded where", &given.post, true, out)?;
-    push_condition(alloc, node, "begins again where", &given.repeat, false, out)
+    push_condition(alloc, node, "is interrupted where", &given.exit, false, out);
+    push_condition(alloc, node, "has succeeded where", &given.post, true, out);
+    push_condition(alloc, node, "begins again where", &given.repeat, false, out);
 }
 
 fn push_condition(
@@ -134,17 +127,16 @@ fn push_condition(
     condition: &Expr,
     default: bool,
     out: &mut Pen,
-) -> Result<(), NoMemory> {
+) {
     if is_truth(condition, default) {
-        return Ok(());
+        return;
     }
     push_margin(node, out);
     out.push_all(&[says, " "]);
     let mut whole = Pen::new(alloc);
     push_expr(condition, &mut whole);
-    out.push_front(whole.written()?.as_str(), SHOWN, " ..");
+    out.append_front(&whole, SHOWN, " ..");
     out.push("\n");
-    Ok(())
 }
 
 // Whether a node ends as those of its kind do where nothing else is said: its command's handle is known, its update is
