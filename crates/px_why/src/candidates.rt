@@ -54,8 +54,14 @@ impl Front {
         self.takes(TokenKind::Keyword(keyword))
     }
 
-    /// Whether a plan goes on with the keyword that is spelled so.
-    pub fn takes_word(&mut self, word: &str) -> bool {
+    /// The keyword that is spelled so, if a plan goes on with it.
+    pub fn takes_meant<'a>(&mut self, word: &'a str) -> Result<Option<&'a str>, NoMemory> {
+        let is_taken = self.takes_word(word);
+        self.tried()?;
+        Ok(if is_taken { Some(word) } else { None })
+    }
+
+    fn takes_word(&mut self, word: &str) -> bool {
         match lex(self.alloc, word) {
             Ok(tokens) => self.takes_last(tokens),
             Err(fault) => self.fails(matches!(fault, LexFault::NoMemory)),

@@ -37,22 +37,36 @@ pub fn hint_for<'a>(
     alloc: Global,
     cut: &Cut<'a>,
     wanted: &Wanted,
-    mut front: Front,
+    front: &mut Front,
 ) -> Result<Option<Hint<'a>>, NoMemory> {
     let found = cut.place.spelled();
-    let before = cut.before.spelled();
-    if let Some(rule) = rule_broken(before, found, wanted) {
-        return Ok(Some(Hint::Rule(rule)));
+    match rule_broken(cut.before.spelled(), found, wanted) {
+        Some(rule) => Ok(Some(Hint::Rule(rule))),
+        None => keyword_for(alloc, cut.before.spelled(), found, front),
     }
-    if let Some(keyword) = keyword_taken(alloc, &mut front, found)? {
-        return Ok(Some(Hint::Here(keyword)));
+}
+
+// The keyword that is meant here, or else by the word before.
+fn keyword_for<'a>(
+    alloc: Global,
+    before: &'a str,
+    found: &'a str,
+    front: &mut Front,
+) -> Result<Option<Hint<'a>>, NoMemory> {
+    match keyword_taken(alloc, front, found)? {
+        Some(keyword) => Ok(Some(Hint::Here(keyword))),
+        None => keyword_before(alloc, before, front),
     }
+}
+
+fn keyword_before<'a>(
+    alloc: Global,
+    word: &'a str,
+    front: &mut Front,
+) -> Result<Option<Hint<'a>>, NoMemory> {
     front.leave_last();
-    match keyword_taken(alloc, &mut front, before)? {
-        Some(keyword) if keyword != before => Ok(Some(Hint::Before {
-            keyword,
-            word: before,
-        })),
+    match keyword_taken(alloc, front, word)? {
+        Some(keyword) if keyword != word => Ok(Some(Hint::Before { keyword, word })),
         _ => Ok(None),
     }
 }
@@ -63,46 +77,74 @@ fn keyword_taken<'a>(
     front: &mut Front,
     word: &'a str,
 ) -> Result<Option<&'a str>, NoMemory> {
-    let meant = match keyword_meant(alloc, word)? {
-        Some(keyword) if front.takes_word(keyword) => Some(keyword),
-        _ => None,
-    };
-    front.tried()?;
-    Ok(meant)
+    match keyword_meant(alloc, word)? {
+        Some(keyword) => front.takes_meant(keyword),
+        None => Ok(None),
+    }
 }
+
+/// A word, one that can't stand behind it, and the rule for that.
+const PAIRS: [(&str, &str, &str); 3] = [
+    ("else", "if", "`else if` is written `elseif`"),
+    ("}", ";", "no `;` stands behind a `}`"),
+    ("+", "+", "there is no `++`: write `x + 1`"),
+];
 
 // The rule that is broken where the second stands behind the first.
 fn rule_broken(before: &str, found: &str, wanted: &Wanted) -> Option<&'static str> {
-    match found {
-        "if" if before == "else" => Some("`else if` is written `elseif`"),
-        ";" if before == "}" => Some("no `;` stands behind a `}`"),
-        "+" if before == "+" => Some("there is no `++`: write `x + 1`"),
-        "#(" => Some(
-            "a list of values stands in a declaration alone: write the elements one by one, as `x[0] = 1`",
-        ),
-        _ => rule_of_order(found, wanted),
+    for (first, second, rule) in &PAIRS {
+        if *first == before && *second == found {
+            return Some(*rule);
+        }
     }
+    rule_of_order(found, wanted)
 }
 
 // The rule that is broken where this word stands too late.
 fn rule_of_order(found: &str, wanted: &Wanted) -> Option<&'static str> {
-    match found {
-        "Command" | "Integer" | "Boolean" | "String" if wanted.is_complete => {
-            Some("declarations stand before the plan")
-        }
-        _ if wanted.action => rule_of_block(found),
-        _ => None,
+    if found == "#(" {
+        Some(
+            "a list of values stands in a declaration alone: write the elements one by one, as `x[0] = 1`",
+        )
+    } else if wanted.is_complete && is_declaring(found) {
+        Some("declarations stand before the plan")
+    } else if wanted.action {
+        rule_of_block(found)
+    } else {
+        None
     }
 }
 
+fn is_declaring(word: &str) -> bool {
+    word == "Command" || is_type(word)
+}
+
+fn is_type(word: &str) -> bool {
+    matches!(word, "Integer" | "Boolean" | "String")
+}
+
+/// What begins a condition or a Priority.
+const ATTRIBUTES: [&str; 9] = [
+    "Start",
+    "End",
+    "Exit",
+    "Skip",
+    "Repeat",
+    "Pre",
+    "Post",
+    "Invariant",
+    "Priority",
+];
+
 // The rule that is broken where this word stands in place of an action.
 fn rule_of_block(found: &str) -> Option<&'static str> {
-    match found {
-        "Integer" | "Boolean" | "String" => {
-            Some("variables are declared before the first action of their block")
-        }
-        "Start" | "End" | "Exit" | "Skip" | "Repeat" | "Pre" | "Post" | "Invariant" | "Priority" =>
-            Some("conditions and a Priority stand before the first action of their block"),
-        _ => None,
+    if is_type(found) {
+        return Some("variables are declared before the first action of their block");
     }
+    for attribute in &ATTRIBUTES {
+        if *attribute == found {
+            return Some("conditions and a Priority stand before the first action of their block");
+        }
+    }
+    None
 }

@@ -21,13 +21,13 @@ pub fn cut_short<'a>(
 ) -> Result<Place<'a>, NoMemory> {
     let cut = Cut::at(alloc, text, &tokens, token)?;
     push_message(&cut, &mut words.message);
-    push_hints(
-        alloc,
-        &cut,
-        Front::of(alloc, tokens, token),
-        &mut words.help,
-    )?;
-    Ok(cut.place)
+    let mut front = Front::of(alloc, tokens, token);
+    let pushed = push_hints(alloc, &cut, &mut front, &mut words.help);
+    drop(front);
+    match pushed {
+        Ok(()) => Ok(cut.place),
+        Err(fault) => Err(fault),
+    }
 }
 
 fn push_message(cut: &Cut<'_>, out: &mut Pen) {
@@ -40,10 +40,10 @@ fn push_message(cut: &Cut<'_>, out: &mut Pen) {
 fn push_hints(
     alloc: Global,
     cut: &Cut<'_>,
-    mut front: Front,
+    front: &mut Front,
     out: &mut Pen,
 ) -> Result<(), NoMemory> {
-    let wanted = Wanted::behind(alloc, &mut front)?;
+    let wanted = Wanted::behind(alloc, front)?;
     match hint_for(alloc, cut, &wanted, front)? {
         Some(hint) => hint.push(out),
         None => push_wanted(cut, &wanted, out),
