@@ -178,11 +178,11 @@ fn explain(
 
 // Of a line that begins with this word.
 fn no_shape(alloc: Global, first: &str, words: &mut Words) -> Result<(), NoMemory> {
-    for (known, shape) in &SHAPES {
-        if *known == first {
+    for (known, shape) in SHAPES {
+        if first == known {
             words.message.push_all(&["this is no `", first, "` line"]);
             words.help.push("it is ");
-            words.help.push(*shape);
+            words.help.push(shape);
             return Ok(());
         }
     }
@@ -191,8 +191,8 @@ fn no_shape(alloc: Global, first: &str, words: &mut Words) -> Result<(), NoMemor
 
 fn no_first_word(alloc: Global, first: &str, words: &mut Words) -> Result<(), NoMemory> {
     let mut nearest = Nearest::to(first);
-    for (word, _) in &SHAPES {
-        nearest.look_at(alloc, *word);
+    for (word, _) in SHAPES {
+        nearest.look_at(alloc, word);
     }
     words
         .message

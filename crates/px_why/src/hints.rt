@@ -92,9 +92,9 @@ const PAIRS: [(&str, &str, &str); 3] = [
 
 // The rule that is broken where the second stands behind the first.
 fn rule_broken(before: &str, found: &str, wanted: &Wanted) -> Option<&'static str> {
-    for (first, second, rule) in &PAIRS {
-        if *first == before && *second == found {
-            return Some(*rule);
+    for (first, second, rule) in PAIRS {
+        if before == first && found == second {
+            return Some(rule);
         }
     }
     rule_of_order(found, wanted)
@@ -141,8 +141,8 @@ fn rule_of_block(found: &str) -> Option<&'static str> {
     if is_type(found) {
         return Some("variables are declared before the first action of their block");
     }
-    for attribute in &ATTRIBUTES {
-        if *attribute == found {
+    for attribute in ATTRIBUTES {
+        if found == attribute {
             return Some("conditions and a Priority stand before the first action of their block");
         }
     }
