@@ -1,9 +1,10 @@
 // The command `chart`.
+ghost use Rattle.std.specs.Prelude.{IfOk};
 ghost use Rattle.px_core.specs.Fit.{IsFit};
 ghost use Rattle.px_core.specs.Plan.{tree_of};
 
 use crate::answer::{Answer, DONE, RUNAWAY, SCRIPT_REFUSED, Stop};
-use crate::journal::{JOURNAL_LIMIT, journal_answer, recovered};
+use crate::journal::{Held, JOURNAL_LIMIT, journal_answer, recovered};
 use crate::lines::{entries_in, why_script};
 use crate::reading::{fetch, plan_in};
 use px_chart::{RecordFault, Recording, picture_of, run_of};
@@ -62,18 +63,30 @@ pub fn chart_journal<H: Host, S: Stepper>(
     host: &mut H,
 ) -> Result<Answer, Stop> {
     let bytes = fetch(alloc, name, JOURNAL_LIMIT, host)?;
-    let held = match recovered(alloc, &bytes) {
-        Ok(held) => held,
+    match recovered(alloc, &bytes) {
+        Ok(held) => chart_held::<S>(alloc, name, held),
         Err(RecoverWhy::NoJournal | RecoverWhy::Damaged { .. }) => {
-            return journal_answer(alloc, name, bytes);
+            journal_answer(alloc, name, bytes)
         }
-        Err(RecoverWhy::DiskFault | RecoverWhy::NoMemory) => return Err(Stop::NoMemory),
-    };
-    let plan_name = format!(in alloc; "the plan in {name}")?;
-    let plan = plan_in(alloc, plan_name.as_str(), &held.text)?;
+        Err(RecoverWhy::DiskFault | RecoverWhy::NoMemory) => Err(Stop::NoMemory),
+    }
+}
+
+fn chart_held<S: Stepper>(alloc: Global, name: &str, held: Held) -> Result<Answer, Stop> {
+    let plan = plan_held(alloc, name, &held.text)?;
     let answer = chart_entries::<S>(alloc, name, &plan, &held.history);
     drop(plan);
     answer
+}
+
+fn plan_held(alloc: Global, name: &str, text: &[u8]) -> Result<Plan, Stop>
+    ensures fit { IfOk result (λ plan. IsFit (tree_of plan)) }
+{
+    let mut plan_name = Pen::new(alloc);
+    plan_name.push("the plan in ");
+    plan_name.push(name);
+    let plan_name = plan_name.written()?;
+    plan_in(alloc, plan_name.as_str(), text)
 }
 
 fn chart_entries<S: Stepper>(

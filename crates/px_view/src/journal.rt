@@ -64,9 +64,17 @@ fn text_and_history(read: Recovered<MemDisk>) -> Held {
 fn disk_of(alloc: Global, bytes: &[u8]) -> Result<MemDisk, RecoverWhy>
     ensures { IfOk result (λ disk. IsTrue disk.attached) }
 {
-    let mut disk = MemDisk::new(alloc, bytes.to_vec(alloc)?, Vec::new(alloc), None)?;
-    disk.attach("journal")?;
-    Ok(disk)
+    let bytes = bytes.to_vec(alloc)?;
+    attached(MemDisk::new(alloc, bytes, Vec::new(alloc), None)?)
+}
+
+fn attached(mut disk: MemDisk) -> Result<MemDisk, RecoverWhy>
+    ensures { IfOk result (λ disk. IsTrue disk.attached) }
+{
+    match disk.attach("journal") {
+        Ok(()) => Ok(disk),
+        Err(_) => Err(RecoverWhy::DiskFault),
+    }
 }
 
 fn whole(alloc: Global, name: &str, bytes: &[u8], read: Held) -> Result<Answer, Stop> {

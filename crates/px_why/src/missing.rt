@@ -35,12 +35,19 @@ impl<'a> Seen<'a> {
             to_look_up(name, help);
             return Ok(());
         }
-        let near = match self.nearest(alloc, A_VARIABLE, name)? {
-            Some(near) => Some(near),
-            None => value_meant(alloc, name)?,
-        };
-        match near {
-            Some(near) => push_meant(near, help),
+        match self.nearest(alloc, A_VARIABLE, name)? {
+            Some(near) => {
+                push_meant(near, help);
+                Ok(())
+            }
+            None => self.other_meant(alloc, name, help),
+        }
+    }
+
+    // What is meant by the name of no variable that is near to none either.
+    fn other_meant(&self, alloc: Global, name: &'a str, help: &mut Pen) -> Result<(), NoMemory> {
+        match value_meant(alloc, name)? {
+            Some(value) => push_meant(value, help),
             None if self.first_of(What::Node, name).is_some() => to_ask_node(name, help),
             None => to_declare(name, help),
         }
