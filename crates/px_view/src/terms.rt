@@ -2,7 +2,7 @@
 use px_chart::push_value;
 use px_core::{BinaryOp, Expr, LookWord, UnaryOp};
 use px_pen::Pen;
-use px_value::{ArithOp, CompareOp, Path};
+use px_value::{ArithOp, CompareOp, Name, Path};
 
 /// Writes an expression.
 #[cycle(terms)]
@@ -25,16 +25,34 @@ pub fn push_expr(expr: &Expr, out: &mut Pen) {
             args,
             ..
         } => {
-            out.push_all(&[look_word(*word), "("]);
-            out.push(name.as_str());
+            push_look(*word, name, out);
             if !args.is_empty() {
                 push_args(args, out);
             }
             out.push(")");
         }
         Expr::Unary { op, arg } => push_unary(*op, arg, out),
-        Expr::Binary { op, left, right } => push_binary(*op, left, right, out),
+        Expr::Binary { op, left, right } => match binary_function(*op) {
+            Some(function) => {
+                out.push(function);
+                push_expr(left, out);
+                out.push(", ");
+                push_expr(right, out);
+                out.push(")");
+            }
+            None => {
+                push_operand(left, out);
+                out.push(binary_sign(*op));
+                push_operand(right, out);
+            }
+        },
     }
+}
+
+fn push_look(word: LookWord, name: &Name, out: &mut Pen) {
+    out.push(look_word(word));
+    out.push("(");
+    out.push(name.as_str());
 }
 
 fn push_attribute(path: &Path, says: &str, out: &mut Pen) {
@@ -61,24 +79,6 @@ fn push_unary(op: UnaryOp, arg: &Expr, out: &mut Pen) {
         None => {
             out.push(unary_sign(op));
             push_operand(arg, out);
-        }
-    }
-}
-
-#[cycle(terms)]
-fn push_binary(op: BinaryOp, left: &Expr, right: &Expr, out: &mut Pen) {
-    match binary_function(op) {
-        Some(function) => {
-            out.push(function);
-            push_expr(left, out);
-            out.push(", ");
-            push_expr(right, out);
-            out.push(")");
-        }
-        None => {
-            push_operand(left, out);
-            out.push(binary_sign(op));
-            push_operand(right, out);
         }
     }
 }
