@@ -1,6 +1,7 @@
 pub mod Cuts
 pub mod Fronts
 pub mod Gaps
+pub mod Keywords
 pub mod Numbers
 pub mod Pieces
 pub mod Signs

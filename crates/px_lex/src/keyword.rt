@@ -1,4 +1,9 @@
-// The keywords, each with its spelling in one row of one table.
+// The keywords, each with its spelling in one row of the table for its length.
+ghost use Rattle.std.specs.Prelude.{◌≡◌, [], length, map, get_or};
+ghost use Rattle.px_lex.specs.Keyword.{keyword_of};
+ghost use Rattle.px_lex.specs.Table.{row_of};
+
+use crate::table::row_of;
 
 /// A word that isn't an identifier. Each variant stands for the spelling in its row of `KEYWORDS`.
 #[derive(Clone, Copy, Debug, PartialEq, Eq)]
@@ -79,83 +84,133 @@ pub enum Keyword {
     CommandSuccess,
 }
 
-/// The spelling of each keyword (PLEXIL reference manual).
-pub const KEYWORDS: [(&[u8], Keyword); 74] = [
-    (b"Integer", Keyword::Integer),
-    (b"Boolean", Keyword::Boolean),
-    (b"String", Keyword::String),
-    (b"Command", Keyword::Command),
-    (b"Lookup", Keyword::Lookup),
-    (b"LookupNow", Keyword::LookupNow),
-    (b"LookupOnChange", Keyword::LookupOnChange),
-    (b"Update", Keyword::Update),
-    (b"Sequence", Keyword::Sequence),
-    (b"UncheckedSequence", Keyword::UncheckedSequence),
-    (b"Concurrence", Keyword::Concurrence),
-    (b"Try", Keyword::Try),
-    (b"NodeList", Keyword::NodeList),
-    (b"if", Keyword::If),
-    (b"elseif", Keyword::ElseIf),
-    (b"else", Keyword::Else),
-    (b"endif", Keyword::EndIf),
-    (b"while", Keyword::While),
-    (b"for", Keyword::For),
-    (b"true", Keyword::True),
-    (b"false", Keyword::False),
-    (b"AND", Keyword::And),
-    (b"OR", Keyword::Or),
-    (b"XOR", Keyword::Xor),
-    (b"NOT", Keyword::Not),
-    (b"isKnown", Keyword::IsKnown),
-    (b"abs", Keyword::Abs),
-    (b"min", Keyword::Min),
-    (b"max", Keyword::Max),
-    (b"strlen", Keyword::StrLen),
-    (b"Self", Keyword::SelfNode),
-    (b"Parent", Keyword::Parent),
-    (b"Sibling", Keyword::Sibling),
-    (b"Child", Keyword::Child),
-    (b"Priority", Keyword::Priority),
-    (b"Start", Keyword::Start),
-    (b"End", Keyword::End),
-    (b"Exit", Keyword::Exit),
-    (b"Skip", Keyword::Skip),
-    (b"Repeat", Keyword::Repeat),
-    (b"Pre", Keyword::Pre),
-    (b"Post", Keyword::Post),
-    (b"Invariant", Keyword::Invariant),
-    (b"StartCondition", Keyword::StartCondition),
-    (b"EndCondition", Keyword::EndCondition),
-    (b"ExitCondition", Keyword::ExitCondition),
-    (b"SkipCondition", Keyword::SkipCondition),
-    (b"RepeatCondition", Keyword::RepeatCondition),
-    (b"PreCondition", Keyword::PreCondition),
-    (b"PostCondition", Keyword::PostCondition),
-    (b"InvariantCondition", Keyword::InvariantCondition),
-    (b"INACTIVE", Keyword::Inactive),
-    (b"WAITING", Keyword::Waiting),
-    (b"EXECUTING", Keyword::Executing),
-    (b"FINISHING", Keyword::Finishing),
-    (b"ITERATION_ENDED", Keyword::IterationEnded),
-    (b"FAILING", Keyword::Failing),
-    (b"FINISHED", Keyword::Finished),
-    (b"SUCCESS", Keyword::Success),
-    (b"FAILURE", Keyword::Failure),
-    (b"SKIPPED", Keyword::Skipped),
-    (b"INTERRUPTED", Keyword::Interrupted),
-    (b"PRE_CONDITION_FAILED", Keyword::PreConditionFailed),
-    (b"POST_CONDITION_FAILED", Keyword::PostConditionFailed),
-    (
+/// The spelling of each keyword (PLEXIL reference manual), by its length: a word is compared with those of its length alone.
+pub const KEYWORDS: [&[(&[u8], Keyword)]; 27] = [
+    &[],
+    &[],
+    &[(b"if", Keyword::If), (b"OR", Keyword::Or)],
+    &[
+        (b"Try", Keyword::Try),
+        (b"for", Keyword::For),
+        (b"AND", Keyword::And),
+        (b"XOR", Keyword::Xor),
+        (b"NOT", Keyword::Not),
+        (b"abs", Keyword::Abs),
+        (b"min", Keyword::Min),
+        (b"max", Keyword::Max),
+        (b"End", Keyword::End),
+        (b"Pre", Keyword::Pre),
+    ],
+    &[
+        (b"else", Keyword::Else),
+        (b"true", Keyword::True),
+        (b"Self", Keyword::SelfNode),
+        (b"Exit", Keyword::Exit),
+        (b"Skip", Keyword::Skip),
+        (b"Post", Keyword::Post),
+    ],
+    &[
+        (b"endif", Keyword::EndIf),
+        (b"while", Keyword::While),
+        (b"false", Keyword::False),
+        (b"Child", Keyword::Child),
+        (b"Start", Keyword::Start),
+    ],
+    &[
+        (b"String", Keyword::String),
+        (b"Lookup", Keyword::Lookup),
+        (b"Update", Keyword::Update),
+        (b"elseif", Keyword::ElseIf),
+        (b"strlen", Keyword::StrLen),
+        (b"Parent", Keyword::Parent),
+        (b"Repeat", Keyword::Repeat),
+        (b"EXITED", Keyword::Exited),
+    ],
+    &[
+        (b"Integer", Keyword::Integer),
+        (b"Boolean", Keyword::Boolean),
+        (b"Command", Keyword::Command),
+        (b"isKnown", Keyword::IsKnown),
+        (b"Sibling", Keyword::Sibling),
+        (b"WAITING", Keyword::Waiting),
+        (b"FAILING", Keyword::Failing),
+        (b"SUCCESS", Keyword::Success),
+        (b"FAILURE", Keyword::Failure),
+        (b"SKIPPED", Keyword::Skipped),
+    ],
+    &[
+        (b"Sequence", Keyword::Sequence),
+        (b"NodeList", Keyword::NodeList),
+        (b"Priority", Keyword::Priority),
+        (b"INACTIVE", Keyword::Inactive),
+        (b"FINISHED", Keyword::Finished),
+    ],
+    &[
+        (b"LookupNow", Keyword::LookupNow),
+        (b"Invariant", Keyword::Invariant),
+        (b"EXECUTING", Keyword::Executing),
+        (b"FINISHING", Keyword::Finishing),
+    ],
+    &[],
+    &[
+        (b"Concurrence", Keyword::Concurrence),
+        (b"INTERRUPTED", Keyword::Interrupted),
+    ],
+    &[
+        (b"EndCondition", Keyword::EndCondition),
+        (b"PreCondition", Keyword::PreCondition),
+    ],
+    &[
+        (b"ExitCondition", Keyword::ExitCondition),
+        (b"SkipCondition", Keyword::SkipCondition),
+        (b"PostCondition", Keyword::PostCondition),
+        (b"PARENT_FAILED", Keyword::ParentFailed),
+        (b"PARENT_EXITED", Keyword::ParentExited),
+    ],
+    &[
+        (b"LookupOnChange", Keyword::LookupOnChange),
+        (b"StartCondition", Keyword::StartCondition),
+        (b"COMMAND_FAILED", Keyword::CommandFailed),
+        (b"COMMAND_DENIED", Keyword::CommandDenied),
+    ],
+    &[
+        (b"RepeatCondition", Keyword::RepeatCondition),
+        (b"ITERATION_ENDED", Keyword::IterationEnded),
+        (b"COMMAND_SUCCESS", Keyword::CommandSuccess),
+    ],
+    &[(b"COMMAND_ACCEPTED", Keyword::CommandAccepted)],
+    &[(b"UncheckedSequence", Keyword::UncheckedSequence)],
+    &[(b"InvariantCondition", Keyword::InvariantCondition)],
+    &[],
+    &[(b"PRE_CONDITION_FAILED", Keyword::PreConditionFailed)],
+    &[(b"POST_CONDITION_FAILED", Keyword::PostConditionFailed)],
+    &[
+        (b"COMMAND_SENT_TO_SYSTEM", Keyword::CommandSentToSystem),
+        (b"COMMAND_RCVD_BY_SYSTEM", Keyword::CommandRcvdBySystem),
+    ],
+    &[],
+    &[],
+    &[],
+    &[(
         b"INVARIANT_CONDITION_FAILED",
         Keyword::InvariantConditionFailed,
-    ),
-    (b"PARENT_FAILED", Keyword::ParentFailed),
-    (b"EXITED", Keyword::Exited),
-    (b"PARENT_EXITED", Keyword::ParentExited),
-    (b"COMMAND_SENT_TO_SYSTEM", Keyword::CommandSentToSystem),
-    (b"COMMAND_ACCEPTED", Keyword::CommandAccepted),
-    (b"COMMAND_RCVD_BY_SYSTEM", Keyword::CommandRcvdBySystem),
-    (b"COMMAND_FAILED", Keyword::CommandFailed),
-    (b"COMMAND_DENIED", Keyword::CommandDenied),
-    (b"COMMAND_SUCCESS", Keyword::CommandSuccess),
+    )],
 ];
+
+/// The keyword that a word is, if it is one.
+pub(crate) fn keyword_of(word: &[u8]) -> Option<Keyword>
+    ensures { result ≡ keyword_of word.now }
+{
+    keyword_in(&KEYWORDS, word)
+}
+
+/// What a word is by a table that has the rows of each length in turn.
+fn keyword_in(table: &[&[(&[u8], Keyword)]], word: &[u8]) -> Option<Keyword>
+    ensures { result ≡ row_of (get_or (map (λ rows. map (λ row. (row.0.now, row.1)) rows.now) table.now) (length word.now) [])
+        word.now }
+{
+    match table.get(word.len()) {
+        Some(rows) => row_of(rows, word),
+        None => None,
+    }
+}

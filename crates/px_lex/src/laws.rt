@@ -1,7 +1,9 @@
 // What the definitions of tables, faults and splittings mean, as clauses of functions that do nothing.
 ghost use Rattle.std.specs.Prelude.{◌≡◌, ◌≢◌, ℕ, List, map, Option};
+ghost use Rattle.std.specs.List.{range_with_len};
 ghost use Rattle.px_lex.specs.Keyword.{keyword_rows};
 ghost use Rattle.px_lex.specs.Sign.{sign_rows};
+ghost use Rattle.px_lex.specs.Table.{of_length};
 ghost use Rattle.px_lex.specs.Lexer.{Begins, IsFault, Splits, FirstFault};
 ghost use Rattle.px_lex.specs.declared.fault.LexFault.{LexFault};
 ghost use Rattle.px_lex.specs.declared.keyword.TheConstants.{KEYWORDS};
@@ -13,7 +15,8 @@ use crate::fault::LexFault;
 
 /// The tables of the code are those of the definitions, row by row.
 pub fn tables()
-    ensures keywords { map (λ row. (row.0.now, row.1)) KEYWORDS ≡ keyword_rows }
+    ensures keywords { map (λ rows. map (λ row. (row.0.now, row.1)) rows.now) KEYWORDS
+        ≡ map (of_length keyword_rows) (range_with_len 0 27) }
     ensures signs { map (λ row. (row.0.now, row.1)) SIGNS ≡ sign_rows }
 {}
 

@@ -8,8 +8,7 @@ ghost use Rattle.px_lex.specs.Keyword.{keyword_of};
 ghost use Rattle.px_lex.specs.Word.{is_real_type};
 
 use crate::fault::LexFault;
-use crate::keyword::{KEYWORDS, Keyword};
-use crate::table::row_of;
+use crate::keyword::{Keyword, keyword_of};
 use crate::token::TokenKind;
 use px_value::{NAME_LIMIT, Name, NameFault, continues_identifier};
 use std::alloc::Global;
@@ -30,13 +29,6 @@ pub(crate) fn split_run(text: &str) -> (&str, &str)
     ensures longest { begins continues_identifier result.1.now ≡ false }
 {
     text.split_at(run_length(text.as_bytes()))
-}
-
-/// The keyword that a word is, if it is one.
-fn keyword_of(word: &[u8]) -> Option<Keyword>
-    ensures { result ≡ keyword_of word.now }
-{
-    row_of(&KEYWORDS, word)
 }
 
 /// Whether a word is the name of a type that is left out: Real, Date or Duration.
