@@ -82,10 +82,12 @@ impl Printer {
         }
     }
 
-    /// Prints a text that was gathered before, by a printer that has nothing to emit. It takes no memory.
+    /// Prints a text that was gathered before, by a printer that has nothing to emit. It takes no memory,
+    /// so only the sink can fail.
     pub fn text<H: Host>(&mut self, host: &mut H, text: Vec<u8>) -> Result<(), PrintFault>
         requires { self.old ≡ [] }
-        ensures { Gathers H.Host host.old self.old host.new self.new text.items result }
+        ensures gathers { Gathers H.Host host.old self.old host.new self.new text.items result }
+        ensures of_the_sink { IfErr result (λ fault. fault ≡ SinkFailed) }
     {
         self.buffer = text;
         self.emit_piece(host)
