@@ -11,7 +11,7 @@ returns-in_err-text-clause-prints g c =
     let trace = c.args.trace.items in
     let fault = c.in_err-text.field-0.0 in
     fails_first Unit old new [] c.text.new.self _ trace (log_lines c.args.log.now ++ standing_text c.args.standing) _ fault _ c.from_residual.ensures.1
-    (from_nothing old new c.new-printer.result c.text.new.self trace (Err fault) c.new-printer.ensures c.in_err-text.ensures.prints) refl
+    (from_nothing old new c.new-printer.result c.text.new.self trace (Err fault) c.new-printer.ensures c.in_err-text.ensures.gathers.prints) refl
 
 pub returns-in_err-print_end-clause-prints : goal.returns-in_err-print_end-clause-prints
 returns-in_err-print_end-clause-prints g c =
@@ -21,7 +21,7 @@ returns-in_err-print_end-clause-prints g c =
     let end = log_lines c.args.log.now ++ standing_text c.args.standing in
     fails Unit old mid (view g.H.Host c.print_end.new.host) [] c.text.new.self c.print_end.new.printer _ trace end [] _ c.in_err-print_end.field-0.0 _
     c.from_residual-in_err-print_end.ensures.1
-    (from_nothing old mid c.new-printer.result c.text.new.self trace (Ok tt) c.new-printer.ensures c.in_ok-text.ensures.prints) c.in_ok-text.ensures.only
+    (from_nothing old mid c.new-printer.result c.text.new.self trace (Ok tt) c.new-printer.ensures c.in_ok-text.ensures.gathers.prints) c.in_ok-text.ensures.gathers.only
     c.in_err-print_end.ensures.prints (ap (λ text. trace ++ text) (sym (append-nil end)))
 
 pub returns-clause-prints : goal.returns-clause-prints
@@ -33,5 +33,5 @@ returns-clause-prints g c =
     let end = log_lines c.args.log.now ++ standing_text c.args.standing in
     finished old told (view g.H.Host c.finish.new.host) c.print_end.new.printer (trace ++ end) (trace ++ end) _ refl
     (goes_on old mid told [] c.text.new.self c.print_end.new.printer trace end
-    (from_nothing old mid c.new-printer.result c.text.new.self trace (Ok tt) c.new-printer.ensures c.in_ok-text.ensures.prints) c.in_ok-print_end.ensures.prints)
-    (only_more old mid told c.in_ok-text.ensures.only c.in_ok-print_end.ensures.only) c.finish.ensures.prints
+    (from_nothing old mid c.new-printer.result c.text.new.self trace (Ok tt) c.new-printer.ensures c.in_ok-text.ensures.gathers.prints) c.in_ok-print_end.ensures.prints)
+    (only_more old mid told c.in_ok-text.ensures.gathers.only c.in_ok-print_end.ensures.only) c.finish.ensures.prints
