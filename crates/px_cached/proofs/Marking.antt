@@ -1,9 +1,8 @@
 -- What is to be looked at, while touched sources are gone through.
-use Rattle.std.proofs.Common.{◌≡◌, ℕ, ◌+◌, ◌≤◌, true, false, nat_eq, List, length, get_or, ◌⊎◌, inl, inr, refl, ap, sym, ◌∙◌, All, None, Some, sum_by, arith}
+use Rattle.std.proofs.Common.{◌≡◌, ℕ, ◌+◌, ◌≤◌, true, false, nat_eq, List, [], ◌∷◌, length, subst, ◌⊎◌, inl, inr, refl, ap, sym, ◌∙◌, All, None, Some, sum_by, arith}
 use Rattle.std.specs.List.{list_any}
-use Rattle.std.proofs.lemmas.Bool.{cases_Bool}
 use Rattle.std.proofs.lemmas.Bool.Decides.{eqb_tells}
-use Rattle.std.proofs.lemmas.List.Folds.{list_any_none}
+use Rattle.std.proofs.lemmas.List.Elements.{All-tail}
 use Rattle.px_links.specs.Links.{LinksData, HoldsOthersAsBefore, first_of, is_absent, popped, SameCounts}
 use Rattle.px_listen.specs.Listening.{ListenData, dependents_of, is_dependent}
 use Rattle.px_cached.specs.Costs.{in_all}
@@ -11,37 +10,29 @@ use Rattle.px_cached.specs.Noticing.{IsNoticed}
 use Rattle.px_cached.proofs.OneList.{none_noted, noted_then}
 use Rattle.px_cached.proofs.Owing.{in_all-none, in_all-popped}
 
--- what is in a list all of which is noted is noted
-pub noted_in : (stale : LinksData) (parts : List ℕ) (part : ℕ) → All (λ part. is_absent stale part ≡ false) parts
-    → list_any (nat_eq part) parts ≡ true → is_absent stale part ≡ false
-noted_in stale parts part all is = elim (cases_Bool (is_absent stale part)) [
-  | inr noted ↦ noted
-  | inl absent ↦
-      let none : list_any (nat_eq part) parts ≡ false =
-      list_any_none (nat_eq part) parts (λ k d inside. elim (eqb_tells part (get_or parts k d)) [
-        | inl same ↦
-            let noted : is_absent stale part ≡ false = ap (is_absent stale) same.1 ∙ all k d inside in
-            absurd (cc)
-        | inr apart ↦ apart.0
-      ]) in
-      absurd (cc)
+-- what holds of all of a list holds of what is in it
+pub of_one : (P : ℕ → Type 0) (numbers : List ℕ) (number : ℕ) → All P numbers → list_any (nat_eq number) numbers ≡ true → P number
+of_one P [] number all is = absurd (cc)
+of_one P (first ∷ rest) number all is = elim (eqb_tells number first) [
+  | inl same ↦ subst P (sym same.1) (all 0 first (omega arith))
+  | inr apart ↦ of_one P rest number (All-tail P first rest all) (rw apart.0 at is)
 ]
 
 -- what all costs that depends on a source
 abbrev source_cost : ListenData → (ℕ → ℕ) → ℕ → ℕ
 source_cost listeners cost source = sum_by cost (dependents_of listeners source)
 
-pub record IsSoFar (listeners : ListenData) (first_touched touched first_stale stale : LinksData) : Type 0 where
+pub record IsSoFar (Stays : ℕ → Type 0) (listeners : ListenData) (first_touched touched first_stale stale : LinksData) : Type 0 where
   pub marked : (source part : ℕ) → is_absent first_touched source ≡ false → is_dependent listeners source part ≡ true
-      → (is_absent touched source ≡ false) ⊎ (is_absent stale part ≡ false)
+      → (is_absent touched source ≡ false) ⊎ ((is_absent stale part ≡ false) ⊎ Stays part)
   pub still : (part : ℕ) → is_absent first_stale part ≡ false → is_absent stale part ≡ false
   pub owed : (cost : ℕ → ℕ) → in_all cost stale + in_all (source_cost listeners cost) touched
       ≤ in_all cost first_stale + in_all (source_cost listeners cost) first_touched
   pub touched_counts : SameCounts first_touched touched
   pub stale_counts : SameCounts first_stale stale
 
-module _ (listeners : ListenData) (first_touched first_stale : LinksData) where
-  pub starts : IsSoFar listeners first_touched first_touched first_stale first_stale
+module _ (Stays : ℕ → Type 0) (listeners : ListenData) (first_touched first_stale : LinksData) where
+  pub starts : IsSoFar Stays listeners first_touched first_touched first_stale first_stale
   starts = record {
     marked = λ source part noted depends. inl noted;
     still = λ part noted. noted;
@@ -50,20 +41,23 @@ module _ (listeners : ListenData) (first_touched first_stale : LinksData) where
     stale_counts = (refl, refl);
   }
 
-  module _ (touched stale : LinksData) (so_far : IsSoFar listeners first_touched touched first_stale stale) where
+  module _ (touched stale : LinksData) (so_far : IsSoFar Stays listeners first_touched touched first_stale stale) where
     pub goes_on : (source : ℕ) (then_touched then_stale : LinksData) → HoldsOthersAsBefore touched then_touched source None
         → first_of touched 0 ≡ Some source → then_touched ≡ popped touched 0 → SameCounts touched then_touched
-        → All (λ part. is_absent then_stale part ≡ false) (dependents_of listeners source)
+        → All (λ part. (is_absent then_stale part ≡ false) ⊎ Stays part) (dependents_of listeners source)
         → ((part : ℕ) → is_absent stale part ≡ false → is_absent then_stale part ≡ false)
         → ((cost : ℕ → ℕ) → in_all cost then_stale ≤ in_all cost stale + source_cost listeners cost source)
         → SameCounts stale then_stale
-        → IsSoFar listeners first_touched then_touched first_stale then_stale
+        → IsSoFar Stays listeners first_touched then_touched first_stale then_stale
     goes_on source then_touched then_stale holders first popped_is counts noted still owed stale_counts = record {
       marked = λ other part was depends. elim (so_far.marked other part was depends) [
-        | inr marked ↦ inr (still part marked)
+        | inr marked ↦ inr (elim marked [
+          | inl noted_before ↦ inl (still part noted_before)
+          | inr stays ↦ inr stays
+        ])
         | inl left ↦ elim (noted_then touched then_touched source holders other left) [
           | inr stays ↦ inl stays
-          | inl same ↦ inr (noted_in then_stale (dependents_of listeners source) part noted
+          | inl same ↦ inr (of_one (λ part. (is_absent then_stale part ≡ false) ⊎ Stays part) (dependents_of listeners source) part noted
               (ap (λ source. is_dependent listeners source part) (sym same) ∙ depends))
         ]
       ];
@@ -79,7 +73,7 @@ module _ (listeners : ListenData) (first_touched first_stale : LinksData) where
       stale_counts = (stale_counts.0 ∙ so_far.stale_counts.0, stale_counts.1 ∙ so_far.stale_counts.1);
     }
 
-    pub ends : length touched.lists ≡ 1 → first_of touched 0 ≡ None → IsNoticed listeners first_touched touched first_stale stale
+    pub ends : length touched.lists ≡ 1 → first_of touched 0 ≡ None → IsNoticed Stays listeners first_touched touched first_stale stale
     ends one none = record {
       none = none_noted touched one none;
       marked = λ source part was depends. elim (so_far.marked source part was depends) [

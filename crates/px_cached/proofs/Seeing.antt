@@ -1,6 +1,7 @@
 -- What is kept is sound in what is present, where what was not touched is as it was seen; and then it is fresh.
-use Rattle.std.proofs.Common.{◌≡◌, ℕ, ◌+◌, ◌/◌, ◌<◌, Bool, true, false, not, List, ◌++◌, length, map, get_or, Option, None, ◌⊎◌, inl, inr, ap, sym, ◌∙◌, subst, arith, All}
+use Rattle.std.proofs.Common.{◌≡◌, ℕ, ◌+◌, ◌/◌, ◌<◌, Bool, true, false, not, List, [], ◌∷◌, ◌++◌, length, map, get_or, Option, None, ◌⊎◌, inl, inr, ap, sym, ◌∙◌, subst, arith, All}
 use Rattle.std.proofs.lemmas.Bool.{cases_Bool}
+use Rattle.std.proofs.lemmas.List.Elements.{All-cons, All-tail}
 use Rattle.std.proofs.lemmas.List.{get_or_append_left, get_or-append-add, get_or-map, length-append}
 use Rattle.px_value.specs.Truth.{truth_of}
 use Rattle.px_core.specs.declared.conditions.ConditionKind.{ConditionKind}
@@ -19,6 +20,7 @@ use Rattle.px_cached.specs.Looking.{AreRight, IsRight, IsSound, Tells}
 use Rattle.px_cached.specs.Network.{part_at, truth_at}
 use Rattle.px_cached.specs.Noticing.{IsNoticed}
 use Rattle.px_cached.specs.Reading.{AreListening, sources_at}
+use Rattle.px_cached.specs.Still.{IsStillIn}
 use Rattle.px_cached.proofs.Conditions.{condition_back, node_back, number_below}
 use Rattle.px_cached.proofs.Freshness.{fresh_part}
 use Rattle.px_cached.proofs.Layers.{spells_inside}
@@ -39,24 +41,41 @@ all_in_stretch P some all is each k d inside =
       length-append some after,
     )))
 
+-- all of a list pass, or something holds where one doesn't
+all_or : {X : Type 0} (P : X → Type 0) (Q : Type 0) (xs : List X) → All (λ x. P x ⊎ Q) xs → All P xs ⊎ Q
+all_or P Q [] each = inl (λ k d inside. absurd (omega (arith, inside)))
+all_or P Q (x ∷ xs) each = elim (each 0 x (omega arith)) [
+  | inr holds ↦ inr holds
+  | inl first ↦ elim (all_or P Q xs (All-tail (λ x. P x ⊎ Q) x xs each)) [
+    | inr holds ↦ inr holds
+    | inl rest ↦ inl (All-cons P x xs first rest)
+  ]
+]
+
+-- a comparison that has its truth still in what is reported is right
+pub still_right : (plan : List Site) (present : Present) (truth : Option Bool) (p : Part) → IsStillIn plan present.reports truth p → IsRight plan present truth p
+still_right plan present truth (parts.Joined joint left right) still = tt
+still_right plan present truth (parts.Whole expr) still = still.1.2.1 ∙ sym (ap (truth_in plan present) still.1.2.0)
+
 module _ (plan : List Site) (seen present : Present) (long : length seen.cells ≡ length present.cells) (network : List Part)
-    (listeners : ListenData) (listening : AreListening plan network listeners) (touched then_touched stale then_stale : LinksData)
-    (noticed : IsNoticed listeners touched then_touched stale then_stale)
+    (Stays : ℕ → Type 0) (listeners : ListenData) (listening : AreListening plan network listeners) (touched then_touched stale then_stale : LinksData)
+    (noticed : IsNoticed Stays listeners touched then_touched stale then_stale)
     (same : (node : ℕ) (kind : ConditionKind) → node < length plan
     → All (λ source. not (is_absent touched (source_number plan source)) ≡ false → IsSame plan seen present source)
     (sources_in plan (condition_in plan node kind))) where
-  -- what is not to be looked at has no touched source
+  -- what is not to be looked at has no touched source, or stays
   untouched : (part : ℕ) → part < length network → is_absent then_stale part ≡ true
-      → All (λ source. not (is_absent touched (source_number plan source)) ≡ false) (sources_at plan (part_at network part))
-  untouched part there absent k d inside =
-      let source : Source = get_or (sources_at plan (part_at network part)) k d in
+      → All (λ source. not (is_absent touched (source_number plan source)) ≡ false) (sources_at plan (part_at network part)) ⊎ Stays part
+  untouched part there absent =
+      all_or (λ source. not (is_absent touched (source_number plan source)) ≡ false) (Stays part) (sources_at plan (part_at network part))
+      (λ k d inside. let source : Source = get_or (sources_at plan (part_at network part)) k d in
       elim (cases_Bool (is_absent touched (source_number plan source))) [
-        | inl is ↦ ap not is
-        | inr noted ↦
-            let marked : is_absent then_stale part ≡ false =
-            noticed.marked (source_number plan source) part noted (listening.each part there k d inside) in
-            absurd (cc)
-      ]
+        | inl is ↦ inl (ap not is)
+        | inr noted ↦ elim (noticed.marked (source_number plan source) part noted (listening.each part there k d inside)) [
+          | inl marked ↦ absurd (cc)
+          | inr stays ↦ inr stays
+        ]
+      ])
 
   was_absent : (part : ℕ) → is_absent then_stale part ≡ true → is_absent stale part ≡ true
   was_absent part absent = elim (cases_Bool (is_absent stale part)) [
@@ -81,10 +100,12 @@ module _ (plan : List Site) (seen present : Present) (long : length seen.cells �
       (λ k d inside. each k d inside (none k d inside)))
 
   pub right_present : ((part : ℕ) → part < length network → IsRead plan (part_at network part))
-      → (truths : List (Option Bool)) → AreRight plan seen network truths stale → AreRight plan present network truths then_stale
-  right_present read truths right part there absent =
-      right_by (truth_at truths part) (part_at network part) (read part there) (untouched part there absent)
-      (right part there (was_absent part absent))
+      → (truths : List (Option Bool)) → ((part : ℕ) → Stays part → IsRight plan present (truth_at truths part) (part_at network part))
+      → AreRight plan seen network truths stale → AreRight plan present network truths then_stale
+  right_present read truths settled right part there absent = elim (untouched part there absent) [
+    | inl none ↦ right_by (truth_at truths part) (part_at network part) (read part there) none (right part there (was_absent part absent))
+    | inr stays ↦ settled part stays
+  ]
 
 -- ---- the truth of a condition
 

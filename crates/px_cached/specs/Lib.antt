@@ -10,3 +10,4 @@ pub mod Looking
 pub mod Network
 pub mod Noticing
 pub mod Reading
+pub mod Still

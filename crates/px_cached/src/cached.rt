@@ -137,7 +137,8 @@ impl Cached {
     /// Looks again at what reads a touched source, and at the way up as far as something changes. Each node with a condition
     /// that changed is put behind the others of that list of `changed`, where it is in no list yet. The answer is at how
     /// many parts was looked, or the most that it can say: for each part that reads a touched source one, and one for each
-    /// part above it, at most, and what was left.
+    /// part above it, at most, and what was left. A part that compares what was last reported under a name with a constant
+    /// is asked first whether its truth stays, and then it isn't looked at.
     ///
     /// Ok: each condition is kept with its truth in these cells and reports, and nothing is left. `NoMemory`: some
     /// conditions may not be, and are looked at by the next call.
@@ -163,15 +164,16 @@ impl Cached {
         ensures fresh { OnOk result (AreFresh self.new (present_in cells.now reports.now)) }
         ensures told { TellsChanged self.old self.new changed.old changed.new list }
     {
-        self.see(flat, cells, reports);
+        self.see(alloc, flat, cells, reports);
         self.kept
             .refresh(alloc, flat, cells, reports, changed, list)
     }
 
-    // What depends on touched sources is to be looked at, and these cells and reports are those that were seen.
-    fn see(&mut self, _flat: &Flat, cells: &Cells, reports: &Reports)
-        requires plan { plan_of _flat.now ≡ plan_in self.old }
-        requires cells { length cells.now.contents.values ≡ all_cells (plan_of _flat.now) }
+    // What depends on touched sources is to be looked at, but for what has its truth still, and these cells and reports are
+    // those that were seen.
+    fn see(&mut self, alloc: Global, flat: &Flat, cells: &Cells, reports: &Reports)
+        requires plan { plan_of flat.now ≡ plan_in self.old }
+        requires cells { length cells.now.contents.values ≡ all_cells (plan_of flat.now) }
         requires seen { IsSeenBut self.old (present_in cells.now reports.now) }
         ensures flat { self.new.flat ≡ self.old.flat }
         ensures truths { self.new.truths ≡ self.old.truths }
@@ -179,7 +181,16 @@ impl Cached {
         ensures owed { self.new.left ≤ due self.old }
         ensures paid { (cost : ℕ → ℕ) → in_all cost self.new.touched ≡ 0 }
     {
-        notice(&mut self.touched, &self.listeners, &mut self.kept.stale);
+        notice(
+            alloc,
+            flat,
+            reports,
+            &mut self.touched,
+            &self.listeners,
+            &self.kept.network.parts,
+            &self.kept.truths,
+            &mut self.kept.stale,
+        );
         self.seen_cells = Snapshot::of(cells);
         self.seen_reports = Snapshot::of(reports);
     }

@@ -10,7 +10,9 @@ use Rattle.px_cached.specs.Cached.{CachedData, IsSeenBut, due, plan_in, present_
 use Rattle.px_cached.specs.Climbs.{climb}
 use Rattle.px_cached.specs.Costs.{cost}
 use Rattle.px_cached.specs.Looking.{IsSound}
-use Rattle.px_cached.proofs.Seeing.{right_present}
+use Rattle.px_cached.specs.Network.{part_at, truth_at}
+use Rattle.px_cached.specs.Still.{IsStillIn}
+use Rattle.px_cached.proofs.Seeing.{right_present, still_right}
 use Rattle.px_cached.proofs.cached.Cached.see.Goals as goal
 
 pub invariant_of-self : goal.invariant_of-self
@@ -20,7 +22,7 @@ invariant_of-self c =
     let plan = plan_of t.flat.value in
     let seen = present_in t.seen_cells.value t.seen_reports.value in
     let present = present_in c.args.cells.now c.args.reports.now in
-    let same : plan_of c.args._flat.now ≡ plan =
+    let same : plan_of c.args.flat.now ≡ plan =
     c.requires.plan ∙ sym (ap plan_in c.self.view_is) in
     let sized = c.requires.cells ∙ ap all_cells same in
     let known = subst (λ (cached : CachedData). IsSeenBut cached present) (sym c.self.view_is) c.requires.seen in
@@ -31,9 +33,13 @@ invariant_of-self c =
       agree = before.sound.agree;
       cells = c.notice.ensures.stale_counts.0 ∙ before.sound.cells;
       lists = c.notice.ensures.stale_counts.1 ∙ before.sound.lists;
-      right = right_present plan seen present (before.seen_sized ∙ sym sized) t.kept.network.parts.items t.listeners
-          before.listening t.touched c.notice.new.touched t.kept.stale c.notice.new.stale c.notice.ensures known
-          before.sound.laid.read t.kept.truths.items before.sound.right;
+      right = right_present plan seen present (before.seen_sized ∙ sym sized) t.kept.network.parts.items
+          (λ part. IsStillIn (plan_of c.args.flat.now) c.args.reports.now.reports (truth_at c.deref-2.result.now part) (part_at c.deref.result.now part))
+          t.listeners before.listening t.touched c.notice.new.touched t.kept.stale c.notice.new.stale c.notice.ensures known
+          before.sound.laid.read t.kept.truths.items
+          (λ part stays. still_right plan present (truth_at t.kept.truths.items part) (part_at t.kept.network.parts.items part)
+          (rw (c.deref-2.ensures.value, c.deref.ensures.value, same) at stays))
+          before.sound.right;
     } in
     record {
       sound = subst (λ present. IsSound plan present later) (sym (λ i. present_in (c.of.ensures i) (c.of-2.ensures i))) sound;

@@ -1,7 +1,7 @@
 use Rattle.std.proofs.Common.{◌≡◌, ℕ, ◌+◌, ◌<◌, ◌≤◌, false, length, get_or, sum_by}
 use Rattle.px_links.specs.Links.{is_absent, SameCounts}
 use Rattle.px_cached.specs.Costs.{in_all}
-use Rattle.px_cached.proofs.noticing.note.Given as goal
+use Rattle.px_cached.proofs.noticing.note_all.Given as goal
 
 abbrev pub invariant-loop-part : goal.invariant-loop-part
 invariant-loop-part l = record {
