@@ -66,7 +66,7 @@ impl<S: Stepper, D: Disk> EventDesk<S, D> {
         let Ok(room) = Vec::with_capacity(alloc, usize::from(seats)) else {
             return Err(OpenRefused { exec });
         };
-        let kept = Kept::new(exec);
+        let kept = Kept::new(alloc, exec)?;
         kept.keeps();
         let opened = Snapshot::of(&kept);
         match Turn::new(alloc, kept) {

@@ -1,24 +1,27 @@
 // An executive as a list of posts.
-ghost use Rattle.std.specs.Prelude.{◌≡◌, ◌++◌, ◌∷◌, [], ◌<◌, ◌^◌, length, refl, IsTrue, IsFalse};
+ghost use Rattle.std.specs.Prelude.{◌≡◌, ◌++◌, ◌∷◌, [], ◌<◌, ◌^◌, length, refl, IfOk, IfErr, IsTrue, IsFalse};
 ghost use Rattle.px_event.specs.Fit.{is_fit_entry};
 ghost use Rattle.px_exec.specs.Answers.{entry_of};
 ghost use Rattle.px_sem.specs.Asking.{IsMetBehind, IsUnmetBehind};
 ghost use Rattle.px_desk.specs.Listing.{listing, start_of, history_on, is_listed, IsLegalList, Answers};
 
+use crate::event_desk::OpenRefused;
 use crate::listing::Listing;
 use px_event::{Cond, Event};
 use px_exec::{Exec, PostFault, Receipt};
 use px_ports::Disk;
 use px_sem::Stepper;
 use px_turn::Listed;
-use std::alloc::Global;
+use std::alloc::{AllocFailed, Global};
 use std::marker::Model;
 
 /// An executive as a list: the posts that were answered, and behind them the one whose append failed, where one did.
 /// Contracts see it as the executive.
+///
+/// It is boxed: who enters or leaves the turn moves a pointer, where an executive has some kilobytes.
 #[derive(Drop)]
 pub struct Kept<S: Stepper, D: Disk> {
-    exec: Exec<S, D>,
+    exec: Box<Exec<S, D>>,
 }
 
 impl<S: Stepper, D: Disk> Model for Kept<S, D> {
@@ -26,7 +29,7 @@ impl<S: Stepper, D: Disk> Model for Kept<S, D> {
 
     ghost Value = { Executive S D };
 
-    ghost view = { λ k. k.exec };
+    ghost view = { λ k. k.exec.value };
 }
 
 impl<S: Stepper, D: Disk> Listed for Kept<S, D> {
@@ -63,16 +66,20 @@ pub(crate) fn is_listed(answer: Result<Receipt, PostFault>) -> bool
 }
 
 impl<S: Stepper, D: Disk> Kept<S, D> {
-    pub(crate) fn new(exec: Exec<S, D>) -> Kept<S, D>
-        ensures { result ≡ exec }
+    pub(crate) fn new(alloc: Global, exec: Exec<S, D>) -> Result<Kept<S, D>, OpenRefused<S, D>>
+        ensures ok { IfOk result (λ kept. kept ≡ exec) }
+        ensures err { IfErr result (λ refused. refused.exec ≡ exec) }
     {
-        Kept { exec }
+        match Box::new(alloc, exec) {
+            Ok(exec) => Ok(Kept { exec }),
+            Err(AllocFailed { value }) => Err(OpenRefused { exec: value }),
+        }
     }
 
     pub(crate) fn into_exec(self) -> Exec<S, D>
         ensures { result ≡ self }
     {
-        self.exec
+        Box::into_inner(self.exec)
     }
 
     /// What its list is.
@@ -109,7 +116,8 @@ impl<S: Stepper, D: Disk> Kept<S, D> {
         ensures unmet { IsFalse result → IsUnmetBehind (start_of S.Stepper self.now.opening).plan
             (history_on (start_of S.Stepper self.now.opening) (listing self.now)) cond.now }
     {
-        self.exec.keeps();
-        self.exec.holds(cond)
+        let exec = self.exec.as_ref();
+        exec.keeps();
+        exec.holds(cond)
     }
 }

@@ -7,16 +7,16 @@ use Rattle.px_desk.proofs.kept.Kept.holds.Goals as goal
 
 pub returns-clause-met : goal.returns-clause-met
 returns-clause-met g c holds =
-    let exec = c.self.inside.exec in
-    rw (← c.self.view_is)
+    let exec = c.as_ref-exec.result.now in
+    rw (← c.self.view_is, ← c.as_ref-exec.ensures)
     (subst (λ (history : List Entry). IsMetBehind (plan_of g.S.Stepper exec) history c.args.cond.now)
     (sym (history_of_listing g.S.Stepper g.D.Disk exec c.keeps.ensures))
     (world_of g.S.Stepper exec, c.keeps.ensures.runs_to, c.holds.ensures.held holds))
 
 pub returns-clause-unmet : goal.returns-clause-unmet
 returns-clause-unmet g c isnt =
-    let exec = c.self.inside.exec in
-    rw (← c.self.view_is)
+    let exec = c.as_ref-exec.result.now in
+    rw (← c.self.view_is, ← c.as_ref-exec.ensures)
     (subst (λ (history : List Entry). IsUnmetBehind (plan_of g.S.Stepper exec) history c.args.cond.now)
     (sym (history_of_listing g.S.Stepper g.D.Disk exec c.keeps.ensures))
     (world_of g.S.Stepper exec, c.keeps.ensures.runs_to, c.holds.ensures.missed isnt))
