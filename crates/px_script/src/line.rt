@@ -1,5 +1,6 @@
 // One line of a script.
 use px_event::{Cond, Event};
+use px_value::Name;
 
 /// What a thread does at a line.
 #[derive(Drop, PartialEq, Eq)]
@@ -16,4 +17,14 @@ pub struct Line {
     /// Its number in the script, from 1.
     pub number: u32,
     pub what: What,
+}
+
+impl Line {
+    /// The name of the state that it reports, if it reports one.
+    pub(crate) fn reported(&self) -> Option<&Name> {
+        match &self.what {
+            What::Post(Event::Report { name, .. }) => Some(name),
+            What::Post(_) | What::Wait(_) => None,
+        }
+    }
 }

@@ -29,15 +29,20 @@ pub(crate) enum ParsedLine {
     Faulty(FaultKind),
 }
 
-/// Reads one line.
-pub(crate) fn read_line(alloc: Global, kinds: &Kinds, line: &[u8]) -> Result<ParsedLine, NoMemory>
+/// Reads one line. Where it reports what was reported before, it shares that name's text.
+pub(crate) fn read_line(
+    alloc: Global,
+    kinds: &Kinds,
+    before: Option<&Name>,
+    line: &[u8],
+) -> Result<ParsedLine, NoMemory>
     ensures { IfOk result (λ says. says ≡ parsed_line (plan_of kinds.now) line.now) }
 {
     let bytes = content(line);
     if is_silent(bytes) {
         return Ok(ParsedLine::Nothing);
     }
-    match said(alloc, kinds, bytes)? {
+    match said(alloc, kinds, before, bytes)? {
         Some(says) => Ok(says),
         None => Ok(ParsedLine::Faulty(FaultKind::BadLine)),
     }
@@ -51,7 +56,12 @@ fn is_silent(text: &[u8]) -> bool
 }
 
 /// What the bytes of a line say; None exactly where they have none of the shapes of a line.
-fn said(alloc: Global, kinds: &Kinds, bytes: &[u8]) -> Result<Option<ParsedLine>, NoMemory>
+fn said(
+    alloc: Global,
+    kinds: &Kinds,
+    before: Option<&Name>,
+    bytes: &[u8],
+) -> Result<Option<ParsedLine>, NoMemory>
     ensures { IfOk result (λ says. says ≡ said (plan_of kinds.now) bytes.now) }
 {
     let (word, behind) = split_bytes(bytes);
@@ -59,18 +69,23 @@ fn said(alloc: Global, kinds: &Kinds, bytes: &[u8]) -> Result<Option<ParsedLine>
         return thread_line(alloc, behind);
     }
     match str::from_utf8(bytes) {
-        Ok(text) => said_in_text(alloc, kinds, text),
+        Ok(text) => said_in_text(alloc, kinds, before, text),
         Err(_) => Ok(None),
     }
 }
 
 /// What a text says by its first word, where that isn't `thread`; None exactly where it has none of the shapes of a line.
-fn said_in_text(alloc: Global, kinds: &Kinds, text: &str) -> Result<Option<ParsedLine>, NoMemory>
+fn said_in_text(
+    alloc: Global,
+    kinds: &Kinds,
+    before: Option<&Name>,
+    text: &str,
+) -> Result<Option<ParsedLine>, NoMemory>
     ensures { IfOk result (λ says. says ≡ said_in_text (plan_of kinds.now) text.now) }
 {
     let (word, behind) = split_word(text);
     if is_word(word, "set") {
-        set_line(alloc, behind)
+        set_line(alloc, before, behind)
     } else if is_word(word, "handle") {
         handle_line(alloc, kinds, behind)
     } else if is_word(word, "return") {

@@ -74,7 +74,7 @@ fn read_lines(alloc: Global, kinds: &Kinds, bytes: &[u8]) -> Result<Script, Scri
     while let Some(text) = left {
         let (line, behind) = split_line(text);
         number += 1;
-        match read_line(alloc, kinds, line)? {
+        match read_line(alloc, kinds, lines.reported_last(thread), line)? {
             ParsedLine::Nothing => {}
             ParsedLine::Posts(event) => add_line(&mut lines, thread, number, What::Post(event))?,
             ParsedLine::Waits(cond) => add_line(&mut lines, thread, number, What::Wait(cond))?,

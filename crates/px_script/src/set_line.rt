@@ -22,14 +22,19 @@ struct Setting<'a> {
     value: &'a str,
 }
 
-/// What a set line says by the text behind its word; None exactly where that hasn't the shape.
-pub(crate) fn set_line(alloc: Global, text: &str) -> Result<Option<ParsedLine>, NoMemory>
+/// What a set line says by the text behind its word; None exactly where that hasn't the shape. Where it reports what was
+/// reported before, it shares that name's text.
+pub(crate) fn set_line(
+    alloc: Global,
+    before: Option<&Name>,
+    text: &str,
+) -> Result<Option<ParsedLine>, NoMemory>
     ensures { IfOk result (λ says. says ≡ set_line text.now) }
 {
     let Some(setting) = setting_of(alloc, text)? else {
         return Ok(None);
     };
-    let Some(name) = report_name(alloc, setting.name)? else {
+    let Some(name) = report_name(alloc, before, setting.name)? else {
         return Ok(None);
     };
     let args = arguments_of(alloc, setting.args.as_slice())?;
@@ -47,12 +52,22 @@ fn report(name: Name, args: Option<Values>, value: Option<Value>) -> ParsedLine
     }
 }
 
-/// The name that is reported; None exactly where the text is no identifier, or one of over 64 bytes.
-pub(crate) fn report_name(alloc: Global, text: &str) -> Result<Option<Name>, NoMemory>
+/// The name that is reported; None exactly where the text is no identifier, or one of over 64 bytes. It is a copy of the name
+/// before, where that is spelled so.
+pub(crate) fn report_name(
+    alloc: Global,
+    before: Option<&Name>,
+    text: &str,
+) -> Result<Option<Name>, NoMemory>
     ensures { IfOk result (λ name. name ≡ (if is_report_name text.now then Some text.now else None)) }
 {
     if !is_identifier(text.as_bytes()) {
         return Ok(None);
+    }
+    if let Some(name) = before {
+        if name.as_str() == text {
+            return Ok(Some(name.copy(alloc)?));
+        }
     }
     match Name::new(alloc, text) {
         Ok(name) => Ok(Some(name)),

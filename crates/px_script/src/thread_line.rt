@@ -51,7 +51,7 @@ fn name_of(alloc: Global, word: &[u8]) -> Result<Option<Name>, NoMemory>
     ensures { IfOk result (λ name. name ≡ (if is_report_name word.now then Some word.now else None)) }
 {
     match str::from_utf8(word) {
-        Ok(text) => report_name(alloc, text),
+        Ok(text) => report_name(alloc, None, text),
         Err(_) => Ok(None),
     }
 }

@@ -7,7 +7,7 @@ ghost use Rattle.px_script.specs.Threads.{lines_in, with_line, todos_from};
 use crate::line::Line;
 use crate::remainder::push_todo;
 use crate::todo::Todo;
-use px_value::{NoMemory, Series};
+use px_value::{Name, NoMemory, Series};
 use std::alloc::Global;
 use std::array;
 
@@ -37,6 +37,16 @@ impl ThreadLines {
         ensures { result ≡ length (lines_in self.now.lines thread) }
     {
         self.lines[usize::from(thread) - 1].as_slice().len()
+    }
+
+    /// What the last line of a thread reports, if it reports a state.
+    pub(crate) fn reported_last(&self, thread: u8) -> Option<&Name>
+        requires { IsTrue (is_thread thread) }
+    {
+        match self.lines[usize::from(thread) - 1].as_slice() {
+            [.., line] => line.reported(),
+            [] => None,
+        }
     }
 
     /// Appends a line to those of a thread.
