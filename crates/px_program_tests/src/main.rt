@@ -1,12 +1,13 @@
-//! Runs the program over rows of plans and scripts, and says which of them don't print what they have to.
+//! Runs both programs over rows of plans, scripts and journals, and says which of them don't print what they have to.
 //!
 //! The rows are the file `stdin`, in tables: the transitions in the order of their rows, the conflicts of writers, the
 //! effects of moves, the values of expressions, the events, scripts, whole runs, refusals, sessions over a journal, the
 //! names of its interfaces, the bytes of its entries, command words, scripts of several threads and their waits, the
 //! faults of plans with a sound plan beside each, operators, syntax, depth, tokens, numbers of nodes, values, the names
 //! of paths, layouts, soaks, events that don't settle within 100,000 micro steps, files and texts as large as may be or
-//! larger by one, and bytes that are no text. All texts and bytes in it were worked out by hand, from the tables of
-//! docs/LANGUAGE.md and docs/SEMANTICS.md and the forms of docs/FORMATS.md. A row is
+//! larger by one, bytes that are no text, and what the second program says and draws. All texts and bytes in it were worked
+//! out by hand, from the tables of docs/LANGUAGE.md and docs/SEMANTICS.md and the forms of docs/FORMATS.md and
+//! docs/WRITING-PLANS.md. A row is
 //!
 //! ```text
 //! NAME
@@ -24,8 +25,9 @@
 //! ```
 //!
 //! where the line feed before a mark belongs to the mark, but the one that ends the text belongs to the text. Where the text
-//! begins with a line `..`, the one that is emitted ends with the lines behind it. In the content of a file
-//! `«COUNT times TEXT»` is the text so many times, and `«bytes BYTES»` what is no text.
+//! begins with a line `..`, the one that is emitted ends with the lines behind it, and where it ends with one, the one that
+//! is emitted begins with those before it. In the content of a file `«COUNT times TEXT»` is the text so many times, and
+//! `«bytes BYTES»` what is no text.
 //!
 //! The BYTES are what a read of the disk gives before the call and after it, in hexadecimal, two digits a byte; blanks and
 //! line feeds between them say nothing. A row without `journal` has an empty disk, and one without `leaves` leaves the disk
@@ -37,7 +39,10 @@
 //!
 //! The threads of a script run side by side: a row with several has the waits by which each order comes to the same.
 //!
-//! Each row is run on both steppers, the queued machine and the plain one, but for plans that are made, which are too large
+//! A row whose words begin with `plexil-view` calls the second program. It finds the BYTES as a file J, and a text that goes
+//! to a file has `to NAME` above it.
+//!
+//! Each other row is run on both steppers, the queued machine and the plain one, but for plans that are made, which are too large
 //! for the plain one. A row that doesn't hold is printed with what was answered in place of what had to be and on which, and
 //! at the end the number of rows that hold. Behind it stands what is no row: a journal of eight threads, cut or changed at
 //! each byte (`eight_threads`), and two threads that run at once and in each order (`side_by_side`).
@@ -51,6 +56,7 @@ mod pacing;
 mod row;
 mod running;
 mod side_by_side;
+mod viewing;
 
 use bytes::{bytes_of, digits_of};
 use made::made;
@@ -64,6 +70,7 @@ use std::alloc::Global;
 use std::io;
 use std::sync::Wait;
 use std::thread::Threads;
+use viewing::view_of;
 
 fn main(rt: HostRuntime) -> anyhow::Result<()> {
     let alloc = rt.alloc();
@@ -132,7 +139,27 @@ fn holds<R: Print + Threads + Wait + Sync>(
         journal: &journal,
         faults: row.faults,
     };
-    holds_on_both(rt, alloc, row, call)
+    match row.words.strip_prefix("plexil-view ") {
+        Some(words) => holds_in_view(rt, alloc, row, words, call),
+        None => holds_on_both(rt, alloc, row, call),
+    }
+}
+
+// Whether the second program answers to these words what the row has; else the answer is told.
+fn holds_in_view(
+    rt: &impl Print,
+    alloc: Global,
+    row: Row<'_>,
+    words: &str,
+    call: Call<'_>,
+) -> anyhow::Result<bool> {
+    judged(
+        rt,
+        alloc,
+        row,
+        "the second program",
+        &view_of(alloc, words, call)?,
+    )
 }
 
 // Whether the row holds on both steppers, or on the queued machine where its plan is made: the plain one looks at each
@@ -160,10 +187,21 @@ fn holds_on<S: Stepper + Send, R: Print + Threads + Wait + Sync>(
     stepper: &str,
 ) -> anyhow::Result<bool> {
     let answer = answer_over::<S, R>(rt, alloc, call, &Pacing::Nothing)?;
-    if row.allows(alloc, &answer)? {
+    judged(rt, alloc, row, stepper, &answer)
+}
+
+// Whether an answer is the row's; else it is told, with what gave it.
+fn judged(
+    rt: &impl Print,
+    alloc: Global,
+    row: Row<'_>,
+    by: &str,
+    answer: &Answer,
+) -> anyhow::Result<bool> {
+    if row.allows(alloc, answer)? {
         return Ok(true);
     }
-    tell(rt, alloc, row, stepper, &answer)?;
+    tell(rt, alloc, row, by, answer)?;
     Ok(false)
 }
 
@@ -172,12 +210,12 @@ fn tell(
     rt: &impl Print,
     alloc: Global,
     row: Row<'_>,
-    stepper: &str,
+    by: &str,
     answer: &Answer,
 ) -> anyhow::Result<()> {
     let left = digits_of(alloc, &answer.left)?;
     println!(rt;
-        "{}\non {stepper}\n{}\n{}\n{}---- leaves{left}\n====",
+        "{}\non {by}\n{}\n{}\n{}---- leaves{left}\n====",
         row.name, row.words, answer.status, answer.text
     )?;
     Ok(())

@@ -53,13 +53,17 @@ impl<'a> Row<'a> {
     }
 }
 
-// Whether a text is spelled so, without its last line feed. Behind a line of dots stands how it ends.
+// Whether a text is spelled so, without its last line feed. Behind a line of dots stands how it ends, and before one how
+// it begins.
 fn is_spelled(text: &str, spelled: &str) -> bool {
     let Some(told) = text.strip_suffix('\n') else {
         return text.is_empty() && spelled.is_empty();
     };
-    match spelled.strip_prefix("..\n") {
-        Some(end) => told.ends_with(end),
+    if let Some(end) = spelled.strip_prefix("..\n") {
+        return told.ends_with(end);
+    }
+    match spelled.strip_suffix("\n..") {
+        Some(front) => told.starts_with(front),
         None => told == spelled,
     }
 }

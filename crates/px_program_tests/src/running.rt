@@ -11,7 +11,7 @@ use std::alloc::Global;
 use std::sync::Wait;
 use std::thread::Threads;
 
-/// The words of a call, and what it finds: the content of the files P and S, the disk, and what goes wrong.
+/// The words of a call, and what it finds: the content of the files P and S, the disk or the file J, and what goes wrong.
 #[derive(Clone, Copy)]
 pub(crate) struct Call<'a> {
     pub(crate) words: &'a str,
@@ -29,14 +29,16 @@ pub(crate) struct Answer {
     pub(crate) left: Vec<u8>,
 }
 
-fn file(alloc: Global, name: &str, bytes: &[u8]) -> anyhow::Result<MemFile> {
+/// A file of the host.
+pub(crate) fn file(alloc: Global, name: &str, bytes: &[u8]) -> anyhow::Result<MemFile> {
     Ok(MemFile {
         name: String::from_str(alloc, name)?,
         bytes: bytes.to_vec(alloc)?,
     })
 }
 
-fn words_of(alloc: Global, words: &str) -> anyhow::Result<Vec<String>> {
+/// The words of a command.
+pub(crate) fn words_of(alloc: Global, words: &str) -> anyhow::Result<Vec<String>> {
     let mut owned = Vec::new(alloc);
     for word in words.split_whitespace() {
         owned.push(String::from_str(alloc, word)?)?;
