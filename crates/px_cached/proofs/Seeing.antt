@@ -20,7 +20,6 @@ use Rattle.px_cached.specs.Looking.{AreRight, IsRight, IsSound, Tells}
 use Rattle.px_cached.specs.Network.{part_at, truth_at}
 use Rattle.px_cached.specs.Noticing.{IsNoticed}
 use Rattle.px_cached.specs.Reading.{AreListening, sources_at}
-use Rattle.px_cached.specs.Still.{IsStillIn}
 use Rattle.px_cached.proofs.Conditions.{condition_back, node_back, number_below}
 use Rattle.px_cached.proofs.Freshness.{fresh_part}
 use Rattle.px_cached.proofs.Layers.{spells_inside}
@@ -51,11 +50,6 @@ all_or P Q (x ∷ xs) each = elim (each 0 x (omega arith)) [
     | inl rest ↦ inl (All-cons P x xs first rest)
   ]
 ]
-
--- a comparison that has its truth still in what is reported is right
-pub still_right : (plan : List Site) (present : Present) (truth : Option Bool) (p : Part) → IsStillIn plan present.reports truth p → IsRight plan present truth p
-still_right plan present truth (parts.Joined joint left right) still = tt
-still_right plan present truth (parts.Whole expr) still = still.1.2.1 ∙ sym (ap (truth_in plan present) still.1.2.0)
 
 module _ (plan : List Site) (seen present : Present) (long : length seen.cells ≡ length present.cells) (network : List Part)
     (Stays : ℕ → Type 0) (listeners : ListenData) (listening : AreListening plan network listeners) (touched then_touched stale then_stale : LinksData)

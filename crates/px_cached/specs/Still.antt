@@ -1,29 +1,43 @@
--- Which comparisons have the truth still that is kept.
-use Rattle.std.specs.Prelude.{◌≡◌, ℕ, Bool, List, [], slice_index_or, Option, None}
-use Rattle.px_value.specs.declared.comparison.CompareOp.{CompareOp}
+-- Which parts have the truth still that is kept of them.
+use Rattle.std.specs.Prelude.{◌≡◌, ℕ, ◌<◌, List, [], length, slice_index_or, None}
 use Rattle.px_value.specs.declared.value.Value.{Value}
-use Rattle.px_value.specs.Comparison.{value_compare}
-use Rattle.px_value.specs.Truth.{truth_of}
-use Rattle.px_core.specs.declared.expr.BinaryOp.TheVariants.{Compare}
 use Rattle.px_core.specs.Plan.{Site}
-use Rattle.px_sem.specs.World.{LookState, Report}
+use Rattle.px_flat.specs.Flat.{plan_of}
+use Rattle.px_flat.specs.Layout.{all_cells}
 use Rattle.px_flat.specs.Lookups.{lookups_of}
-use Rattle.px_flat.specs.Numbered.{Numbered, Literal, Look, Binary, NoneNumbered, reported_of}
-use Rattle.px_flat.specs.NumberedData.{expr_data}
-use Rattle.px_cached.specs.declared.part.Part.{Part}
-use Rattle.px_cached.specs.declared.part.Part.TheVariants as parts
+use Rattle.px_flat.specs.Numbered.{Numbered, held, reported_of}
+use Rattle.px_flat.specs.Sources.{Present, value_in}
+use Rattle.px_cached.specs.declared.still.Asker.{Asker}
+use Rattle.px_cached.specs.declared.still.LastRead.{LastRead}
+use Rattle.px_cached.specs.Cached.{present_in}
+use Rattle.px_cached.specs.Laying.{IsRead}
+use Rattle.px_cached.specs.Looking.{IsRight}
+use Rattle.px_cached.specs.Network.{part_at, truth_at}
 
--- a comparison of what is last reported under a name, without arguments, with a constant
-abbrev pub against : CompareOp → ℕ → Value → Numbered
-against op lookup constant = Binary (Compare op) (Look lookup NoneNumbered None) (Literal constant)
+-- the cells and reports of now
+abbrev pub now_of : Asker → Present
+now_of asker = present_in asker.cells.now asker.reports.now
 
--- the part is one, and has this truth where that is this value
-abbrev pub IsStill : ℕ → Value → Option Bool → Part → Type 0
-IsStill lookup value truth (parts.Whole expr) = (op : CompareOp) × (constant : Value)
-    × ((expr_data expr ≡ against op lookup constant) × (truth ≡ truth_of (value_compare op value constant)))
-IsStill lookup value truth (parts.Joined joint left right) = ⊥
+-- the kept truth of a part is the one that it has now
+abbrev pub IsStill : Asker → ℕ → Type 0
+IsStill asker part =
+    IsRight (plan_of asker.flat.now) (now_of asker) (truth_at asker.truths.now part) (part_at asker.parts.now part)
 
--- the part is one, and has this truth in these reports
-abbrev pub IsStillIn : List Site → List (LookState × Report) → Option Bool → Part → Type 0
-IsStillIn plan reports truth part = (lookup : ℕ)
-    × IsStill lookup (reported_of reports (slice_index_or (lookups_of plan) lookup []) [] None) truth part
+-- the value of an expression now
+abbrev pub value_now : Asker → Numbered → Value
+value_now asker expr = value_in (plan_of asker.flat.now) (now_of asker) expr
+
+-- the cells are the plan's, there is a truth of each part, and what is evaluated whole lies within the tables
+pub record IsAsking (asker : Asker) : Type 0 where
+  pub cells : length asker.cells.now.contents.values ≡ all_cells (plan_of asker.flat.now)
+  pub truths : length asker.truths.now ≡ length asker.parts.now
+  pub read : (part : ℕ) → part < length asker.parts.now → IsRead (plan_of asker.flat.now) (part_at asker.parts.now part)
+
+-- in whatever is present the cell holds the value of the expression
+abbrev pub HoldsValue : List Site → Numbered → ℕ → Type 0
+HoldsValue plan expr cell = (present : Present) → held present.cells cell ≡ value_in plan present expr
+
+-- this was last reported under the name, without arguments
+abbrev pub IsLastRead : Asker → LastRead → Type 0
+IsLastRead asker last =
+    last.value ≡ reported_of asker.reports.now.reports (slice_index_or (lookups_of (plan_of asker.flat.now)) last.lookup []) [] None

@@ -14,6 +14,7 @@ use crate::looking::Kept;
 use crate::noticing::{NOTED, notice};
 use crate::reading::listeners;
 use crate::sources::{report_source, source_count};
+use crate::still::Asker;
 use px_cells::Cells;
 use px_core::ConditionKind;
 use px_flat::Flat;
@@ -137,8 +138,9 @@ impl Cached {
     /// Looks again at what reads a touched source, and at the way up as far as something changes. Each node with a condition
     /// that changed is put behind the others of that list of `changed`, where it is in no list yet. The answer is at how
     /// many parts was looked, or the most that it can say: for each part that reads a touched source one, and one for each
-    /// part above it, at most, and what was left. A part that compares what was last reported under a name with a constant
-    /// is asked first whether its truth stays, and then it isn't looked at.
+    /// part above it, at most, and what was left. A part that compares two values that are at hand, constants, what cells
+    /// hold or what was last reported without arguments or tolerance, is asked first: it isn't looked at where its truth
+    /// stays.
     ///
     /// Ok: each condition is kept with its truth in these cells and reports, and nothing is left. `NoMemory`: some
     /// conditions may not be, and are looked at by the next call.
@@ -181,14 +183,18 @@ impl Cached {
         ensures owed { self.new.left ≤ due self.old }
         ensures paid { (cost : ℕ → ℕ) → in_all cost self.new.touched ≡ 0 }
     {
+        let asker = Asker {
+            flat,
+            cells,
+            reports,
+            parts: &self.kept.network.parts,
+            truths: &self.kept.truths,
+        };
         notice(
             alloc,
-            flat,
-            reports,
+            &asker,
             &mut self.touched,
             &self.listeners,
-            &self.kept.network.parts,
-            &self.kept.truths,
             &mut self.kept.stale,
         );
         self.seen_cells = Snapshot::of(cells);

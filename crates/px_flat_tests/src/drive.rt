@@ -10,7 +10,8 @@
 // #2.#then, #2.#else: Start and Skip of d(#2.#set) and #2's #test, End isKnown(the node's handle)
 //
 // A change costs a look at each part that reads the source, and one at each part above as far as something changes. What
-// is joined by `&&`, `||` and a negated `||` are parts; all else is looked at whole.
+// is joined by `&&`, `||` and a negated `||` are parts; all else is looked at whole. A comparison of what cells hold with
+// constants, as d(A) and `outcome == FAILURE`, is asked first, and costs no look where its truth stays.
 use crate::bench::Bench;
 use px_value::{Handle, NodeState, Outcome, Value};
 use std::alloc::Global;
@@ -95,7 +96,7 @@ const CHANGES: &[(Change<'static>, &str, u32)] = &[
     // Nothing reads it.
     (Change::State(ROOT, NodeState::Executing), "", 0),
     // End of SafeDrive and Start of #2 read it, and neither d(#1) changes.
-    (Change::State(WHILE, NodeState::Executing), "", 2),
+    (Change::State(WHILE, NodeState::Executing), "", 0),
     // Repeat of #1; #test and !#test in Start and Skip of #body, both beside a false d(#set).
     (Change::Boolean(TEST, true), "SafeDrive.#1", 5),
     // d(#set) in End of #1, Start and Skip of #body, each with its `&&`.
@@ -104,8 +105,8 @@ const CHANGES: &[(Change<'static>, &str, u32)] = &[
         "SafeDrive.#1.#body",
         6,
     ),
-    // d(#body) in End of #1.
-    (Change::State(BODY, NodeState::Executing), "", 1),
+    // d(#body) in End of #1, which doesn't change.
+    (Change::State(BODY, NodeState::Executing), "", 0),
     // End of OneMeter.
     (
         Change::Handle(ONE_METER, Handle::CommandSuccess),

@@ -4,8 +4,8 @@
 // A half with the rest has 4095, 2048, 1024 and so on down to 1 children: 12 times `&&`. The first child alone is always in
 // the front half, of 4095, 2047, 1023 and so on down to 1: 11 times. A half of 2^k children, and one of 2^k - 1 but for its
 // first, lies k times deep, so all other children do as the last. A child's state is read by one part alone, since no
-// condition of a child reads anything: a change of it costs a look at this part, and one at each `&&` above it as far as
-// something changes, at most 13.
+// condition of a child reads anything: where its truth changes it costs a look at this part, and one at each `&&` above it
+// as far as something changes, at most 13.
 use crate::bench::Bench;
 use anyhow::bail;
 use px_value::{NodeState, Value};
@@ -102,10 +102,10 @@ fn many_hold(rt: &impl Print, alloc: Global, bench: &mut Bench) -> anyhow::Resul
     // The `&&` over the child is false as before.
     put(bench, 7, NodeState::Finished)?;
     let one = holds(rt, alloc, bench, "one is FINISHED", "", 2)?;
-    // All children are touched. A look at each of 4,095, one at what is over each but the one that was FINISHED, and one at
-    // what is over each `&&` but the topmost.
+    // All children are touched, and one stays FINISHED. A look at each other one, one at what is over it, and one at what is
+    // over each `&&` but the topmost.
     put_all(bench, NodeState::Finished)?;
-    let looks = 4095 + 4094 + 4093;
+    let looks = 4094 + 4094 + 4093;
     let all = holds(rt, alloc, bench, "all are FINISHED", "L", looks)?;
     Ok(one && all)
 }

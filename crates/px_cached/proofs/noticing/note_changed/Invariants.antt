@@ -1,14 +1,13 @@
 use Rattle.std.proofs.Common.{◌≡◌, ℕ, ◌+◌, ◌≤◌, ◌<◌, ◌⊎◌, false, length, get_or, sum_by}
 use Rattle.px_links.specs.Links.{is_absent, SameCounts}
 use Rattle.px_cached.specs.Costs.{in_all}
-use Rattle.px_cached.specs.Network.{part_at, truth_at}
 use Rattle.px_cached.specs.Still.{IsStill}
 use Rattle.px_cached.proofs.noticing.note_changed.Given as goal
 
 abbrev pub invariant-loop-part : goal.invariant-loop-part
 invariant-loop-part l = record {
   noted : (k d : ℕ) → k < length l.yielded → (is_absent l.stale (get_or l.fn.dependents k d) ≡ false)
-      ⊎ IsStill l.lookup l.value (truth_at l.truths (get_or l.fn.dependents k d)) (part_at l.parts (get_or l.fn.dependents k d));
+      ⊎ IsStill l.asker (get_or l.fn.dependents k d);
   still : (part : ℕ) → is_absent l.initial.stale part ≡ false → is_absent l.stale part ≡ false;
   owed : (cost : ℕ → ℕ) → in_all cost l.stale ≤ in_all cost l.initial.stale + sum_by cost l.yielded;
   counts : SameCounts l.initial.stale l.stale;

@@ -1,13 +1,11 @@
 use Rattle.std.proofs.Common.{sym, ◌∙◌}
-use Rattle.px_flat.specs.Flat.{plan_of}
-use Rattle.px_cached.specs.Network.{part_at, truth_at}
-use Rattle.px_cached.specs.Still.{IsStillIn}
+use Rattle.px_cached.specs.Still.{IsStill}
 use Rattle.px_cached.proofs.Marking.{goes_on}
 use Rattle.px_cached.proofs.noticing.notice.Goals as goal
 
 pub touched-preserved : goal.touched-preserved
 touched-preserved c =
-    goes_on (λ part. IsStillIn (plan_of c.args.flat.now) c.args.reports.now.reports (truth_at c.args.truths.now part) (part_at c.args.parts.now part))
+    goes_on (IsStill c.args.asker.now)
     c.args.listeners.now c.args.touched.now c.args.stale.now c.touched.touched c.touched.stale c.touched.invariant
     c.in-Some.source c.pop_front.new.self c.note.new.stale c.in-Some.ensures.holders
     (sym c.pop_front.ensures.answer ∙ c.in-Some.is) c.pop_front.ensures.links c.pop_front.ensures.counts

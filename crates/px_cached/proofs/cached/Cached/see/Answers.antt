@@ -9,10 +9,9 @@ use Rattle.px_cached.specs.declared.looking.Kept.{Kept}
 use Rattle.px_cached.specs.Cached.{CachedData, IsSeenBut, due, plan_in, present_in}
 use Rattle.px_cached.specs.Climbs.{climb}
 use Rattle.px_cached.specs.Costs.{cost}
-use Rattle.px_cached.specs.Looking.{IsSound}
+use Rattle.px_cached.specs.Looking.{IsRight, IsSound}
 use Rattle.px_cached.specs.Network.{part_at, truth_at}
-use Rattle.px_cached.specs.Still.{IsStillIn}
-use Rattle.px_cached.proofs.Seeing.{right_present, still_right}
+use Rattle.px_cached.proofs.Seeing.{right_present}
 use Rattle.px_cached.proofs.cached.Cached.see.Goals as goal
 
 pub invariant_of-self : goal.invariant_of-self
@@ -34,11 +33,10 @@ invariant_of-self c =
       cells = c.notice.ensures.stale_counts.0 ∙ before.sound.cells;
       lists = c.notice.ensures.stale_counts.1 ∙ before.sound.lists;
       right = right_present plan seen present (before.seen_sized ∙ sym sized) t.kept.network.parts.items
-          (λ part. IsStillIn (plan_of c.args.flat.now) c.args.reports.now.reports (truth_at c.deref-2.result.now part) (part_at c.deref.result.now part))
+          (λ part. IsRight (plan_of c.args.flat.now) present (truth_at c.deref-2.result.now part) (part_at c.deref.result.now part))
           t.listeners before.listening t.touched c.notice.new.touched t.kept.stale c.notice.new.stale c.notice.ensures known
           before.sound.laid.read t.kept.truths.items
-          (λ part stays. still_right plan present (truth_at t.kept.truths.items part) (part_at t.kept.network.parts.items part)
-          (rw (c.deref-2.ensures.value, c.deref.ensures.value, same) at stays))
+          (λ part stays. rw (c.deref-2.ensures.value, c.deref.ensures.value, same) at stays)
           before.sound.right;
     } in
     record {
