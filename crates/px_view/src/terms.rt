@@ -23,12 +23,13 @@ pub fn push_expr(expr: &Expr, out: &mut Pen) {
             word,
             name,
             args,
-            ..
+            tolerance,
         } => {
             push_look(*word, name, out);
             if !args.is_empty() {
                 push_args(args, out);
             }
+            push_tolerance(*tolerance, out);
             out.push(")");
         }
         Expr::Unary { op, arg } => push_unary(*op, arg, out),
@@ -53,6 +54,13 @@ fn push_look(word: LookWord, name: &Name, out: &mut Pen) {
     out.push(look_word(word));
     out.push("(");
     out.push(name.as_str());
+}
+
+fn push_tolerance(tolerance: Option<u32>, out: &mut Pen) {
+    if let Some(tolerance) = tolerance {
+        out.push(", ");
+        out.show(&tolerance);
+    }
 }
 
 fn push_attribute(path: &Path, says: &str, out: &mut Pen) {
