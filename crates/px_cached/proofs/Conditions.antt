@@ -1,22 +1,26 @@
 -- Conditions by number, and what is laid for them one after another.
-use Rattle.std.proofs.Common.{◌≡◌, ℕ, zero, suc, ◌+◌, ◌*◌, ◌/◌, ◌%◌, ◌<◌, ◌≤◌, List, [], ◌∷◌, ◌++◌, length, get_or, inl, inr, refl, ap, sym, ◌∙◌, subst, arith}
+use Rattle.std.proofs.Common.{◌≡◌, ℕ, zero, suc, ◌+◌, ◌*◌, ◌/◌, ◌%◌, ◌<◌, ◌≤◌, Bool, false, List, [], ◌∷◌, ◌++◌, length, inl, inr, refl, ap, sym, ◌∙◌, subst, arith}
 use Rattle.std.proofs.lemmas.Bool.{cases_lt}
 use Rattle.std.proofs.lemmas.List.{get_or_append_left, length-append}
 use Rattle.std.proofs.Math.Seq.{get_or-append_seam}
+use Rattle.px_value.specs.declared.value.Value.TheVariants.{Boolean}
 use Rattle.px_core.specs.declared.conditions.ConditionKind.{ConditionKind}
 use Rattle.px_core.specs.declared.conditions.ConditionKind.TheVariants as which
 use Rattle.px_core.specs.Plan.{Site}
-use Rattle.px_flat.specs.Numbered.{numbered_node}
+use Rattle.px_flat.specs.Numbered.{Numbered, Literal, numbered_node}
 use Rattle.px_flat.specs.Row.{site_in}
 use Rattle.px_flat.specs.Sources.{sources_in}
 use Rattle.px_flat.specs.Within.{IsWithin, AreConditionsWithin}
 use Rattle.px_flat.specs.Numbered.{ConditionsNumbered}
 use Rattle.px_cached.specs.declared.part.Above.{Above}
+use Rattle.px_cached.specs.declared.part.Above.TheVariants as aboves
 use Rattle.px_cached.specs.declared.part.Part.{Part}
 use Rattle.px_cached.specs.declared.part.Part.TheVariants as parts
+use Rattle.px_cached.specs.declared.part.Root.{Root}
+use Rattle.px_cached.specs.declared.part.Root.TheVariants as root
 use Rattle.px_cached.specs.Conditions.{condition_at, condition_in, kind_at, number_of, of_kind, place_of}
-use Rattle.px_cached.specs.Laying.{HasLaid, IsLaid, IsRead, IsReadIn, IsRoot, begin}
-use Rattle.px_cached.specs.Network.{Stands, part_at}
+use Rattle.px_cached.specs.Laying.{HasLaid, IsLaid, IsRead, IsReadIn, IsRoot, StandsBy, begin, past, root_at}
+use Rattle.px_cached.specs.Network.{IsNetwork, Stands, above_at, part_at}
 use Rattle.px_cached.proofs.Layers.{spells_inside, spells_on, stands_on}
 
 -- ---- numbers
@@ -103,73 +107,109 @@ none_laid plan = record {
   end = refl;
 }
 
-module _ (plan : List Site) (number root : ℕ) (inside : number < 8 * length plan) (old new : List Part)
-    (old_above new_above : List Above) (roots : List ℕ) (before : HasLaid plan old old_above roots number)
-    (laid : IsLaid plan (number / 8) (condition_at plan number) old new old_above new_above root) where
-  read_then : (p : Part) → IsReadIn plan (sources_in plan (condition_at plan number)) p → IsRead plan p
-  read_then (parts.Whole expr) read =
-      (read.0, (number / 8, kind_at (number % 8), (node_below (length plan) number inside, read.1)))
-  read_then (parts.Joined joint left right) read = tt
+module _ (plan : List Site) (number : ℕ) (inside : number < 8 * length plan) (old new : List Part)
+    (old_above new_above : List Above) (roots : List Root) (before : HasLaid plan old old_above roots number)
+    (longer : length old ≤ length new) (same : (part : ℕ) → part < length old → part_at new part ≡ part_at old part)
+    (same_above : (part : ℕ) → part < length old → above_at new_above part ≡ above_at old_above part)
+    (now : Root) (is : IsRoot plan new new_above number now)
+    (stands : StandsBy new (begin roots number) now (condition_at plan number)) where
+  abbrev then : List Root
+  then = roots ++ now ∷ []
 
-  root_now : get_or (roots ++ root ∷ []) number 0 ≡ root
-  root_now = ap (λ at. get_or (roots ++ root ∷ []) at 0) (sym before.count) ∙ get_or-append_seam roots root [] 0
+  root_on : (other : ℕ) (at : Root) → IsRoot plan old old_above other at → IsRoot plan new new_above other at
+  root_on other (root.Constant truth) was = was
+  root_on other (root.Part part) was = (
+    spells_on old new longer same part (condition_at plan other) was.0,
+    same_above part (spells_inside old part (condition_at plan other) was.0) ∙ was.1,
+  )
 
-  rooted_then : (other : ℕ) → other < number + 1 → IsRoot plan new new_above other (get_or (roots ++ root ∷ []) other 0)
+  stands_by_on : (from : ℕ) (at : Root) (expr : Numbered) → StandsBy old from at expr → StandsBy new from at expr
+  stands_by_on from (root.Constant truth) expr stood = tt
+  stands_by_on from (root.Part part) expr stood = stands_on old new longer same from part expr stood
+
+  root_now : root_at then number ≡ now
+  root_now = ap (root_at then) (sym before.count) ∙ get_or-append_seam roots now [] (root.Constant false)
+
+  root_then : (other : ℕ) → other < number → root_at then other ≡ root_at roots other
+  root_then other sooner = get_or_append_left roots (now ∷ []) (root.Constant false) other (omega (arith, sooner, before.count))
+
+  begin_then : (other : ℕ) → other ≤ number → begin then other ≡ begin roots other
+  begin_then zero below = refl
+  begin_then (suc other) below =
+      (λ i. past (begin_then other (omega (arith, below)) i) (root_then other (omega (arith, below)) i))
+
+  rooted_then : (other : ℕ) → other < number + 1 → IsRoot plan new new_above other (root_at then other)
   rooted_then other below = elim (cases_lt other number) [
-    | inl sooner ↦
-        let was = before.rooted other sooner in
-        subst (IsRoot plan new new_above other)
-        (sym (get_or_append_left roots (root ∷ []) 0 other (omega (arith, sooner, before.count)))) (
-          spells_on old new laid.longer laid.same (get_or roots other 0) (condition_at plan other) was.0,
-          laid.same_above (get_or roots other 0) (spells_inside old (get_or roots other 0) (condition_at plan other) was.0) ∙ was.1,
-        )
-    | inr now ↦
-        let last : other ≡ number = omega (arith, now, below) in
-        subst (λ other. IsRoot plan new new_above other (get_or (roots ++ root ∷ []) other 0)) (sym last)
-        (subst (IsRoot plan new new_above number) (sym root_now) (laid.spells, laid.top))
+    | inl sooner ↦ subst (IsRoot plan new new_above other) (sym (root_then other sooner))
+        (root_on other (root_at roots other) (before.rooted other sooner))
+    | inr late ↦
+        let last : other ≡ number = omega (arith, late, below) in
+        subst (λ other. IsRoot plan new new_above other (root_at then other)) (sym last)
+        (subst (IsRoot plan new new_above number) (sym root_now) is)
   ]
-
-  begin_same : (other : ℕ) → other ≤ number → begin (roots ++ root ∷ []) other ≡ begin roots other
-  begin_same zero below = refl
-  begin_same (suc other) below =
-      ap (λ root. root + 1) (get_or_append_left roots (root ∷ []) 0 other (omega (arith, below, before.count)))
 
   stands_then : (other : ℕ) → other < number + 1
-      → Stands new (begin (roots ++ root ∷ []) other) (get_or (roots ++ root ∷ []) other 0) (condition_at plan other)
+      → StandsBy new (begin then other) (root_at then other) (condition_at plan other)
   stands_then other below = elim (cases_lt other number) [
     | inl sooner ↦
-        let same = get_or_append_left roots (root ∷ []) 0 other (omega (arith, sooner, before.count)) in
-        subst (λ last. Stands new (begin (roots ++ root ∷ []) other) last (condition_at plan other)) (sym same)
-        (subst (λ from. Stands new from (get_or roots other 0) (condition_at plan other))
-        (sym (begin_same other (omega (arith, sooner))))
-        (stands_on old new laid.longer laid.same (begin roots other) (get_or roots other 0) (condition_at plan other)
-        (before.stands other sooner)))
-    | inr now ↦
-        let last : other ≡ number = omega (arith, now, below) in
-        subst (λ other. Stands new (begin (roots ++ root ∷ []) other) (get_or (roots ++ root ∷ []) other 0) (condition_at plan other))
-        (sym last)
-        (subst (λ last. Stands new (begin (roots ++ root ∷ []) number) last (condition_at plan number)) (sym root_now)
-        (subst (λ from. Stands new from root (condition_at plan number))
-        (before.end ∙ sym (begin_same number (omega arith))) laid.stands))
+        subst (λ at. StandsBy new (begin then other) at (condition_at plan other)) (sym (root_then other sooner))
+        (subst (λ from. StandsBy new from (root_at roots other) (condition_at plan other))
+        (sym (begin_then other (omega (arith, sooner))))
+        (stands_by_on (begin roots other) (root_at roots other) (condition_at plan other) (before.stands other sooner)))
+    | inr late ↦
+        let last : other ≡ number = omega (arith, late, below) in
+        subst (λ other. StandsBy new (begin then other) (root_at then other) (condition_at plan other)) (sym last)
+        (subst (λ at. StandsBy new (begin then number) at (condition_at plan number)) (sym root_now)
+        (subst (λ from. StandsBy new from now (condition_at plan number)) (sym (begin_then number (omega arith))) stands))
   ]
 
-  pub has_laid : HasLaid plan new new_above (roots ++ root ∷ []) (number + 1)
-  has_laid = record {
-    shape = laid.network;
-    count = omega (arith, length-append roots (root ∷ []), before.count);
+  one_more : IsNetwork new new_above → length new ≡ past (begin roots number) now
+      → ((part node : ℕ) → length old ≤ part → part < length new → above_at new_above part ≡ aboves.Condition node
+      → node < length plan)
+      → ((part : ℕ) → length old ≤ part → part < length new → IsRead plan (part_at new part))
+      → HasLaid plan new new_above then (number + 1)
+  one_more shape end named read = record {
+    shape = shape;
+    count = omega (arith, length-append roots (now ∷ []), before.count);
     rooted = rooted_then;
     named = λ part node there top. elim (cases_lt part (length old)) [
-      | inl sooner ↦ before.named part node sooner (sym (laid.same_above part sooner) ∙ top)
-      | inr now ↦
-          let is : node ≡ number / 8 = laid.named part node now there top in
-          omega (arith, is, node_below (length plan) number inside)
+      | inl sooner ↦ before.named part node sooner (sym (same_above part sooner) ∙ top)
+      | inr late ↦ named part node late there top
     ];
     read = λ part there. elim (cases_lt part (length old)) [
-      | inl sooner ↦ subst (IsRead plan) (sym (laid.same part sooner)) (before.read part sooner)
-      | inr now ↦ read_then (part_at new part) (laid.read part now there)
+      | inl sooner ↦ subst (IsRead plan) (sym (same part sooner)) (before.read part sooner)
+      | inr late ↦ read part late there
     ];
     stands = stands_then;
     end =
         let next : suc number ≡ number + 1 = omega arith in
-        laid.end ∙ ap (λ root. root + 1) (sym root_now) ∙ ap (begin (roots ++ root ∷ [])) next;
+        end ∙ (λ i. past (sym (begin_then number (omega arith)) i) (sym root_now i)) ∙ ap (begin then) next;
   }
+
+module _ (plan : List Site) (number : ℕ) (inside : number < 8 * length plan) (old : List Part) (old_above : List Above)
+    (roots : List Root) (before : HasLaid plan old old_above roots number) where
+  -- a constant, which takes no part
+  pub constant_laid : (truth : Bool) → condition_at plan number ≡ Literal (Boolean truth)
+      → HasLaid plan old old_above (roots ++ root.Constant truth ∷ []) (number + 1)
+  constant_laid truth is =
+      one_more plan number inside old old old_above old_above roots before (omega arith) (λ part there. refl) (λ part there. refl)
+      (root.Constant truth) is tt before.shape before.end (λ part node late there top. absurd (omega (arith, late, there)))
+      (λ part late there. absurd (omega (arith, late, there)))
+
+  -- what is laid in parts
+  pub part_laid : (new : List Part) (new_above : List Above) (last : ℕ)
+      → IsLaid plan (number / 8) (condition_at plan number) old new old_above new_above last
+      → HasLaid plan new new_above (roots ++ root.Part last ∷ []) (number + 1)
+  part_laid new new_above last laid =
+      one_more plan number inside old new old_above new_above roots before laid.longer laid.same laid.same_above
+      (root.Part last) (laid.spells, laid.top)
+      (subst (λ from. Stands new from last (condition_at plan number)) before.end laid.stands) laid.network laid.end
+      (λ part node late there top.
+      let is : node ≡ number / 8 = laid.named part node late there top in
+      omega (arith, is, node_below (length plan) number inside))
+      (λ part late there. read_then (part_at new part) (laid.read part late there))
+    where
+      read_then : (p : Part) → IsReadIn plan (sources_in plan (condition_at plan number)) p → IsRead plan p
+      read_then (parts.Whole expr) read =
+          (read.0, (number / 8, kind_at (number % 8), (node_below (length plan) number inside, read.1)))
+      read_then (parts.Joined joint left right) read = tt

@@ -17,7 +17,9 @@ use Rattle.px_cached.specs.declared.part.Part.TheVariants as parts
 use Rattle.px_cached.specs.Climbs.{climb}
 use Rattle.px_cached.specs.Conditions.{condition_at, has_source, source_number}
 use Rattle.px_cached.specs.Costs.{cost, cost_in, full_cost, full_cost_in, joins, makes_nor, whole_cost}
-use Rattle.px_cached.specs.Laying.{HasLaid, begin}
+use Rattle.px_cached.specs.declared.part.Root.{Root}
+use Rattle.px_cached.specs.declared.part.Root.TheVariants as root
+use Rattle.px_cached.specs.Laying.{HasLaid, IsRoot, StandsBy, begin, past, root_at}
 use Rattle.px_cached.specs.Network.{IsNetwork, IsOver, Stands, One, Two, joined, part_at}
 use Rattle.px_cached.specs.Reading.{AreListening, sources_at}
 use Rattle.px_cached.proofs.Distinct.{sum_by-distinct, up_to, up_to-more}
@@ -66,20 +68,25 @@ module _ (network : List Part) (above : List Above) (is : IsNetwork network abov
         ap (most looks) is_expr,
       )
 
-  module _ (plan : List Site) (roots : List ℕ) (number : ℕ) (laid : HasLaid plan network above roots number) where
+  module _ (plan : List Site) (roots : List Root) (number : ℕ) (laid : HasLaid plan network above roots number) where
     abbrev condition_cost : ℕ → ℕ
     condition_cost other = most 1 (condition_at plan other)
+
+    -- so much those of one condition
+    root_cost : (other from : ℕ) (at : Root) → IsRoot plan network above other at
+        → StandsBy network from at (condition_at plan other) → up_to price (past from at) ≤ up_to price from + condition_cost other
+    root_cost other from (root.Constant truth) rooted stands = omega arith
+    root_cost other from (root.Part part) rooted stands =
+        subst (λ looks. up_to price (part + 1) ≤ up_to price from + most looks (condition_at plan other))
+        (climb_top network above is part (other / 8) (spells_inside network part _ rooted.0) rooted.1)
+        (stretch_cost from part (condition_at plan other) stands)
 
     -- so much those of the first so many conditions
     conditions_cost : (count : ℕ) → count ≤ number → up_to price (begin roots count) ≤ up_to condition_cost count
     conditions_cost zero few = omega arith
     conditions_cost (suc count) few =
-        let root = get_or roots count 0 in
-        let rooted = laid.rooted count (omega (arith, few)) in
-        let there = spells_inside network root _ rooted.0 in
-        let here = subst (λ looks. up_to price (root + 1) ≤ up_to price (begin roots count) + most looks (condition_at plan count))
-        (climb_top network above is root (count / 8) there rooted.1)
-        (stretch_cost (begin roots count) root (condition_at plan count) (laid.stands count (omega (arith, few)))) in
+        let here = root_cost count (begin roots count) (root_at roots count) (laid.rooted count (omega (arith, few)))
+        (laid.stands count (omega (arith, few))) in
         let next : suc count ≡ count + 1 = omega arith in
         omega (
           arith,
@@ -146,7 +153,7 @@ module _ (plan : List Site) (source : ℕ) where
   joints_none joints.Nor left right looks a b = omega arith
 
 -- so much all that depend on a source
-pub dependents_cost : (plan : List Site) (network : List Part) (above : List Above) (roots : List ℕ)
+pub dependents_cost : (plan : List Site) (network : List Part) (above : List Above) (roots : List Root)
     → HasLaid plan network above roots (8 * length plan) → (listeners : ListenData) → AreListening plan network listeners
     → AreSound listeners → (source : ℕ) → sum_by (climb above) (dependents_of listeners source) ≤ cost plan source
 dependents_cost plan network above roots laid listeners listening sound source =
@@ -201,7 +208,7 @@ joints_all joints.And left right looks a b = omega arith
 joints_all joints.Or left right looks a b = omega arith
 joints_all joints.Nor left right looks a b = omega arith
 
-pub parts_cost : (plan : List Site) (network : List Part) (above : List Above) (roots : List ℕ)
+pub parts_cost : (plan : List Site) (network : List Part) (above : List Above) (roots : List Root)
     → HasLaid plan network above roots (8 * length plan) → up_to (climb above) (length network) ≤ full_cost plan
 parts_cost plan network above roots laid = all_cost network above laid.shape (λ part looks. looks) full_cost_in
     (λ of looks. full_least looks (expr_data of)) joints_all plan roots (8 * length plan) laid

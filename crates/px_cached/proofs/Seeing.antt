@@ -1,5 +1,5 @@
 -- What is kept is sound in what is present, where what was not touched is as it was seen; and then it is fresh.
-use Rattle.std.proofs.Common.{◌≡◌, ℕ, ◌+◌, ◌/◌, ◌<◌, Bool, true, false, not, List, [], ◌∷◌, ◌++◌, length, map, get_or, Option, None, ◌⊎◌, inl, inr, ap, sym, ◌∙◌, subst, arith, All}
+use Rattle.std.proofs.Common.{◌≡◌, ℕ, ◌+◌, ◌/◌, ◌<◌, Bool, true, false, not, List, [], ◌∷◌, ◌++◌, length, map, get_or, Option, None, ◌⊎◌, inl, inr, refl, ap, sym, ◌∙◌, subst, arith, All}
 use Rattle.std.proofs.lemmas.Bool.{cases_Bool}
 use Rattle.std.proofs.lemmas.List.Elements.{All-cons, All-tail}
 use Rattle.std.proofs.lemmas.List.{get_or_append_left, get_or-append-add, get_or-map, length-append}
@@ -14,10 +14,12 @@ use Rattle.px_listen.specs.Listening.{ListenData}
 use Rattle.px_cached.specs.declared.looking.Kept.{Kept}
 use Rattle.px_cached.specs.declared.part.Part.{Part}
 use Rattle.px_cached.specs.declared.part.Part.TheVariants as parts
-use Rattle.px_cached.specs.Conditions.{condition_in, number_of, source_number, truth_in}
-use Rattle.px_cached.specs.Laying.{IsRead, IsStretch}
+use Rattle.px_cached.specs.declared.part.Root.{Root}
+use Rattle.px_cached.specs.declared.part.Root.TheVariants as root
+use Rattle.px_cached.specs.Conditions.{condition_at, condition_in, number_of, source_number, truth_in}
+use Rattle.px_cached.specs.Laying.{IsRead, IsRoot, IsStretch, root_at}
 use Rattle.px_cached.specs.Looking.{AreRight, IsRight, IsSound, Tells}
-use Rattle.px_cached.specs.Network.{part_at, truth_at}
+use Rattle.px_cached.specs.Network.{IsAmong, part_at, root_truth, truth_at}
 use Rattle.px_cached.specs.Noticing.{IsNoticed}
 use Rattle.px_cached.specs.Reading.{AreListening, sources_at}
 use Rattle.px_cached.proofs.Conditions.{condition_back, node_back, number_below}
@@ -105,39 +107,51 @@ module _ (plan : List Site) (seen present : Present) (long : length seen.cells �
 
 module _ (plan : List Site) (seen : Present) (kept : Kept) (sound : IsSound plan seen kept) (node : ℕ) (kind : ConditionKind)
     (there : node < length plan) where
-  abbrev root : ℕ
-  root = get_or kept.network.roots.items (number_of node kind) 0
+  abbrev at : Root
+  at = root_at kept.network.roots.items (number_of node kind)
+
+  rooted : IsRoot plan kept.network.parts.items kept.network.above.items (number_of node kind) at
+  rooted = sound.laid.rooted (number_of node kind) (number_below (length plan) node kind there)
 
   pub condition_inside : number_of node kind < length kept.network.roots.items
   condition_inside = omega (arith, number_below (length plan) node kind there, sound.laid.count)
 
-  pub root_inside : root < length kept.network.parts.items
-  root_inside =
-      let rooted = sound.laid.rooted (number_of node kind) (number_below (length plan) node kind there) in
-      spells_inside kept.network.parts.items root _ rooted.0
+  pub root_among : IsAmong (length kept.truths.items) at
+  root_among = by at rooted
+    where
+      by : (at : Root) → IsRoot plan kept.network.parts.items kept.network.above.items (number_of node kind) at
+          → IsAmong (length kept.truths.items) at
+      by (root.Constant truth) is = tt
+      by (root.Part part) is = omega (arith, spells_inside kept.network.parts.items part _ is.0, sound.sized)
 
   pub condition_kept : (truths : List (Option Bool))
-      → get_or (map (truth_at truths) kept.network.roots.items) (number_of node kind) None ≡ truth_at truths root
-  condition_kept truths = get_or-map (truth_at truths) kept.network.roots.items (number_of node kind) 0 None condition_inside
+      → get_or (map (root_truth truths) kept.network.roots.items) (number_of node kind) None ≡ root_truth truths at
+  condition_kept truths =
+      get_or-map (root_truth truths) kept.network.roots.items (number_of node kind) (root.Constant false) None condition_inside
 
   pub condition_fresh : ((part : ℕ) → is_absent kept.stale part ≡ true)
-      → get_or (map (truth_at kept.truths.items) kept.network.roots.items) (number_of node kind) None
+      → get_or (map (root_truth kept.truths.items) kept.network.roots.items) (number_of node kind) None
       ≡ truth_in plan seen (condition_in plan node kind)
   condition_fresh none =
-      let rooted = sound.laid.rooted (number_of node kind) (number_below (length plan) node kind there) in
-      condition_kept kept.truths.items
-      ∙ fresh_part plan seen kept.network.parts.items kept.truths.items sound.agree
-      (λ part inside. sound.right part inside (none part)) root _ rooted.0
-      ∙ ap (truth_in plan seen) (condition_back plan node kind)
+      condition_kept kept.truths.items ∙ by at rooted ∙ ap (truth_in plan seen) (condition_back plan node kind)
+    where
+      by : (at : Root) → IsRoot plan kept.network.parts.items kept.network.above.items (number_of node kind) at
+          → root_truth kept.truths.items at ≡ truth_in plan seen (condition_at plan (number_of node kind))
+      by (root.Constant truth) is = sym (ap (truth_in plan seen) is)
+      by (root.Part part) is = fresh_part plan seen kept.network.parts.items kept.truths.items sound.agree
+          (λ part inside. sound.right part inside (none part)) part _ is.0
 
   pub condition_told : (truths : List (Option Bool)) (before after : LinksData) (list : ℕ)
       → Tells kept.network.above.items kept.truths.items truths before after list
-      → (get_or (map (truth_at truths) kept.network.roots.items) (number_of node kind) None
-      ≡ get_or (map (truth_at kept.truths.items) kept.network.roots.items) (number_of node kind) None)
+      → (get_or (map (root_truth truths) kept.network.roots.items) (number_of node kind) None
+      ≡ get_or (map (root_truth kept.truths.items) kept.network.roots.items) (number_of node kind) None)
       ⊎ (is_absent after node ≡ false)
-  condition_told truths before after list tells =
-      let rooted = sound.laid.rooted (number_of node kind) (number_below (length plan) node kind there) in
-      elim (tells.changed root (number_of node kind / 8) rooted.1) [
-        | inl same ↦ inl (condition_kept truths ∙ same ∙ sym (condition_kept kept.truths.items))
-        | inr noted ↦ inr (ap (is_absent after) (sym (node_back node kind)) ∙ noted)
-      ]
+  condition_told truths before after list tells = elim (by at rooted) [
+    | inl same ↦ inl (condition_kept truths ∙ same ∙ sym (condition_kept kept.truths.items))
+    | inr noted ↦ inr (ap (is_absent after) (sym (node_back node kind)) ∙ noted)
+  ]
+    where
+      by : (at : Root) → IsRoot plan kept.network.parts.items kept.network.above.items (number_of node kind) at
+          → (root_truth truths at ≡ root_truth kept.truths.items at) ⊎ (is_absent after (number_of node kind / 8) ≡ false)
+      by (root.Constant truth) is = inl refl
+      by (root.Part part) is = tells.changed part (number_of node kind / 8) is.1

@@ -10,13 +10,13 @@ use Rattle.px_cached.specs.Conditions.{all_sources}
 use Rattle.px_cached.specs.Costs.{cost, in_all}
 use Rattle.px_cached.specs.Firsts.{firsts_of}
 use Rattle.px_cached.specs.Looking.{IsSound}
-use Rattle.px_cached.specs.Network.{truth_at}
+use Rattle.px_cached.specs.Network.{root_truth}
 use Rattle.px_cached.specs.Reading.{AreListening}
 
 abbrev pub cached_data : Inside → CachedData
 cached_data c = record {
   flat = c.flat.value;
-  truths = map (truth_at c.kept.truths.items) c.kept.network.roots.items;
+  truths = map (root_truth c.kept.truths.items) c.kept.network.roots.items;
   seen = present_in c.seen_cells.value c.seen_reports.value;
   touched = c.touched;
   left = in_all (climb c.kept.network.above.items) c.kept.stale;

@@ -1,5 +1,5 @@
 -- Parts of conditions, what each spells, and when their truths agree.
-use Rattle.std.specs.Prelude.{◌≡◌, ℕ, ◌+◌, ◌<◌, ◌^◌, Bool, List, length, slice_index_or, Option, None}
+use Rattle.std.specs.Prelude.{◌≡◌, ℕ, ◌+◌, ◌<◌, ◌^◌, Bool, List, length, slice_index_or, Option, None, Some}
 use Rattle.px_value.specs.Truth.{kleene_and, kleene_not, kleene_or}
 use Rattle.px_core.specs.declared.expr.BinaryOp.TheVariants as operators
 use Rattle.px_core.specs.declared.expr.UnaryOp.TheVariants.{Not}
@@ -12,6 +12,8 @@ use Rattle.px_cached.specs.declared.part.Joint.{Joint}
 use Rattle.px_cached.specs.declared.part.Joint.TheVariants as joints
 use Rattle.px_cached.specs.declared.part.Part.{Part}
 use Rattle.px_cached.specs.declared.part.Part.TheVariants as parts
+use Rattle.px_cached.specs.declared.part.Root.{Root}
+use Rattle.px_cached.specs.declared.part.Root.TheVariants as root
 
 -- the expression that a joint makes of two
 abbrev pub joined : Joint → Numbered → Numbered → Numbered
@@ -69,6 +71,16 @@ pub record IsNetwork (network : List Part) (above : List Above) : Type 0 where
 
 abbrev pub truth_at : List (Option Bool) → ℕ → Option Bool
 truth_at truths part = slice_index_or truths part None
+
+-- the truth of a condition, over those of the parts
+abbrev pub root_truth : List (Option Bool) → Root → Option Bool
+root_truth truths (root.Constant truth) = Some truth
+root_truth truths (root.Part part) = truth_at truths part
+
+-- the part that keeps the truth is one of so many
+abbrev pub IsAmong : ℕ → Root → Type 0
+IsAmong count (root.Constant truth) = Unit {0}
+IsAmong count (root.Part part) = part < count
 
 -- a truth is the joint's over those of the parts in it, where there are any
 abbrev pub IsSettled : List (Option Bool) → Option Bool → Part → Type 0

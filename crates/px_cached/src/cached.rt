@@ -206,7 +206,7 @@ impl Cached {
         requires { node < length (plan_in self.now) }
         ensures { result ≡ kept_truth self.now node kind }
     {
-        let part = self.kept.network.roots[8 * node as usize + place_of(kind)];
-        self.kept.truths[part as usize]
+        let root = self.kept.network.roots[8 * node as usize + place_of(kind)];
+        root.truth(&self.kept.truths)
     }
 }

@@ -4,15 +4,16 @@ ghost use Rattle.px_flat.specs.Flat.{plan_of};
 ghost use Rattle.px_flat.specs.NumberedData.{expr_data};
 ghost use Rattle.px_flat.specs.Within.{IsWithin};
 ghost use Rattle.px_cached.specs.Laying.{HasLaid, IsLaid};
-ghost use Rattle.px_flat.specs.Numbered.{Numbered, Unary, Binary};
+ghost use Rattle.px_flat.specs.Numbered.{Numbered, Literal, Unary, Binary};
+ghost use Rattle.px_value.specs.declared.value.Value.TheVariants.{Boolean};
 ghost use Rattle.px_cached.specs.Network.{IsNetwork, joined};
 
 use crate::copies::copy;
 use crate::kinds::condition;
-use crate::part::{Above, Joint, Part};
+use crate::part::{Above, Joint, Part, Root};
 use px_core::{BinaryOp, UnaryOp};
 use px_flat::{Flat, NumberedExpr};
-use px_value::NoMemory;
+use px_value::{NoMemory, Value};
 use std::alloc::{AllocError, Global};
 
 /// The parts of the conditions of a plan's nodes.
@@ -22,8 +23,8 @@ pub(crate) struct Network {
     pub(crate) parts: Vec<Part>,
     /// What each part is of.
     pub(crate) above: Vec<Above>,
-    /// The part that is the condition of each number.
-    pub(crate) roots: Vec<u32>,
+    /// What keeps the truth of the condition of each number.
+    pub(crate) roots: Vec<Root>,
 }
 
 // How an operation joins parts, if it does.
@@ -43,6 +44,16 @@ fn joint_of_both(op: UnaryOp, inner: BinaryOp) -> Option<Joint>
 {
     match (op, inner) {
         (UnaryOp::Not, BinaryOp::Or) => Some(Joint::Nor),
+        _ => None,
+    }
+}
+
+// The truth that an expression is, where it is a constant.
+fn constant_of(expr: &NumberedExpr) -> Option<bool>
+    ensures { IfSome result (λ truth. expr_data expr.now ≡ Literal (Boolean truth)) }
+{
+    match expr {
+        NumberedExpr::Literal(Value::Boolean(truth)) => Some(*truth),
         _ => None,
     }
 }
@@ -71,7 +82,11 @@ impl Network {
         ensures { OnOk result (HasLaid (plan_of flat.now)
             self.new.parts.items self.new.above.items self.new.roots.items (number + 1)) }
     {
-        let root = self.lay(alloc, flat, number / 8, condition(flat, number))?;
+        let expr = condition(flat, number);
+        let root = match constant_of(expr) {
+            Some(truth) => Root::Constant(truth),
+            None => Root::Part(self.lay(alloc, flat, number / 8, expr)?),
+        };
         self.roots.push(root)?;
         Ok(())
     }

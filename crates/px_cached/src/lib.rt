@@ -1,7 +1,7 @@
 //! Kept conditions: the truth of each condition of a plan's nodes, looked at again where a source of it was touched.
 //!
-//! A condition is made of parts (`part`): what is evaluated whole, and `&&`, `||` or a negated `||` over two parts.
-//! `laying` lays the parts of all conditions (`kinds` numbers these, `copies` copies what is evaluated whole), those in a
+//! A condition is a constant, or made of parts (`part`): what is evaluated whole, and `&&`, `||` or a negated `||` over two
+//! parts. `laying` lays the parts of all conditions (`kinds` numbers these, `copies` copies what is evaluated whole), those in a
 //! part before it; `sources` numbers the sources, and `reading` lists which parts read which; `noticing` notes what depends
 //! on touched sources, but for comparisons whose truth stays (`still`), `looking` looks at it again, and `carrying` carries a
 //! truth that changed up as far as something changes; `firsts` tells the source that has a cell. `cached` is the table.

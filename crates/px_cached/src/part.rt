@@ -1,6 +1,6 @@
 // A part of a condition.
-ghost use Rattle.std.specs.Prelude.{◌≡◌};
-ghost use Rattle.px_cached.specs.Network.{kleene};
+ghost use Rattle.std.specs.Prelude.{◌≡◌, length};
+ghost use Rattle.px_cached.specs.Network.{IsAmong, kleene, root_truth};
 
 use px_flat::NumberedExpr;
 
@@ -52,4 +52,26 @@ pub(crate) enum Above {
     /// It is a condition of this node.
     Condition(u32),
     Part(u32),
+}
+
+/// What keeps the truth of a condition.
+#[derive(Clone, Copy)]
+pub(crate) enum Root {
+    /// The condition is this constant, and has no part.
+    Constant(bool),
+    /// The part that spells it.
+    Part(u32),
+}
+
+impl Root {
+    /// The truth of the condition, where these are those of the parts.
+    pub(crate) fn truth(self, truths: &[Option<bool>]) -> Option<bool>
+        requires { IsAmong (length truths.now) self }
+        ensures { result ≡ root_truth truths.now self }
+    {
+        match self {
+            Root::Constant(truth) => Some(truth),
+            Root::Part(part) => truths[part as usize],
+        }
+    }
 }

@@ -1,19 +1,26 @@
 -- Where nodes go by what is kept is where they go in the world, once all is seen and caught up: from the six inputs of a node
 -- to its destination.
-use Rattle.std.proofs.Common.{◌≡◌, ℕ, ◌+◌, ◌<◌, length, Option, ap, sym, ◌∙◌, arith}
+use Rattle.std.proofs.Common.{◌≡◌, ℕ, ◌+◌, ◌<◌, Bool, length, Option, refl, ap, sym, ◌∙◌, arith}
+use Rattle.px_value.specs.declared.enums.NodeState.{NodeState}
+use Rattle.px_value.specs.declared.enums.NodeState.TheVariants as states
+use Rattle.px_core.specs.declared.node.Kind.{Kind}
 use Rattle.px_sem.specs.declared.guards.Arrival.{Arrival}
 use Rattle.px_sem.specs.Conflicts.{destination}
 use Rattle.px_sem.specs.Table.{dest}
 use Rattle.px_sem.specs.World.{NodeRecord}
 use Rattle.px_flat.specs.Row.{site_in, parent_number}
+use Rattle.px_told.specs.declared.asks.Asks.{Asks}
 use Rattle.px_told.specs.Told.{told_at}
+use Rattle.px_tables.specs.Reading.{read_by}
+use Rattle.px_tables.proofs.Readings.{dest_read}
 use Rattle.px_parts.specs.declared.parts.Parts.{Parts}
 use Rattle.px_parts.specs.Parts.{AreStanding, plan_in, world_in, record_of}
+use Rattle.px_micro.specs.declared.truths.Truths.{Truths}
 use Rattle.px_micro.specs.Guarded.{guards_at, guards_in}
 use Rattle.px_micro.proofs.Guarding.{guards_are}
 use Rattle.px_micro.proofs.Seeing.{record_is}
 use Rattle.px_machine.specs.declared.kept.Kept.{Kept}
-use Rattle.px_machine.specs.Kept.{arrival_of, is_rest, own_seen, parent_state, truths_of}
+use Rattle.px_machine.specs.Kept.{arrival_of, is_rest, own_seen, parent_state, truths_of, truths_read}
 use Rattle.px_machine.specs.Right.{IsNow, IsRight}
 use Rattle.px_machine.proofs.Asking.{told_now}
 use Rattle.px_machine.proofs.Present.{own_now, parent_now, truths_now}
@@ -35,6 +42,28 @@ pub same_arrival : (parts parts' : Parts) (kept kept' : Kept) (node : ℕ) → H
 same_arrival parts parts' kept kept' node same i =
     dest (site_in (same.plan i) node).head.kind (same.own i).state
     (guards_in (site_in (same.plan i) node).head.kind (same.own i) (same.parent i) (same.told i) (same.rest i) (same.truths i))
+
+-- ---- what a state reads
+
+guards_read : (state : NodeState) (kind : Kind) (r : NodeRecord) (parent : NodeState) (asked : Asks) (rest : Bool) (truths : Truths)
+    → read_by state (guards_in kind r parent asked rest (truths_read state truths))
+    ≡ read_by state (guards_in kind r parent asked rest truths)
+guards_read states.Inactive kind r parent asked rest truths = refl
+guards_read states.Waiting kind r parent asked rest truths = refl
+guards_read states.Executing kind r parent asked rest truths = refl
+guards_read states.Finishing kind r parent asked rest truths = refl
+guards_read states.IterationEnded kind r parent asked rest truths = refl
+guards_read states.Failing kind r parent asked rest truths = refl
+guards_read states.Finished kind r parent asked rest truths = refl
+
+-- a node goes where it would by all truths
+pub dest_by_read : (state : NodeState) (kind : Kind) (r : NodeRecord) (parent : NodeState) (asked : Asks) (rest : Bool) (truths : Truths)
+    → dest kind state (guards_in kind r parent asked rest (truths_read state truths))
+    ≡ dest kind state (guards_in kind r parent asked rest truths)
+dest_by_read state kind r parent asked rest truths =
+    sym (dest_read kind state (guards_in kind r parent asked rest (truths_read state truths)))
+    ∙ ap (dest kind state) (guards_read state kind r parent asked rest truths)
+    ∙ dest_read kind state (guards_in kind r parent asked rest truths)
 
 -- ---- the present
 

@@ -98,6 +98,27 @@ kept_truths conditions node = record {
 abbrev pub truths_of : Kept → ℕ → Truths
 truths_of kept node = kept_truths kept.conditions node
 
+-- as if all were UNKNOWN
+abbrev pub unread : Truths
+unread = record {
+  start = None;
+  end = None;
+  exit = None;
+  skip = None;
+  repeat = None;
+  pre = None;
+  post = None;
+  invariant = None;
+}
+
+-- those of the truths that the rows of a state read, of whatever kind the node is; the others as if they were UNKNOWN
+abbrev pub truths_read : NodeState → Truths → Truths
+truths_read states.Waiting t = record unread { start = t.start; exit = t.exit; skip = t.skip; pre = t.pre }
+truths_read states.Executing t = record unread { end = t.end; exit = t.exit; post = t.post; invariant = t.invariant }
+truths_read states.Finishing t = record unread { exit = t.exit; post = t.post; invariant = t.invariant }
+truths_read states.IterationEnded t = record unread { repeat = t.repeat }
+truths_read state t = unread
+
 -- where it goes by these, or none where it stays
 abbrev pub arrival_of : Parts → Kept → ℕ → Option Arrival
 arrival_of parts kept node =

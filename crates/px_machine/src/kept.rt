@@ -5,7 +5,7 @@ ghost use Rattle.px_flat.specs.Row.{parent_number};
 ghost use Rattle.px_cached.specs.Cached.{plan_in as plan_of_conditions};
 ghost use Rattle.px_parts.specs.Parts.{AreStanding};
 ghost use Rattle.px_parts.specs.Seen.{AreAllSeen};
-ghost use Rattle.px_machine.specs.Kept.{IsOfPlan, parent_state, truths_of};
+ghost use Rattle.px_machine.specs.Kept.{IsOfPlan, parent_state, truths_of, truths_read};
 ghost use Rattle.px_machine.specs.Right.{IsRight};
 ghost use Rattle.px_machine.specs.Seen.{IsSeen};
 
@@ -22,6 +22,18 @@ use px_tally::Tally;
 use px_told::Told;
 use px_value::{NoMemory, NodeState};
 use std::alloc::Global;
+
+// As if all conditions were UNKNOWN.
+const UNREAD: Truths = Truths {
+    start: None,
+    end: None,
+    exit: None,
+    skip: None,
+    repeat: None,
+    pre: None,
+    post: None,
+    invariant: None,
+};
 
 /// What is kept of each node. `Right` in the specs says of what it is right.
 #[derive(Drop)]
@@ -71,21 +83,39 @@ impl Kept {
         }
     }
 
-    /// The kept truths of a node's conditions.
-    pub(crate) fn truths(&self, node: u32) -> Truths
+    /// The kept truths of those of a node's conditions that the rows of a state read, since the others decide nothing; those
+    /// count as UNKNOWN.
+    pub(crate) fn truths(&self, node: u32, state: NodeState) -> Truths
         requires { node < length (plan_of_conditions self.now.conditions) }
-        ensures { result ≡ truths_of self.now node }
+        ensures { result ≡ truths_read state (truths_of self.now node) }
     {
         let conditions = &self.conditions;
-        Truths {
-            start: conditions.condition(node, ConditionKind::Start),
-            end: conditions.condition(node, ConditionKind::End),
-            exit: conditions.condition(node, ConditionKind::Exit),
-            skip: conditions.condition(node, ConditionKind::Skip),
-            repeat: conditions.condition(node, ConditionKind::Repeat),
-            pre: conditions.condition(node, ConditionKind::Pre),
-            post: conditions.condition(node, ConditionKind::Post),
-            invariant: conditions.condition(node, ConditionKind::Invariant),
+        match state {
+            NodeState::Waiting => Truths {
+                start: conditions.condition(node, ConditionKind::Start),
+                exit: conditions.condition(node, ConditionKind::Exit),
+                skip: conditions.condition(node, ConditionKind::Skip),
+                pre: conditions.condition(node, ConditionKind::Pre),
+                ..UNREAD
+            },
+            NodeState::Executing => Truths {
+                end: conditions.condition(node, ConditionKind::End),
+                exit: conditions.condition(node, ConditionKind::Exit),
+                post: conditions.condition(node, ConditionKind::Post),
+                invariant: conditions.condition(node, ConditionKind::Invariant),
+                ..UNREAD
+            },
+            NodeState::Finishing => Truths {
+                exit: conditions.condition(node, ConditionKind::Exit),
+                post: conditions.condition(node, ConditionKind::Post),
+                invariant: conditions.condition(node, ConditionKind::Invariant),
+                ..UNREAD
+            },
+            NodeState::IterationEnded => Truths {
+                repeat: conditions.condition(node, ConditionKind::Repeat),
+                ..UNREAD
+            },
+            NodeState::Inactive | NodeState::Failing | NodeState::Finished => UNREAD,
         }
     }
 }

@@ -24,7 +24,7 @@ use px_value::{NoMemory, NodeState};
 use std::alloc::Global;
 
 /// Where a node goes by what is kept, if it goes anywhere: by its kind, its own record, its parent's state, what it is told,
-/// whether its children are at rest, and its conditions.
+/// whether its children are at rest, and those of its conditions that the rows of its state read.
 pub(crate) fn arrival(parts: &Parts, kept: &Kept, node: u32) -> Option<Arrival>
     requires stand { AreStanding parts.now }
     requires seen { AreAllSeen parts.now }
@@ -32,19 +32,16 @@ pub(crate) fn arrival(parts: &Parts, kept: &Kept, node: u32) -> Option<Arrival>
     requires node { node < length (plan_in parts.now) }
     ensures { result ≡ arrival_of parts.now kept.now node }
 {
+    let state = state_of(parts, node);
     let guards = guards_by(
         parts,
         node,
         kept.parent_state(&parts.flat, node),
         kept.told.told(node),
         kept.busy.is_nobody(node),
-        &kept.truths(node),
+        &kept.truths(node, state),
     );
-    dest(
-        parts.flat.row(node).head.kind,
-        state_of(parts, node),
-        &guards,
-    )
+    dest(parts.flat.row(node).head.kind, state, &guards)
 }
 
 // Whether the node writes a variable.

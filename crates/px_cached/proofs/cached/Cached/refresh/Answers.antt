@@ -10,7 +10,7 @@ use Rattle.px_cached.specs.Conditions.{number_of}
 use Rattle.px_cached.specs.Costs.{cost, in_all}
 use Rattle.px_cached.specs.Keeping.{cached_data}
 use Rattle.px_cached.specs.Looking.{IsSound}
-use Rattle.px_cached.specs.Network.{truth_at}
+use Rattle.px_cached.specs.Network.{root_truth}
 use Rattle.px_cached.proofs.Seeing.{condition_fresh, condition_told}
 use Rattle.px_cached.proofs.cached.Cached.refresh.Goals as goal
 
@@ -54,7 +54,7 @@ returns-clause-told c =
           (subst (λ (flat : Flat). node < length (plan_of flat)) same there) truths c.args.changed.now c.refresh.new.changed
           c.args.list told) [
             | inl stays ↦ inl
-                (ap (λ (network : Network). get_or (map (truth_at truths) network.roots.items) (number_of node kind) None) c.refresh.ensures.network
+                (ap (λ (network : Network). get_or (map (root_truth truths) network.roots.items) (number_of node kind) None) c.refresh.ensures.network
                 ∙ stays ∙ ap (λ (cached : CachedData). kept_truth cached node kind) c.self.view_is
                 ∙ ap (λ truths. get_or truths (number_of node kind) None) c.see.ensures.truths)
             | inr noted ↦ inr noted
