@@ -2,7 +2,7 @@
 use px_value::Value;
 
 /// How far the abort of a command has come.
-#[derive(Clone, Copy, Debug, PartialEq, Eq)]
+#[derive(Clone, Copy, PartialEq, Eq)]
 pub enum Abort {
     NotAsked,
     Sent,
@@ -10,7 +10,7 @@ pub enum Abort {
 }
 
 /// What a node has under way, apart from its handle and its acknowledgement, which are cells.
-#[derive(Debug, Drop)]
+#[derive(Drop)]
 pub enum Act {
     /// Nothing.
     Idle,

@@ -30,12 +30,12 @@ fn head_at(alloc: Global, node: &CoreNode) -> Result<Head, NoMemory>
     ensures named { IfOk result (λ head. IsTrue (is_name head.name)) }
 {
     Ok(Head {
-        conditions: Snapshot::of(&node.conditions),
-        body: node.body.copy(alloc)?,
-        variables: copy_each(alloc, &node.variables)?,
         name: node.name.copy(alloc)?,
         kind: node.kind,
+        conditions: Snapshot::of(&node.conditions),
         priority: node.priority,
+        variables: copy_each(alloc, &node.variables)?,
+        body: node.body.copy(alloc)?,
     })
 }
 

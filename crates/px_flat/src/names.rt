@@ -84,10 +84,10 @@ impl Names {
         let ends = ends(alloc, plan)?;
         let rows = lay(alloc, plan, ends.len())?;
         let extents = extents(alloc, &rows, &ends)?;
-        let paths = paths_of(alloc, &rows)?;
         let slots = slots_of(alloc, &rows, &extents)?;
-        let lookups = lookups(alloc, nodes)?;
         let tolerances = tolerances(alloc, nodes)?;
+        let lookups = lookups(alloc, nodes)?;
+        let paths = paths_of(alloc, &rows)?;
         Ok(Names {
             rows,
             extents,

@@ -3,7 +3,7 @@ use px_core::{BinaryOp, UnaryOp, VarKind};
 use px_value::Value;
 
 /// An expression, with what it names as numbers.
-#[derive(Debug, Drop)]
+#[derive(Drop)]
 pub enum NumberedExpr {
     Literal(Value),
     /// The cell of a scalar.
@@ -38,7 +38,7 @@ pub enum NumberedExpr {
 }
 
 /// A scalar, or an element of an array, that is written.
-#[derive(Debug, Drop)]
+#[derive(Drop)]
 pub struct NumberedTarget {
     /// The first cell of the variable.
     pub first: u32,
@@ -50,7 +50,7 @@ pub struct NumberedTarget {
 }
 
 /// What a node does.
-#[derive(Debug, Drop)]
+#[derive(Drop)]
 pub enum NumberedBody {
     Nothing,
     Assign {
@@ -67,7 +67,7 @@ pub enum NumberedBody {
 }
 
 /// The eight conditions of a node.
-#[derive(Debug, Drop)]
+#[derive(Drop)]
 pub struct NumberedConditions {
     pub start: NumberedExpr,
     pub end: NumberedExpr,
@@ -80,7 +80,7 @@ pub struct NumberedConditions {
 }
 
 /// What a node computes.
-#[derive(Debug, Drop)]
+#[derive(Drop)]
 pub struct NumberedNode {
     pub conditions: NumberedConditions,
     pub body: NumberedBody,

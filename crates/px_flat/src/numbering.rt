@@ -23,42 +23,51 @@ use std::alloc::Global;
 fn numbered(alloc: Global, names: &Names, expr: &Expr) -> Result<NumberedExpr, NoMemory>
     ensures { IfOk result (λ made. expr_data made ≡ numbered (plan_in names.now) (term_of expr.now)) }
 {
-    Ok(match expr {
-        Expr::Literal(value) => NumberedExpr::Literal(value.copy(alloc)?),
-        Expr::Var { owner, name } => NumberedExpr::Variable(names.slot(owner, name).first),
+    match expr {
+        Expr::Literal(value) => Ok(NumberedExpr::Literal(value.copy(alloc)?)),
+        Expr::Var { owner, name } => Ok(NumberedExpr::Variable(names.slot(owner, name).first)),
         Expr::Cell { owner, name, index } => {
             let slot = names.slot(owner, name);
-            NumberedExpr::Element {
+            Ok(NumberedExpr::Element {
                 first: slot.first,
                 size: slot.size,
-                index: Box::new(alloc, numbered(alloc, names, index)?)?,
-            }
+                index: boxed_numbered(alloc, names, index)?,
+            })
         }
-        Expr::StateOf(path) => NumberedExpr::StateOf(names.node(path)),
-        Expr::OutcomeOf(path) => NumberedExpr::OutcomeOf(names.node(path)),
-        Expr::FailureOf(path) => NumberedExpr::FailureOf(names.node(path)),
-        Expr::HandleOf(path) => NumberedExpr::HandleOf(names.node(path)),
-        Expr::Acknowledged(path) => NumberedExpr::Acknowledged(names.node(path)),
+        Expr::StateOf(path) => Ok(NumberedExpr::StateOf(names.node(path))),
+        Expr::OutcomeOf(path) => Ok(NumberedExpr::OutcomeOf(names.node(path))),
+        Expr::FailureOf(path) => Ok(NumberedExpr::FailureOf(names.node(path))),
+        Expr::HandleOf(path) => Ok(NumberedExpr::HandleOf(names.node(path))),
+        Expr::Acknowledged(path) => Ok(NumberedExpr::Acknowledged(names.node(path))),
         Expr::Look {
             name,
             args,
             tolerance,
             ..
-        } => NumberedExpr::Look {
+        } => Ok(NumberedExpr::Look {
             lookup: names.lookup(name),
             args: each_numbered(alloc, names, args)?,
             tolerance: *tolerance,
-        },
-        Expr::Unary { op, arg } => NumberedExpr::Unary {
+        }),
+        Expr::Unary { op, arg } => Ok(NumberedExpr::Unary {
             op: *op,
-            arg: Box::new(alloc, numbered(alloc, names, arg)?)?,
-        },
-        Expr::Binary { op, left, right } => NumberedExpr::Binary {
+            arg: boxed_numbered(alloc, names, arg)?,
+        }),
+        Expr::Binary { op, left, right } => Ok(NumberedExpr::Binary {
             op: *op,
-            left: Box::new(alloc, numbered(alloc, names, left)?)?,
-            right: Box::new(alloc, numbered(alloc, names, right)?)?,
-        },
-    })
+            left: boxed_numbered(alloc, names, left)?,
+            right: boxed_numbered(alloc, names, right)?,
+        }),
+    }
+}
+
+/// An expression with numbers in place of names, in a box.
+#[cycle(numbered)]
+fn boxed_numbered(alloc: Global, names: &Names, expr: &Expr) -> Result<Box<NumberedExpr>, NoMemory>
+    ensures { IfOk result (λ made. expr_data made.value ≡ numbered (plan_in names.now) (term_of expr.now)) }
+{
+    let made = numbered(alloc, names, expr)?;
+    Ok(Box::new(alloc, made)?)
 }
 
 /// Expressions with numbers in place of names, in their order.
@@ -142,20 +151,20 @@ fn numbered_body(alloc: Global, names: &Names, body: &Body) -> Result<NumberedBo
     ensures { IfOk result (λ made. numbers.body_data made
         ≡ numbered_body (plan_in names.now) (body_data body.now)) }
 {
-    Ok(match body {
-        Body::Nothing => NumberedBody::Nothing,
-        Body::Assign { target, value } => NumberedBody::Assign {
+    match body {
+        Body::Nothing => Ok(NumberedBody::Nothing),
+        Body::Assign { target, value } => Ok(NumberedBody::Assign {
             target: numbered_target(alloc, names, target)?,
             value: numbered(alloc, names, value)?,
-        },
-        Body::Command { args, result, .. } => NumberedBody::Command {
+        }),
+        Body::Command { args, result, .. } => Ok(NumberedBody::Command {
             args: each_numbered(alloc, names, args)?,
             result: numbered_result(alloc, names, result)?,
-        },
-        Body::Update { pairs } => NumberedBody::Update {
+        }),
+        Body::Update { pairs } => Ok(NumberedBody::Update {
             values: numbered_pairs(alloc, names, pairs)?,
-        },
-    })
+        }),
+    }
 }
 
 fn numbered_conditions(

@@ -25,7 +25,7 @@ pub struct Row {
 }
 
 /// Which variable cells and which nodes belong to a node.
-#[derive(Clone, Copy, Debug, PartialEq, Eq)]
+#[derive(Clone, Copy, PartialEq, Eq)]
 pub struct Extent {
     /// The first of the node's variable cells.
     pub first_cell: u32,

@@ -7,11 +7,11 @@ pub returns-clause-head : goal.returns-clause-head
 returns-clause-head c = λ i.
     let node = out-CoreNode c.args.node.now in
     let head : Head = record {
-      name = c.in_ok-copy-2.ensures.copy i;
+      name = c.in_ok-copy.ensures.copy i;
       kind = node.kind;
       conditions = condition_terms (c.of.ensures i);
       priority = node.priority;
       variables = (c.in_ok-copy_each.ensures ∙ ap (map variable_data) c.deref.ensures.value) i;
-      body = c.in_ok-copy.ensures i;
+      body = c.in_ok-copy-2.ensures i;
     } in
     head

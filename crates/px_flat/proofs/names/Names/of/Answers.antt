@@ -48,13 +48,13 @@ pub slots_of-requires-clause-fit : goal.slots_of-requires-clause-fit
 slots_of-requires-clause-fit c = record {
   tree = tree_of c.args.plan.now;
   fit = c.requires.fit;
-  nodes = ap sites_of c.deref-4.ensures.value ∙ c.in_ok-rows.ensures.sites;
+  nodes = ap sites_of c.deref-3.ensures.value ∙ c.in_ok-rows.ensures.sites;
 }
 
 pub slots_of-requires-clause-extended : goal.slots_of-requires-clause-extended
 slots_of-requires-clause-extended c =
-    subst (λ rows. AreExtents (sites_of rows) c.deref-5.result.now) (sym c.deref-4.ensures.value)
-    (subst (AreExtents (sites_of c.in_ok-rows.rows.items)) (sym c.deref-5.ensures.value)
+    subst (λ rows. AreExtents (sites_of rows) c.deref-4.result.now) (sym c.deref-3.ensures.value)
+    (subst (AreExtents (sites_of c.in_ok-rows.rows.items)) (sym c.deref-4.ensures.value)
     (subst (λ rows. AreExtents (sites_of rows) c.in_ok-extents.extents.items) c.deref.ensures.value
     c.in_ok-extents.ensures))
 
@@ -67,8 +67,8 @@ invariant_of-result c =
       fit = ∣ record { tree = tree; fit = c.requires.fit; nodes = c.in_ok-rows.ensures.sites } ∣₁;
       extended = subst (λ rows. AreExtents (sites_of rows) c.in_ok-extents.extents.items) c.deref.ensures.value
           c.in_ok-extents.ensures;
-      found = c.in_ok-paths.ensures ∙ ap (λ rows. paths_of (sites_of rows)) c.deref-3.ensures.value;
-      declared = subst (λ rows. AreSlots (sites_of rows) c.in_ok-slots.slots.items) c.deref-4.ensures.value c.in_ok-slots.ensures;
+      found = c.in_ok-paths.ensures ∙ ap (λ rows. paths_of (sites_of rows)) c.deref-5.ensures.value;
+      declared = subst (λ rows. AreSlots (sites_of rows) c.in_ok-slots.slots.items) c.deref-3.ensures.value c.in_ok-slots.ensures;
       looked = c.in_ok-lookups.ensures.names
           ∙ ap (λ heads. fold with_name [] (flat_map lookups_in_head heads))
           (heads_are c.args.nodes.now tree (sites_of rows) c.requires.nodes c.in_ok-rows.ensures.sites)
