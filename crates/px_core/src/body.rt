@@ -9,7 +9,7 @@ use px_value::{Name, NoMemory, Path};
 use std::alloc::Global;
 
 /// A variable, or an element of an array, that is written.
-#[derive(Debug, Drop)]
+#[derive(Drop)]
 pub struct Target {
     /// The node that declares the variable: the writing node or one of its ancestors.
     pub owner: Path,
@@ -19,14 +19,14 @@ pub struct Target {
 }
 
 /// One named value of an update.
-#[derive(Debug, Drop)]
+#[derive(Drop)]
 pub struct Pair {
     pub name: Name,
     pub value: Expr,
 }
 
 /// What a node does (PLEXIL reference manual, "Node Types").
-#[derive(Debug, Drop)]
+#[derive(Drop)]
 pub enum Body {
     /// A List runs its children, an Empty node does nothing.
     Nothing,
@@ -85,21 +85,21 @@ impl Body {
     pub fn copy(&self, alloc: Global) -> Result<Body, NoMemory>
         ensures { IfOk result (λ copy. body_data copy ≡ body_data self.now) }
     {
-        Ok(match self {
-            Body::Nothing => Body::Nothing,
-            Body::Assign { target, value } => Body::Assign {
+        match self {
+            Body::Nothing => Ok(Body::Nothing),
+            Body::Assign { target, value } => Ok(Body::Assign {
                 target: target.copy(alloc)?,
                 value: value.copy(alloc)?,
-            },
-            Body::Command { name, args, result } => Body::Command {
+            }),
+            Body::Command { name, args, result } => Ok(Body::Command {
                 name: name.copy(alloc)?,
                 args: expr::copy_each(alloc, args)?,
                 result: copy_result(alloc, result)?,
-            },
-            Body::Update { pairs } => Body::Update {
+            }),
+            Body::Update { pairs } => Ok(Body::Update {
                 pairs: copy_pairs(alloc, pairs)?,
-            },
-        })
+            }),
+        }
     }
 }
 

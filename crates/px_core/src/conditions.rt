@@ -20,7 +20,7 @@ pub enum ConditionKind {
 }
 
 /// The eight conditions of a node, each given or its default (PLEXIL reference manual, "Node Conditions").
-#[derive(Debug, Drop)]
+#[derive(Drop)]
 pub struct Conditions {
     /// When a waiting node may begin.
     pub start: Expr,

@@ -6,7 +6,7 @@ use px_value::{ArithOp, CompareOp, Name, NoMemory, Path, Value};
 use std::alloc::Global;
 
 /// The operators with one operand (PLEXIL reference manual, "Expressions").
-#[derive(Clone, Copy, Debug, PartialEq, Eq, Hash)]
+#[derive(Clone, Copy, PartialEq, Eq, Hash)]
 pub enum UnaryOp {
     /// `!`
     Not,
@@ -21,7 +21,7 @@ pub enum UnaryOp {
 }
 
 /// The operators with two operands (PLEXIL reference manual, "Expressions").
-#[derive(Clone, Copy, Debug, PartialEq, Eq)]
+#[derive(Clone, Copy, PartialEq, Eq)]
 pub enum BinaryOp {
     /// `&&`
     And,
@@ -38,7 +38,7 @@ pub enum BinaryOp {
 }
 
 /// How a lookup asks for a state of the outside (PLEXIL reference manual, "Lookups").
-#[derive(Clone, Copy, Debug, PartialEq, Eq, Hash)]
+#[derive(Clone, Copy, PartialEq, Eq, Hash)]
 pub enum LookWord {
     Lookup,
     LookupNow,
@@ -46,7 +46,7 @@ pub enum LookWord {
 }
 
 /// An expression (PLEXIL reference manual, "Expressions"). Each path is that of a node, from the root.
-#[derive(Debug, Drop)]
+#[derive(Drop)]
 pub enum Expr {
     Literal(Value),
     /// The variable that the node `owner` declares.
@@ -92,43 +92,52 @@ impl Expr {
     pub fn copy(&self, alloc: Global) -> Result<Expr, NoMemory>
         ensures { IfOk result (λ expr. term_of expr ≡ term_of self.now) }
     {
-        Ok(match self {
-            Expr::Literal(value) => Expr::Literal(value.copy(alloc)?),
-            Expr::Var { owner, name } => Expr::Var {
+        match self {
+            Expr::Literal(value) => Ok(Expr::Literal(value.copy(alloc)?)),
+            Expr::Var { owner, name } => Ok(Expr::Var {
                 owner: owner.copy(alloc)?,
                 name: name.copy(alloc)?,
-            },
-            Expr::Cell { owner, name, index } => Expr::Cell {
+            }),
+            Expr::Cell { owner, name, index } => Ok(Expr::Cell {
                 owner: owner.copy(alloc)?,
                 name: name.copy(alloc)?,
-                index: Box::new(alloc, index.copy(alloc)?)?,
-            },
-            Expr::StateOf(path) => Expr::StateOf(path.copy(alloc)?),
-            Expr::OutcomeOf(path) => Expr::OutcomeOf(path.copy(alloc)?),
-            Expr::FailureOf(path) => Expr::FailureOf(path.copy(alloc)?),
-            Expr::HandleOf(path) => Expr::HandleOf(path.copy(alloc)?),
-            Expr::Acknowledged(path) => Expr::Acknowledged(path.copy(alloc)?),
+                index: index.boxed_copy(alloc)?,
+            }),
+            Expr::StateOf(path) => Ok(Expr::StateOf(path.copy(alloc)?)),
+            Expr::OutcomeOf(path) => Ok(Expr::OutcomeOf(path.copy(alloc)?)),
+            Expr::FailureOf(path) => Ok(Expr::FailureOf(path.copy(alloc)?)),
+            Expr::HandleOf(path) => Ok(Expr::HandleOf(path.copy(alloc)?)),
+            Expr::Acknowledged(path) => Ok(Expr::Acknowledged(path.copy(alloc)?)),
             Expr::Look {
                 word,
                 name,
                 args,
                 tolerance,
-            } => Expr::Look {
+            } => Ok(Expr::Look {
                 word: *word,
                 name: name.copy(alloc)?,
                 args: copy_each(alloc, args)?,
                 tolerance: *tolerance,
-            },
-            Expr::Unary { op, arg } => Expr::Unary {
+            }),
+            Expr::Unary { op, arg } => Ok(Expr::Unary {
                 op: *op,
-                arg: Box::new(alloc, arg.copy(alloc)?)?,
-            },
-            Expr::Binary { op, left, right } => Expr::Binary {
+                arg: arg.boxed_copy(alloc)?,
+            }),
+            Expr::Binary { op, left, right } => Ok(Expr::Binary {
                 op: *op,
-                left: Box::new(alloc, left.copy(alloc)?)?,
-                right: Box::new(alloc, right.copy(alloc)?)?,
-            },
-        })
+                left: left.boxed_copy(alloc)?,
+                right: right.boxed_copy(alloc)?,
+            }),
+        }
+    }
+
+    /// An equal expression, in a box.
+    #[cycle(copy)]
+    fn boxed_copy(&self, alloc: Global) -> Result<Box<Expr>, NoMemory>
+        ensures { IfOk result (λ boxed. term_of boxed.value ≡ term_of self.now) }
+    {
+        let expr = self.copy(alloc)?;
+        Ok(Box::new(alloc, expr)?)
     }
 }
 

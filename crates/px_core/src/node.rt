@@ -9,7 +9,7 @@ use px_value::{Name, NoMemory};
 use std::alloc::Global;
 
 /// What kind of work a node does (PLEXIL reference manual, "Node Types").
-#[derive(Clone, Copy, Debug, PartialEq, Eq, Hash)]
+#[derive(Clone, Copy, PartialEq, Eq, Hash)]
 pub enum Kind {
     /// Runs its children.
     List,
@@ -20,7 +20,7 @@ pub enum Kind {
 }
 
 /// A node with all that is below it (PLEXIL reference manual, "Nodes").
-#[derive(Debug, Drop)]
+#[derive(Drop)]
 pub struct CoreNode {
     pub name: Name,
     pub kind: Kind,

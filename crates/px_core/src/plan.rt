@@ -7,7 +7,7 @@ use px_value::NoMemory;
 use std::alloc::Global;
 
 /// A plan, which is its root (PLEXIL reference manual, "Overview").
-#[derive(Debug, Drop)]
+#[derive(Drop)]
 pub struct Plan {
     pub root: CoreNode,
 }

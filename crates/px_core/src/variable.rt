@@ -6,7 +6,7 @@ use px_value::{Name, NoMemory, Value};
 use std::alloc::Global;
 
 /// The type of a variable's values (PLEXIL reference manual, "Data Types").
-#[derive(Clone, Copy, Debug, PartialEq, Eq, Hash)]
+#[derive(Clone, Copy, PartialEq, Eq, Hash)]
 pub enum VarKind {
     Boolean,
     Integer,
@@ -14,7 +14,7 @@ pub enum VarKind {
 }
 
 /// A variable or an array that a node declares (PLEXIL reference manual, "Variables", "Arrays").
-#[derive(Debug, Drop)]
+#[derive(Drop)]
 pub struct Variable {
     pub name: Name,
     pub kind: VarKind,
