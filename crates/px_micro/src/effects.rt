@@ -1,7 +1,7 @@
 // What a move does beside the change of state: what it writes, what the node has under way after it, and what is told.
 ghost use Rattle.std.specs.Prelude.{◌≡◌, ◌+◌, ◌<◌, ◌^◌, IfOk};
 ghost use Rattle.px_core.specs.Plan as core;
-ghost use Rattle.px_sem.specs.Effects.{cell_of};
+ghost use Rattle.px_sem.specs.Effects.{cell_of, told_write};
 ghost use Rattle.px_micro.specs.Doing.{silent, writing};
 ghost use Rattle.px_micro.specs.Places.{place_data};
 
@@ -49,6 +49,23 @@ pub fn silent(under_way: UnderWay) -> Effects
     }
 }
 
+// What is told of a write.
+fn wrote(alloc: Global, target: &Target, place: Place, value: &Value) -> Result<Effect, NoMemory>
+    ensures { IfOk result (λ told. told ≡ told_write (record {
+      owner = target.now.owner;
+      name = target.now.name;
+      place = place_data place;
+      value = value.now;
+    })) }
+{
+    Ok(Effect::Wrote {
+        owner: target.owner.copy(alloc)?,
+        name: target.name.copy(alloc)?,
+        index: place.index(),
+        value: value.copy(alloc)?,
+    })
+}
+
 /// A write, which is told.
 pub fn writing(
     alloc: Global,
@@ -61,12 +78,7 @@ pub fn writing(
     requires { first + cell_of (place_data place) < 2 ^ 32 }
     ensures { IfOk result (λ made. made ≡ writing (core.target_data target.now) first place value under_way) }
 {
-    let told = Effect::Wrote {
-        owner: target.owner.copy(alloc)?,
-        name: target.name.copy(alloc)?,
-        index: place.index(),
-        value: value.copy(alloc)?,
-    };
+    let told = wrote(alloc, target, place, &value)?;
     let write = CellWrite {
         variable: first,
         cell: first + place.offset(),

@@ -6,7 +6,7 @@ ghost use Rattle.px_micro.specs.Doing.{kind_data};
 use px_value::NodeState::{self, Executing, Failing, Finished, Inactive, IterationEnded, Waiting};
 
 /// Which of the moves with an effect it is.
-#[derive(Clone, Copy, Debug, PartialEq, Eq)]
+#[derive(Clone, Copy, PartialEq, Eq)]
 pub enum MoveKind {
     /// INACTIVE to WAITING
     Initializes,

@@ -13,7 +13,7 @@ use px_value::NoMemory;
 use std::alloc::Global;
 
 /// A scalar as a whole, or the element of an array at an index.
-#[derive(Clone, Copy, Debug, PartialEq, Eq)]
+#[derive(Clone, Copy, PartialEq, Eq)]
 pub enum Place {
     Whole,
     Element(u32),

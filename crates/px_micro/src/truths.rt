@@ -12,7 +12,7 @@ use px_value::{NoMemory, Value};
 use std::alloc::Global;
 
 /// The truth of each condition of a node; None is UNKNOWN.
-#[derive(Clone, Copy, Debug, PartialEq, Eq)]
+#[derive(Clone, Copy, PartialEq, Eq)]
 pub struct Truths {
     pub start: Option<bool>,
     pub end: Option<bool>,

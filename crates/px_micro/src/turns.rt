@@ -115,6 +115,33 @@ impl Turns {
         Ok(())
     }
 
+    // A node's move, where moves are told.
+    fn tell(
+        &mut self,
+        alloc: Global,
+        parts: &Parts,
+        going: Going,
+        told: Option<Effect>,
+        tells: bool,
+    ) -> Result<(), NoMemory>
+        requires stand { AreStanding parts.now }
+        requires node { going.node < length (plan_in parts.now) }
+        requires told { told ≡ (effects_in parts.now going).told }
+        requires written { KnowsWritten self.old }
+        ensures moves { OnOk result (self.new.moves.items
+            ≡ self.old.moves.items ++ moves_told parts.now tells (going ∷ [])) }
+        ensures writes { self.new.writes.items ≡ self.old.writes.items }
+        ensures initial { self.new.initial.items ≡ self.old.initial.items }
+        ensures turns { self.new.turns.items ≡ self.old.turns.items }
+        ensures written { KnowsWritten self.new }
+    {
+        if !tells {
+            return Ok(());
+        }
+        self.moves.push(told_move(alloc, parts, going, told)?)?;
+        Ok(())
+    }
+
     // One node's turn, and its move where moves are told.
     fn add(
         &mut self,
@@ -136,13 +163,10 @@ impl Turns {
             under_way,
             told,
         } = effects_of(alloc, parts, going)?;
+        self.tell(alloc, parts, going, told, tells)?;
         self.write(write)?;
-        self.begin(alloc, parts, going)?;
         self.turns.push(Turn { going, under_way })?;
-        if tells {
-            self.moves.push(told_move(alloc, parts, going, told)?)?;
-        }
-        Ok(())
+        self.begin(alloc, parts, going)
     }
 }
 
