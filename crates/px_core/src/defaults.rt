@@ -23,9 +23,10 @@ impl Conditions {
         ensures { IfOk result
             (λ made. condition_terms made ≡ default_conditions kind path.now children.now) }
     {
+        let end = default_end(alloc, kind, path, children)?;
         Ok(Conditions {
             start: truth(true),
-            end: default_end(alloc, kind, path, children)?,
+            end,
             exit: truth(false),
             skip: truth(false),
             repeat: truth(false),

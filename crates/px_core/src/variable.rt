@@ -29,17 +29,24 @@ impl Variable {
     pub fn copy(&self, alloc: Global) -> Result<Variable, NoMemory>
         ensures { IfOk result (λ copy. variable_data copy ≡ variable_data self.now) }
     {
-        let mut init = Vec::with_capacity(alloc, self.init.len())?;
-        for value in &self.init {
-            init.push(value.copy(alloc)?)?;
-        }
         Ok(Variable {
             name: self.name.copy(alloc)?,
             kind: self.kind,
             size: self.size,
-            init,
+            init: copy_values(alloc, &self.init)?,
         })
     }
+}
+
+/// Equal values, in their order.
+fn copy_values(alloc: Global, values: &[Value]) -> Result<Vec<Value>, NoMemory>
+    ensures { IfOk result (λ copies. copies.items ≡ values.now) }
+{
+    let mut copies = Vec::with_capacity(alloc, values.len())?;
+    for value in values {
+        copies.push(value.copy(alloc)?)?;
+    }
+    Ok(copies)
 }
 
 /// Equal variables, in their order.
