@@ -3,7 +3,7 @@ use px_event::Entry;
 use px_sem::LogEntry;
 
 /// What the list of a desk has of a post.
-#[derive(Debug, Drop)]
+#[derive(Drop)]
 pub enum Listing {
     /// It was answered over the history, accepted or refused.
     Answered(LogEntry),

@@ -2,7 +2,7 @@
 use px_value::{NodeState, Path};
 
 /// What a thread waits for before its next line.
-#[derive(Debug, Drop, PartialEq, Eq)]
+#[derive(Drop, PartialEq, Eq)]
 pub enum Cond {
     /// The node has this state.
     State { node: Path, state: NodeState },

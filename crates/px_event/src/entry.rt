@@ -9,7 +9,7 @@ use std::alloc::Global;
 pub const THREAD_LIMIT: u8 = 8;
 
 /// An event, the thread that posts it, and the line of the script that says so.
-#[derive(Debug, Drop, PartialEq, Eq)]
+#[derive(Drop, PartialEq, Eq)]
 pub struct Entry {
     /// From 1 to 8.
     pub thread: u8,

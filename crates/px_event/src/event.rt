@@ -16,7 +16,7 @@ use std::alloc::Global;
 pub const ARGUMENT_LIMIT: usize = 8;
 
 /// What the outside tells a plan (PLEXIL reference manual, "Lookups", "Commands" and "Updates").
-#[derive(Debug, Drop, PartialEq, Eq)]
+#[derive(Drop, PartialEq, Eq)]
 pub enum Event {
     /// The state of this name and these arguments has this value.
     Report {
@@ -69,27 +69,27 @@ impl Event {
     pub fn copy(&self, alloc: Global) -> Result<Event, NoMemory>
         ensures { IfOk result (λ event. event ≡ self.now) }
     {
-        Ok(match self {
-            Event::Report { name, args, value } => Event::Report {
+        match self {
+            Event::Report { name, args, value } => Ok(Event::Report {
                 name: name.copy(alloc)?,
                 args: args.copy(alloc)?,
                 value: value.copy(alloc)?,
-            },
-            Event::Handle { node, handle } => Event::Handle {
+            }),
+            Event::Handle { node, handle } => Ok(Event::Handle {
                 node: node.copy(alloc)?,
                 handle: *handle,
-            },
-            Event::Return { node, value } => Event::Return {
+            }),
+            Event::Return { node, value } => Ok(Event::Return {
                 node: node.copy(alloc)?,
                 value: value.copy(alloc)?,
-            },
-            Event::AbortDone { node } => Event::AbortDone {
+            }),
+            Event::AbortDone { node } => Ok(Event::AbortDone {
                 node: node.copy(alloc)?,
-            },
-            Event::Acknowledged { node } => Event::Acknowledged {
+            }),
+            Event::Acknowledged { node } => Ok(Event::Acknowledged {
                 node: node.copy(alloc)?,
-            },
-        })
+            }),
+        }
     }
 }
 

@@ -3,7 +3,7 @@ use crate::entry::Entry;
 use px_value::Name;
 
 /// An entry, and the name that its thread had when it was kept, or none.
-#[derive(Debug, Drop)]
+#[derive(Drop)]
 pub struct NamedEntry {
     /// An identifier, where there is one.
     pub name: Option<Name>,

@@ -11,7 +11,7 @@ use std::alloc::Global;
 use std::marker::Model;
 
 /// A thread, and the name of the interface through which it posts.
-#[derive(Debug, Drop, PartialEq, Eq)]
+#[derive(Drop, PartialEq, Eq)]
 pub struct ThreadName {
     pub thread: u8,
     /// An identifier.
@@ -19,7 +19,7 @@ pub struct ThreadName {
 }
 
 /// The names of threads. A thread has one at most, and each is an identifier.
-#[derive(Debug, Drop)]
+#[derive(Drop)]
 pub struct Names {
     list: Vec<ThreadName>,
 }

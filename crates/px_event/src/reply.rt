@@ -1,7 +1,7 @@
 // What a post is answered.
 
 /// The answer to an event that was posted to a running plan.
-#[derive(Clone, Copy, Debug, PartialEq, Eq)]
+#[derive(Clone, Copy, PartialEq, Eq)]
 pub enum Reply {
     /// The event is the last of the history, at this position from 1.
     Accepted { position: u32 },

@@ -6,7 +6,7 @@ use crate::copies::Copies;
 use px_event::Entry;
 
 /// The entry whose append failed, and the disk's count of faults at that moment.
-#[derive(Debug, Drop)]
+#[derive(Drop)]
 pub(crate) struct Failed {
     pub(crate) entry: Entry,
     pub(crate) faults: u64,

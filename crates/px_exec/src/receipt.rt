@@ -2,7 +2,7 @@
 use px_sem::Standing;
 
 /// The event is the last of the history, and stands in the journal.
-#[derive(Clone, Copy, Debug, PartialEq, Eq)]
+#[derive(Clone, Copy, PartialEq, Eq)]
 pub struct Receipt {
     /// Its place in the history, from 1.
     pub position: u32,

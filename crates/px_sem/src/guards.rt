@@ -2,7 +2,7 @@
 use px_value::{Failure, NodeState, Outcome};
 
 /// What decides a node's transition: facts on the world before the step.
-#[derive(Clone, Copy, Debug, PartialEq, Eq)]
+#[derive(Clone, Copy, PartialEq, Eq)]
 pub struct Guards {
     /// The node's own outcome and failure, which the rows that keep both hand on.
     pub outcome: Option<Outcome>,
@@ -30,7 +30,7 @@ pub struct Guards {
 }
 
 /// Where a transition leads: the state, the outcome and the failure after it.
-#[derive(Clone, Copy, Debug, PartialEq, Eq)]
+#[derive(Clone, Copy, PartialEq, Eq)]
 pub struct Arrival {
     pub to: NodeState,
     pub outcome: Option<Outcome>,

@@ -2,7 +2,7 @@
 use px_event::{Entry, Reply};
 
 /// A post with its reply.
-#[derive(Debug, Drop)]
+#[derive(Drop)]
 pub struct LogEntry {
     pub entry: Entry,
     pub reply: Reply,

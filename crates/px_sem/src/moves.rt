@@ -3,7 +3,7 @@ use px_event::Values;
 use px_value::{Failure, Name, NodeState, Outcome, Path, Series, Value};
 
 /// What a move does beside the change of state.
-#[derive(Debug, Drop)]
+#[derive(Drop)]
 pub enum Effect {
     /// A variable, or the element of an array at an index from 0, has this value now.
     Wrote {
@@ -31,7 +31,7 @@ pub enum Effect {
 }
 
 /// One node's part of a micro step: the atomic step of the small-step semantics.
-#[derive(Debug, Drop)]
+#[derive(Drop)]
 pub struct Move {
     pub node: Path,
     pub from: NodeState,

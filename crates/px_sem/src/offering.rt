@@ -12,7 +12,7 @@ use px_value::NoMemory;
 use std::alloc::{AllocError, Global};
 
 /// What becomes of an event that is offered.
-#[derive(Clone, Copy, Debug)]
+#[derive(Clone, Copy)]
 pub enum Offered {
     /// It is refused, and nothing has changed.
     Refused(Reply),

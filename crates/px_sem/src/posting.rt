@@ -13,7 +13,7 @@ use px_value::NoMemory;
 use std::alloc::Global;
 
 /// What posts have come to.
-#[derive(Debug, Drop)]
+#[derive(Drop)]
 pub struct Posted {
     /// The accepted entries, in order.
     pub history: Vec<Entry>,

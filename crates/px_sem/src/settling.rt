@@ -16,7 +16,7 @@ use std::alloc::Global;
 pub const STEP_LIMIT: u32 = 100_000;
 
 /// Why a world was not settled.
-#[derive(Clone, Copy, Debug, PartialEq, Eq)]
+#[derive(Clone, Copy, PartialEq, Eq)]
 pub enum StepFault {
     /// No world within `STEP_LIMIT` micro steps is quiet.
     Runaway,

@@ -2,7 +2,7 @@
 use px_value::{Failure, Outcome};
 
 /// How a plan stands: it runs, or its root has finished.
-#[derive(Clone, Copy, Debug, PartialEq, Eq)]
+#[derive(Clone, Copy, PartialEq, Eq)]
 pub enum Standing {
     Running,
     Finished {

@@ -1,14 +1,14 @@
 // The bytes of an entry: its thread, its line, and its event behind a byte that says of which kind it is.
-ghost use Rattle.std.specs.Prelude.{◌≡◌, ◌≢◌, ◌<◌, ◌∷◌, IsTrue, IfOk, IsErrOf};
+ghost use Rattle.std.specs.Prelude.{◌≡◌, ◌≢◌, ◌<◌, ◌^◌, ◌∷◌, length, IsTrue, IfOk, IsErrOf};
 ghost use Rattle.byteorder.specs.Endian.{big_bytes};
 ghost use Rattle.px_event.specs.Appending.{Appends};
-ghost use Rattle.px_event.specs.Bytes.{handle_code, event_bytes, entry_bytes};
+ghost use Rattle.px_event.specs.Bytes.{handle_code, text_bytes, event_bytes, entry_bytes};
 ghost use Rattle.px_event.specs.Fit.{is_fit_event, is_fit_entry};
 ghost use Rattle.px_event.specs.Reading.{Gives, Reads, name_at, path_at, handle_of, handle_at, report_at, handle_event_at, return_at, event_at, source_at, entry_at, decoded};
 ghost use Rattle.px_event.specs.declared.entry.Entry.{Entry as AnyEntry};
 
 use crate::bytes::fields::{Reader, push_text, push_u32};
-use crate::bytes::values::{arguments_of, push_value, push_values, value_of};
+use crate::bytes::values::{arguments_of, push_arguments, push_value, value_of};
 use crate::entry::{Entry, THREAD_LIMIT};
 use crate::event::{ARGUMENT_LIMIT, Event};
 use crate::fault::DecodeFault;
@@ -57,39 +57,39 @@ pub(super) fn push_source(out: &mut Vec<u8>, entry: &Entry) -> Result<(), NoMemo
     push_u32(out, entry.line)
 }
 
+// Appends the byte of a kind, and a text.
+fn push_tagged(out: &mut Vec<u8>, tag: u8, text: &str) -> Result<(), NoMemory>
+    requires { length text.now < 2 ^ 16 }
+    ensures { Appends (tag ∷ text_bytes text.now) out.old out.new result }
+{
+    out.push(tag)?;
+    push_text(out, text)
+}
+
 /// Appends the bytes of an event.
+#[tactic(auto, using(crate::proofs::Appends::begins_with))]
 pub(super) fn push_event(out: &mut Vec<u8>, event: &Event) -> Result<(), NoMemory>
     requires { IsTrue (is_fit_event event.now) }
     ensures { Appends (event_bytes event.now) out.old out.new result }
 {
     match event {
         Event::Report { name, args, value } => {
-            out.push(REPORT)?;
-            push_text(out, name.as_str())?;
-            out.push(args.as_slice().len() as u8)?;
-            push_values(out, args.as_slice())?;
-            push_value(out, value)?;
+            push_tagged(out, REPORT, name.as_str())?;
+            push_arguments(out, args.as_slice())?;
+            push_value(out, value)
         }
         Event::Handle { node, handle } => {
-            out.push(HANDLE)?;
-            push_text(out, node.as_str())?;
+            push_tagged(out, HANDLE, node.as_str())?;
             out.push(handle_code(*handle))?;
+            Ok(())
         }
         Event::Return { node, value } => {
-            out.push(RETURN)?;
-            push_text(out, node.as_str())?;
-            push_value(out, value)?;
+            push_tagged(out, RETURN, node.as_str())?;
+            push_value(out, value)
         }
-        Event::AbortDone { node } => {
-            out.push(ABORT_DONE)?;
-            push_text(out, node.as_str())?;
-        }
-        Event::Acknowledged { node } => {
-            out.push(ACKNOWLEDGED)?;
-            push_text(out, node.as_str())?;
-        }
+        Event::AbortDone { node } => push_tagged(out, ABORT_DONE, node.as_str()),
+        Event::Acknowledged { node } => push_tagged(out, ACKNOWLEDGED, node.as_str()),
     }
-    Ok(())
 }
 
 fn handle_code(handle: Handle) -> u8

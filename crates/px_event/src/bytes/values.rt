@@ -1,5 +1,5 @@
 // The bytes of values: a tag, and what it says.
-ghost use Rattle.std.specs.Prelude.{◌≡◌, Some, None, if◌then◌else◌};
+ghost use Rattle.std.specs.Prelude.{◌≡◌, ◌<◌, ◌^◌, ◌∷◌, Some, None, length, if◌then◌else◌};
 ghost use Rattle.px_event.specs.Appending.{Appends};
 ghost use Rattle.std.specs.List.{flat_map};
 ghost use Rattle.px_value.specs.Text.{is_short_text};
@@ -42,8 +42,17 @@ pub fn push_value(out: &mut Vec<u8>, value: &Value) -> Result<(), NoMemory>
     Ok(())
 }
 
-/// Appends the bytes of values, one after another.
-pub fn push_values(out: &mut Vec<u8>, values: &[Value]) -> Result<(), NoMemory>
+/// Appends how many values there are, and the bytes of each.
+pub fn push_arguments(out: &mut Vec<u8>, values: &[Value]) -> Result<(), NoMemory>
+    requires { length values.now < 2 ^ 8 }
+    ensures { Appends (length values.now ∷ flat_map value_bytes values.now) out.old out.new result }
+{
+    out.push(values.len() as u8)?;
+    push_values(out, values)
+}
+
+// Appends the bytes of values, one after another.
+fn push_values(out: &mut Vec<u8>, values: &[Value]) -> Result<(), NoMemory>
     ensures { Appends (flat_map value_bytes values.now) out.old out.new result }
 {
     for value in values {
