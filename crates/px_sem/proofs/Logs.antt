@@ -3,7 +3,7 @@ use Rattle.std.proofs.Common.{◌≡◌, ◌≢◌, ℕ, nat_le, Bool, true, fal
 use Rattle.std.specs.List.{list_all}
 use Rattle.std.proofs.lemmas.Bool.{and_parts}
 use Rattle.std.proofs.lemmas.Bool.Decides.{nat_tests}
-use Rattle.std.proofs.lemmas.List.{map-append}
+use Rattle.std.proofs.lemmas.List.{map-append, length-map}
 use Rattle.px_core.specs.Plan.{Site}
 use Rattle.px_event.specs.declared.entry.Entry.{Entry}
 use Rattle.px_event.specs.declared.event.Event.{Event}
@@ -277,3 +277,29 @@ history_other history entry (replies.Accepted position) other = absurd (other po
 history_other history entry replies.PlanFinished other = refl
 history_other history entry replies.Full other = refl
 history_other history entry replies.Runaway other = refl
+
+-- who was not accepted adds nothing to the history
+pub none_accepted : (entry : Entry) (reply : Reply) → ((position : ℕ) → reply ≢ replies.Accepted position)
+    → accepted (logged_as entry reply ∷ []) ≡ []
+none_accepted entry (replies.Accepted position) other = absurd (other position refl)
+none_accepted entry replies.PlanFinished other = refl
+none_accepted entry replies.Full other = refl
+none_accepted entry replies.Runaway other = refl
+
+-- one entry more with its reply, where the count is that of the history
+pub posting_then : (plan : List Site) (limit : ℕ) (entries : List Entry) (log next_log : Log) (history next_history : List Entry) (now next : State)
+    (entry : Entry) (reply : Reply) → IsPosting plan limit entries log history now (length history)
+    → reply ≡ answer now.nodes limit (length history) now.world entry.event
+    → next ≡ settled_state now.nodes (world_after now.nodes now.world entry.event reply)
+    → next_log ≡ log ++ logged_as entry reply ∷ []
+    → next_history ≡ history ++ accepted (logged_as entry reply ∷ [])
+    → IsPosting plan limit (entries ++ entry ∷ []) next_log next_history next (length next_history)
+posting_then plan limit entries log next_log history next_history now next entry reply so_far is moved logs grows =
+    let posted = entries ++ entry ∷ [] in
+    let after = history_after history entry reply in
+    let made = posting_more plan limit entries log history now next (length history) entry reply so_far is moved in
+    let counts : counted_after (length history) reply ≡ length after =
+    made.counted ∙ length-map (accepted (log ++ logged_as entry reply ∷ [])) (λ e. e.event) ∙ ap length (sym made.accepts) in
+    subst (λ l. IsPosting plan limit posted l next_history next (length next_history)) (sym logs)
+    (subst (λ h. IsPosting plan limit posted (log ++ logged_as entry reply ∷ []) h next (length h)) (history_grows history entry reply ∙ sym grows)
+    (subst (IsPosting plan limit posted (log ++ logged_as entry reply ∷ []) after next) counts made))

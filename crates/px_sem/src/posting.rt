@@ -1,5 +1,5 @@
 // The posting of events to a settled stepper.
-ghost use Rattle.std.specs.Prelude.{◌≡◌, ◌≤◌, Some, [], length, map, IsTrue, IfOk, OnErr};
+ghost use Rattle.std.specs.Prelude.{◌≡◌, ◌≤◌, ◌++◌, ◌∷◌, Some, [], length, map, IsTrue, IfOk, OnOk, OnErr};
 ghost use Rattle.std.specs.List.{list_all};
 ghost use Rattle.px_event.specs.Fit.{is_fit_event, is_fit_entry};
 ghost use Rattle.px_sem.specs.Log.{events_of, accepted, answer, world_after, AnswersEach, PostsPart};
@@ -19,6 +19,37 @@ pub struct Posted {
     pub history: Vec<Entry>,
     /// All entries with their replies, in order.
     pub log: Vec<LogEntry>,
+}
+
+impl Posted {
+    // An entry with its reply goes behind the others, and where it was accepted into the history.
+    fn note(&mut self, alloc: Global, entry: Entry, reply: Reply) -> Result<(), NoMemory>
+        ensures log { OnOk result (self.new.log.items
+            ≡ self.old.log.items ++ (record { entry = entry; reply = reply }) ∷ []) }
+        ensures history { OnOk result (self.new.history.items
+            ≡ self.old.history.items ++ accepted ((record { entry = entry; reply = reply }) ∷ [])) }
+    {
+        keep(alloc, &mut self.history, &entry, reply)?;
+        self.log.push(LogEntry { entry, reply })?;
+        Ok(())
+    }
+}
+
+// An entry that was accepted goes behind the others.
+fn keep(
+    alloc: Global,
+    history: &mut Vec<Entry>,
+    entry: &Entry,
+    reply: Reply,
+) -> Result<(), NoMemory>
+    ensures { OnOk result (history.new.items
+        ≡ history.old.items ++ accepted ((record { entry = entry.now; reply = reply }) ∷ [])) }
+{
+    let Reply::Accepted { .. } = reply else {
+        return Ok(());
+    };
+    history.push(entry.copy(alloc)?)?;
+    Ok(())
 }
 
 /// Posts an event to a settled stepper that has taken so many events, of which a history has at most `limit`, and
@@ -71,16 +102,14 @@ pub fn post_each<S: Stepper>(
     ensures part { OnErr result
         (PostsPart (S.state stepper.old).nodes limit entries.items (S.state stepper.new).world) }
 {
-    let mut history = Vec::new(alloc);
-    let mut log = Vec::with_capacity(alloc, entries.len())?;
-    let mut count = 0;
+    let mut posted = Posted {
+        history: Vec::new(alloc),
+        log: Vec::with_capacity(alloc, entries.len())?,
+    };
     for entry in entries {
+        let count = posted.history.len() as u32;
         let reply = post(stepper, alloc, limit, count, &entry.event)?;
-        if let Reply::Accepted { position } = reply {
-            history.push(entry.copy(alloc)?)?;
-            count = position;
-        }
-        log.push(LogEntry { entry, reply })?;
+        posted.note(alloc, entry, reply)?;
     }
-    Ok(Posted { history, log })
+    Ok(posted)
 }
