@@ -73,14 +73,14 @@ impl Cached {
         ensures few { IfOk result (λ _. all_sources (plan_of flat.now) < 2 ^ 32) }
         ensures owed { IfOk result (λ made. due made ≤ full_cost (plan_of flat.now)) }
     {
-        let kept = Kept::of(alloc, flat)?;
-        let listeners = listeners(alloc, flat, &kept.network.parts)?;
-        listeners.each_once();
         let Some(count) = source_count(flat) else {
             return Err(AllocError);
         };
         let touched = Links::new(alloc, count, 1)?;
         let firsts = first_cells(alloc, flat)?;
+        let kept = Kept::of(alloc, flat)?;
+        let listeners = listeners(alloc, flat, &kept.network.parts)?;
+        listeners.each_once();
         Ok(Cached {
             flat: Snapshot::of(flat),
             kept,
