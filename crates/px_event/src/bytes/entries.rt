@@ -1,13 +1,13 @@
 // The bytes of an entry: its thread, its line, and its event behind a byte that says of which kind it is.
-ghost use Rattle.std.specs.Prelude.{◌≡◌, ◌≢◌, ◌<◌, ◌^◌, ◌∷◌, length, IsTrue, IfOk, IsErrOf};
+ghost use Rattle.std.specs.Prelude.{◌≡◌, ◌≢◌, ◌<◌, ◌∷◌, IsTrue, IfOk, IsErrOf};
 ghost use Rattle.byteorder.specs.Endian.{big_bytes};
 ghost use Rattle.px_event.specs.Appending.{Appends};
-ghost use Rattle.px_event.specs.Bytes.{handle_code, text_bytes, event_bytes, entry_bytes};
+ghost use Rattle.px_event.specs.Bytes.{handle_code, event_bytes, entry_bytes};
 ghost use Rattle.px_event.specs.Fit.{is_fit_event, is_fit_entry};
 ghost use Rattle.px_event.specs.Reading.{Gives, Reads, name_at, path_at, handle_of, handle_at, report_at, handle_event_at, return_at, event_at, source_at, entry_at, decoded};
 ghost use Rattle.px_event.specs.declared.entry.Entry.{Entry as AnyEntry};
 
-use crate::bytes::fields::{Reader, push_text, push_u32};
+use crate::bytes::fields::{Reader, push_tagged, push_u32};
 use crate::bytes::values::{arguments_of, push_arguments, push_value, value_of};
 use crate::entry::{Entry, THREAD_LIMIT};
 use crate::event::{ARGUMENT_LIMIT, Event};
@@ -55,15 +55,6 @@ pub(super) fn push_source(out: &mut Vec<u8>, entry: &Entry) -> Result<(), NoMemo
 {
     out.push(entry.thread)?;
     push_u32(out, entry.line)
-}
-
-// Appends the byte of a kind, and a text.
-fn push_tagged(out: &mut Vec<u8>, tag: u8, text: &str) -> Result<(), NoMemory>
-    requires { length text.now < 2 ^ 16 }
-    ensures { Appends (tag ∷ text_bytes text.now) out.old out.new result }
-{
-    out.push(tag)?;
-    push_text(out, text)
 }
 
 /// Appends the bytes of an event.

@@ -1,5 +1,5 @@
 // The fields of an entry's bytes: bytes, numbers with the highest byte first, and texts.
-ghost use Rattle.std.specs.Prelude.{◌≡◌, ◌<◌, ◌^◌, ◌==◌, ℕ, List, length};
+ghost use Rattle.std.specs.Prelude.{◌≡◌, ◌<◌, ◌^◌, ◌==◌, [], ◌∷◌, ℕ, List, length};
 ghost use Rattle.px_event.specs.Appending.{Appends};
 ghost use Rattle.byteorder.specs.Endian.{big_bytes};
 ghost use Rattle.px_event.specs.Bytes.{text_bytes};
@@ -9,6 +9,14 @@ use crate::fault::DecodeFault;
 use byteorder::{BigEndian, ByteOrder};
 use px_value::NoMemory;
 use std::marker::Model;
+
+/// Appends a byte.
+pub fn push_byte(out: &mut Vec<u8>, byte: u8) -> Result<(), NoMemory>
+    ensures { Appends (byte ∷ []) out.old out.new result }
+{
+    out.push(byte)?;
+    Ok(())
+}
 
 /// Appends four bytes.
 pub fn push_u32(out: &mut Vec<u8>, number: u32) -> Result<(), NoMemory>
@@ -34,6 +42,15 @@ pub fn push_text(out: &mut Vec<u8>, text: &str) -> Result<(), NoMemory>
 {
     push_u16(out, text.len() as u16)?;
     out.extend_from_slice(text.as_bytes())
+}
+
+/// Appends the byte of a kind, and a text.
+pub fn push_tagged(out: &mut Vec<u8>, tag: u8, text: &str) -> Result<(), NoMemory>
+    requires { length text.now < 2 ^ 16 }
+    ensures { Appends (tag ∷ text_bytes text.now) out.old out.new result }
+{
+    out.push(tag)?;
+    push_text(out, text)
 }
 
 /// Bytes that are read from the front.

@@ -6,7 +6,7 @@ ghost use Rattle.px_value.specs.Text.{is_short_text};
 ghost use Rattle.px_event.specs.Bytes.{value_bytes};
 ghost use Rattle.px_event.specs.Reading.{Gives, Reads, value_at, argument_at, arguments_at};
 
-use crate::bytes::fields::{Reader, push_text, push_u32};
+use crate::bytes::fields::{Reader, push_byte, push_tagged, push_u32};
 use crate::fault::DecodeFault;
 use px_value::{NoMemory, Text, TextFault, Value};
 use std::alloc::Global;
@@ -26,20 +26,16 @@ pub fn push_value(out: &mut Vec<u8>, value: &Value) -> Result<(), NoMemory>
     ensures { Appends (value_bytes value.now) out.old out.new result }
 {
     match value {
-        Value::Unknown => out.push(UNKNOWN)?,
-        Value::Boolean(false) => out.push(FALSE)?,
-        Value::Boolean(true) => out.push(TRUE)?,
+        Value::Unknown => push_byte(out, UNKNOWN),
+        Value::Boolean(false) => push_byte(out, FALSE),
+        Value::Boolean(true) => push_byte(out, TRUE),
         Value::Integer(number) => {
-            out.push(INTEGER)?;
-            push_u32(out, number.cast_unsigned())?;
+            push_byte(out, INTEGER)?;
+            push_u32(out, number.cast_unsigned())
         }
-        Value::Text(text) => {
-            out.push(TEXT)?;
-            push_text(out, text.as_str())?;
-        }
-        Value::State(_) | Value::Outcome(_) | Value::Failure(_) | Value::Handle(_) => {}
+        Value::Text(text) => push_tagged(out, TEXT, text.as_str()),
+        Value::State(_) | Value::Outcome(_) | Value::Failure(_) | Value::Handle(_) => Ok(()),
     }
-    Ok(())
 }
 
 /// Appends how many values there are, and the bytes of each.
