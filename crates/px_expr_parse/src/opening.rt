@@ -7,7 +7,7 @@ use px_syntax::{BinaryFunction, Enumerated, LookWord, UnaryFunction};
 use px_value::{Failure, Handle, NodeState, Outcome};
 
 /// What begins with a token that is no operator before an operand.
-#[derive(Clone, Copy, Debug, PartialEq, Eq)]
+#[derive(Clone, Copy, PartialEq, Eq)]
 pub(crate) enum Opening {
     Paren,
     Literal,

@@ -6,7 +6,7 @@ ghost use Rattle.px_lex.specs.Table.{row_of};
 use crate::table::row_of;
 
 /// A word that isn't an identifier. Each variant stands for the spelling in its row of `KEYWORDS`.
-#[derive(Clone, Copy, Debug, PartialEq, Eq)]
+#[derive(Clone, Copy, PartialEq, Eq)]
 pub enum Keyword {
     Integer,
     Boolean,

@@ -5,7 +5,7 @@ ghost use Rattle.px_lex.specs.Sign.{sign_of};
 use crate::table::row_of;
 
 /// A sign. Each variant stands for the spelling in its row of `SIGNS`.
-#[derive(Clone, Copy, Debug, PartialEq, Eq)]
+#[derive(Clone, Copy, PartialEq, Eq)]
 pub enum Sign {
     OpenBrace,
     CloseBrace,

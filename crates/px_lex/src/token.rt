@@ -4,7 +4,7 @@ use crate::sign::Sign;
 use px_value::{Name, Text};
 
 /// What a token is.
-#[derive(Debug, Drop, PartialEq, Eq)]
+#[derive(Drop, PartialEq, Eq)]
 pub enum TokenKind {
     Identifier(Name),
     Keyword(Keyword),
@@ -16,7 +16,7 @@ pub enum TokenKind {
 }
 
 /// A token, and the place of its first byte in the text.
-#[derive(Debug, Drop, PartialEq, Eq)]
+#[derive(Drop, PartialEq, Eq)]
 pub struct Token {
     pub kind: TokenKind,
     pub at: usize,

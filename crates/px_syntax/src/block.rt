@@ -3,7 +3,7 @@ use crate::expr::{Identifier, Literal, SurfaceExpr};
 use crate::word::{BlockForm, Condition, TypeName};
 
 /// What a variable holds at first, and the number of its first token.
-#[derive(Debug, Drop)]
+#[derive(Drop)]
 pub enum Initial {
     Value {
         value: Literal,
@@ -16,14 +16,14 @@ pub enum Initial {
 }
 
 /// A literal of a list, and the number of its first token.
-#[derive(Debug, Drop)]
+#[derive(Drop)]
 pub struct ListedLiteral {
     pub value: Literal,
     pub token: usize,
 }
 
 /// A variable that is declared.
-#[derive(Debug, Drop)]
+#[derive(Drop)]
 pub struct Variable {
     pub name: Identifier,
     /// Of an array.
@@ -32,7 +32,7 @@ pub struct Variable {
 }
 
 /// An item of a block: a declaration, a condition or the priority.
-#[derive(Debug, Drop)]
+#[derive(Drop)]
 pub enum Item {
     Variables {
         of_type: TypeName,
@@ -50,28 +50,28 @@ pub enum Item {
 }
 
 /// A variable, or an element of an array, that is written.
-#[derive(Debug, Drop)]
+#[derive(Drop)]
 pub struct Target {
     pub name: Identifier,
     pub index: Option<SurfaceExpr>,
 }
 
 /// A command with its arguments.
-#[derive(Debug, Drop)]
+#[derive(Drop)]
 pub struct Call {
     pub name: Identifier,
     pub args: Vec<SurfaceExpr>,
 }
 
 /// One value of an update.
-#[derive(Debug, Drop)]
+#[derive(Drop)]
 pub struct Pair {
     pub name: Identifier,
     pub value: SurfaceExpr,
 }
 
 /// A block in braces (PLEXIL reference manual, "Nodes").
-#[derive(Debug, Drop)]
+#[derive(Drop)]
 #[cycle(tree)]
 pub struct Block {
     pub form: BlockForm,
@@ -80,7 +80,7 @@ pub struct Block {
 }
 
 /// An action of a block, with its label where it has one.
-#[derive(Debug, Drop)]
+#[derive(Drop)]
 #[cycle(tree)]
 pub struct Action {
     pub label: Option<Identifier>,
@@ -88,7 +88,7 @@ pub struct Action {
 }
 
 /// A block under `if`, `elseif`, `else`, `while` or `for`, with its label where it has one.
-#[derive(Debug, Drop)]
+#[derive(Drop)]
 #[cycle(tree)]
 pub struct Branch {
     pub label: Option<Identifier>,
@@ -96,7 +96,7 @@ pub struct Branch {
 }
 
 /// A test, and what is done where it holds.
-#[derive(Debug, Drop)]
+#[derive(Drop)]
 #[cycle(tree)]
 pub struct Guarded {
     pub test: SurfaceExpr,
@@ -104,7 +104,7 @@ pub struct Guarded {
 }
 
 /// What an action does.
-#[derive(Debug, Drop)]
+#[derive(Drop)]
 #[cycle(tree)]
 pub enum Body {
     Block(Block),

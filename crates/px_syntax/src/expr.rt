@@ -4,14 +4,14 @@ use crate::word::{BinaryFunction, LookWord, UnaryFunction};
 use px_value::{Failure, Handle, Name, NodeState, Outcome, Text};
 
 /// A name, and the number of its token.
-#[derive(Debug, Drop)]
+#[derive(Drop)]
 pub struct Identifier {
     pub name: Name,
     pub token: usize,
 }
 
 /// A value that is written as itself.
-#[derive(Debug, Drop)]
+#[derive(Drop)]
 pub enum Literal {
     Integer(i32),
     Boolean(bool),
@@ -19,7 +19,7 @@ pub enum Literal {
 }
 
 /// The name of a state, an outcome, a failure or a handle.
-#[derive(Clone, Copy, Debug, PartialEq, Eq)]
+#[derive(Clone, Copy, PartialEq, Eq)]
 pub enum Enumerated {
     State(NodeState),
     Outcome(Outcome),
@@ -28,7 +28,7 @@ pub enum Enumerated {
 }
 
 /// Which node's attribute is read.
-#[derive(Debug, Drop)]
+#[derive(Drop)]
 pub enum NodeReference {
     Named(Identifier),
     /// `Self`, by the number of its token.
@@ -42,7 +42,7 @@ pub enum NodeReference {
 }
 
 /// What can be read of a node (PLEXIL reference manual, "Node State").
-#[derive(Clone, Copy, Debug, PartialEq, Eq)]
+#[derive(Clone, Copy, PartialEq, Eq)]
 pub enum Attribute {
     State,
     Outcome,
@@ -51,14 +51,14 @@ pub enum Attribute {
 }
 
 /// How far a reported Integer must lie from the one that is kept to take its place, and the number of its token.
-#[derive(Clone, Copy, Debug, PartialEq, Eq)]
+#[derive(Clone, Copy, PartialEq, Eq)]
 pub struct Tolerance {
     pub distance: u32,
     pub token: usize,
 }
 
 /// An expression (PLEXIL reference manual, "Expressions"). Parentheses round it are not kept.
-#[derive(Debug, Drop)]
+#[derive(Drop)]
 pub enum SurfaceExpr {
     Literal {
         value: Literal,

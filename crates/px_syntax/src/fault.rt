@@ -23,7 +23,7 @@ pub enum ParseFault {
 }
 
 /// What is wrong in a tree. Each kind has the number that is told of it.
-#[derive(Clone, Copy, Debug, PartialEq, Eq)]
+#[derive(Clone, Copy, PartialEq, Eq)]
 pub enum FaultKind {
     /// A variable that isn't visible.
     Undeclared = 1,

@@ -5,7 +5,7 @@ ghost use Rattle.px_syntax.specs.Operator.{is_spelling, level_of, level_in, bina
 use px_lex::{Keyword, Sign, TokenKind};
 
 /// An operator between two operands (PLEXIL reference manual, "Expressions").
-#[derive(Clone, Copy, Debug, PartialEq, Eq)]
+#[derive(Clone, Copy, PartialEq, Eq)]
 pub enum BinaryOperator {
     Or,
     Xor,
@@ -25,21 +25,21 @@ pub enum BinaryOperator {
 }
 
 /// An operator before its one operand (PLEXIL reference manual, "Expressions").
-#[derive(Clone, Copy, Debug, PartialEq, Eq)]
+#[derive(Clone, Copy, PartialEq, Eq)]
 pub enum UnaryOperator {
     Not,
     Negative,
 }
 
 /// An operator of either sort.
-#[derive(Clone, Copy, Debug, PartialEq, Eq)]
+#[derive(Clone, Copy, PartialEq, Eq)]
 pub enum Operator {
     Binary(BinaryOperator),
     Unary(UnaryOperator),
 }
 
 /// What spells an operator.
-#[derive(Clone, Copy, Debug, PartialEq, Eq)]
+#[derive(Clone, Copy, PartialEq, Eq)]
 pub enum Spelling {
     Sign(Sign),
     Word(Keyword),

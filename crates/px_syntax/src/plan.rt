@@ -4,14 +4,14 @@ use crate::expr::Identifier;
 use crate::word::TypeName;
 
 /// A parameter of a declared command or lookup.
-#[derive(Debug, Drop)]
+#[derive(Drop)]
 pub struct Parameter {
     pub of_type: TypeName,
     pub name: Option<Identifier>,
 }
 
 /// A command or a lookup that is declared before the root (PLEXIL reference manual, "Global Declarations").
-#[derive(Debug, Drop)]
+#[derive(Drop)]
 pub enum Declaration {
     Command {
         /// Of the value that the command returns, if it returns one.
@@ -27,7 +27,7 @@ pub enum Declaration {
 }
 
 /// A plan as it is written (PLEXIL reference manual, "Overview").
-#[derive(Debug, Drop)]
+#[derive(Drop)]
 pub struct Surface {
     pub declarations: Vec<Declaration>,
     pub label: Option<Identifier>,

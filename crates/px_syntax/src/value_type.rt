@@ -1,7 +1,7 @@
 // The types of expressions.
 
 /// The type of an expression, as far as the text tells it (PLEXIL reference manual, "Expressions").
-#[derive(Clone, Copy, Debug, PartialEq, Eq)]
+#[derive(Clone, Copy, PartialEq, Eq)]
 pub enum ValueType {
     Boolean,
     Integer,

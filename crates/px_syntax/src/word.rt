@@ -1,7 +1,7 @@
 // The words of the grammar that have no spelling of their own in a tree.
 
 /// The type of a variable, a parameter or an answer (PLEXIL reference manual, "Variables").
-#[derive(Clone, Copy, Debug, PartialEq, Eq)]
+#[derive(Clone, Copy, PartialEq, Eq)]
 pub enum TypeName {
     Integer,
     Boolean,
@@ -9,7 +9,7 @@ pub enum TypeName {
 }
 
 /// How the actions of a block run (PLEXIL reference manual, "Sequence", "Concurrence" and "Try").
-#[derive(Clone, Copy, Debug, PartialEq, Eq)]
+#[derive(Clone, Copy, PartialEq, Eq)]
 pub enum BlockForm {
     /// No word before the brace, and no `NodeList:` inside.
     Plain,
@@ -22,7 +22,7 @@ pub enum BlockForm {
 }
 
 /// The conditions of a node (PLEXIL reference manual, "Node Conditions").
-#[derive(Clone, Copy, Debug, PartialEq, Eq)]
+#[derive(Clone, Copy, PartialEq, Eq)]
 pub enum Condition {
     Start,
     End,
@@ -35,7 +35,7 @@ pub enum Condition {
 }
 
 /// How a lookup asks for a state of the outside (PLEXIL reference manual, "Lookups").
-#[derive(Clone, Copy, Debug, PartialEq, Eq)]
+#[derive(Clone, Copy, PartialEq, Eq)]
 pub enum LookWord {
     Lookup,
     LookupNow,
@@ -43,7 +43,7 @@ pub enum LookWord {
 }
 
 /// The functions of one argument (PLEXIL reference manual, "Expressions").
-#[derive(Clone, Copy, Debug, PartialEq, Eq)]
+#[derive(Clone, Copy, PartialEq, Eq)]
 pub enum UnaryFunction {
     IsKnown,
     Abs,
@@ -51,7 +51,7 @@ pub enum UnaryFunction {
 }
 
 /// The functions of two arguments (PLEXIL reference manual, "Expressions").
-#[derive(Clone, Copy, Debug, PartialEq, Eq)]
+#[derive(Clone, Copy, PartialEq, Eq)]
 pub enum BinaryFunction {
     Min,
     Max,
