@@ -1,5 +1,5 @@
 -- What names mean by the kept names and by the definitions is the same.
-use Rattle.std.proofs.Common.{◌≡◌, ℕ, ◌-◌, Bool, true, false, cond, List, [], ◌∷◌, ◌++◌, map, length, drop, find, flat_map}
+use Rattle.std.proofs.Common.{◌≡◌, ℕ, ◌-◌, Bool, true, false, cond, List, [], ◌∷◌, ◌++◌, map, length, drop, find}
 use Rattle.std.proofs.Common.{Option, Some, None, option_map, refl, sym, ap, ◌∙◌, arith, append_assoc, length-append}
 use Rattle.std.specs.Str.{bytes_eq}
 use Rattle.std.proofs.lemmas.Iterator.Adapters.{option_map_id}
@@ -7,9 +7,7 @@ use Rattle.std.proofs.lemmas.List.{map-append}
 use Rattle.std.proofs.lemmas.Grind.{flat_map-append}
 use Rattle.std.proofs.Math.Seq.{drop-append_seam}
 use Rattle.px_value.proofs.General.{find-map}
-use Rattle.px_syntax.specs.Plan.{DeclarationData, declaration_data}
 use Rattle.px_syntax.specs.Scope.{Global, Head, Node, is_named, searched, declared}
-use Rattle.px_syntax.specs.declared.plan.Declaration.{Declaration}
 use Rattle.px_check.specs.Globals.{callable_data, callables_data, by_name}
 use Rattle.px_check.specs.Nodes.{named_head, named_heads, names_of}
 use Rattle.px_check.specs.Scope.{visibles, type_seen}
@@ -125,28 +123,18 @@ callable_meant name named globals is =
     ∙ find_mapped (λ one. bytes_eq name one.0) (λ (known : Global). (known.name.name, known)) (λ one. one.1) globals
     ∙ option_map_id (declared globals name)
 
--- a declaration more, before the others, of either sort
-pub global_more : (sort : DeclarationData → List Global) (others : List Declaration) (first : Declaration)
-    (named : List (List ℕ × Global))
-    → by_name (flat_map sort (map declaration_data (others ++ first ∷ []))) ++ named
-    ≡ by_name (flat_map sort (map declaration_data others)) ++ (by_name (flat_map sort (declaration_data first ∷ [])) ++ named)
-global_more sort others first named =
-    let before = map declaration_data others in
-    let last = declaration_data first ∷ [] in
-    ap (λ declarations. by_name (flat_map sort declarations) ++ named) (map-append declaration_data others (first ∷ []))
-    ∙ ap (λ globals. by_name globals ++ named) (flat_map-append sort before last)
-    ∙ ap (λ globals. globals ++ named)
-    (map-append (λ (known : Global). (known.name.name, known)) (flat_map sort before) (flat_map sort last))
-    ∙ append_assoc (by_name (flat_map sort before)) (by_name (flat_map sort last)) named
-
--- the invariant of the walk from the last declaration to the first: what is found, behind what the rest declares
-pub globals_more : (sort : DeclarationData → List Global) (all : List Global) (rest others : List Declaration)
-    (first : Declaration) (named more : List (List ℕ × Global)) → rest ≡ others ++ first ∷ []
-    → more ≡ by_name (flat_map sort (declaration_data first ∷ [])) ++ named
-    → by_name (flat_map sort (map declaration_data rest)) ++ named ≡ by_name all
-    → by_name (flat_map sort (map declaration_data others)) ++ more ≡ by_name all
-globals_more sort all rest others first named more split more_is invariant =
-    ap (λ more. by_name (flat_map sort (map declaration_data others)) ++ more) more_is
-    ∙ sym (global_more sort others first named)
-    ∙ ap (λ rest. by_name (flat_map sort (map declaration_data rest)) ++ named) (sym split)
+-- the invariant of the walk from the last callable to the first: what is named, behind the rest
+pub callable_more : (all rest others : List Callable) (first : Callable) (named more : List (List ℕ × Global))
+    → rest ≡ others ++ first ∷ []
+    → more ≡ by_name (callable_data first ∷ []) ++ named
+    → by_name (map callable_data rest) ++ named ≡ by_name (map callable_data all)
+    → by_name (map callable_data others) ++ more ≡ by_name (map callable_data all)
+callable_more all rest others first named more split more_is invariant =
+    let globals = map callable_data others in
+    let own = callable_data first ∷ [] in
+    ap (λ more. by_name globals ++ more) more_is
+    ∙ sym (append_assoc (by_name globals) (by_name own) named)
+    ∙ ap (λ front. front ++ named) (sym (map-append (λ (known : Global). (known.name.name, known)) globals own))
+    ∙ ap (λ globals. by_name globals ++ named) (sym (map-append callable_data others (first ∷ [])))
+    ∙ ap (λ rest. by_name (map callable_data rest) ++ named) (sym split)
     ∙ invariant

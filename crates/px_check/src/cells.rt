@@ -14,7 +14,7 @@ use std::marker::Model;
 pub const CELL_LIMIT: usize = 65_536;
 
 /// The cells so far.
-#[derive(Debug, Drop)]
+#[derive(Drop)]
 pub struct CellCount {
     /// At most the limit.
     before: usize,

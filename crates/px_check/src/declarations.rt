@@ -1,7 +1,6 @@
 // What the declarations before the root are at fault for.
-ghost use Rattle.std.specs.Prelude.{◌≡◌, ◌++◌, map, length, option_map, IfOk, OnOk};
+ghost use Rattle.std.specs.Prelude.{◌≡◌, ◌++◌, map, length, IfOk, OnOk};
 ghost use Rattle.std.specs.List.{flat_map};
-ghost use Rattle.std.specs.Option.{option_to_list};
 ghost use Rattle.px_syntax.specs.ExprFaults.{over_eight};
 ghost use Rattle.px_syntax.specs.Plan.{declaration_data};
 ghost use Rattle.px_syntax.specs.PlanFaults.{global_faults};
@@ -11,80 +10,11 @@ ghost use Rattle.px_check.specs.Globals.{callable_data};
 
 use crate::calls::ARGUMENT_LIMIT;
 use crate::found::Found;
-use crate::globals::Callable;
+use crate::globals::{Callable, commands, lookups};
 use crate::repeats::note_redeclared;
 use px_syntax::{Declaration, FaultKind, Identifier};
 use px_value::NoMemory;
 use std::alloc::Global;
-
-fn as_command(declaration: &Declaration) -> Option<Callable<'_>>
-    ensures { option_to_list (option_map callable_data result) ≡ commands_in (declaration_data declaration.now) }
-{
-    match declaration {
-        Declaration::Command {
-            answer,
-            name,
-            parameters,
-        } => Some(Callable {
-            name,
-            answer: *answer,
-            parameters: parameters.as_slice(),
-        }),
-        Declaration::Lookup { .. } => None,
-    }
-}
-
-fn as_lookup(declaration: &Declaration) -> Option<Callable<'_>>
-    ensures { option_to_list (option_map callable_data result) ≡ lookups_in (declaration_data declaration.now) }
-{
-    match declaration {
-        Declaration::Command { .. } => None,
-        Declaration::Lookup {
-            answer,
-            name,
-            parameters,
-        } => Some(Callable {
-            name,
-            answer: Some(*answer),
-            parameters: parameters.as_slice(),
-        }),
-    }
-}
-
-fn push_some<'a>(
-    callables: &mut Vec<Callable<'a>>,
-    callable: Option<Callable<'a>>,
-) -> Result<(), NoMemory>
-    ensures { OnOk result (map callable_data callables.new.items
-        ≡ map callable_data callables.old.items ++ option_to_list (option_map callable_data callable.entry)) }
-{
-    if let Some(callable) = callable {
-        callables.push(callable)?;
-    }
-    Ok(())
-}
-
-fn commands(alloc: Global, declarations: &[Declaration]) -> Result<Vec<Callable<'_>>, NoMemory>
-    ensures { IfOk result (λ callables. map callable_data callables.items
-        ≡ flat_map commands_in (map declaration_data declarations.now)) }
-{
-    let mut callables = Vec::new(alloc);
-    for declaration in declarations {
-        push_some(&mut callables, as_command(declaration))?;
-    }
-    Ok(callables)
-}
-
-fn lookups(alloc: Global, declarations: &[Declaration]) -> Result<Vec<Callable<'_>>, NoMemory>
-    ensures { IfOk result (λ callables. map callable_data callables.items
-        ≡ flat_map lookups_in (map declaration_data declarations.now)) }
-{
-    let mut callables = Vec::new(alloc);
-    for declaration in declarations {
-        push_some(&mut callables, as_lookup(declaration))?;
-    }
-    Ok(callables)
-}
 
 // Notes a second one of a name, and more parameters than there may be.
 fn note_callables(alloc: Global, callables: &[Callable], found: &mut Found) -> Result<(), NoMemory>

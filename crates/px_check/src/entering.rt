@@ -3,6 +3,7 @@ ghost use Rattle.std.specs.Prelude.{◌≡◌, [], ◌∷◌, map, option_map, O
 ghost use Rattle.std.specs.List.{flat_map};
 ghost use Rattle.px_syntax.specs.Block.{block_of, branch_of, guarded_of, item_data, variable_data, else_ifs_in_turn, else_of};
 ghost use Rattle.px_syntax.specs.BlockFaults.{visible_as, visible_in, inside_block, inside_list, inside_action, inside_if, inside_for, guarded_child, else_child};
+ghost use Rattle.px_syntax.specs.Scope.{head_of, inside};
 ghost use Rattle.px_check.specs.Nodes.{head_data};
 ghost use Rattle.px_check.specs.Scope.{with_variables};
 
@@ -66,6 +67,21 @@ impl<'a> Scope<'a> {
         Ok(())
     }
 
+    // Goes inside a node with this label and these children, which declares no variables.
+    fn enter_node(
+        &mut self,
+        alloc: Global,
+        label: &Option<Identifier>,
+        is_command: bool,
+        children: Vec<NodeHead>,
+    ) -> Result<(), NoMemory>
+        ensures { OnOk result (self.new ≡ inside self.old
+            (record { head = head_of label.now is_command; children = map head_data children.items }) []) }
+    {
+        let node = OpenNode::new(alloc, head_of(alloc, label, is_command)?, children)?;
+        self.enter(alloc, node)
+    }
+
     /// Goes inside a block.
     pub fn enter_block(
         &mut self,
@@ -75,24 +91,9 @@ impl<'a> Scope<'a> {
     ) -> Result<(), NoMemory>
         ensures { OnOk result (self.new ≡ inside_block self.old label.now (block_of block.now)) }
     {
-        let head = head_of(alloc, label, is_command_block(block))?;
         let children = children_of(alloc, &block.actions)?;
-        self.enter(alloc, OpenNode::new(alloc, head, children)?)?;
+        self.enter_node(alloc, label, is_command_block(block), children)?;
         self.declare_items(alloc, &block.items)
-    }
-
-    // Goes inside an `if`, `while` or `for` with these children.
-    fn enter_list(
-        &mut self,
-        alloc: Global,
-        label: &Option<Identifier>,
-        children: Vec<NodeHead>,
-    ) -> Result<(), NoMemory>
-        ensures { OnOk result (self.new
-            ≡ inside_list self.old label.now (map head_data children.items) []) }
-    {
-        let head = head_of(alloc, label, false)?;
-        self.enter(alloc, OpenNode::new(alloc, head, children)?)
     }
 
     /// Goes inside a simple action, unless it is one node with its block.
@@ -108,8 +109,7 @@ impl<'a> Scope<'a> {
         if is_one_node {
             return Ok(());
         }
-        let head = head_of(alloc, label, is_command)?;
-        self.enter(alloc, OpenNode::new(alloc, head, Vec::new(alloc))?)
+        self.enter_node(alloc, label, is_command, Vec::new(alloc))
     }
 
     /// Goes inside the first `if` of a chain.
@@ -126,7 +126,7 @@ impl<'a> Scope<'a> {
             (else_child (else_of (option_map branch_of otherwise.now)))) }
     {
         let children = if_children(alloc, first, others, otherwise)?;
-        self.enter_list(alloc, label, children)
+        self.enter_node(alloc, label, false, children)
     }
 
     /// Goes inside a `while`.
@@ -140,7 +140,7 @@ impl<'a> Scope<'a> {
             ≡ inside_list self.old label.now (guarded_child (guarded_of guarded.now)) []) }
     {
         let children = one_child(alloc, &guarded.branch)?;
-        self.enter_list(alloc, label, children)
+        self.enter_node(alloc, label, false, children)
     }
 
     /// Goes inside a `for`.
@@ -155,7 +155,7 @@ impl<'a> Scope<'a> {
             ≡ inside_for self.old label.now variable.now (branch_of branch.now)) }
     {
         let children = one_child(alloc, branch)?;
-        self.enter_list(alloc, label, children)?;
+        self.enter_node(alloc, label, false, children)?;
         self.declare(alloc, &variable.name, LOOP_VARIABLE)
     }
 }

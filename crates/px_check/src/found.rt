@@ -9,14 +9,14 @@ use px_syntax::{FaultKind, ValueType};
 use std::marker::Model;
 
 /// What may stand at a place, and what stands there.
-#[derive(Clone, Copy, Debug)]
+#[derive(Clone, Copy)]
 pub struct Misfit {
     pub wanted: Allowed,
     pub given: ValueType,
 }
 
 /// A fault, and the number of its token.
-#[derive(Clone, Copy, Debug)]
+#[derive(Clone, Copy)]
 pub struct Spot {
     pub token: usize,
     pub kind: FaultKind,
@@ -25,7 +25,7 @@ pub struct Spot {
 }
 
 /// The first fault behind the floor of what was looked at so far: by its token, and then by its kind's number.
-#[derive(Debug, Drop)]
+#[derive(Drop)]
 pub struct Found {
     floor: Option<Spot>,
     first: Option<Spot>,

@@ -1,8 +1,10 @@
 // The commands and lookups that a plan declares before its root.
-ghost use Rattle.std.specs.Prelude.{◌≡◌, map, option_map, IfOk};
+ghost use Rattle.std.specs.Prelude.{◌≡◌, ◌++◌, map, option_map, IfOk, OnOk};
 ghost use Rattle.std.specs.List.{flat_map};
+ghost use Rattle.std.specs.Option.{option_to_list};
 ghost use Rattle.px_syntax.specs.Plan.{declaration_data};
 ghost use Rattle.px_syntax.specs.Scope.{declared, commands_in, lookups_in};
+ghost use Rattle.px_check.specs.Globals.{callable_data, callables_data, by_name};
 
 use crate::scoped::Scoped;
 use px_syntax::{Declaration, Identifier, Parameter, TypeName};
@@ -11,7 +13,7 @@ use std::alloc::Global;
 use std::marker::Model;
 
 /// A declared command or lookup: what it gives, if it gives anything, and its parameters.
-#[derive(Clone, Copy, Debug)]
+#[derive(Clone, Copy)]
 pub struct Callable<'a> {
     pub name: &'a Identifier,
     pub answer: Option<TypeName>,
@@ -19,7 +21,7 @@ pub struct Callable<'a> {
 }
 
 /// The declarations before the root. Of two of one name and one sort the first counts.
-#[derive(Debug, Drop)]
+#[derive(Drop)]
 pub struct Globals<'a> {
     declarations: &'a [Declaration],
     commands: Scoped<Callable<'a>>,
@@ -44,48 +46,16 @@ impl<'a> Model for Globals<'a> {
 }
 
 impl<'a> Globals<'a> {
-    ghost use Rattle.px_check.specs.Globals.{callable_data};
-
     /// These declarations, found by their names.
     pub fn new(alloc: Global, declarations: &'a [Declaration]) -> Result<Globals<'a>, NoMemory>
         ensures { IfOk result (λ globals. globals ≡ map declaration_data declarations.now) }
     {
-        let mut commands = Scoped::new(alloc);
-        let mut lookups = Scoped::new(alloc);
-        let mut rest = declarations;
-        while let Some((declaration, others)) = rest.split_last() {
-            match declaration {
-                Declaration::Command {
-                    answer,
-                    name,
-                    parameters,
-                } => {
-                    let callable = Callable {
-                        name,
-                        answer: *answer,
-                        parameters: parameters.as_slice(),
-                    };
-                    commands.push(alloc, &name.name, callable)?;
-                }
-                Declaration::Lookup {
-                    answer,
-                    name,
-                    parameters,
-                } => {
-                    let callable = Callable {
-                        name,
-                        answer: Some(*answer),
-                        parameters: parameters.as_slice(),
-                    };
-                    lookups.push(alloc, &name.name, callable)?;
-                }
-            }
-            rest = others;
-        }
+        let commands = commands(alloc, declarations)?;
+        let lookups = lookups(alloc, declarations)?;
         Ok(Globals {
             declarations,
-            commands,
-            lookups,
+            commands: by_name(alloc, commands)?,
+            lookups: by_name(alloc, lookups)?,
         })
     }
 
@@ -109,4 +79,90 @@ impl<'a> Globals<'a> {
     {
         self.declarations
     }
+}
+
+// These by their names, of two of one name the first nearest.
+fn by_name<'a>(
+    alloc: Global,
+    callables: Vec<Callable<'a>>,
+) -> Result<Scoped<Callable<'a>>, NoMemory>
+    ensures { IfOk result (λ named. callables_data named ≡ by_name (map callable_data callables.entry.items)) }
+{
+    let mut callables = callables;
+    let mut named = Scoped::new(alloc);
+    while let Some(callable) = callables.pop() {
+        named.push(alloc, &callable.name.name, callable)?;
+    }
+    Ok(named)
+}
+
+fn as_command(declaration: &Declaration) -> Option<Callable<'_>>
+    ensures { option_to_list (option_map callable_data result) ≡ commands_in (declaration_data declaration.now) }
+{
+    match declaration {
+        Declaration::Command {
+            answer,
+            name,
+            parameters,
+        } => Some(Callable {
+            name,
+            answer: *answer,
+            parameters: parameters.as_slice(),
+        }),
+        Declaration::Lookup { .. } => None,
+    }
+}
+
+fn as_lookup(declaration: &Declaration) -> Option<Callable<'_>>
+    ensures { option_to_list (option_map callable_data result) ≡ lookups_in (declaration_data declaration.now) }
+{
+    match declaration {
+        Declaration::Command { .. } => None,
+        Declaration::Lookup {
+            answer,
+            name,
+            parameters,
+        } => Some(Callable {
+            name,
+            answer: Some(*answer),
+            parameters: parameters.as_slice(),
+        }),
+    }
+}
+
+fn push_some<'a>(
+    callables: &mut Vec<Callable<'a>>,
+    callable: Option<Callable<'a>>,
+) -> Result<(), NoMemory>
+    ensures { OnOk result (map callable_data callables.new.items
+        ≡ map callable_data callables.old.items ++ option_to_list (option_map callable_data callable.entry)) }
+{
+    if let Some(callable) = callable {
+        callables.push(callable)?;
+    }
+    Ok(())
+}
+
+/// The declared commands, in their order.
+pub fn commands(alloc: Global, declarations: &[Declaration]) -> Result<Vec<Callable<'_>>, NoMemory>
+    ensures { IfOk result (λ callables. map callable_data callables.items
+        ≡ flat_map commands_in (map declaration_data declarations.now)) }
+{
+    let mut callables = Vec::new(alloc);
+    for declaration in declarations {
+        push_some(&mut callables, as_command(declaration))?;
+    }
+    Ok(callables)
+}
+
+/// The declared lookups, in their order.
+pub fn lookups(alloc: Global, declarations: &[Declaration]) -> Result<Vec<Callable<'_>>, NoMemory>
+    ensures { IfOk result (λ callables. map callable_data callables.items
+        ≡ flat_map lookups_in (map declaration_data declarations.now)) }
+{
+    let mut callables = Vec::new(alloc);
+    for declaration in declarations {
+        push_some(&mut callables, as_lookup(declaration))?;
+    }
+    Ok(callables)
 }

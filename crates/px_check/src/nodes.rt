@@ -3,22 +3,24 @@ ghost use Rattle.std.specs.Prelude.{◌≡◌, ◌-◌, ◌∷◌, [], ◌++◌,
 ghost use Rattle.std.specs.List.{find};
 ghost use Rattle.std.specs.Option.{option_and_then, option_copied};
 ghost use Rattle.px_syntax.specs.Scope.{is_named, child_named, searched};
+ghost use Rattle.px_check.specs.Nodes.{head_data, named_heads};
 ghost use Rattle.px_check.specs.Scoped.{IsOver};
 
+use crate::room::push_in_room;
 use crate::scoped::Scoped;
 use px_value::{Name, NoMemory};
 use std::alloc::Global;
 use std::marker::Model;
 
 /// What is seen of a node from outside: its label, where it has one, and whether it is a Command.
-#[derive(Debug, Drop)]
+#[derive(Drop)]
 pub struct NodeHead {
     pub label: Option<Name>,
     pub is_command: bool,
 }
 
 /// A node, with what is seen of its children.
-#[derive(Debug, Drop)]
+#[derive(Drop)]
 pub struct OpenNode {
     head: NodeHead,
     children: Vec<NodeHead>,
@@ -40,7 +42,7 @@ impl Model for OpenNode {
 }
 
 /// The nodes round a place.
-#[derive(Debug, Drop)]
+#[derive(Drop)]
 pub struct Nodes {
     /// From the root in.
     open: Vec<OpenNode>,
@@ -61,21 +63,12 @@ impl Model for Nodes {
 }
 
 impl OpenNode {
-    ghost use Rattle.px_check.specs.Nodes.{head_data, named_heads};
-
     /// The node with this head and these children.
     pub fn new(alloc: Global, head: NodeHead, children: Vec<NodeHead>) -> Result<OpenNode, NoMemory>
         ensures { IfOk result (λ node. node
             ≡ record { head = head_data head; children = map head_data children.items }) }
     {
-        let mut names = Scoped::new(alloc);
-        let mut rest = children.as_slice();
-        while let Some((child, others)) = rest.split_last() {
-            if let Some(label) = &child.label {
-                names.push(alloc, label, child.is_command)?;
-            }
-            rest = others;
-        }
+        let names = named_heads(alloc, &children)?;
         Ok(OpenNode {
             head,
             children,
@@ -143,8 +136,7 @@ impl Nodes {
             self.names.truncate(outer);
             return Err(fault);
         }
-        // There is room.
-        let _ = self.open.push(node);
+        push_in_room(&mut self.open, node);
         Ok(())
     }
 
@@ -199,4 +191,19 @@ impl Nodes {
     {
         self.at(up)?.child(name)
     }
+}
+
+// The labels of nodes side by side, the first of them nearest.
+fn named_heads(alloc: Global, heads: &[NodeHead]) -> Result<Scoped<bool>, NoMemory>
+    ensures { IfOk result (λ names. names ≡ named_heads (map head_data heads.now)) }
+{
+    let mut names = Scoped::new(alloc);
+    let mut rest = heads;
+    while let Some((head, others)) = rest.split_last() {
+        if let Some(label) = &head.label {
+            names.push(alloc, label, head.is_command)?;
+        }
+        rest = others;
+    }
+    Ok(names)
 }

@@ -14,7 +14,7 @@ use px_value::NoMemory;
 use std::alloc::Global;
 
 /// A condition, or the priority.
-#[derive(Clone, Copy, Debug)]
+#[derive(Clone, Copy)]
 pub enum Once {
     Condition(Condition),
     Priority,

@@ -12,21 +12,21 @@ use std::alloc::Global;
 use std::marker::Model;
 
 /// The type of a variable or, of an array, of its elements.
-#[derive(Clone, Copy, Debug)]
+#[derive(Clone, Copy)]
 pub struct VariableType {
     pub of_type: ValueType,
     pub is_array: bool,
 }
 
 /// How many nodes and variables are seen from a place.
-#[derive(Clone, Copy, Debug)]
+#[derive(Clone, Copy)]
 pub struct Mark {
     nodes: usize,
     variables: usize,
 }
 
 /// What is visible at a place: the declarations before the root, the variables and the nodes.
-#[derive(Debug, Drop)]
+#[derive(Drop)]
 pub struct Scope<'a> {
     globals: Globals<'a>,
     variables: Scoped<VariableType>,

@@ -4,13 +4,14 @@ ghost use Rattle.std.specs.Prelude.{if◌then◌else◌};
 ghost use Rattle.std.specs.Str.{bytes_eq};
 ghost use Rattle.indexmap.specs.IndexMap.{get};
 
+use crate::room::push_in_room;
 use indexmap::IndexMap;
 use px_value::{Name, NoMemory};
 use std::alloc::Global;
 use std::marker::Model;
 
 /// A name with a meaning, and the place of the entry of that name that it shadows.
-#[derive(Debug, Drop)]
+#[derive(Drop)]
 pub struct Shadowing<T> {
     name: Name,
     meaning: T,
@@ -18,7 +19,7 @@ pub struct Shadowing<T> {
 }
 
 /// Names with their meanings at a place of a plan. Of several of one name the nearest counts.
-#[derive(Debug, Drop)]
+#[derive(Drop)]
 pub struct Scoped<T> {
     /// From the farthest to the nearest.
     entries: Vec<Shadowing<T>>,
@@ -92,12 +93,12 @@ impl<T: Copy> Scoped<T> {
         let key = name.copy(alloc)?;
         self.entries.reserve(1)?;
         let shadowed = self.index.insert(key, self.entries.len())?;
-        // There is room.
-        let _ = self.entries.push(Shadowing {
+        let entry = Shadowing {
             name: own,
             meaning,
             shadowed,
-        });
+        };
+        push_in_room(&mut self.entries, entry);
         Ok(())
     }
 

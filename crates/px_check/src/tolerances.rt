@@ -19,7 +19,7 @@ use std::marker::Model;
 pub const TOLERANCE_LIMIT: usize = 16;
 
 /// The distinct tolerances so far.
-#[derive(Debug, Drop)]
+#[derive(Drop)]
 pub struct Tolerances {
     distinct: ArrayVec<u32, TOLERANCE_LIMIT>,
     /// The token of the tolerance with which they have passed the limit.

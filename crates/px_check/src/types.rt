@@ -11,7 +11,7 @@ use px_syntax::{
 };
 
 /// Which types a place allows. Any fits everywhere.
-#[derive(Clone, Copy, Debug)]
+#[derive(Clone, Copy)]
 pub enum Allowed {
     /// This one; each where it is Any.
     Only(ValueType),
@@ -45,7 +45,7 @@ impl Allowed {
 }
 
 /// What an operation of two operands gives.
-#[derive(Clone, Copy, Debug)]
+#[derive(Clone, Copy)]
 pub enum Gives {
     Always(ValueType),
     /// What the left operand is, or the right one where the left one is Any.
@@ -53,7 +53,7 @@ pub enum Gives {
 }
 
 /// What each of two operands may be, whether both have to be of one type, and what is given.
-#[derive(Clone, Copy, Debug)]
+#[derive(Clone, Copy)]
 pub struct Signature {
     pub takes: Allowed,
     pub alike: bool,
@@ -61,7 +61,7 @@ pub struct Signature {
 }
 
 /// What the one operand may be, and what is given.
-#[derive(Clone, Copy, Debug)]
+#[derive(Clone, Copy)]
 pub struct UnarySignature {
     pub takes: Allowed,
     pub gives: ValueType,

@@ -64,7 +64,9 @@ fn note_blocks(alloc: Global, tree: &Surface, found: &mut Found) -> Result<(), N
 {
     let globals = Globals::new(alloc, &tree.declarations)?;
     let mut scope = Scope::outermost(alloc, globals);
-    scope.block(alloc, &tree.label, &tree.root, found)
+    let noted = scope.block(alloc, &tree.label, &tree.root, found);
+    drop(scope);
+    noted
 }
 
 fn note_cells(root: &Block, found: &mut Found)

@@ -2,7 +2,7 @@ use Rattle.std.proofs.Common.{◌≡◌, map, take, flat_map}
 use Rattle.px_syntax.specs.Plan.{declaration_data}
 use Rattle.px_syntax.specs.Scope.{lookups_in}
 use Rattle.px_check.specs.Globals.{callable_data}
-use Rattle.px_check.proofs.declarations.lookups.Given as goal
+use Rattle.px_check.proofs.globals.lookups.Given as goal
 
 abbrev pub invariant-loop-declaration : goal.invariant-loop-declaration
 invariant-loop-declaration l =

@@ -11,7 +11,7 @@ use Rattle.px_check.proofs.whole.note_blocks.Goals as goal
 pub returns : goal.returns
 returns c =
     let tree = c.args.tree.now in
-    on_ok_weaker c.block.result
+    on_ok_weaker c.block-noted.result
     (λ own. own
     ∙ ap (λ (scope : Scope). noted c.args.found.now (block_faults scope tree.label (block_of tree.root)))
     (c.outermost-scope.ensures
@@ -22,4 +22,4 @@ returns c =
       nodes = [];
     })
     (c.in_ok-globals.ensures ∙ ap (λ (declarations : List Declaration). map declaration_data declarations) c.deref.ensures.value)))
-    c.block.ensures.found
+    c.block-noted.ensures.found

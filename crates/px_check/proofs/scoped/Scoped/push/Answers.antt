@@ -12,7 +12,7 @@ invariant_of-self-2 g c =
     let old = c.self.inside.index in
     let entry : Shadowing g.row.T.Denot =
     record { name = c.in_ok-own.own; meaning = c.args.meaning; shadowed = c.in_ok-shadowed.shadowed } in
-    let pushed : c.push.new.self.items ≡ items ++ entry ∷ [] = search rules in
+    let pushed : c.push_in_room.new.items.items ≡ items ++ entry ∷ [] = search rules in
     let same : c.in_ok-key.key ≡ c.in_ok-own.own = c.in_ok-key.ensures.copy ∙ sym c.in_ok-own.ensures.copy in
     let place : c.len.result ≡ length items = search rules in
     let shadows : c.in_ok-shadowed.shadowed ≡ nearest_of c.in_ok-own.own (reverse items) =
@@ -22,6 +22,6 @@ invariant_of-self-2 g c =
     ≡ cond (bytes_eq c.in_ok-own.own name) (Some (length items)) (get bytes_eq old name) = λ name.
     c.in_ok-shadowed.ensures.updates.0 name
     ∙ (λ i. cond (bytes_eq (same i) name) (Some (place i)) (get bytes_eq old name)) in (
-      linked_push items c.push.new.self.items entry pushed shadows c.self.invariant.0,
-      index_push old c.insert.new.self items c.push.new.self.items entry pushed c.self.invariant.1 updated,
+      linked_push items c.push_in_room.new.items.items entry pushed shadows c.self.invariant.0,
+      index_push old c.insert.new.self items c.push_in_room.new.items.items entry pushed c.self.invariant.1 updated,
     )
