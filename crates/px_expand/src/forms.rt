@@ -1,7 +1,7 @@
 // The table of derived forms, a row each: UncheckedSequence, Sequence, Try, `if`, `while` and `for`.
 ghost use Rattle.std.specs.Prelude.{◌≡◌, ◌+◌, ◌<◌, ◌≤◌, ◌∷◌, [], length, map, Some, IfOk, OnOk};
 ghost use Rattle.std.specs.Option.{option_copied};
-ghost use Rattle.px_core.specs.Expr.{Binary as BinaryTerm, Unary as UnaryTerm};
+ghost use Rattle.px_core.specs.Expr.{Binary as BinaryTerm, Unary as UnaryTerm, Var as VarTerm};
 ghost use Rattle.px_value.specs.Path.{below};
 ghost use Rattle.px_core.specs.Plan.{Nothing, body_data, variable_data};
 ghost use Rattle.px_expand.specs.Adding.{nothing};
@@ -19,7 +19,7 @@ use crate::conditions::{Added, Given, add};
 use crate::items::DEFAULT_PRIORITY;
 use crate::join::{Said, all, done, some};
 use crate::names::Generated;
-use crate::place::{Own, Place, both, only};
+use crate::place::{Own, Place, both, child_path, one, only};
 use crate::resolve::{binary, unary, variable};
 use px_core::{BinaryOp, Body, CoreNode, Expr, Kind, Target, UnaryOp, VarKind, Variable};
 use px_syntax::BlockForm;
@@ -107,40 +107,56 @@ fn test_of(alloc: Global, path: &Path) -> Result<Box<Expr>, NoMemory>
     variable(alloc, path, &name)
 }
 
-fn set_is_done(alloc: Global, path: &Path) -> Result<Box<Expr>, NoMemory>
-    requires { length path.now + 5 ≤ PATH_LIMIT }
-    ensures { IfOk result (λ made. term_in made ≡ rows.set_is_done path.now) }
-{
-    let set = child_path(alloc, path, Generated::Set)?;
-    done(alloc, &set)
-}
-
-/// The path of a child with a name that the text doesn't have.
-fn child_path(alloc: Global, parent: &Path, name: Generated) -> Result<Path, NoMemory>
-    requires { length parent.now + length (generated name) < PATH_LIMIT }
-    ensures { IfOk result (λ path. path ≡ below parent.now (generated name)) }
-{
-    let name = name.name(alloc)?;
-    parent.child(alloc, &name)
-}
-
-/// The test was found true.
-fn found(alloc: Global, path: &Path) -> Result<Box<Expr>, NoMemory>
-    requires { length path.now + 5 ≤ PATH_LIMIT }
-    ensures { IfOk result (λ made. term_in made ≡ rows.found path.now) }
-{
-    let set = set_is_done(alloc, path)?;
-    binary(alloc, BinaryOp::And, set, test_of(alloc, path)?)
-}
-
 /// The test was not found true.
 fn not_found(alloc: Global, path: &Path) -> Result<Box<Expr>, NoMemory>
     requires { length path.now + 5 ≤ PATH_LIMIT }
     ensures { IfOk result (λ made. term_in made ≡ rows.not_found path.now) }
 {
-    let set = set_is_done(alloc, path)?;
-    let not = unary(alloc, UnaryOp::Not, test_of(alloc, path)?)?;
-    binary(alloc, BinaryOp::And, set, not)
+    let set = child_path(alloc, path, Generated::Set)?;
+    let name = Generated::Test.name(alloc)?;
+    fails_once(alloc, &set, path, &name)
+}
+
+/// The node at the path `set` is done, and the variable is true.
+fn holds_once(alloc: Global, set: &Path, owner: &Path, name: &Name) -> Result<Box<Expr>, NoMemory>
+    ensures { IfOk result (λ made. term_in made
+        ≡ BinaryTerm BinaryOp.And (rows.done set.now) (VarTerm owner.now name.now)) }
+{
+    let done = done(alloc, set)?;
+    binary(alloc, BinaryOp::And, done, variable(alloc, owner, name)?)
+}
+
+/// The node at the path `set` is done, and the variable isn't true.
+fn fails_once(alloc: Global, set: &Path, owner: &Path, name: &Name) -> Result<Box<Expr>, NoMemory>
+    ensures { IfOk result (λ made. term_in made
+        ≡ BinaryTerm BinaryOp.And (rows.done set.now) (UnaryTerm UnaryOp.Not (VarTerm owner.now name.now))) }
+{
+    let done = done(alloc, set)?;
+    let not = unary(alloc, UnaryOp::Not, variable(alloc, owner, name)?)?;
+    binary(alloc, BinaryOp::And, done, not)
+}
+
+/// That the test was found true, and that it was not.
+#[derive(Drop)]
+struct Findings {
+    found: Box<Expr>,
+    not_found: Box<Expr>,
+}
+
+impl Findings {
+    /// Both, with one path of `#set` and one name of `#test`.
+    fn of(alloc: Global, path: &Path) -> Result<Findings, NoMemory>
+        requires { length path.now + 5 ≤ PATH_LIMIT }
+        ensures found { IfOk result (λ made. term_in made.found ≡ rows.found path.now) }
+        ensures not_found { IfOk result (λ made. term_in made.not_found ≡ rows.not_found path.now) }
+    {
+        let set = child_path(alloc, path, Generated::Set)?;
+        let name = Generated::Test.name(alloc)?;
+        Ok(Findings {
+            found: holds_once(alloc, &set, path, &name)?,
+            not_found: fails_once(alloc, &set, path, &name)?,
+        })
+    }
 }
 
 /// What is added to the branch of a test.
@@ -148,9 +164,10 @@ pub(crate) fn where_found(alloc: Global, path: &Path) -> Result<Box<Added>, NoMe
     requires { length path.now + 5 ≤ PATH_LIMIT }
     ensures { IfOk result (λ made. added_terms made.value ≡ rows.where_found path.now) }
 {
+    let Findings { found, not_found } = Findings::of(alloc, path)?;
     let added = Added {
-        start: Some(found(alloc, path)?),
-        skip: Some(not_found(alloc, path)?),
+        start: Some(found),
+        skip: Some(not_found),
     };
     Ok(Box::new(alloc, added)?)
 }
@@ -160,9 +177,10 @@ pub(crate) fn where_not_found(alloc: Global, path: &Path) -> Result<Box<Added>, 
     requires { length path.now + 5 ≤ PATH_LIMIT }
     ensures { IfOk result (λ made. added_terms made.value ≡ rows.where_not_found path.now) }
 {
+    let Findings { found, not_found } = Findings::of(alloc, path)?;
     let added = Added {
-        start: Some(not_found(alloc, path)?),
-        skip: Some(found(alloc, path)?),
+        start: Some(not_found),
+        skip: Some(found),
     };
     Ok(Box::new(alloc, added)?)
 }
@@ -261,8 +279,12 @@ fn testing(alloc: Global) -> Result<Box<Own>, NoMemory>
         size: None,
         init: Vec::new(alloc),
     };
-    let variables = vec![in alloc; variable]?;
-    Own::new(alloc, DEFAULT_PRIORITY, variables, Body::Nothing)
+    Own::new(
+        alloc,
+        DEFAULT_PRIORITY,
+        one(alloc, variable)?,
+        Body::Nothing,
+    )
 }
 
 /// `if (t) A else B`: the children are A and, where there is an else, B.
@@ -301,8 +323,9 @@ fn repeating(alloc: Global, path: &Path) -> Result<Box<Given>, NoMemory>
     ensures { IfOk result (λ made. given_terms made.value
         ≡ record none_given { repeat = Some (rows.test_of path.now) }) }
 {
+    let test = test_of(alloc, path)?;
     let mut given = Given::none(alloc)?;
-    given.repeat = Some(test_of(alloc, path)?);
+    given.repeat = Some(test);
     Ok(given)
 }
 
@@ -311,9 +334,11 @@ fn step_given(alloc: Global, path: &Path, body: &Path) -> Result<Box<Given>, NoM
     requires { length path.now + 5 ≤ PATH_LIMIT }
     ensures { IfOk result (λ made. given_terms made.value ≡ rows.step_given path.now body.now) }
 {
+    let start = done_and_found(alloc, path, body)?;
+    let skip = not_found(alloc, path)?;
     let mut given = Given::none(alloc)?;
-    given.start = Some(done_and_found(alloc, path, body)?);
-    given.skip = Some(not_found(alloc, path)?);
+    given.start = Some(start);
+    given.skip = Some(skip);
     Ok(given)
 }
 
@@ -332,15 +357,16 @@ fn step(
     path: &Path,
     body: &Path,
     owner: &Path,
-    variable: Name,
+    variable: &Name,
     next: Box<Expr>,
 ) -> Result<Box<CoreNode>, NoMemory>
     requires room { length path.now + 6 ≤ PATH_LIMIT }
     requires path { path.now ≡ rows.loop_path owner.now }
     ensures { IfOk result
-        (λ node. tree_in node ≡ alone (rows.step owner.now body.now variable (term_in next))) }
+        (λ node. tree_in node ≡ alone (rows.step owner.now body.now variable.now (term_in next))) }
 {
     let given = step_given(alloc, path, body)?;
+    let variable = variable.copy(alloc)?;
     assignment(alloc, path, Generated::Step, given, owner, variable, next)
 }
 
@@ -369,7 +395,7 @@ pub(crate) fn counted(
 {
     let turns = turned(alloc, &place.path, inner, variable, turn, body, branch)?;
     let children = only(alloc, turns)?;
-    let paths = vec![in alloc; child_path(alloc, &place.path, Generated::Loop)?]?;
+    let paths = one(alloc, child_path(alloc, &place.path, Generated::Loop)?)?;
     let own = counting(alloc, variable, first)?;
     let given = Given::none(alloc)?;
     place.node(alloc, Kind::List, &paths, given, own, children)
@@ -392,12 +418,20 @@ fn turned(
         (before (node_of branch.value) (alone (rows.step owner.now body variable.now (term_in turn.next)))))) }
 {
     let Turn { test, next } = turn;
-    let name = variable.copy(alloc)?;
-    let step = step(alloc, &inner.path, &body, owner, name, next)?;
+    let step = step(alloc, &inner.path, &body, owner, variable, next)?;
     let children = both(alloc, branch, step)?;
-    let behind = child_path(alloc, &inner.path, Generated::Step)?;
-    let paths = vec![in alloc; body, behind]?;
+    let paths = turn_paths(alloc, &inner.path, body)?;
     repeated(alloc, inner, test, paths, children)
+}
+
+/// The paths of A and of `#step`.
+fn turn_paths(alloc: Global, path: &Path, body: Path) -> Result<Vec<Path>, NoMemory>
+    requires { length path.now + length step_name < PATH_LIMIT }
+    ensures { IfOk result (λ paths. paths.items ≡ body ∷ below path.now step_name ∷ []) }
+{
+    let mut paths = one(alloc, body)?;
+    paths.push(child_path(alloc, path, Generated::Step)?)?;
+    Ok(paths)
 }
 
 /// What the List of a `for` has: its variable.
@@ -411,8 +445,7 @@ fn counting(alloc: Global, variable: &Name, first: i32) -> Result<Box<Own>, NoMe
         name: variable.copy(alloc)?,
         kind: VarKind::Integer,
         size: None,
-        init: vec![in alloc; Value::Integer(first)]?,
+        init: one(alloc, Value::Integer(first))?,
     };
-    let variables = vec![in alloc; counter]?;
-    Own::new(alloc, DEFAULT_PRIORITY, variables, Body::Nothing)
+    Own::new(alloc, DEFAULT_PRIORITY, one(alloc, counter)?, Body::Nothing)
 }

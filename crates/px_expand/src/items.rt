@@ -6,6 +6,7 @@ ghost use Rattle.px_expand.specs.Items.{first_values, given_by, given_for, prior
 ghost use Rattle.px_expand.specs.Shown.{given_terms, term_in};
 
 use crate::conditions::Given;
+use crate::place::one;
 use crate::resolve::resolved;
 use crate::scope::Scope;
 use crate::words::literal_value;
@@ -124,9 +125,8 @@ fn first_values(alloc: Global, initial: &Initial) -> Result<Vec<Value>, NoMemory
 {
     match initial {
         Initial::Value { value, .. } => {
-            let mut made = Vec::with_capacity(alloc, 1)?;
-            made.push(literal_value(alloc, value)?)?;
-            Ok(made)
+            let value = literal_value(alloc, value)?;
+            one(alloc, value)
         }
         Initial::List { values, .. } => {
             let mut made = Vec::with_capacity(alloc, values.len())?;

@@ -1,8 +1,9 @@
 // The names of nodes.
-ghost use Rattle.std.specs.Prelude.{◌≡◌, IfOk, IsTrue};
+ghost use Rattle.std.specs.Prelude.{◌≡◌, length, IfOk, IsTrue};
 ghost use Rattle.px_value.specs.Name.{is_name};
 ghost use Rattle.px_expand.specs.Names.{generated, named};
 
+use itoa::Buffer;
 use px_syntax::Identifier;
 use px_value::{Name, NameFault, NoMemory};
 use std::alloc::{AllocError, Global};
@@ -39,6 +40,32 @@ impl Generated {
             Generated::Step => fixed(alloc, "#step"),
             Generated::Loop => fixed(alloc, "#loop"),
         }
+    }
+
+    /// How many bytes the name has, without making it.
+    fn length(self) -> usize
+        ensures { result ≡ length (generated self) }
+    {
+        match self {
+            Generated::Action(place) => 1 + Buffer::new().format(place).len(),
+            Generated::Set => 4,
+            Generated::Then
+            | Generated::Body
+            | Generated::Else
+            | Generated::Test
+            | Generated::Step
+            | Generated::Loop => 5,
+        }
+    }
+}
+
+/// How many bytes `named` has, without making it.
+pub(crate) fn name_length(label: &Option<Identifier>, unlabelled: Generated) -> usize
+    ensures { result ≡ length (named label.now (generated unlabelled)) }
+{
+    match label {
+        Some(label) => label.name.as_str().len(),
+        None => unlabelled.length(),
     }
 }
 

@@ -1,5 +1,6 @@
 // Where nodes of the core plan stand.
 ghost use Rattle.std.specs.Prelude.{◌≡◌, ◌+◌, ◌<◌, ◌∷◌, ◌++◌, [], length, map, IfOk, OnOk};
+ghost use Rattle.px_value.specs.Path.{below};
 ghost use Rattle.px_core.specs.Plan.{Branch, NoNode, body_data, condition_terms, tree_of_node, variable_data};
 ghost use Rattle.px_expand.specs.Names.{generated};
 ghost use Rattle.px_expand.specs.Nodes.{alone, child, node_at};
@@ -73,6 +74,15 @@ impl Place {
     }
 }
 
+/// The path of a child with a name that the text doesn't have.
+pub(crate) fn child_path(alloc: Global, parent: &Path, name: Generated) -> Result<Path, NoMemory>
+    requires { length parent.now + length (generated name) < PATH_LIMIT }
+    ensures { IfOk result (λ path. path ≡ below parent.now (generated name)) }
+{
+    let name = name.name(alloc)?;
+    parent.child(alloc, &name)
+}
+
 /// What a node has beside its conditions and its children. It is handed on in a box, as they are.
 #[derive(Drop)]
 pub(crate) struct Own {
@@ -130,13 +140,20 @@ impl Own {
     }
 }
 
+/// This alone.
+pub(crate) fn one<T: Drop>(alloc: Global, item: T) -> Result<Vec<T>, NoMemory>
+    ensures { IfOk result (λ made. made.items ≡ item ∷ []) }
+{
+    let mut made = Vec::new(alloc);
+    made.push(item)?;
+    Ok(made)
+}
+
 /// A node with none beside it.
 pub(crate) fn only(alloc: Global, node: Box<CoreNode>) -> Result<Vec<CoreNode>, NoMemory>
     ensures { IfOk result (λ nodes. nodes.items ≡ node.value ∷ []) }
 {
-    let mut nodes = Vec::new(alloc);
-    push(&mut nodes, node)?;
-    Ok(nodes)
+    one(alloc, Box::into_inner(node))
 }
 
 /// A node with another behind it.

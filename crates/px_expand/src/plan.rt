@@ -12,7 +12,7 @@ ghost use Rattle.px_expand.specs.Verdict.{IsChecked, IsExpanded, IsRefused};
 use crate::block::block;
 use crate::conditions::Added;
 use crate::count::block_nodes;
-use crate::names::{Generated, named};
+use crate::names::{Generated, name_length, named};
 use crate::place::Place;
 use crate::reach::block_reach;
 use crate::scope::Scope;
@@ -39,25 +39,25 @@ pub fn expand(alloc: Global, tree: &Surface) -> Result<Plan, ExpandFault>
 ///
 /// `TooMany` comes exactly where the core plan would have over 4,096 nodes or a path of over 5,000 bytes; `nodes` is the
 /// number of its nodes.
-pub fn check_size(alloc: Global, tree: &Surface) -> Result<u32, ExpandFault>
+pub fn check_size(_alloc: Global, tree: &Surface) -> Result<u32, ExpandFault>
     ensures nodes { IfOk result (λ nodes. nodes ≡ count_of (core (tree_of_surface tree.now))) }
     ensures within { OnOk result (is_too_large (core (tree_of_surface tree.now)) ≡ false) }
     ensures fault { IfErr result (λ fault. IsRefused (tree_of_surface tree.now) fault) }
 {
     let nodes = block_nodes(&tree.root);
-    if nodes > NODE_LIMIT || !has_short_paths(alloc, tree)? {
+    if nodes > NODE_LIMIT || !has_short_paths(tree) {
         return Err(ExpandFault::TooMany { nodes });
     }
     Ok(nodes)
 }
 
 /// No path has over 5,000 bytes.
-fn has_short_paths(alloc: Global, tree: &Surface) -> Result<bool, NoMemory>
+fn has_short_paths(tree: &Surface) -> bool
     requires { block_nodes (block_of tree.now.root) ≤ 4096 }
-    ensures { IfOk result (λ short. short ≡ nat_le (longest (tree_of_surface tree.now)) 5000) }
+    ensures { result ≡ nat_le (longest (tree_of_surface tree.now)) 5000 }
 {
-    let name = named(alloc, &tree.label, Generated::Action(1))?;
-    Ok(name.as_str().len() + block_reach(alloc, &tree.root)? <= PATH_LIMIT)
+    let name = name_length(&tree.label, Generated::Action(1));
+    name.saturating_add(block_reach(&tree.root)) <= PATH_LIMIT
 }
 
 /// The core plan of a tree with short paths.

@@ -19,8 +19,8 @@ actions_reach-loop-action-preserved t c =
     let far = action_reached c.args.actions.now index action c.loop-action-test.true c.action-item.is c.loop-action.place in
     record {
       few = omega (arith, one, some);
-      near = omega (arith, c.in_ok-far.ensures, c.max-longest.ensures);
-      far = omega (arith, far, c.in_ok-reach.ensures, c.in_ok-far.ensures, c.max-longest.ensures);
+      near = omega (arith, c.through-far.ensures, c.max-longest.ensures);
+      far = omega (arith, far, c.body_reach-reach.ensures, c.through-far.ensures, c.max-longest.ensures);
     }
 
 pub actions_reach-returns : goal.actions_reach-returns
@@ -29,18 +29,18 @@ actions_reach-returns t c =
     c.args.actions.now c.loop-action.action-index c.loop-action-test.false in
     omega (arith, end)
 
-pub body_reach-returns-in_ok-else_if_reach-in-If : goal.body_reach-returns-in_ok-else_if_reach-in-If
-body_reach-returns-in_ok-else_if_reach-in-If t c =
+pub body_reach-returns-in-If : goal.body_reach-returns-in-If
+body_reach-returns-in-If t c =
     let last = else_reach (else_of (option_map branch_of c.in-If.otherwise)) in
     let others = else_ifs_in_turn (map guarded_of c.in-If.others.items) in
     let tree = ap body_reach (ap body_of c.in-If.is ∙ if_chain c.in-If.first c.in-If.others c.in-If.otherwise) in
-    let chain = ap (λ list. else_if_reach c.in_ok-last-in-If.last (else_ifs_in_turn (map guarded_of list))) c.deref.ensures.value
-    ∙ ap (λ far. else_if_reach far others) c.in_ok-last-in-If.ensures in
+    let chain = ap (λ list. else_if_reach c.else_reach-last.result (else_ifs_in_turn (map guarded_of list))) c.deref.ensures.value
+    ∙ ap (λ far. else_if_reach far others) c.else_reach-last.ensures in
     let capped = far_is_far last others in
-    omega (arith, tree, chain, capped, c.in_ok-own-in-If.ensures, c.in_ok-else_if_reach-in-If.ensures, c.max.ensures)
+    omega (arith, tree, chain, capped, c.guarded_reach-own.ensures, c.else_if_reach.ensures, c.max.ensures)
 
-pub else_if_reach-guarded_reach-requires : goal.else_if_reach-guarded_reach-requires
-else_if_reach-guarded_reach-requires t c =
+pub else_if_reach-guarded_reach-own-requires : goal.else_if_reach-guarded_reach-own-requires
+else_if_reach-guarded_reach-own-requires t c =
     let others = c.args.others.now in
     let other = c.index-others-place.result in
     let one = one_of_else_ifs others (c.loop-place.place - 1) other (omega arith) c.index-others-place.is in
