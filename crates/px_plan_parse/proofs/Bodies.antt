@@ -10,7 +10,7 @@ use Rattle.px_syntax.specs.declared.fault.ParseFault.{ParseFault}
 use Rattle.px_syntax.specs.Block.{ActionTree, Labelled, BlockTree, BranchTree, Branch, GuardedTree, Guarded, ElseIfs, NoElseIfs, ElseIf, ElseTree, NoElse, Else, BodyTree, Inner, Assign, CallInto, Call, PairData, Update, If, While, For, else_ifs_in_turn, else_of}
 use Rattle.px_syntax.specs.BlockGrammar.{action, block, body, branch, else_ifs, guarded, label, otherwise}
 use Rattle.px_syntax.specs.Expr.{Term}
-use Rattle.px_syntax.specs.Form.{Form, identifier, keyword, optional, maybe, each}
+use Rattle.px_syntax.specs.Form.{Form, identifier, maybe, each}
 use Rattle.px_expr_parse.specs.Tail.{closed}
 use Rattle.px_expr_parse.specs.Verdict.{Agree, AgreeBefore, IsFound}
 use Rattle.px_expr_parse.proofs.Completions.{before as before_late, begun_as, moved}
@@ -21,7 +21,7 @@ use Rattle.px_plan_parse.specs.declared.start.Start.TheVariants as starts
 use Rattle.px_plan_parse.specs.Named.{NamedData, Calls, Writes, Value, Answer, named, named_body}
 use Rattle.px_plan_parse.specs.Part.{Anything, IsLacking, IsPart}
 use Rattle.px_plan_parse.specs.Start.{NoBranch, NoElse as NotElse, NoElseIf as NotElseIf, NoName, is_branch, keyword_start, start_at}
-use Rattle.px_plan_parse.specs.Tail.{counter, update_pairs}
+use Rattle.px_plan_parse.specs.Tail.{counter, end_if, update_pairs}
 use Rattle.px_plan_parse.proofs.Blocks.{block_sort, body_sort}
 use Rattle.px_plan_parse.proofs.Parts.{Begins, HasKind, Makes, behind, both}
 use Rattle.px_plan_parse.proofs.Sorts as sorts
@@ -113,9 +113,6 @@ makes_otherwise tokens from = record { builds = build; splits = λ others agree.
         → (part : Option BranchTree) × (tree ≡ else_of part) × maybe (behind (kinds.Keyword words.Else) branch) part others from end
     split others NoElse end o = (None, refl, o)
     split others (Else parts) end o = (Some parts, refl, o)
-
-abbrev pub end_if : Unit {0} → Form
-end_if none = optional (keyword words.EndIf)
 
 pub end_follows : Begins end_if NoBranch NotElse
 end_follows tokens part from end (inl none) next is =

@@ -18,9 +18,8 @@ use Rattle.px_expr_parse.specs.Tail.{closed}
 use Rattle.px_expr_parse.proofs.Completions.{Shortest, in_one, short_as, short_before, short_behind, short_both, short_closed, short_expression, short_name, short_nothing}
 use Rattle.px_plan_parse.specs.Named.{written}
 use Rattle.px_plan_parse.specs.Named as named_parts
-use Rattle.px_plan_parse.specs.Tail.{array_size, closed_actions, closed_parameters, declared_parameters, first_value, list_word, signature}
+use Rattle.px_plan_parse.specs.Tail.{array_size, closed_actions, closed_parameters, declared_parameters, end_if, first_value, list_word, signature}
 use Rattle.px_plan_parse.proofs.Blocks.{block_tail}
-use Rattle.px_plan_parse.proofs.Bodies.{end_if}
 use Rattle.px_plan_parse.proofs.Globals.{worded}
 use Rattle.px_plan_parse.proofs.Parts.{before, behind, both, each_of}
 

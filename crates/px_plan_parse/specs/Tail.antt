@@ -13,13 +13,14 @@ use Rattle.px_syntax.specs.declared.fault.ParseFault.TheVariants as faults
 use Rattle.px_syntax.specs.declared.plan.Parameter.{Parameter}
 use Rattle.px_syntax.specs.declared.word.BlockForm.{BlockForm}
 use Rattle.px_syntax.specs.declared.word.BlockForm.TheVariants as forms
-use Rattle.px_syntax.specs.Block.{InitialData, VariableData, ItemData, PairData, Actions}
-use Rattle.px_syntax.specs.BlockGrammar.{each_action, form_word, initial, item, listed, pair, signed, size_of, variable}
+use Rattle.px_syntax.specs.Block.{InitialData, VariableData, ItemData, PairData, Actions, BranchTree}
+use Rattle.px_syntax.specs.BlockGrammar.{branch, each_action, form_word, initial, item, listed, pair, signed, size_of, variable}
 use Rattle.px_syntax.specs.ExprGrammar.{expression, literal_kind}
 use Rattle.px_syntax.specs.Expr.{Term}
 use Rattle.px_syntax.specs.Form.{Form, kind_at, identifier, keyword, never, nothing, optional, sign, ◌then◌, maybe, each, with_commas, number}
 use Rattle.px_syntax.specs.Plan.{DeclarationData}
 use Rattle.px_syntax.specs.PlanGrammar.{declaration, parameter, parameters}
+use Rattle.px_expr_parse.specs.Tail.{closed}
 use Rattle.px_plan_parse.specs.Part.{Follow}
 
 -- anything but a sign
@@ -94,6 +95,16 @@ abbrev pub counter : Identifier × ℤ → Form
 counter parts =
     sign signs.OpenParen then keyword words.Integer then identifier parts.0
     then sign signs.Assign then signed parts.1 then sign signs.Semicolon
+
+-- ---- tests
+
+-- a test or a step up to its bracket, and the branch behind it
+abbrev pub closed_branch : Term × BranchTree → Form
+closed_branch parts = closed signs.CloseParen parts.0 then branch parts.1
+
+-- the word that ends an `if`, or none
+abbrev pub end_if : Unit {0} → Form
+end_if none = optional (keyword words.EndIf)
 
 -- ---- blocks
 

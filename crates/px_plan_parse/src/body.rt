@@ -8,10 +8,10 @@ ghost use Rattle.px_syntax.specs.Depth.{too_deep};
 ghost use Rattle.px_plan_parse.specs.declared.start.Start.TheVariants as starts;
 ghost use Rattle.px_plan_parse.specs.Part.{Anything, IsLacking, IsPart};
 ghost use Rattle.px_plan_parse.specs.Start.{start_at, NoBranch};
-ghost use Rattle.px_plan_parse.specs.Tail.{counter};
+ghost use Rattle.px_plan_parse.specs.Tail.{counter, end_if};
 
 use crate::block::block;
-use crate::branch::{branch, else_ifs, guarded, otherwise};
+use crate::branch::{closed_branch, else_ifs, guarded, otherwise};
 use crate::build;
 use crate::named::{named, update_pairs};
 use crate::number::signed_at;
@@ -74,11 +74,21 @@ fn conditional(alloc: Global, tokens: &[Token], from: usize) -> Result<(Body, us
 {
     let (first, behind_first) = guarded(alloc, tokens, from + 1)?;
     let (others, behind_others) = else_ifs(alloc, tokens, behind_first)?;
-    let (otherwise, mut end) = otherwise(alloc, tokens, behind_others)?;
-    if begins(tokens, end, Start::EndIf) {
-        end += 1;
-    }
+    let (otherwise, behind_otherwise) = otherwise(alloc, tokens, behind_others)?;
+    let end = end_if(tokens, behind_otherwise);
     Ok((build::conditional(first, others, otherwise), end))
+}
+
+/// [ "endif" ]
+fn end_if(tokens: &[Token], from: usize) -> usize
+    requires { from ≤ length tokens.now }
+    ensures { IsPart end_if NoBranch tokens.now from tt result }
+{
+    if begins(tokens, from, Start::EndIf) {
+        from + 1
+    } else {
+        from
+    }
 }
 
 /// "(" "Integer" ID "=" [ "-" ] INT ";"
@@ -116,7 +126,6 @@ fn counted(alloc: Global, tokens: &[Token], from: usize) -> Result<(Body, usize)
 {
     let (variable, first, behind_counter) = counter(alloc, tokens, from + 1)?;
     let (test, behind_test) = parse_closed(alloc, tokens, behind_counter, Sign::Semicolon)?;
-    let (step, behind_step) = parse_closed(alloc, tokens, behind_test, Sign::CloseParen)?;
-    let (branch, end) = branch(alloc, tokens, behind_step)?;
+    let (step, branch, end) = closed_branch(alloc, tokens, behind_test)?;
     Ok((build::counted(variable, first, test, step, branch), end))
 }

@@ -3,8 +3,10 @@ ghost use Rattle.std.specs.Prelude.{◌≡◌, ◌+◌, ◌≤◌, ◌<◌, [], 
 ghost use Rattle.px_syntax.specs.Block.{branch_of, else_ifs_in_turn, else_of, guarded_of};
 ghost use Rattle.px_syntax.specs.BlockGrammar.{branch, else_ifs, guarded, otherwise};
 ghost use Rattle.px_syntax.specs.Depth.{too_deep};
+ghost use Rattle.px_syntax.specs.Expr.{term_of};
 ghost use Rattle.px_plan_parse.specs.Part.{Anything, IsLacking, IsPart};
 ghost use Rattle.px_plan_parse.specs.Start.{NoElse, NoElseIf};
+ghost use Rattle.px_plan_parse.specs.Tail.{closed_branch};
 
 use crate::block::{block, label};
 use crate::build;
@@ -12,7 +14,7 @@ use crate::start::{Start, begins};
 use px_expr_parse::parse_closed;
 use px_expr_parse::token::expect;
 use px_lex::{Sign, Token};
-use px_syntax::{Branch, Guarded, ParseFault};
+use px_syntax::{Branch, Guarded, ParseFault, SurfaceExpr};
 use std::alloc::Global;
 
 /// [ ID ":" ] block
@@ -33,6 +35,24 @@ pub(crate) fn branch(
     Ok((build::branch(label, block), end))
 }
 
+/// expression ")" branch
+#[cycle(block)]
+pub(crate) fn closed_branch(
+    alloc: Global,
+    tokens: &[Token],
+    from: usize,
+) -> Result<(SurfaceExpr, Branch, usize), ParseFault>
+    requires depth { too_deep tokens.now ≡ [] }
+    requires place { from ≤ length tokens.now }
+    ensures ok { IfOk result (λ read.
+        IsPart closed_branch Anything tokens.now from (term_of read.0, branch_of read.1) read.2) }
+    ensures fault { IfErr result (λ fault. IsLacking closed_branch Anything tokens.now from fault) }
+{
+    let (expr, at) = parse_closed(alloc, tokens, from, Sign::CloseParen)?;
+    let (branch, end) = branch(alloc, tokens, at)?;
+    Ok((expr, branch, end))
+}
+
 /// "(" expression ")" branch
 #[cycle(block)]
 pub(crate) fn guarded(
@@ -47,8 +67,7 @@ pub(crate) fn guarded(
     ensures fault { IfErr result (λ fault. IsLacking guarded Anything tokens.now from fault) }
 {
     expect(tokens, from, Sign::OpenParen)?;
-    let (test, at) = parse_closed(alloc, tokens, from + 1, Sign::CloseParen)?;
-    let (branch, end) = branch(alloc, tokens, at)?;
+    let (test, branch, end) = closed_branch(alloc, tokens, from + 1)?;
     Ok((build::guarded(test, branch), end))
 }
 

@@ -63,7 +63,7 @@ fn is_operator(kind: &TokenKind) -> bool
 }
 
 /// What is open before a token.
-#[derive(Clone, Copy, Debug, PartialEq, Eq)]
+#[derive(Clone, Copy, PartialEq, Eq)]
 struct Walk {
     /// Brackets.
     brackets: usize,

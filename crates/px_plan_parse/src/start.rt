@@ -8,7 +8,7 @@ use px_lex::{Keyword, Sign, Token, TokenKind};
 use px_syntax::{BlockForm, Condition, TypeName};
 
 /// What begins with a token of a plan outside of expressions.
-#[derive(Clone, Copy, Debug, PartialEq, Eq)]
+#[derive(Clone, Copy, PartialEq, Eq)]
 pub(crate) enum Start {
     Type(TypeName),
     Command,

@@ -1,4 +1,4 @@
-use Rattle.std.proofs.Common.{◌≡◌, ◌+◌, refl, sym, ap, subst, ◌∙◌, inl, inr, None, List, map}
+use Rattle.std.proofs.Common.{◌≡◌, refl, sym, ap, subst, ◌∙◌, None, List, map}
 use Rattle.std.proofs.lemmas.List.{map_push}
 use Rattle.std.proofs.lemmas.Result.{IfErr-weaker, IfOk-weaker, err_from_is_err_and}
 use Rattle.std.proofs.lemmas.Bool.{false≢true}
@@ -18,7 +18,7 @@ use Rattle.px_plan_parse.specs.Part.{Anything, IsPart}
 use Rattle.px_plan_parse.specs.Start.{NoBranch, NoElseIf, is_action}
 use Rattle.px_plan_parse.specs.Tail.{Only}
 use Rattle.px_plan_parse.proofs.Blocks.{action_acts, action_goes_on, actions_follow, block_tail, closing_no_branch, list_begins, makes_actions, makes_block, no_action}
-use Rattle.px_plan_parse.proofs.Bodies.{block_no_name, else_follows, else_goes_on, else_if_goes_on, end_follows, lack_labelled, lack_plain, makes_branch, makes_else_ifs, makes_for, makes_guarded, makes_if, makes_inner, makes_named, makes_otherwise, makes_unlabelled, makes_update, makes_while, no_body, no_else, no_else_if, no_sort, one_else_if, part_end_if, part_labelled, part_plain}
+use Rattle.px_plan_parse.proofs.Bodies.{block_no_name, else_follows, else_goes_on, else_if_goes_on, end_follows, lack_labelled, lack_plain, makes_branch, makes_else_ifs, makes_for, makes_guarded, makes_if, makes_inner, makes_named, makes_otherwise, makes_unlabelled, makes_update, makes_while, no_body, no_else, no_else_if, no_sort, one_else_if, part_labelled, part_plain}
 use Rattle.px_plan_parse.proofs.Globals.{lacks_here}
 use Rattle.px_plan_parse.proofs.Names.{name_missing}
 use Rattle.px_plan_parse.proofs.Parts.{IsFront, front_ends, front_lacks, front_more, lack_before, lack_behind, lack_first, lack_first_of, lack_kind, lack_made, lack_narrowed, lack_present, lack_second, lack_second_of, lack_token, local_each, of_found, of_missing, part_absent, part_before, part_behind, part_both, part_both_of, part_made, part_narrowed, part_present}
@@ -28,7 +28,6 @@ use Rattle.px_plan_parse.proofs.Spans.{local_action, local_counter, local_else_i
 use Rattle.px_plan_parse.proofs.Sorts.{sort_of}
 use Rattle.px_plan_parse.proofs.Starts.{here, name_here}
 use Rattle.px_plan_parse.proofs.+block.Goals as goal
-use Rattle.px_plan_parse.proofs.+block.Goals.{body::conditional-then-begins, body::conditional-else-begins}
 
 local_else_if : (part : GuardedTree) → IsLocal (one_else_if part)
 local_else_if part = local_then (local_one (kinds.Keyword words.ElseIf)) (local_guarded part)
@@ -111,19 +110,27 @@ branch::guarded-returns-in_err-expect-clause-fault t c =
 pub branch::guarded-returns-in_err-test-clause-fault : goal.branch::guarded-returns-in_err-test-clause-fault
 branch::guarded-returns-in_err-test-clause-fault t c =
     let p = err_from_is_err_and c.from_residual-in_err-test.result c.from_residual-in_err-test.ensures.1 in
-    rw (p.1, p.2) (lack_made (makes_guarded c.args.tokens.now c.args.from) (lack_behind c.in_ok-expect.ensures.ok.1 (lack_first {Next = Anything} (λ others part from end o next. tt) short_branch
-    (of_missing (closed signs.CloseParen) c.args.tokens.now (c.args.from + 1) c.in_err-test.field-0.0 Anything c.in_err-test.ensures.fault))))
-
-pub branch::guarded-returns-in_err-branch-clause-fault : goal.branch::guarded-returns-in_err-branch-clause-fault
-branch::guarded-returns-in_err-branch-clause-fault t c =
-    let p = err_from_is_err_and c.from_residual-in_err-branch.result c.from_residual-in_err-branch.ensures.1 in
-    rw (p.1, p.2) (lack_made (makes_guarded c.args.tokens.now c.args.from) (lack_behind c.in_ok-expect.ensures.ok.1 (lack_second (λ others part from end o next. tt) (local_closed signs.CloseParen _) (of_found Anything c.in_ok-test.ensures.ok) c.in_err-branch.ensures.fault)))
+    rw (p.1, p.2) (lack_made (makes_guarded c.args.tokens.now c.args.from) (lack_behind c.in_ok-expect.ensures.ok.1 c.in_err-test.ensures.fault))
 
 pub branch::guarded-returns-clause-ok : goal.branch::guarded-returns-clause-ok
 branch::guarded-returns-clause-ok t c =
-    subst (λ (tree : GuardedTree). IsPart guarded Anything c.args.tokens.now c.args.from tree c.in_ok-branch.end) (sym c.guarded.ensures)
-    (part_made (makes_guarded c.args.tokens.now c.args.from) (part_behind c.in_ok-expect.ensures.ok.1
-    (part_both (λ others part from end o next. tt) (of_found Anything c.in_ok-test.ensures.ok) c.in_ok-branch.ensures.ok)))
+    subst (λ (tree : GuardedTree). IsPart guarded Anything c.args.tokens.now c.args.from tree c.in_ok-test.end) (sym c.guarded.ensures)
+    (part_made (makes_guarded c.args.tokens.now c.args.from) (part_behind c.in_ok-expect.ensures.ok.1 c.in_ok-test.ensures.ok))
+
+pub branch::closed_branch-returns-in_err-expr-clause-fault : goal.branch::closed_branch-returns-in_err-expr-clause-fault
+branch::closed_branch-returns-in_err-expr-clause-fault t c =
+    let p = err_from_is_err_and c.from_residual.result c.from_residual.ensures.1 in
+    rw (p.1, p.2) (lack_first {Next = Anything} (λ others part from end o next. tt) short_branch
+    (of_missing (closed signs.CloseParen) c.args.tokens.now c.args.from c.in_err-expr.field-0.0 Anything c.in_err-expr.ensures.fault))
+
+pub branch::closed_branch-returns-in_err-branch-clause-fault : goal.branch::closed_branch-returns-in_err-branch-clause-fault
+branch::closed_branch-returns-in_err-branch-clause-fault t c =
+    let p = err_from_is_err_and c.from_residual-in_err-branch.result c.from_residual-in_err-branch.ensures.1 in
+    rw (p.1, p.2) (lack_second (λ others part from end o next. tt) (local_closed signs.CloseParen _) (of_found Anything c.in_ok-expr.ensures.ok) c.in_err-branch.ensures.fault)
+
+pub branch::closed_branch-returns-clause-ok : goal.branch::closed_branch-returns-clause-ok
+branch::closed_branch-returns-clause-ok t c =
+    part_both (λ others part from end o next. tt) (of_found Anything c.in_ok-expr.ensures.ok) c.in_ok-branch.ensures.ok
 
 pub branch::else_ifs-returns-in_err-other-clause-fault : goal.branch::else_ifs-returns-in_err-other-clause-fault
 branch::else_ifs-returns-in_err-other-clause-fault t c =
@@ -221,21 +228,9 @@ body::conditional-returns-in_err-otherwise-clause-fault t c =
 
 pub body::conditional-returns-clause-ok : goal.body::conditional-returns-clause-ok
 body::conditional-returns-clause-ok t c =
-    subst (λ (tree : BodyTree). IsPart body NoBranch c.args.tokens.now c.args.from tree c.if-begins.end) (sym c.conditional.ensures)
+    subst (λ (tree : BodyTree). IsPart body NoBranch c.args.tokens.now c.args.from tree c.end_if-end.result) (sym c.conditional.ensures)
     (part_made (makes_if c.args.tokens.now c.args.from (ap sort_of c.requires.begins)) (part_behind (here starts.If (kinds.Keyword words.If) (λ kind is_of. is_of) (λ e. cc) c.args.tokens.now c.args.from c.requires.begins) (part_both (λ others part from end o next. tt) c.in_ok-first.ensures.ok
-    (part_both else_follows c.in_ok-others.ensures.ok (part_both end_follows c.in_ok-otherwise.ensures.ok
-    (part_end_if c.args.tokens.now c.in_ok-otherwise.end c.if-begins.end c.in_ok-otherwise.ensures.ok.within
-    (elim c.if-begins.branch [
-      | body::conditional-then-begins w ↦
-          let is = w.if-begins.ensures.answer.0 refl in
-          inl (
-            is,
-            here starts.EndIf (kinds.Keyword words.EndIf) (λ kind is_of. is_of) (λ e. cc) c.args.tokens.now c.in_ok-otherwise.end is,
-            w.if-begins.ensures.inside refl (λ e. cc),
-            w.end-is,
-          )
-      | body::conditional-else-begins w ↦ inr (λ is. false≢true (w.if-begins.ensures.answer.1 is), w.end-is)
-    ])))))))
+    (part_both else_follows c.in_ok-others.ensures.ok (part_both end_follows c.in_ok-otherwise.ensures.ok c.end_if-end.ensures)))))
 
 pub body::counted-returns-in_err-variable-clause-fault : goal.body::counted-returns-in_err-variable-clause-fault
 body::counted-returns-in_err-variable-clause-fault t c =
@@ -252,13 +247,7 @@ pub body::counted-returns-in_err-step-clause-fault : goal.body::counted-returns-
 body::counted-returns-in_err-step-clause-fault t c =
     let p = err_from_is_err_and c.from_residual-in_err-step.result c.from_residual-in_err-step.ensures.1 in
     rw (p.1, p.2) (lack_made (makes_for c.args.tokens.now c.args.from (ap sort_of c.requires.begins)) (lack_behind (here starts.For (kinds.Keyword words.For) (λ kind is_of. is_of) (λ e. cc) c.args.tokens.now c.args.from c.requires.begins) (lack_second (λ others part from end o next. tt) (local_counter _) c.in_ok-variable.ensures.ok (lack_second (λ others part from end o next. tt) (local_closed signs.Semicolon _) (of_found Anything c.in_ok-test.ensures.ok)
-    (lack_first {Next = Anything} (λ others part from end o next. tt) short_branch (of_missing (closed signs.CloseParen) c.args.tokens.now c.in_ok-test.behind_test c.in_err-step.field-0.0 Anything c.in_err-step.ensures.fault))))))
-
-pub body::counted-returns-in_err-branch-clause-fault : goal.body::counted-returns-in_err-branch-clause-fault
-body::counted-returns-in_err-branch-clause-fault t c =
-    let p = err_from_is_err_and c.from_residual-in_err-branch.result c.from_residual-in_err-branch.ensures.1 in
-    rw (p.1, p.2) (lack_made (makes_for c.args.tokens.now c.args.from (ap sort_of c.requires.begins)) (lack_behind (here starts.For (kinds.Keyword words.For) (λ kind is_of. is_of) (λ e. cc) c.args.tokens.now c.args.from c.requires.begins) (lack_second (λ others part from end o next. tt) (local_counter _) c.in_ok-variable.ensures.ok (lack_second (λ others part from end o next. tt) (local_closed signs.Semicolon _) (of_found Anything c.in_ok-test.ensures.ok)
-    (lack_second (λ others part from end o next. tt) (local_closed signs.CloseParen _) (of_found Anything c.in_ok-step.ensures.ok) (lack_narrowed (λ others place last. tt) c.in_err-branch.ensures.fault))))))
+    (lack_narrowed (λ others place last. tt) c.in_err-step.ensures.fault)))))
 
 pub body::body-returns-in_ok-name-in-Name-clause-ok : goal.body::body-returns-in_ok-name-in-Name-clause-ok
 body::body-returns-in_ok-name-in-Name-clause-ok t c =
@@ -319,7 +308,7 @@ body::body-returns-in_default-clause-fault t c =
 pub body::counted-returns-clause-ok : goal.body::counted-returns-clause-ok
 body::counted-returns-clause-ok t c =
     let same : to_z w32 (of_z w32 c.in_ok-variable.first) ≡ c.in_ok-variable.first = to_z-of_z w32 c.in_ok-variable.first c.in_ok-variable.ensures.fits in
-    subst (λ (tree : BodyTree). IsPart body NoBranch c.args.tokens.now c.args.from tree c.in_ok-branch.end)
-    (sym (c.counted.ensures ∙ ap (λ (first : ℤ). For c.in_ok-variable.variable first (term_of c.in_ok-test.test) (term_of c.in_ok-step.step) (branch_of c.in_ok-branch.branch)) same))
+    subst (λ (tree : BodyTree). IsPart body NoBranch c.args.tokens.now c.args.from tree c.in_ok-step.end)
+    (sym (c.counted.ensures ∙ ap (λ (first : ℤ). For c.in_ok-variable.variable first (term_of c.in_ok-test.test) (term_of c.in_ok-step.step) (branch_of c.in_ok-step.branch)) same))
     (part_made (makes_for c.args.tokens.now c.args.from (ap sort_of c.requires.begins)) (part_behind (here starts.For (kinds.Keyword words.For) (λ kind is_of. is_of) (λ e. cc) c.args.tokens.now c.args.from c.requires.begins) (part_both (λ others part from end o next. tt) c.in_ok-variable.ensures.ok (part_both (λ others part from end o next. tt) (of_found Anything c.in_ok-test.ensures.ok)
-    (part_both (λ others part from end o next. tt) (of_found Anything c.in_ok-step.ensures.ok) (part_narrowed (λ others place last. tt) c.in_ok-branch.ensures.ok))))))
+    (part_narrowed (λ others place last. tt) c.in_ok-step.ensures.ok)))))

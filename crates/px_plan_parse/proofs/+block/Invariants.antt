@@ -37,6 +37,9 @@ decreases-branch::branch l = left l.tokens.now l.from 2
 abbrev pub decreases-branch::guarded : goal.decreases-branch::guarded
 decreases-branch::guarded l = left l.tokens.now l.from 3
 
+abbrev pub decreases-branch::closed_branch : goal.decreases-branch::closed_branch
+decreases-branch::closed_branch l = left l.tokens.now l.from 3
+
 abbrev pub decreases-branch::else_ifs : goal.decreases-branch::else_ifs
 decreases-branch::else_ifs l = left l.tokens.now l.from 4
 
