@@ -89,9 +89,9 @@ impl<T: Copy> Scoped<T> {
         ensures ok { OnOk result (self.new ≡ (name.now, meaning) ∷ self.old) }
         ensures err { OnErr result (self.new ≡ self.old) }
     {
+        self.entries.reserve(1)?;
         let own = name.copy(alloc)?;
         let key = name.copy(alloc)?;
-        self.entries.reserve(1)?;
         let shadowed = self.index.insert(key, self.entries.len())?;
         let entry = Shadowing {
             name: own,
