@@ -22,42 +22,48 @@ use action::push_action;
 pub(crate) use expression::push_expr;
 use item::{push_declaration, push_item};
 use literal::push_name;
-use px_syntax::{Block, Identifier, Surface};
+use px_syntax::{Action, Block, Identifier, Item, Surface};
 use px_value::NoMemory;
-use std::alloc::Global;
 use word::form_word;
 
 /// A whole plan.
-pub(crate) fn push_plan(alloc: Global, plan: &Surface, out: &mut String) -> Result<(), NoMemory> {
+pub(crate) fn push_plan(plan: &Surface, out: &mut String) -> Result<(), NoMemory> {
     for declaration in &plan.declarations {
-        push_declaration(alloc, declaration, out)?;
+        push_declaration(declaration, out)?;
     }
-    push_label(alloc, &plan.label, out)?;
-    push_block(alloc, &plan.root, out)
+    push_label(&plan.label, out)?;
+    push_block(&plan.root, out)
 }
 
-fn push_label(alloc: Global, label: &Option<Identifier>, out: &mut String) -> Result<(), NoMemory> {
+fn push_label(label: &Option<Identifier>, out: &mut String) -> Result<(), NoMemory> {
     match label {
-        Some(name) => {
-            push_name(alloc, name, out)?;
-            out.push_str(":")
-        }
+        Some(name) => push_name("", name, ":", out),
         None => Ok(()),
     }
 }
 
-fn push_block(alloc: Global, block: &Block, out: &mut String) -> Result<(), NoMemory> {
+fn push_block(block: &Block, out: &mut String) -> Result<(), NoMemory> {
     out.push_str(form_word(block.form))?;
     out.push_str("{")?;
-    for item in &block.items {
-        push_item(alloc, item, out)?;
-        out.push_str(";")?;
-    }
+    push_items(&block.items, out)?;
     out.push_str("|")?;
-    for action in &block.actions {
-        push_label(alloc, &action.label, out)?;
-        push_action(alloc, &action.body, out)?;
+    push_actions(&block.actions, out)?;
+    out.push_str("}")
+}
+
+fn push_items(items: &[Item], out: &mut String) -> Result<(), NoMemory> {
+    for item in items {
+        push_item(item, out)?;
         out.push_str(";")?;
     }
-    out.push_str("}")
+    Ok(())
+}
+
+fn push_actions(actions: &[Action], out: &mut String) -> Result<(), NoMemory> {
+    for action in actions {
+        push_label(&action.label, out)?;
+        push_action(&action.body, out)?;
+        out.push_str(";")?;
+    }
+    Ok(())
 }

@@ -1,13 +1,12 @@
 // Declarations before the root, and the items of a block.
 use super::expression::push_expr;
-use super::literal::{push_literal, push_name, push_numbered};
+use super::literal::{push_all, push_literal, push_name, push_word};
 use super::word::{condition_word, type_word};
+use itoa::Buffer;
 use px_syntax::{Declaration, Initial, Item, Parameter, Variable};
 use px_value::NoMemory;
-use std::alloc::Global;
 
 pub(super) fn push_declaration(
-    alloc: Global,
     declaration: &Declaration,
     out: &mut String,
 ) -> Result<(), NoMemory> {
@@ -18,12 +17,10 @@ pub(super) fn push_declaration(
             parameters,
         } => {
             if let Some(answer) = answer {
-                out.push_str(type_word(*answer))?;
-                out.push_str(" ")?;
+                push_all(&[type_word(*answer), " "], out)?;
             }
-            out.push_str("Command ")?;
-            push_name(alloc, name, out)?;
-            push_parameters(alloc, parameters, out)
+            push_name("Command ", name, "(", out)?;
+            push_parameters(parameters, out)
         }
         Declaration::Lookup {
             answer,
@@ -31,37 +28,34 @@ pub(super) fn push_declaration(
             parameters,
         } => {
             out.push_str(type_word(*answer))?;
-            out.push_str(" Lookup ")?;
-            push_name(alloc, name, out)?;
-            push_parameters(alloc, parameters, out)
+            push_name(" Lookup ", name, "(", out)?;
+            push_parameters(parameters, out)
         }
     }
 }
 
-fn push_parameters(
-    alloc: Global,
-    parameters: &[Parameter],
-    out: &mut String,
-) -> Result<(), NoMemory> {
-    out.push_str("(")?;
+// Parameters behind their bracket.
+fn push_parameters(parameters: &[Parameter], out: &mut String) -> Result<(), NoMemory> {
     for parameter in parameters {
-        out.push_str(type_word(parameter.of_type))?;
-        if let Some(name) = &parameter.name {
-            out.push_str(" ")?;
-            push_name(alloc, name, out)?;
-        }
-        out.push_str(",")?;
+        push_parameter(parameter, out)?;
     }
     out.push_str(");")
 }
 
-pub(super) fn push_item(alloc: Global, item: &Item, out: &mut String) -> Result<(), NoMemory> {
+fn push_parameter(parameter: &Parameter, out: &mut String) -> Result<(), NoMemory> {
+    out.push_str(type_word(parameter.of_type))?;
+    match &parameter.name {
+        Some(name) => push_name(" ", name, ",", out),
+        None => out.push_str(","),
+    }
+}
+
+pub(super) fn push_item(item: &Item, out: &mut String) -> Result<(), NoMemory> {
     match item {
         Item::Variables { of_type, variables } => {
             out.push_str(type_word(*of_type))?;
             for variable in variables {
-                out.push_str(" ")?;
-                push_variable(alloc, variable, out)?;
+                push_variable(variable, out)?;
             }
             Ok(())
         }
@@ -70,38 +64,34 @@ pub(super) fn push_item(alloc: Global, item: &Item, out: &mut String) -> Result<
             token,
             test,
         } => {
-            push_numbered(alloc, condition_word(*condition), *token, out)?;
-            out.push_str(" ")?;
-            push_expr(alloc, test, out)
+            push_word("", condition_word(*condition), *token, " ", out)?;
+            push_expr(test, out)
         }
         Item::Priority { token, priority } => {
-            out.push_str(format!(in alloc; "Priority@{token} {priority}")?.as_str())
+            push_word("", "Priority", *token, " ", out)?;
+            out.push_str(Buffer::new().format(*priority))
         }
     }
 }
 
-fn push_variable(alloc: Global, variable: &Variable, out: &mut String) -> Result<(), NoMemory> {
-    push_name(alloc, &variable.name, out)?;
+fn push_variable(variable: &Variable, out: &mut String) -> Result<(), NoMemory> {
+    push_name(" ", &variable.name, "", out)?;
     if let Some(size) = variable.size {
-        out.push_str(format!(in alloc; "[{size}]")?.as_str())?;
+        push_all(&["[", Buffer::new().format(size), "]"], out)?;
     }
     match &variable.initial {
-        Some(initial) => push_initial(alloc, initial, out),
+        Some(initial) => push_initial(initial, out),
         None => Ok(()),
     }
 }
 
-fn push_initial(alloc: Global, initial: &Initial, out: &mut String) -> Result<(), NoMemory> {
+fn push_initial(initial: &Initial, out: &mut String) -> Result<(), NoMemory> {
     match initial {
-        Initial::Value { value, token } => {
-            out.push_str("=")?;
-            push_literal(alloc, value, *token, out)
-        }
+        Initial::Value { value, token } => push_literal("=", value, *token, out),
         Initial::List { values, token } => {
-            push_numbered(alloc, "=#", *token, out)?;
+            push_word("", "=#", *token, "", out)?;
             for value in values {
-                out.push_str(" ")?;
-                push_literal(alloc, &value.value, value.token, out)?;
+                push_literal(" ", &value.value, value.token, out)?;
             }
             out.push_str(")")
         }
