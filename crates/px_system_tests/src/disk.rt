@@ -2,34 +2,44 @@
 ghost use Rattle.std.specs.Prelude.{◌≡◌, None};
 ghost use Rattle.px_ports.specs.Disk.{IsFreeFor};
 
-use crate::folder::folder;
+use crate::{FOLDER, MOVED};
 use px_ports::Disk;
 use px_system::{Access, StdDisk};
 use std::alloc::Global;
 use std::fs;
 use std::fs::File;
 use std::rt::Files;
-use std::test::Fail;
+
+// The file of each part, new to it.
+const WRITTEN: &str = "plexil-files/written";
+
+const HELD: &str = "plexil-files/held";
+
+const READ: &str = "plexil-files/read";
+
+const FAILING: &str = "plexil-files/failing";
+
+/// What no disk is attached to, and what is said of it.
+pub(crate) const REFUSED: [(&str, &str); 4] = [
+    (FOLDER, "a folder is refused"),
+    (
+        "plexil-files/failing/file",
+        "a name below a file is refused",
+    ),
+    ("/dev/null", "a device is refused"),
+    ("a\0b", "what is no name is refused"),
+];
 
 // Whether no file has the name.
 fn is_absent(rt: &impl Files, name: &str) -> bool {
     matches!(fs::exists(rt, name), Ok(false))
 }
 
-#[test]
-fn what_was_written_is_read_by_the_next_disk(rt: HostRuntime) -> Result<(), Fail> {
-    let alloc = rt.alloc();
-    let folder = folder(&rt, "written")?;
-    let name = format!(in alloc; "{folder}/journal")?;
-    assert!(rt; is_read_again(rt, alloc, name.as_str()));
-    fs::remove_dir_all(&rt, folder.as_str())?;
-    Ok(())
-}
-
-fn is_read_again<R: Files<File = File> + Copy>(rt: R, alloc: Global, name: &str) -> bool {
+/// Whether a disk reads what another has written, while that is there.
+pub(crate) fn is_read_again<R: Files<File = File> + Copy>(rt: R, alloc: Global) -> bool {
     let mut disk = StdDisk::new(alloc, rt, Access::Write);
     let mut next = StdDisk::new(alloc, rt, Access::Read);
-    writes(&rt, &mut disk, name) && reads(&mut next, name)
+    writes(&rt, &mut disk, WRITTEN) && reads(&mut next, WRITTEN)
 }
 
 // The first write makes the file.
@@ -56,23 +66,14 @@ fn reads<R: Files<File = File>>(disk: &mut StdDisk<R>, name: &str) -> bool
         && disk.faults() == 0
 }
 
-#[test]
-fn one_disk_at_a_time_writes(rt: HostRuntime) -> Result<(), Fail> {
-    let alloc = rt.alloc();
-    let folder = folder(&rt, "held")?;
-    let name = format!(in alloc; "{folder}/journal")?;
-    assert!(rt; is_held_by_one(rt, alloc, name.as_str()));
-    fs::remove_dir_all(&rt, folder.as_str())?;
-    Ok(())
-}
-
-fn is_held_by_one<R: Files<File = File> + Copy>(rt: R, alloc: Global, name: &str) -> bool {
+/// Whether one disk at a time writes to a file.
+pub(crate) fn is_held_by_one<R: Files<File = File> + Copy>(rt: R, alloc: Global) -> bool {
     let mut early = StdDisk::new(alloc, rt, Access::Write);
     let mut disk = StdDisk::new(alloc, rt, Access::Write);
     let mut late = StdDisk::new(alloc, rt, Access::Write);
-    let is_held = holds(&mut early, &mut disk, &mut late, name);
+    let is_held = holds(&mut early, &mut disk, &mut late, HELD);
     drop(disk);
-    is_held && takes_over(&mut late, name)
+    is_held && takes_over(&mut late, HELD)
 }
 
 // The first that writes has the file, though another was attached before it was there.
@@ -101,20 +102,10 @@ fn takes_over<R: Files<File = File>>(disk: &mut StdDisk<R>, name: &str) -> bool
     disk.attach(name).is_ok() && disk.write_at(2, b"d").is_ok()
 }
 
-#[test]
-fn one_that_reads_keeps_what_it_has_told(rt: HostRuntime) -> Result<(), Fail> {
-    let alloc = rt.alloc();
-    let folder = folder(&rt, "read")?;
-    let name = format!(in alloc; "{folder}/journal")?;
-    assert!(rt; makes_nothing(rt, alloc, name.as_str()));
-    assert!(rt; keeps_its_end(rt, alloc, name.as_str()));
-    fs::remove_dir_all(&rt, folder.as_str())?;
-    Ok(())
-}
-
-fn makes_nothing<R: Files<File = File> + Copy>(rt: R, alloc: Global, name: &str) -> bool {
+/// Whether a disk that reads makes no file.
+pub(crate) fn makes_nothing<R: Files<File = File> + Copy>(rt: R, alloc: Global) -> bool {
     let mut early = StdDisk::new(alloc, rt, Access::Read);
-    refuses(&mut early, name) && is_absent(&rt, name)
+    refuses(&mut early, READ) && is_absent(&rt, READ)
 }
 
 // One that reads attaches, and each write fails.
@@ -124,10 +115,11 @@ fn refuses<R: Files<File = File>>(disk: &mut StdDisk<R>, name: &str) -> bool
     disk.attach(name).is_ok() && disk.write_at(0, b"b").is_err()
 }
 
-fn keeps_its_end<R: Files<File = File> + Copy>(rt: R, alloc: Global, name: &str) -> bool {
+/// Whether a disk that reads keeps what it has told of a file that grows.
+pub(crate) fn keeps_its_end<R: Files<File = File> + Copy>(rt: R, alloc: Global) -> bool {
     let mut disk = StdDisk::new(alloc, rt, Access::Write);
     let mut reader = StdDisk::new(alloc, rt, Access::Read);
-    keeps(&mut disk, &mut reader, name)
+    keeps(&mut disk, &mut reader, READ)
 }
 
 // What one that reads was told of a file is what it reads, until it asks for the length again.
@@ -150,54 +142,29 @@ fn keeps<R: Files<File = File>>(disk: &mut StdDisk<R>, reader: &mut StdDisk<R>, 
         && grown == *b"cd"
 }
 
-#[test]
-fn a_failure_is_a_failed_call(rt: HostRuntime) -> Result<(), Fail> {
-    let alloc = rt.alloc();
-    let folder = folder(&rt, "failures")?;
-    let name = format!(in alloc; "{folder}/journal")?;
-    let below = format!(in alloc; "{name}/journal")?;
-    let moved = format!(in alloc; "{folder}-moved")?;
-    assert!(rt; is_counted(rt, alloc, name.as_str(), folder.as_str(), moved.as_str()));
-    for refused in [folder.as_str(), below.as_str(), "/dev/null", "a\0b"] {
-        assert!(rt; is_refused(rt, alloc, refused), "{refused:?}");
-    }
-    fs::remove_dir_all(&rt, folder.as_str())?;
-    Ok(())
-}
-
-fn is_refused<R: Files<File = File> + Copy>(rt: R, alloc: Global, name: &str) -> bool {
+/// Whether a disk isn't attached to a name, and counts that.
+pub(crate) fn is_refused<R: Files<File = File> + Copy>(rt: R, alloc: Global, name: &str) -> bool {
     let mut disk = StdDisk::new(alloc, rt, Access::Write);
     disk.attach(name).is_err() && disk.faults() == 1
 }
 
-fn is_counted<R: Files<File = File> + Copy>(
-    rt: R,
-    alloc: Global,
-    name: &str,
-    folder: &str,
-    moved: &str,
-) -> bool {
+/// Whether each call that fails is counted.
+pub(crate) fn is_counted<R: Files<File = File> + Copy>(rt: R, alloc: Global) -> bool {
     let mut disk = StdDisk::new(alloc, rt, Access::Write);
-    fails(&rt, &mut disk, name, folder, moved) && disk.faults() == 4
+    fails(&rt, &mut disk) && disk.faults() == 4
 }
 
 // Behind the end nothing is read, and at a place that no file has nothing is written. The folder of the new file can't be
 // synced where it is gone, nor is the disk trusted when it can again.
-fn fails<R: Files<File = File>>(
-    rt: &R,
-    disk: &mut StdDisk<R>,
-    name: &str,
-    folder: &str,
-    moved: &str,
-) -> bool
+fn fails<R: Files<File = File>>(rt: &R, disk: &mut StdDisk<R>) -> bool
     requires { ⟦<StdDisk<R> as Disk>⟧.bound_to disk.old ≡ None }
 {
-    disk.attach(name).is_ok()
+    disk.attach(FAILING).is_ok()
         && disk.write_at(0, b"abcde").is_ok()
         && disk.read_at(2, &mut [0; 4]).is_err()
         && disk.write_at(u64::MAX, b"f").is_err()
-        && fs::rename(rt, folder, moved).is_ok()
+        && fs::rename(rt, FOLDER, MOVED).is_ok()
         && disk.sync().is_err()
-        && fs::rename(rt, moved, folder).is_ok()
+        && fs::rename(rt, MOVED, FOLDER).is_ok()
         && disk.sync().is_err()
 }
