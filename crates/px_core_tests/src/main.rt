@@ -37,9 +37,8 @@ mod no_text;
 mod printed;
 mod row;
 
-use compiled::{answer_of, compiled};
+use compiled::{core_of, nodes_of};
 use made::text_of;
-use printed::push_plan;
 use row::{Row, Source};
 use std::alloc::Global;
 use std::io;
@@ -69,28 +68,25 @@ fn main(rt: HostRuntime) -> anyhow::Result<()> {
 
 // Whether the row that is spelled so holds; else it is told.
 fn holds(rt: &impl Print, alloc: Global, spelled: &str) -> anyhow::Result<bool> {
-    let Some(row) = Row::spelled_by(spelled) else {
+    let Some(Row { name, plan, wanted }) = Row::spelled_by(spelled) else {
         println!(rt; "no row: {spelled}")?;
         return Ok(false);
     };
-    let (plan, answered) = match row.plan {
-        Source::Text(text) => (text, core_of(alloc, text)?),
-        Source::Parts(parts) => (parts, answer_of(alloc, text_of(alloc, parts)?.as_bytes())?),
-    };
-    if answered.as_str() == row.wanted {
+    let answered = answered(alloc, plan)?;
+    if answered.as_str() == wanted {
         return Ok(true);
     }
-    println!(rt; "{}\n{plan}\n{answered}\n====", row.name)?;
+    let (Source::Text(plan) | Source::Parts(plan)) = plan;
+    println!(rt; "{name}\n{plan}\n{answered}\n====")?;
     Ok(false)
 }
 
-// The core plan of a text, line by line, or why there is none.
-fn core_of(alloc: Global, text: &str) -> anyhow::Result<String> {
-    let plan = match compiled(alloc, text.as_bytes())? {
-        Ok(plan) => plan,
-        Err(refusal) => return Ok(refusal),
-    };
-    let mut lines = String::new(alloc);
-    push_plan(alloc, &plan, &mut lines)?;
-    Ok(lines)
+fn answered(alloc: Global, plan: Source<'_>) -> anyhow::Result<String> {
+    match plan {
+        Source::Text(text) => Ok(core_of(alloc, text)?),
+        Source::Parts(parts) => {
+            let text = text_of(alloc, parts)?;
+            Ok(nodes_of(alloc, text.as_bytes())?)
+        }
+    }
 }

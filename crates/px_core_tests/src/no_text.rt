@@ -1,5 +1,5 @@
 // Bytes that are no text, which are no rows, as those are text.
-use crate::compiled::answer_of;
+use crate::compiled::nodes_of;
 use std::alloc::Global;
 
 // Bytes that are no UTF-8, and what is answered to them.
@@ -13,7 +13,7 @@ const NO_TEXTS: [(&[u8], &str); 3] = [
 pub(crate) fn held(rt: &impl Print, alloc: Global) -> anyhow::Result<u64> {
     let mut held = 0_u64;
     for (bytes, wanted) in NO_TEXTS {
-        let answer = answer_of(alloc, bytes)?;
+        let answer = nodes_of(alloc, bytes)?;
         if answer.as_str() == wanted {
             held = held.saturating_add(1);
         } else {

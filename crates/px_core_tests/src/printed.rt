@@ -12,17 +12,21 @@ mod parts;
 mod value;
 
 use expression::push_expr;
+use itoa::Buffer;
 use parts::{push_action, push_variable};
 use px_core::{Conditions, CoreNode, Expr, Kind, Plan};
 use px_value::{NoMemory, Value};
 use std::alloc::Global;
+use value::push_all;
 
 /// The priority of a node where its plan gives none.
 const DEFAULT_PRIORITY: u32 = 100_000;
 
 /// The lines of a plan, the last of which ends without a line feed.
-pub(crate) fn push_plan(alloc: Global, plan: &Plan, out: &mut String) -> Result<(), NoMemory> {
-    push_tree(alloc, "", &plan.root, out)
+pub(crate) fn lines_of(alloc: Global, plan: &Plan) -> Result<String, NoMemory> {
+    let mut lines = String::new(alloc);
+    push_tree(alloc, "", &plan.root, &mut lines)?;
+    Ok(lines)
 }
 
 // A node and all below it, where its parent's path and a dot are given.
@@ -32,10 +36,10 @@ fn push_tree(
     node: &CoreNode,
     out: &mut String,
 ) -> Result<(), NoMemory> {
-    let path = format!(in alloc; "{above}{}", node.name.as_str())?;
-    out.push_str(path.as_str())?;
-    push_head(alloc, node, out)?;
-    let inside = format!(in alloc; "{path}.")?;
+    out.push_str(above)?;
+    push_all(&[node.name.as_str(), ": "], out)?;
+    push_head(node, out)?;
+    let inside = format!(in alloc; "{above}{}.", node.name.as_str())?;
     for child in &node.children {
         out.push_str("\n")?;
         push_tree(alloc, inside.as_str(), child, out)?;
@@ -44,19 +48,17 @@ fn push_tree(
 }
 
 // What a node has beside its name and its children.
-fn push_head(alloc: Global, node: &CoreNode, out: &mut String) -> Result<(), NoMemory> {
-    out.push_str(": ")?;
+fn push_head(node: &CoreNode, out: &mut String) -> Result<(), NoMemory> {
     out.push_str(kind_word(node.kind))?;
     if node.priority != DEFAULT_PRIORITY {
-        let priority = node.priority;
-        out.push_str(format!(in alloc; "; Priority {priority}")?.as_str())?;
+        push_all(&["; Priority ", Buffer::new().format(node.priority)], out)?;
     }
     for variable in &node.variables {
         out.push_str("; ")?;
-        push_variable(alloc, variable, out)?;
+        push_variable(variable, out)?;
     }
-    push_conditions(alloc, &node.conditions, out)?;
-    push_action(alloc, &node.body, out)
+    push_conditions(&node.conditions, out)?;
+    push_action(&node.body, out)
 }
 
 fn kind_word(kind: Kind) -> &'static str {
@@ -69,24 +71,19 @@ fn kind_word(kind: Kind) -> &'static str {
     }
 }
 
-fn push_conditions(
-    alloc: Global,
-    conditions: &Conditions,
-    out: &mut String,
-) -> Result<(), NoMemory> {
-    push_condition(alloc, "Start", &conditions.start, true, out)?;
-    push_condition(alloc, "End", &conditions.end, true, out)?;
-    push_condition(alloc, "Exit", &conditions.exit, false, out)?;
-    push_condition(alloc, "Skip", &conditions.skip, false, out)?;
-    push_condition(alloc, "Repeat", &conditions.repeat, false, out)?;
-    push_condition(alloc, "Pre", &conditions.pre, true, out)?;
-    push_condition(alloc, "Post", &conditions.post, true, out)?;
-    push_condition(alloc, "Invariant", &conditions.invariant, true, out)
+fn push_conditions(conditions: &Conditions, out: &mut String) -> Result<(), NoMemory> {
+    push_condition("Start", &conditions.start, true, out)?;
+    push_condition("End", &conditions.end, true, out)?;
+    push_condition("Exit", &conditions.exit, false, out)?;
+    push_condition("Skip", &conditions.skip, false, out)?;
+    push_condition("Repeat", &conditions.repeat, false, out)?;
+    push_condition("Pre", &conditions.pre, true, out)?;
+    push_condition("Post", &conditions.post, true, out)?;
+    push_condition("Invariant", &conditions.invariant, true, out)
 }
 
 // A condition, but for the literal that it mostly is.
 fn push_condition(
-    alloc: Global,
     word: &str,
     condition: &Expr,
     mostly: bool,
@@ -95,10 +92,8 @@ fn push_condition(
     if is_truth(condition, mostly) {
         return Ok(());
     }
-    out.push_str("; ")?;
-    out.push_str(word)?;
-    out.push_str(" ")?;
-    push_expr(alloc, condition, out)
+    push_all(&["; ", word, " "], out)?;
+    push_expr(condition, out)
 }
 
 fn is_truth(expr: &Expr, truth: bool) -> bool {

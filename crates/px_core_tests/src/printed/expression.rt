@@ -14,43 +14,43 @@
 mod short;
 mod signs;
 
-use super::value::push_value;
+use super::value::{push_all, push_value};
+use itoa::Buffer;
 use px_core::{Expr, LookWord};
 use px_value::{Name, NoMemory, Outcome, Path};
 use short::{ended, finished};
 use signs::{before_one, before_two, behind_one, between, look_word};
-use std::alloc::Global;
 
 #[cycle(push)]
-pub(super) fn push_expr(alloc: Global, expr: &Expr, out: &mut String) -> Result<(), NoMemory> {
+pub(super) fn push_expr(expr: &Expr, out: &mut String) -> Result<(), NoMemory> {
     if push_short(expr, out)? {
         return Ok(());
     }
-    push_front(alloc, expr, out)?;
+    push_front(expr, out)?;
     match expr {
-        Expr::Cell { index, .. } => push_expr(alloc, index, out)?,
-        Expr::Look { args, .. } => push_exprs(alloc, args, out)?,
-        Expr::Unary { arg, .. } => push_expr(alloc, arg, out)?,
+        Expr::Cell { index, .. } => push_expr(index, out)?,
+        Expr::Look { args, .. } => push_exprs(args, out)?,
+        Expr::Unary { arg, .. } => push_expr(arg, out)?,
         Expr::Binary { op, left, right } => {
-            push_expr(alloc, left, out)?;
+            push_expr(left, out)?;
             out.push_str(between(*op))?;
-            push_expr(alloc, right, out)?;
+            push_expr(right, out)?;
         }
         _ => {}
     }
-    push_end(alloc, expr, out)
+    push_end(expr, out)
 }
 
 /// Expressions with commas between them.
 #[cycle(push)]
-pub(super) fn push_exprs(alloc: Global, exprs: &[Expr], out: &mut String) -> Result<(), NoMemory> {
+pub(super) fn push_exprs(exprs: &[Expr], out: &mut String) -> Result<(), NoMemory> {
     let [first, rest @ ..] = exprs else {
         return Ok(());
     };
-    push_expr(alloc, first, out)?;
+    push_expr(first, out)?;
     for expr in rest {
         out.push_str(", ")?;
-        push_expr(alloc, expr, out)?;
+        push_expr(expr, out)?;
     }
     Ok(())
 }
@@ -58,11 +58,11 @@ pub(super) fn push_exprs(alloc: Global, exprs: &[Expr], out: &mut String) -> Res
 // The short form of an expression, and whether it has one.
 fn push_short(expr: &Expr, out: &mut String) -> Result<bool, NoMemory> {
     if let Some(path) = finished(expr) {
-        push_said("d(", path, ")", out)?;
+        push_all(&["d(", path.as_str(), ")"], out)?;
     } else if let Some(path) = ended(expr, Outcome::Failure) {
-        push_said("f(", path, ")", out)?;
+        push_all(&["f(", path.as_str(), ")"], out)?;
     } else if let Some(path) = ended(expr, Outcome::Success) {
-        push_said("w(", path, ")", out)?;
+        push_all(&["w(", path.as_str(), ")"], out)?;
     } else {
         return Ok(false);
     }
@@ -70,19 +70,16 @@ fn push_short(expr: &Expr, out: &mut String) -> Result<bool, NoMemory> {
 }
 
 // What stands before the expressions in an expression; of one without any, all of it.
-fn push_front(alloc: Global, expr: &Expr, out: &mut String) -> Result<(), NoMemory> {
+fn push_front(expr: &Expr, out: &mut String) -> Result<(), NoMemory> {
     match expr {
-        Expr::Literal(value) => push_value(alloc, value, out),
-        Expr::Var { owner, name } => push_variable_of(owner, name, out),
-        Expr::Cell { owner, name, .. } => {
-            push_variable_of(owner, name, out)?;
-            out.push_str("[")
-        }
-        Expr::StateOf(path) => push_said("", path, ".state", out),
-        Expr::OutcomeOf(path) => push_said("", path, ".outcome", out),
-        Expr::FailureOf(path) => push_said("", path, ".failure", out),
-        Expr::HandleOf(path) => push_said("", path, ".command_handle", out),
-        Expr::Acknowledged(path) => push_said("ack(", path, ")", out),
+        Expr::Literal(value) => push_value(value, out),
+        Expr::Var { owner, name } => push_variable_of(owner, name, "", out),
+        Expr::Cell { owner, name, .. } => push_variable_of(owner, name, "[", out),
+        Expr::StateOf(path) => push_all(&[path.as_str(), ".state"], out),
+        Expr::OutcomeOf(path) => push_all(&[path.as_str(), ".outcome"], out),
+        Expr::FailureOf(path) => push_all(&[path.as_str(), ".failure"], out),
+        Expr::HandleOf(path) => push_all(&[path.as_str(), ".command_handle"], out),
+        Expr::Acknowledged(path) => push_all(&["ack(", path.as_str(), ")"], out),
         Expr::Look {
             word,
             name,
@@ -95,53 +92,45 @@ fn push_front(alloc: Global, expr: &Expr, out: &mut String) -> Result<(), NoMemo
 }
 
 // What stands behind them.
-fn push_end(alloc: Global, expr: &Expr, out: &mut String) -> Result<(), NoMemory> {
+fn push_end(expr: &Expr, out: &mut String) -> Result<(), NoMemory> {
     match expr {
         Expr::Cell { .. } => out.push_str("]"),
         Expr::Look {
             args,
             tolerance,
             ..
-        } => push_look_end(alloc, args, *tolerance, out),
+        } => push_look_end(args, *tolerance, out),
         Expr::Unary { op, .. } => out.push_str(behind_one(*op)),
         Expr::Binary { .. } => out.push_str(")"),
         _ => Ok(()),
     }
 }
 
-fn push_said(before: &str, path: &Path, behind: &str, out: &mut String) -> Result<(), NoMemory> {
-    out.push_str(before)?;
-    out.push_str(path.as_str())?;
-    out.push_str(behind)
-}
-
-fn push_variable_of(owner: &Path, name: &Name, out: &mut String) -> Result<(), NoMemory> {
-    out.push_str(owner.as_str())?;
-    out.push_str(":")?;
-    out.push_str(name.as_str())
+fn push_variable_of<'a>(
+    owner: &'a Path,
+    name: &'a Name,
+    end: &str,
+    out: &mut String,
+) -> Result<(), NoMemory> {
+    push_all(&[owner.as_str(), ":", name.as_str()], out)?;
+    out.push_str(end)
 }
 
 fn push_look(word: LookWord, name: &Name, args: &[Expr], out: &mut String) -> Result<(), NoMemory> {
     out.push_str(look_word(word))?;
-    out.push_str("(")?;
-    out.push_str(name.as_str())?;
+    push_all(&["(", name.as_str()], out)?;
     if args.is_empty() {
         return Ok(());
     }
     out.push_str("(")
 }
 
-fn push_look_end(
-    alloc: Global,
-    args: &[Expr],
-    tolerance: Option<u32>,
-    out: &mut String,
-) -> Result<(), NoMemory> {
+fn push_look_end(args: &[Expr], tolerance: Option<u32>, out: &mut String) -> Result<(), NoMemory> {
     if !args.is_empty() {
         out.push_str(")")?;
     }
     if let Some(distance) = tolerance {
-        out.push_str(format!(in alloc; " within {distance}")?.as_str())?;
+        push_all(&[" within ", Buffer::new().format(distance)], out)?;
     }
     out.push_str(")")
 }

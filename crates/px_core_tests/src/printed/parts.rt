@@ -1,27 +1,22 @@
 // The variables of a node, and what it does.
 use super::expression::{push_expr, push_exprs};
-use super::value::push_value;
+use super::value::{push_all, push_value};
+use itoa::Buffer;
 use px_core::{Body, Pair, Target, VarKind, Variable};
 use px_value::NoMemory;
-use std::alloc::Global;
 
-pub(super) fn push_variable(
-    alloc: Global,
-    variable: &Variable,
-    out: &mut String,
-) -> Result<(), NoMemory> {
+pub(super) fn push_variable(variable: &Variable, out: &mut String) -> Result<(), NoMemory> {
     out.push_str(type_word(variable.kind))?;
-    out.push_str(" ")?;
-    out.push_str(variable.name.as_str())?;
+    push_all(&[" ", variable.name.as_str()], out)?;
     if let Some(size) = variable.size {
-        out.push_str(format!(in alloc; "[{size}]")?.as_str())?;
+        push_all(&["[", Buffer::new().format(size), "]"], out)?;
     }
     if !variable.init.is_empty() {
         out.push_str(" =")?;
     }
     for value in &variable.init {
         out.push_str(" ")?;
-        push_value(alloc, value, out)?;
+        push_value(value, out)?;
     }
     Ok(())
 }
@@ -34,58 +29,56 @@ fn type_word(kind: VarKind) -> &'static str {
     }
 }
 
-pub(super) fn push_action(alloc: Global, body: &Body, out: &mut String) -> Result<(), NoMemory> {
+pub(super) fn push_action(body: &Body, out: &mut String) -> Result<(), NoMemory> {
     match body {
         Body::Nothing => Ok(()),
         Body::Assign { target, value } => {
-            out.push_str("; ")?;
-            push_target(alloc, target, out)?;
-            push_expr(alloc, value, out)
+            push_target("; ", target, out)?;
+            push_expr(value, out)
         }
         Body::Command { name, args, result } => {
-            out.push_str("; ")?;
-            if let Some(target) = result {
-                push_target(alloc, target, out)?;
+            match result {
+                Some(target) => push_target("; ", target, out)?,
+                None => out.push_str("; ")?,
             }
-            out.push_str(name.as_str())?;
-            out.push_str("(")?;
-            push_exprs(alloc, args, out)?;
+            push_all(&[name.as_str(), "("], out)?;
+            push_exprs(args, out)?;
             out.push_str(")")
         }
         Body::Update { pairs } => {
             out.push_str("; Update ")?;
-            push_pairs(alloc, pairs, out)
+            push_pairs(pairs, out)
         }
     }
 }
 
-// What is written, and the sign behind it.
-fn push_target(alloc: Global, target: &Target, out: &mut String) -> Result<(), NoMemory> {
-    out.push_str(target.owner.as_str())?;
-    out.push_str(":")?;
-    out.push_str(target.name.as_str())?;
-    if let Some(index) = &target.index {
-        out.push_str("[")?;
-        push_expr(alloc, index, out)?;
-        out.push_str("]")?;
+// What is written, behind some text and with the sign behind it.
+fn push_target(front: &str, target: &Target, out: &mut String) -> Result<(), NoMemory> {
+    out.push_str(front)?;
+    push_all(&[target.owner.as_str(), ":", target.name.as_str()], out)?;
+    match &target.index {
+        Some(index) => {
+            out.push_str("[")?;
+            push_expr(index, out)?;
+            out.push_str("] = ")
+        }
+        None => out.push_str(" = "),
     }
-    out.push_str(" = ")
 }
 
-fn push_pairs(alloc: Global, pairs: &[Pair], out: &mut String) -> Result<(), NoMemory> {
+fn push_pairs(pairs: &[Pair], out: &mut String) -> Result<(), NoMemory> {
     let [first, rest @ ..] = pairs else {
         return Ok(());
     };
-    push_pair(alloc, first, out)?;
+    push_pair(first, out)?;
     for pair in rest {
         out.push_str(", ")?;
-        push_pair(alloc, pair, out)?;
+        push_pair(pair, out)?;
     }
     Ok(())
 }
 
-fn push_pair(alloc: Global, pair: &Pair, out: &mut String) -> Result<(), NoMemory> {
-    out.push_str(pair.name.as_str())?;
-    out.push_str(" = ")?;
-    push_expr(alloc, &pair.value, out)
+fn push_pair(pair: &Pair, out: &mut String) -> Result<(), NoMemory> {
+    push_all(&[pair.name.as_str(), " = "], out)?;
+    push_expr(&pair.value, out)
 }

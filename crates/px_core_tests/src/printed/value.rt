@@ -1,14 +1,22 @@
 // Values as they are spelled in a plan.
+use itoa::Buffer;
 use px_value::{NoMemory, Value};
-use std::alloc::Global;
+
+/// Some texts, one behind the other.
+pub(super) fn push_all(texts: &[&str], out: &mut String) -> Result<(), NoMemory> {
+    for text in texts {
+        out.push_str(text)?;
+    }
+    Ok(())
+}
 
 /// A value; a negative integer with a minus.
-pub(super) fn push_value(alloc: Global, value: &Value, out: &mut String) -> Result<(), NoMemory> {
+pub(super) fn push_value(value: &Value, out: &mut String) -> Result<(), NoMemory> {
     match value {
         Value::Unknown => out.push_str("UNKNOWN"),
         Value::Boolean(true) => out.push_str("true"),
         Value::Boolean(false) => out.push_str("false"),
-        Value::Integer(number) => out.push_str(format!(in alloc; "{number}")?.as_str()),
+        Value::Integer(number) => out.push_str(Buffer::new().format(*number)),
         Value::Text(text) => push_quoted(text.as_str(), out),
         Value::State(state) => out.push_str(state.word()),
         Value::Outcome(outcome) => out.push_str(outcome.word()),
