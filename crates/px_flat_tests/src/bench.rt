@@ -59,7 +59,7 @@ impl Model for Bench {
 }
 
 /// What came of a look at what was touched.
-#[derive(Debug, Drop)]
+#[derive(Drop)]
 pub(crate) struct Refreshed {
     /// The paths of the nodes with a condition that changed, in preorder, with blanks between them.
     told: String,
@@ -82,9 +82,18 @@ impl Refreshed {
         Ok(Refreshed { told, looks })
     }
 
-    /// Whether these nodes were told, after so many looks.
-    pub(crate) fn is(&self, told: &str, looks: u32) -> bool {
-        self.told.as_str() == told && self.looks == looks
+    /// What came of it where it isn't that these nodes were told after so many looks.
+    pub(crate) fn other_than(
+        &self,
+        alloc: Global,
+        told: &str,
+        looks: u32,
+    ) -> Result<Option<String>, NoMemory> {
+        if self.told.as_str() == told && self.looks == looks {
+            return Ok(None);
+        }
+        let words = format!(in alloc; "{} looks, and told are: {}", self.looks, self.told)?;
+        Ok(Some(words))
     }
 }
 
@@ -325,13 +334,29 @@ impl Bench {
             Some(truth) => Value::Boolean(truth),
             None => Value::Unknown,
         };
-        if kept == made {
-            return Ok(None);
-        }
-        let path = self.flat.row(node).path.as_str();
-        let unlike = format!(in alloc;
-            "{kind:?} of {path} is kept as {kept:?} and made as {made:?}"
-        );
-        Ok(Some(unlike?))
+        let unlike = if kept == made {
+            Ok(None)
+        } else {
+            told(alloc, &self.flat, node, kind, &kept, &made)
+        };
+        drop(kept);
+        drop(made);
+        Ok(unlike?)
     }
+}
+
+// Which condition is kept as one value and made as another.
+fn told(
+    alloc: Global,
+    flat: &Flat,
+    node: u32,
+    kind: ConditionKind,
+    kept: &Value,
+    made: &Value,
+) -> Result<Option<String>, NoMemory>
+    requires { node < length (plan_of flat.now) }
+{
+    let path = flat.row(node).path.as_str();
+    let told = format!(in alloc; "{kind:?} of {path} is kept as {kept:?} and made as {made:?}")?;
+    Ok(Some(told))
 }

@@ -57,7 +57,7 @@ const PICTURES: u32 = 0;
 const TEST: u32 = 1;
 
 // What changes: a cell of a node or of a variable, or what is reported of the wheel.
-#[derive(Clone, Copy, Debug)]
+#[derive(Clone, Copy)]
 enum Change<'a> {
     State(&'a str, NodeState),
     Outcome(&'a str, Outcome),
@@ -167,9 +167,11 @@ pub(crate) fn held(rt: &impl Print, alloc: Global) -> anyhow::Result<u64> {
 fn held_on(rt: &impl Print, alloc: Global, bench: &mut Bench) -> anyhow::Result<u64> {
     begin(alloc, bench)?;
     let mut held = 0_u64;
-    for &(change, told, looks) in CHANGES {
-        if holds(rt, alloc, bench, change, told, looks)? {
-            held = held.saturating_add(1);
+    for (number, &(change, told, looks)) in CHANGES.iter().enumerate() {
+        change.make(alloc, bench)?;
+        match fault(alloc, bench, told, looks)? {
+            Some(fault) => println!(rt; "change {number}, counted from 0: {fault}")?,
+            None => held = held.saturating_add(1),
         }
     }
     Ok(held)
@@ -185,23 +187,6 @@ fn begin(alloc: Global, bench: &mut Bench) -> anyhow::Result<()> {
     Ok(())
 }
 
-// Whether a change holds; else it is told.
-fn holds(
-    rt: &impl Print,
-    alloc: Global,
-    bench: &mut Bench,
-    change: Change<'_>,
-    told: &str,
-    looks: u32,
-) -> anyhow::Result<bool> {
-    change.make(alloc, bench)?;
-    let Some(fault) = fault(alloc, bench, told, looks)? else {
-        return Ok(true);
-    };
-    println!(rt; "{change:?}: {fault}")?;
-    Ok(false)
-}
-
 // What comes of a look where it isn't this; else the first condition that is kept otherwise than it is made.
 fn fault(
     alloc: Global,
@@ -210,8 +195,10 @@ fn fault(
     looks: u32,
 ) -> anyhow::Result<Option<String>> {
     let refreshed = bench.refresh(alloc)?;
-    if refreshed.is(told, looks) {
-        return bench.unlike(alloc);
+    let other = refreshed.other_than(alloc, told, looks);
+    drop(refreshed);
+    match other? {
+        Some(other) => Ok(Some(other)),
+        None => bench.unlike(alloc),
     }
-    Ok(Some(format!(in alloc; "{refreshed:?}")?))
 }

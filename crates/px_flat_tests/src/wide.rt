@@ -56,11 +56,15 @@ fn holds(
     looks: u32,
 ) -> anyhow::Result<bool> {
     let refreshed = bench.refresh(alloc)?;
-    let holds = refreshed.is(told, looks);
-    if !holds {
-        println!(rt; "{change}: {refreshed:?}")?;
+    let other = refreshed.other_than(alloc, told, looks);
+    drop(refreshed);
+    match other? {
+        Some(other) => {
+            println!(rt; "{change}: {other}")?;
+            Ok(false)
+        }
+        None => Ok(true),
     }
-    Ok(holds)
 }
 
 // Whether a change of a child costs what it has to, where the End of the List changes with it.
