@@ -5,6 +5,7 @@
 mod paint;
 
 use paint::painted;
+use px_machine::Machine;
 use px_system::StdHost;
 use px_view::{Answer, view};
 use std::alloc::Global;
@@ -26,7 +27,7 @@ fn main(rt: HostRuntime) -> ExitCode {
         return ExitCode::from(USAGE);
     };
     let mut host = StdHost::new(alloc, rt);
-    let answer = view(alloc, &words, &mut host);
+    let answer = view::<StdHost<HostRuntime>, Machine>(alloc, &words, &mut host);
     let is_terminal = rt.stdout().is_terminal();
     match write(&rt, alloc, is_terminal, &answer) {
         Ok(()) => ExitCode::from(answer.status),

@@ -2,9 +2,8 @@
 use crate::draw::Drawing;
 use crate::layout::{BAR, BASELINE, MARGIN, ROW, indent};
 use crate::paths::last_name;
-use crate::rows::{Change, Mark, Row};
-use indexmap::IndexMap;
-use px_value::{NodeState, Path};
+use crate::rows::{Change, Mark, Row, Rows};
+use px_value::NodeState;
 
 impl Drawing {
     /// Draws a band behind every second row, under all else.
@@ -19,15 +18,12 @@ impl Drawing {
 
     fn band(&mut self, top: u32) {
         let width = self.layout.width;
-        self.begin("rect", "band");
-        self.measure("y", top);
-        self.measure("width", width);
-        self.measure("height", ROW);
-        self.pen.push("/>\n");
+        let piece = "<rect class=\"band\" y=\"{}\" width=\"{}\" height=\"{}\"/>\n";
+        self.measure(piece, &[top, width, ROW]);
     }
 
     /// Draws the rows, with their names again at these slots.
-    pub fn rows(&mut self, rows: &IndexMap<Path, Row>, again: &[u32]) {
+    pub fn rows(&mut self, rows: &Rows, again: &[u32]) {
         for (number, (path, row)) in rows.iter().enumerate() {
             let top = self.layout.row(number);
             self.name(path.as_str(), row.depth, top);
@@ -38,11 +34,11 @@ impl Drawing {
 
     fn name(&mut self, path: &str, depth: usize, top: u32) {
         let y = top.saturating_add(BASELINE);
-        self.pen.push("<g><title>");
+        self.push("<g><title>");
         self.spell(path);
-        self.pen.push("</title>");
+        self.push("</title>");
         self.words("name", indent(depth), y, last_name(path));
-        self.pen.push("</g>\n");
+        self.push("</g>\n");
     }
 
     // In a wide picture the name stands again and again, so that one is always in sight.
@@ -74,19 +70,17 @@ impl Drawing {
                 self.bar(change, end, top);
                 self.begin_title(path);
                 self.standing(change);
-                self.pen.push("</title></rect>\n");
+                self.push("</title></rect>\n");
             }
         }
     }
 
     fn bar(&mut self, change: &Change, end: u32, top: u32) {
         let x = self.layout.x(change.slot);
-        self.begin("rect", change.state.word());
-        self.measure("x", x);
-        self.measure("y", top.saturating_add(4));
-        self.measure("width", end.saturating_sub(x));
-        self.measure("height", BAR);
-        self.pen.push(">");
+        let y = top.saturating_add(4);
+        let piece = " x=\"{}\" y=\"{}\" width=\"{}\" height=\"{}\">";
+        self.fill("<rect class=\"{}\"", change.state.word());
+        self.measure(piece, &[x, y, end.saturating_sub(x), BAR]);
     }
 
     fn mark(&mut self, path: &str, mark: &Mark, top: u32) {
@@ -95,32 +89,33 @@ impl Drawing {
         self.begin_shape("mark", mark.deed.form(), x, y);
         self.begin_title(path);
         self.spell(mark.says.as_str());
-        self.pen.push("</title></path>\n");
+        self.push("</title></path>\n");
     }
 
     // How the node has ended, or where it stands, at the right.
     fn end(&mut self, last: &Change, top: u32) {
         let x = self.layout.right.saturating_add(MARGIN);
-        self.begin("text", last.class());
-        self.measure("x", x);
-        self.measure("y", top.saturating_add(BASELINE));
-        self.pen.push(">");
+        self.begin_text(last.class(), x, top.saturating_add(BASELINE));
         self.standing(last);
-        self.pen.push("</text>\n");
+        self.push("</text>\n");
     }
 
     // Writes the state, the outcome and the failure; of a node that has finished, no state.
     fn standing(&mut self, change: &Change) {
         match change.outcome {
-            Some(outcome) if change.state == NodeState::Finished => self.pen.push(outcome.word()),
-            Some(outcome) => self
-                .pen
-                .push_all(&[change.state.word(), " ", outcome.word()]),
-            None => self.pen.push(change.state.word()),
+            Some(outcome) => self.outcome(change.state, outcome.word()),
+            None => self.push(change.state.word()),
         }
         if let Some(failure) = change.failure {
-            self.pen.push_all(&[" ", failure.word()]);
+            self.fill(" {}", failure.word());
         }
+    }
+
+    fn outcome(&mut self, state: NodeState, outcome: &str) {
+        if state != NodeState::Finished {
+            self.fill("{} ", state.word());
+        }
+        self.push(outcome);
     }
 }
 

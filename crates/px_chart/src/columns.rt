@@ -65,14 +65,11 @@ impl Column {
 
 fn title_of(alloc: Global, entry: &Entry, fate: Fate) -> Result<String, NoMemory> {
     let mut title = Pen::new(alloc);
-    title.push("thread ");
-    title.show(&entry.thread);
-    title.push(" line ");
-    title.show(&entry.line);
-    title.push(": ");
+    let thread = u32::from(entry.thread);
+    title.fill_each("thread {} line {}: ", &[thread, entry.line]);
     push_event(&entry.event, &mut title);
     if let Fate::Refused(why) = fate {
-        title.push_all(&[" (refused: ", why, ")"]);
+        title.fill(" (refused: {})", why);
     }
     title.written()
 }

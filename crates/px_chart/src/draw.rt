@@ -2,7 +2,6 @@
 use crate::layout::Layout;
 use crate::recording::Recording;
 use px_pen::Pen;
-use px_value::NoMemory;
 use std::alloc::Global;
 
 /// A picture that is being made.
@@ -15,14 +14,14 @@ pub struct Drawing {
 
 /// The picture of a run, as SVG under a title: a row for each node and a column for each event, light or dark as its
 /// reader has it.
-pub fn picture_of(alloc: Global, title: &str, recording: &Recording) -> Result<String, NoMemory> {
+pub fn picture_of(alloc: Global, title: &str, recording: &Recording) -> Pen {
     let mut drawing = Drawing {
         layout: Layout::of(title, recording),
         pen: Pen::new(alloc),
     };
     drawing.draw(title, recording);
     let Drawing { pen, .. } = drawing;
-    pen.written()
+    pen
 }
 
 impl Drawing {
@@ -32,6 +31,6 @@ impl Drawing {
         self.columns(&recording.columns);
         self.rows(&recording.rows, &recording.again);
         self.numbers_again(&recording.columns, recording.rows.len());
-        self.pen.push("</svg>\n");
+        self.push("</svg>\n");
     }
 }

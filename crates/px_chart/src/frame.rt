@@ -51,9 +51,8 @@ impl Drawing {
     /// Draws the paper, the title and the legend.
     pub fn frame(&mut self, title: &str) {
         self.size();
-        self.pen.push(STYLE);
-        self.pen
-            .push("<rect class=\"paper\" width=\"100%\" height=\"100%\"/>\n");
+        self.push(STYLE);
+        self.push("<rect class=\"paper\" width=\"100%\" height=\"100%\"/>\n");
         self.words("title", MARGIN, 28, title);
         self.legend();
     }
@@ -61,12 +60,9 @@ impl Drawing {
     fn size(&mut self) {
         let width = self.layout.width;
         let height = self.layout.height;
-        self.pen.push("<svg xmlns=\"http://www.w3.org/2000/svg\"");
-        self.measure("width", width);
-        self.measure("height", height);
-        self.pen.push(" viewBox=\"0 0 ");
-        self.pair(width, height);
-        self.pen.push("\">\n");
+        self.push("<svg xmlns=\"http://www.w3.org/2000/svg\"");
+        let piece = " width=\"{}\" height=\"{}\" viewBox=\"0 0 {} {}\">\n";
+        self.measure(piece, &[width, height, width, height]);
     }
 
     fn legend(&mut self) {
@@ -85,14 +81,13 @@ impl Drawing {
 
     // Draws the colour of a state.
     fn sample(&mut self, state: &str, x: u32) {
-        self.begin("rect", state);
-        self.measure("x", x);
-        self.pen.push(" y=\"46\" width=\"14\" height=\"14\"/>");
+        self.fill("<rect class=\"{}\"", state);
+        self.measure(" x=\"{}\" y=\"46\" width=\"14\" height=\"14\"/>", &[x]);
     }
 
     fn sign(&mut self, class: &str, form: &str, x: u32) {
         self.begin_shape(class, form, x, LEGEND_BASELINE.saturating_sub(4));
-        self.pen.push("</path>");
+        self.push("</path>");
     }
 
     // Draws a word behind its sign, and answers where the next sign stands.

@@ -22,30 +22,20 @@ impl Drawing {
         let x = self.layout.x(slot);
         let top = self.layout.top.saturating_sub(NUMBERS);
         let bottom = self.layout.height;
-        self.begin("path", "line");
-        self.pen.push(" d=\"M");
-        self.pair(x, top);
-        self.pen.push(" V");
-        self.pen.show(&bottom);
-        self.pen.push("\"/>\n");
+        let piece = "<path class=\"line\" d=\"M{} {} V{}\"/>\n";
+        self.measure(piece, &[x, top, bottom]);
     }
 
     // The label rises from the foot of the head.
     fn head(&mut self, column: &Column) {
         let x = self.layout.x(column.begin).saturating_add(14);
         let y = self.layout.top.saturating_sub(NUMBERS);
-        let class = match column.fate {
-            Fate::Accepted => "label",
-            Fate::Refused(_) => "refused",
-        };
-        self.pen.push("<g><title>");
+        self.push("<g><title>");
         self.spell(column.title.as_str());
-        self.pen.push("</title>");
-        self.begin("text", class);
-        self.translate(x, y);
-        self.pen.push(" rotate(-90)\">");
+        self.fill("</title><text class=\"{}\"", column.fate.class());
+        self.measure(" transform=\"translate({} {}) rotate(-90)\">", &[x, y]);
         self.spell(column.label.as_str());
-        self.pen.push("</text></g>\n");
+        self.push("</text></g>\n");
     }
 
     /// Draws the events' numbers again and again where the picture is high, so that they are always in sight.
@@ -74,16 +64,22 @@ impl Drawing {
     }
 
     fn number(&mut self, number: u32, x: u32, y: u32) {
-        self.begin("text", "faint");
-        self.measure("x", x);
-        self.measure("y", y);
-        self.pen.push(">");
-        self.pen.show(&number);
-        self.pen.push("</text>\n");
+        let piece = "<text class=\"faint\" x=\"{}\" y=\"{}\">{}</text>\n";
+        self.measure(piece, &[x, y, number]);
     }
 
     fn cross(&mut self, x: u32, y: u32) {
         self.begin_shape("cross", CROSS, x, y);
-        self.pen.push("</path>\n");
+        self.push("</path>\n");
+    }
+}
+
+impl Fate {
+    // The class of a label.
+    fn class(self) -> &'static str {
+        match self {
+            Fate::Accepted => "label",
+            Fate::Refused(_) => "refused",
+        }
     }
 }

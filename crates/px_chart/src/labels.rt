@@ -23,21 +23,20 @@ fn push_label(event: &Event, pen: &mut Pen) {
     match event {
         Event::Report { name, args, value } => push_report(name, args.as_slice(), value, pen),
         Event::Handle { node, handle } => {
-            push_last(node, ": ", pen);
+            pen.fill("{}: ", last_of(node));
             pen.push(handle.word());
         }
         Event::Return { node, value } => {
-            push_last(node, " returns ", pen);
+            pen.fill("{} returns ", last_of(node));
             push_value(value, pen);
         }
-        Event::AbortDone { node } => push_last(node, " is aborted", pen),
-        Event::Acknowledged { node } => push_last(node, " is acknowledged", pen),
+        Event::AbortDone { node } => pen.fill("{} is aborted", last_of(node)),
+        Event::Acknowledged { node } => pen.fill("{} is acknowledged", last_of(node)),
     }
 }
 
-fn push_last(node: &Path, says: &str, pen: &mut Pen) {
-    pen.push(last_name(node.as_str()));
-    pen.push(says);
+fn last_of(node: &Path) -> &str {
+    last_name(node.as_str())
 }
 
 /// Writes an event as a script spells it.
@@ -48,22 +47,16 @@ pub fn push_event(event: &Event, pen: &mut Pen) {
             push_report(name, args.as_slice(), value, pen);
         }
         Event::Handle { node, handle } => {
-            push_word("handle ", node, pen);
-            pen.push_all(&[" ", handle.word()]);
+            pen.fill("handle {} ", node.as_str());
+            pen.push(handle.word());
         }
         Event::Return { node, value } => {
-            push_word("return ", node, pen);
-            pen.push(" ");
+            pen.fill("return {} ", node.as_str());
             push_value(value, pen);
         }
-        Event::AbortDone { node } => push_word("abort ", node, pen),
-        Event::Acknowledged { node } => push_word("ack ", node, pen),
+        Event::AbortDone { node } => pen.fill("abort {}", node.as_str()),
+        Event::Acknowledged { node } => pen.fill("ack {}", node.as_str()),
     }
-}
-
-fn push_word(word: &str, node: &Path, pen: &mut Pen) {
-    pen.push(word);
-    pen.push(node.as_str());
 }
 
 fn push_report(name: &Name, args: &[Value], value: &Value, pen: &mut Pen) {
@@ -92,10 +85,10 @@ fn push_effect(effect: &Effect, pen: &mut Pen) {
         } => push_written(name, *index, value, pen),
         Effect::NoWrite => pen.push("writes nothing"),
         Effect::Sent { command, args } => {
-            pen.push_all(&["command ", command.as_str()]);
+            pen.fill("command {}", command.as_str());
             push_values(args.as_slice(), pen);
         }
-        Effect::Aborted { command } => pen.push_all(&["abort ", command.as_str()]),
+        Effect::Aborted { command } => pen.fill("abort {}", command.as_str()),
         Effect::Updated { names, values } => push_updated(names.as_slice(), values.as_slice(), pen),
     }
 }
@@ -103,9 +96,7 @@ fn push_effect(effect: &Effect, pen: &mut Pen) {
 fn push_written(name: &Name, index: Option<u32>, value: &Value, pen: &mut Pen) {
     pen.push(name.as_str());
     if let Some(index) = index {
-        pen.push("[");
-        pen.show(&index);
-        pen.push("]");
+        pen.fill_each("[{}]", &[index]);
     }
     pen.push(" = ");
     push_value(value, pen);
@@ -115,7 +106,7 @@ fn push_updated(names: &[Name], values: &[Value], pen: &mut Pen) {
     pen.push("update");
     for (place, name) in names.iter().enumerate() {
         if let Some(value) = values.get(place) {
-            pen.push_all(&[" ", name.as_str(), " = "]);
+            pen.fill(" {} = ", name.as_str());
             push_value(value, pen);
         }
     }

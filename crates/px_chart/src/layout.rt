@@ -2,9 +2,7 @@
 use crate::columns::Column;
 use crate::paths::last_name;
 use crate::recording::Recording;
-use crate::rows::Row;
-use indexmap::IndexMap;
-use px_value::Path;
+use crate::rows::Rows;
 
 /// Room round everything.
 pub const MARGIN: u32 = 16;
@@ -68,7 +66,7 @@ fn as_units(count: usize) -> u32 {
 }
 
 // The width of the widest name with what stands before it.
-fn names_width(rows: &IndexMap<Path, Row>) -> u32 {
+fn names_width(rows: &Rows) -> u32 {
     let mut width: u32 = 0;
     for (path, row) in rows.iter() {
         let name = text_width(last_name(path.as_str()));
@@ -78,7 +76,7 @@ fn names_width(rows: &IndexMap<Path, Row>) -> u32 {
 }
 
 /// How many slots the widest name takes.
-pub fn name_slots(rows: &IndexMap<Path, Row>) -> u32 {
+pub fn name_slots(rows: &Rows) -> u32 {
     let mut width: u32 = 0;
     for path in rows.keys() {
         width = width.max(text_width(last_name(path.as_str())));

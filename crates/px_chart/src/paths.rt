@@ -50,7 +50,8 @@ fn push_node<'a>(
 
 fn path_below(alloc: Global, path: &str, child: &CoreNode) -> Result<String, NoMemory> {
     let mut below = Pen::new(alloc);
-    below.push_all(&[path, ".", child.name.as_str()]);
+    below.push(path);
+    below.fill(".{}", child.name.as_str());
     below.written()
 }
 

@@ -1,12 +1,11 @@
 // What is kept of a run: its rows and its columns.
 use crate::columns::{Column, Fate};
 use crate::layout::name_slots;
-use crate::rows::{Row, rows_of};
-use indexmap::IndexMap;
+use crate::rows::{Rows, rows_of};
 use px_core::Plan;
 use px_event::Entry;
 use px_sem::Move;
-use px_value::{NoMemory, Path};
+use px_value::NoMemory;
 use std::alloc::Global;
 
 /// The least slots of a column, so that its head has room.
@@ -19,7 +18,8 @@ const NAMES_EVERY: u32 = 120;
 #[derive(Drop)]
 pub struct Recording {
     alloc: Global,
-    pub(crate) rows: IndexMap<Path, Row>,
+    // Boxed, as a recording is handed on by value and the map is large.
+    pub(crate) rows: Box<Rows>,
     pub(crate) columns: Vec<Column>,
     /// The slots where the names stand again. Nothing happens in those that they take.
     pub(crate) again: Vec<u32>,

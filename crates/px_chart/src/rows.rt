@@ -1,6 +1,6 @@
 // The rows of a picture: nodes with what they did.
 use crate::labels::effect_label;
-use crate::paths::paths_of;
+use crate::paths::{NodePath, paths_of};
 use indexmap::IndexMap;
 use px_core::Plan;
 use px_sem::{Effect, Move};
@@ -57,7 +57,19 @@ pub struct Row {
     pub marks: Vec<Mark>,
 }
 
+/// The rows by the paths of their nodes.
+pub type Rows = IndexMap<Path, Row>;
+
 impl Row {
+    /// A row of a node that did nothing yet.
+    fn of(alloc: Global, depth: usize) -> Row {
+        Row {
+            depth,
+            changes: Vec::new(alloc),
+            marks: Vec::new(alloc),
+        }
+    }
+
     /// Keeps what the node does in a slot.
     pub fn keep(&mut self, alloc: Global, slot: u32, moved: &Move) -> Result<(), NoMemory> {
         self.changes.push(Change {
@@ -83,31 +95,26 @@ impl Row {
 }
 
 /// A row for each node of a plan, each before those below it, without anything that they did.
-pub fn rows_of(alloc: Global, plan: &Plan) -> Result<IndexMap<Path, Row>, NoMemory> {
+pub fn rows_of(alloc: Global, plan: &Plan) -> Result<Box<Rows>, NoMemory> {
     let nodes = paths_of(alloc, plan)?;
-    let mut rows = IndexMap::with_capacity(alloc, nodes.len())?;
+    let mut rows = Box::new(alloc, IndexMap::new(alloc))?;
     for node in &nodes {
-        add_row(alloc, node.path.as_str(), node.depth, &mut rows)?;
+        add_row(alloc, node, &mut rows)?;
     }
     Ok(rows)
 }
 
-fn add_row(
-    alloc: Global,
-    path: &str,
-    depth: usize,
-    rows: &mut IndexMap<Path, Row>,
-) -> Result<(), NoMemory> {
-    let path = match Path::new(alloc, path) {
-        Ok(path) => path,
-        Err(PathFault::NotAPath) => return Ok(()),
-        Err(PathFault::NoMemory) => return Err(AllocError),
-    };
-    let row = Row {
-        depth,
-        changes: Vec::new(alloc),
-        marks: Vec::new(alloc),
-    };
-    rows.insert(path, row)?;
-    Ok(())
+fn add_row(alloc: Global, node: &NodePath<'_>, rows: &mut Rows) -> Result<(), NoMemory> {
+    match Path::new(alloc, node.path.as_str()) {
+        Ok(path) => put_row(path, Row::of(alloc, node.depth), rows),
+        Err(PathFault::NotAPath) => Ok(()),
+        Err(PathFault::NoMemory) => Err(AllocError),
+    }
+}
+
+fn put_row(path: Path, row: Row, rows: &mut Rows) -> Result<(), NoMemory> {
+    match rows.insert(path, row) {
+        Ok(_) => Ok(()),
+        Err(_) => Err(AllocError),
+    }
 }

@@ -30,10 +30,23 @@ impl Pen {
         }
     }
 
-    /// Writes texts, one behind another.
-    pub fn push_all(&mut self, texts: &[&str]) {
-        for text in texts {
-            self.push(*text);
+    /// Writes a text with this word in place of each `{}`.
+    pub fn fill(&mut self, text: &str, word: &str) {
+        for (place, piece) in text.split("{}").enumerate() {
+            if place > 0 {
+                self.push(word);
+            }
+            self.push(piece);
+        }
+    }
+
+    /// Writes a text with these things, in turn, in place of its `{}`.
+    pub fn fill_each<D: Display>(&mut self, text: &str, things: &[D]) {
+        for (place, piece) in text.split("{}").enumerate() {
+            self.push(piece);
+            if let Some(thing) = things.get(place) {
+                self.show(thing);
+            }
         }
     }
 

@@ -1,5 +1,6 @@
 // A call of the second program over a host in memory that has three files.
 use crate::running::{Answer, Call, file, words_of};
+use px_machine::Machine;
 use px_ports::MemHost;
 use px_view::view;
 use std::alloc::Global;
@@ -18,7 +19,7 @@ fn host_of(alloc: Global, call: Call<'_>) -> anyhow::Result<MemHost> {
 pub(crate) fn view_of(alloc: Global, words: &str, call: Call<'_>) -> anyhow::Result<Answer> {
     let words = words_of(alloc, words)?;
     let mut host = host_of(alloc, call)?;
-    let px_view::Answer { status, text, file } = view(alloc, &words, &mut host);
+    let px_view::Answer { status, text, file } = view::<MemHost, Machine>(alloc, &words, &mut host);
     let text = match file {
         Some(name) => format!(in alloc; "to {}\n{}", name.as_str(), text.as_str())?,
         None => text,

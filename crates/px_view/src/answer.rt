@@ -1,5 +1,4 @@
 // What is answered: a text, where it goes, and the status.
-use px_pen::Pen;
 use px_value::NoMemory;
 use std::alloc::AllocFailed;
 
@@ -29,39 +28,13 @@ pub struct Answer {
     pub file: Option<String>,
 }
 
-impl Answer {
-    /// A text for standard output.
-    pub fn new(status: u8, text: String) -> Answer {
-        Answer {
-            status,
-            text,
-            file: None,
-        }
-    }
-
-    /// What a pen has written, for standard output.
-    pub fn written(status: u8, pen: Pen) -> Result<Answer, NoMemory> {
-        Ok(Answer::new(status, pen.written()?))
-    }
-}
-
 /// Why a command was not carried out to its end.
-#[derive(Drop)]
+#[derive(Clone, Copy)]
 pub enum Stop {
-    /// It is refused, with this answer.
-    Refused(Answer),
+    /// It is refused with this status, and why is written.
+    Refused(u8),
     /// Memory has run out.
     NoMemory,
-}
-
-impl Stop {
-    /// The refusal that a pen has written.
-    pub fn saying(status: u8, pen: Pen) -> Stop {
-        match pen.written() {
-            Ok(text) => Stop::Refused(Answer::new(status, text)),
-            Err(_) => Stop::NoMemory,
-        }
-    }
 }
 
 impl From<NoMemory> for Stop {

@@ -1,7 +1,7 @@
 // The command `journal`.
 ghost use Rattle.std.specs.Prelude.{IfOk, IsTrue};
 
-use crate::answer::{Answer, DONE, JOURNAL_REFUSED, Stop};
+use crate::answer::{JOURNAL_REFUSED, Stop};
 use crate::gates::last_gate;
 use crate::reading::fetch;
 use px_event::Entry;
@@ -17,17 +17,22 @@ use std::str::from_utf8;
 pub const JOURNAL_LIMIT: usize = 1_000_000_000;
 
 /// Says what the journal in a file holds.
-pub fn journal_file<H: Host>(alloc: Global, name: &str, host: &mut H) -> Result<Answer, Stop> {
-    let bytes = fetch(alloc, name, JOURNAL_LIMIT, host)?;
-    journal_answer(alloc, name, bytes)
+pub fn journal_file<H: Host>(
+    alloc: Global,
+    name: &str,
+    host: &mut H,
+    out: &mut Pen,
+) -> Result<(), Stop> {
+    let bytes = fetch(alloc, name, JOURNAL_LIMIT, host, out)?;
+    list_journal(alloc, name, bytes, out)
 }
 
 /// Says what the bytes of a journal's file hold.
-pub fn journal_answer(alloc: Global, name: &str, bytes: Vec<u8>) -> Result<Answer, Stop> {
+pub fn list_journal(alloc: Global, name: &str, bytes: Vec<u8>, out: &mut Pen) -> Result<(), Stop> {
     match recovered(alloc, &bytes) {
-        Ok(read) => whole(alloc, name, &bytes, read),
-        Err(RecoverWhy::NoJournal) => nothing(alloc, name, bytes.len()),
-        Err(RecoverWhy::Damaged { at }) => damaged(alloc, name, bytes, at as usize),
+        Ok(read) => whole(alloc, name, &bytes, read, out),
+        Err(RecoverWhy::NoJournal) => Err(nothing(name, bytes.len(), out)),
+        Err(RecoverWhy::Damaged { at }) => damaged(alloc, name, bytes, at as usize, out),
         Err(RecoverWhy::DiskFault | RecoverWhy::NoMemory) => Err(Stop::NoMemory),
     }
 }
@@ -77,30 +82,25 @@ fn attached(mut disk: MemDisk) -> Result<MemDisk, RecoverWhy>
     }
 }
 
-fn whole(alloc: Global, name: &str, bytes: &[u8], read: Held) -> Result<Answer, Stop> {
-    let mut out = Pen::new(alloc);
-    push_sizes(name, bytes.len(), read.text.len(), &mut out);
-    push_history(alloc, &read.history, &mut out)?;
-    push_end(bytes, &mut out);
-    Ok(Answer::written(DONE, out)?)
+fn whole(alloc: Global, name: &str, bytes: &[u8], read: Held, out: &mut Pen) -> Result<(), Stop> {
+    push_sizes(name, bytes.len(), read.text.len(), out);
+    push_history(alloc, &read.history, out)?;
+    push_end(bytes, out);
+    Ok(())
 }
 
 fn push_sizes(name: &str, length: usize, text: usize, out: &mut Pen) {
-    out.push_all(&[name, ": a journal of "]);
-    out.show(&length);
-    out.push(" bytes, ");
-    out.show(&text);
-    out.push(" of them the plan's text\n");
+    out.fill("{}: a journal of ", name);
+    out.fill_each("{} bytes, {} of them the plan's text\n", &[length, text]);
 }
 
 fn push_end(bytes: &[u8], out: &mut Pen) {
     let length = bytes.len();
     let end = last_gate(bytes, length).saturating_add(1);
-    out.push("the history ends at byte ");
-    out.show(&end);
-    out.push("; ");
-    out.show(&length.saturating_sub(end));
-    out.push(" bytes behind it are nobody's\n");
+    out.fill_each(
+        "the history ends at byte {}; {} bytes behind it are nobody's\n",
+        &[end, length.saturating_sub(end)],
+    );
 }
 
 fn push_history(alloc: Global, history: &[Entry], out: &mut Pen) -> Result<(), NoMemory> {
@@ -122,24 +122,29 @@ fn push_headings(alloc: Global, history: &[Entry], lines: &mut Vec<u8>) -> Resul
     Ok(())
 }
 
-fn nothing(alloc: Global, name: &str, length: usize) -> Result<Answer, Stop> {
-    let mut out = Pen::new(alloc);
-    out.push_all(&[name, ": no journal, in "]);
-    out.show(&length);
-    out.push(" bytes: it was never made to its end\n");
-    Ok(Answer::written(JOURNAL_REFUSED, out)?)
+fn nothing(name: &str, length: usize, out: &mut Pen) -> Stop {
+    out.fill("{}: no journal, in ", name);
+    out.fill_each("{} bytes: it was never made to its end\n", &[length]);
+    Stop::Refused(JOURNAL_REFUSED)
 }
 
-fn damaged(alloc: Global, name: &str, bytes: Vec<u8>, at: usize) -> Result<Answer, Stop> {
+fn damaged(
+    alloc: Global,
+    name: &str,
+    bytes: Vec<u8>,
+    at: usize,
+    out: &mut Pen,
+) -> Result<(), Stop> {
     let gate = last_gate(&bytes, at);
-    let mut out = Pen::new(alloc);
-    out.push_all(&[name, ": damaged at byte "]);
-    out.show(&at);
-    out.push(" of ");
-    out.show(&bytes.len());
-    out.push_all(&[": ", why_at(at, gate), "\n"]);
-    push_before(alloc, bytes, gate, &mut out)?;
-    Ok(Answer::written(JOURNAL_REFUSED, out)?)
+    push_damage(name, at, bytes.len(), out);
+    out.fill("{}\n", why_at(at, gate));
+    push_before(alloc, bytes, gate, out)?;
+    Err(Stop::Refused(JOURNAL_REFUSED))
+}
+
+fn push_damage(name: &str, at: usize, length: usize, out: &mut Pen) {
+    out.fill("{}: damaged at byte ", name);
+    out.fill_each("{} of {}: ", &[at, length]);
 }
 
 fn why_at(at: usize, gate: usize) -> &'static str {

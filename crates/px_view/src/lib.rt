@@ -1,6 +1,7 @@
 //! What the second program does: it explains what is refused, lists nodes and entries, and draws runs.
 //!
-//! `words` has what the command words ask for, and `answer` what is answered to them; `reading` reads files over a host.
+//! `words` has what the command words ask for, and `answer` what is answered to them; `reading` reads files over a host,
+//! and the plans in them; `runaway` says which nodes go on where a start doesn't settle.
 //! `why`, with `lines` for scripts, `nodes`, with `terms`, `journal`, with `gates`, and `chart` are the commands, and `top`
 //! calls the one that was asked for. Nothing is written but the answer, and nothing is judged here that the crates below
 //! don't judge.
@@ -13,6 +14,7 @@ mod journal;
 mod lines;
 mod nodes;
 mod reading;
+mod runaway;
 mod terms;
 mod top;
 mod why;

@@ -97,25 +97,48 @@ fn push_line(
     plan: &Plan,
     out: &mut Pen,
 ) -> Result<(), NoMemory> {
+    match from_utf8(line_of(bytes, line)) {
+        Ok(content) => push_content(alloc, name, content, line, kind, plan, out),
+        Err(_) => {
+            no_text(alloc, name, line, out);
+            Ok(())
+        }
+    }
+}
+
+fn no_text(alloc: Global, name: &str, line: u32, out: &mut Pen) {
     let mut words = Words::new(alloc);
-    let Ok(content) = from_utf8(line_of(bytes, line)) else {
-        words.message.push("line ");
-        words.message.show(&line);
-        words.message.push(" is no text (UTF-8)");
-        push_whole(out, name, &words);
-        return Ok(());
-    };
+    words
+        .message
+        .fill_each("line {} is no text (UTF-8)", &[line]);
+    push_whole(out, name, &words);
+}
+
+fn push_content(
+    alloc: Global,
+    name: &str,
+    content: &str,
+    line: u32,
+    kind: u8,
+    plan: &Plan,
+    out: &mut Pen,
+) -> Result<(), NoMemory> {
     let content = content.strip_suffix('\r').unwrap_or(content);
+    let mut words = Words::new(alloc);
     explain(alloc, content, kind, plan, &mut words)?;
+    push_fault(out, name, &place_of(content, line, kind), &words);
+    Ok(())
+}
+
+// The place of what is wrong in a line.
+fn place_of(content: &str, line: u32, kind: u8) -> Place<'_> {
     let number = word_meant(content, kind);
-    let place = Place {
+    Place {
         line: line as usize,
         before: before_word(content, number),
         width: word(content, number).chars().count().max(1),
         content,
-    };
-    push_fault(out, name, &place, &words);
-    Ok(())
+    }
 }
 
 // The number of the word, from 0, that is wrong.
@@ -178,11 +201,11 @@ fn explain(
 
 // Of a line that begins with this word.
 fn no_shape(alloc: Global, first: &str, words: &mut Words) -> Result<(), NoMemory> {
-    for (known, shape) in SHAPES {
+    for line in &SHAPES {
+        let (known, shape) = *line;
         if first == known {
-            words.message.push_all(&["this is no `", first, "` line"]);
-            words.help.push("it is ");
-            words.help.push(shape);
+            words.message.fill("this is no `{}` line", first);
+            words.help.fill("it is {}", shape);
             return Ok(());
         }
     }
@@ -191,12 +214,13 @@ fn no_shape(alloc: Global, first: &str, words: &mut Words) -> Result<(), NoMemor
 
 fn no_first_word(alloc: Global, first: &str, words: &mut Words) -> Result<(), NoMemory> {
     let mut nearest = Nearest::to(first);
-    for (word, _) in SHAPES {
+    for line in &SHAPES {
+        let (word, _) = *line;
         nearest.look_at(alloc, word);
     }
     words
         .message
-        .push_all(&["no line of a script begins with `", first, "`"]);
+        .fill("no line of a script begins with `{}`", first);
     match nearest.found()? {
         Some(near) => push_meant(near, &mut words.help),
         None => words.help.push(
@@ -225,9 +249,9 @@ fn of_other_kind(nodes: &[NodePath<'_>], node: &NodePath<'_>, first: &str, words
         "ack" => "an Update",
         _ => "a Command",
     };
-    words.message.push_all(&["`", path, "` is "]);
+    words.message.fill("`{}` is ", path);
     words.message.push(node.a_kind());
-    words.message.push_all(&["; `", first, "` is for "]);
+    words.message.fill("; `{}` is for ", first);
     words.message.push(wanted);
     push_below(nodes, path, wanted, &mut words.help);
 }
@@ -238,9 +262,7 @@ fn no_path(
     path: &str,
     words: &mut Words,
 ) -> Result<(), NoMemory> {
-    words
-        .message
-        .push_all(&["the plan has no node `", path, "`"]);
+    words.message.fill("the plan has no node `{}`", path);
     let mut nearest = Nearest::to(path);
     for node in nodes {
         nearest.look_at(alloc, node.path.as_str());
@@ -306,9 +328,9 @@ fn push_named(nodes: &[NodePath<'_>], last: &str, help: &mut Pen) {
 // Writes a path that may be meant, behind so many others.
 fn push_one(others: usize, path: &str, help: &mut Pen) {
     if others == 0 {
-        help.push_all(&["is `", path, "` meant"]);
+        help.fill("is `{}` meant", path);
     } else if others <= TOLD {
-        help.push_all(&[", or `", path, "`"]);
+        help.fill(", or `{}`", path);
     }
 }
 

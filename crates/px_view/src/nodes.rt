@@ -1,5 +1,5 @@
 // The command `nodes`.
-use crate::answer::{Answer, DONE, Stop};
+use crate::answer::Stop;
 use crate::reading::{fetch, plan_in};
 use crate::terms::{push_args, push_expr, push_index};
 use px_chart::{NodePath, paths_of};
@@ -19,22 +19,22 @@ pub fn nodes_file<H: Host>(
     name: &str,
     like: &str,
     host: &mut H,
-) -> Result<Answer, Stop> {
-    let bytes = fetch(alloc, name, TEXT_LIMIT, host)?;
-    let plan = plan_in(alloc, name, &bytes)?;
-    let answer = listed(alloc, &plan, like);
+    out: &mut Pen,
+) -> Result<(), Stop> {
+    let bytes = fetch(alloc, name, TEXT_LIMIT, host, out)?;
+    let plan = plan_in(alloc, name, &bytes, out)?;
+    let listed = push_plan(alloc, &plan, like, out);
     drop(plan);
-    Ok(answer?)
+    Ok(listed?)
 }
 
-fn listed(alloc: Global, plan: &Plan, like: &str) -> Result<Answer, NoMemory> {
+fn push_plan(alloc: Global, plan: &Plan, like: &str, out: &mut Pen) -> Result<(), NoMemory> {
     let nodes = paths_of(alloc, plan)?;
-    let mut out = Pen::new(alloc);
-    push_nodes(alloc, &nodes, like, &mut out);
+    push_nodes(alloc, &nodes, like, out);
     if out.is_empty() {
-        out.push_all(&["no path has `", like, "` in it\n"]);
+        out.fill("no path has `{}` in it\n", like);
     }
-    Answer::written(DONE, out)
+    Ok(())
 }
 
 fn push_nodes(alloc: Global, nodes: &[NodePath<'_>], like: &str, out: &mut Pen) {
@@ -47,7 +47,7 @@ fn push_nodes(alloc: Global, nodes: &[NodePath<'_>], like: &str, out: &mut Pen) 
 
 fn push_node(alloc: Global, node: &NodePath<'_>, out: &mut Pen) {
     push_blanks(node.depth, out);
-    out.push_all(&[node.path.as_str(), ": "]);
+    out.fill("{}: ", node.path.as_str());
     out.push(node.a_kind());
     push_body(&node.node.body, out);
     out.push("\n");
@@ -84,7 +84,7 @@ fn push_body(body: &Body, out: &mut Pen) {
 fn push_pairs(pairs: &[Pair], out: &mut Pen) {
     for (place, pair) in pairs.iter().enumerate() {
         out.push(if place == 0 { " of " } else { ", " });
-        out.push_all(&[pair.name.as_str(), " = "]);
+        out.fill("{} = ", pair.name.as_str());
         push_expr(&pair.value, out);
     }
 }
@@ -132,7 +132,7 @@ fn push_condition(
         return;
     }
     push_margin(node, out);
-    out.push_all(&[says, " "]);
+    out.fill("{} ", says);
     let mut whole = Pen::new(alloc);
     push_expr(condition, &mut whole);
     out.append_front(&whole, SHOWN, " ..");
@@ -170,21 +170,18 @@ fn push_margin(node: &NodePath<'_>, out: &mut Pen) {
 fn push_lines(node: &NodePath<'_>, out: &mut Pen) {
     match &node.node.body {
         Body::Command { result, .. } => {
-            push_line(node, "handle ", " COMMAND_SUCCESS\n", out);
+            push_line(node, "script: handle {} COMMAND_SUCCESS\n", out);
             if result.is_some() {
-                push_line(node, "return ", " VALUE\n", out);
+                push_line(node, "script: return {} VALUE\n", out);
             }
-            push_line(node, "abort ", "\n", out);
+            push_line(node, "script: abort {}\n", out);
         }
-        Body::Update { .. } => push_line(node, "ack ", "\n", out),
+        Body::Update { .. } => push_line(node, "script: ack {}\n", out),
         Body::Nothing | Body::Assign { .. } => {}
     }
 }
 
-fn push_line(node: &NodePath<'_>, word: &str, rest: &str, out: &mut Pen) {
+fn push_line(node: &NodePath<'_>, line: &str, out: &mut Pen) {
     push_margin(node, out);
-    out.push("script: ");
-    out.push(word);
-    out.push(node.path.as_str());
-    out.push(rest);
+    out.fill(line, node.path.as_str());
 }

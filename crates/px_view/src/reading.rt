@@ -8,8 +8,8 @@ use px_compile::{TEXT_LIMIT, compile};
 use px_core::Plan;
 use px_pen::Pen;
 use px_ports::{Fetched, Host, HostFault};
-use px_syntax::PlanFault;
-use px_why::why_plan;
+use px_syntax::{ExpandFault, PlanFault};
+use px_why::{Words, push_whole, why_plan};
 use std::alloc::Global;
 
 /// The bytes of a file, which has at most `limit`.
@@ -18,47 +18,87 @@ pub fn fetch<H: Host>(
     name: &str,
     limit: usize,
     host: &mut H,
+    out: &mut Pen,
 ) -> Result<Vec<u8>, Stop> {
     match host.fetch(alloc, name, limit) {
         Ok(Fetched::Whole(bytes)) => Ok(bytes),
-        Ok(Fetched::Longer) => Err(too_long(alloc, name, limit)),
-        Err(HostFault::Failed) => Err(unread(alloc, name)),
+        Ok(Fetched::Longer) => Err(too_long(name, limit, out)),
+        Err(HostFault::Failed) => Err(unread(name, out)),
         Err(HostFault::NoMemory) => Err(Stop::NoMemory),
     }
 }
 
-fn too_long(alloc: Global, name: &str, limit: usize) -> Stop {
-    let mut out = Pen::new(alloc);
-    out.push_all(&[name, ": the file has over "]);
-    out.show(&limit);
-    out.push(" bytes\n");
-    Stop::saying(READ_FAULT, out)
+fn too_long(name: &str, limit: usize, out: &mut Pen) -> Stop {
+    out.fill("{}: the file has over ", name);
+    out.fill_each("{} bytes\n", &[limit]);
+    Stop::Refused(READ_FAULT)
 }
 
-fn unread(alloc: Global, name: &str) -> Stop {
-    let mut out = Pen::new(alloc);
-    out.push_all(&[name, ": the file can't be read\n"]);
-    Stop::saying(READ_FAULT, out)
+fn unread(name: &str, out: &mut Pen) -> Stop {
+    out.fill("{}: the file can't be read\n", name);
+    Stop::Refused(READ_FAULT)
 }
 
-/// The plan that bytes spell. Where they spell none, the answer says why.
-pub fn plan_in(alloc: Global, name: &str, bytes: &[u8]) -> Result<Plan, Stop>
+/// Why bytes spell no plan that can be run.
+#[derive(Clone, Copy)]
+pub enum NoPlan {
+    /// For so many reasons, which are written.
+    Refused(u32),
+    /// Memory has run out.
+    NoMemory,
+}
+
+impl From<NoPlan> for Stop {
+    fn from(why: NoPlan) -> Self {
+        match why {
+            NoPlan::Refused(_) => Stop::Refused(PLAN_REFUSED),
+            NoPlan::NoMemory => Stop::NoMemory,
+        }
+    }
+}
+
+/// The plan that bytes spell. Where they spell none, why is written.
+pub fn plan_in(alloc: Global, name: &str, bytes: &[u8], out: &mut Pen) -> Result<Plan, NoPlan>
     ensures fit { IfOk result (λ plan. IsFit (tree_of plan)) }
 {
     if bytes.len() > TEXT_LIMIT {
-        return Err(no_plan(alloc, name, bytes));
+        return Err(too_large(alloc, name, out));
     }
     match compile(alloc, bytes) {
         Ok(plan) => Ok(plan),
-        Err(PlanFault::NoMemory) => Err(Stop::NoMemory),
-        Err(_) => Err(no_plan(alloc, name, bytes)),
+        Err(PlanFault::NoMemory) => Err(NoPlan::NoMemory),
+        Err(PlanFault::Expand(ExpandFault::TooMany { nodes })) => {
+            Err(too_many(alloc, name, nodes, out))
+        }
+        Err(_) => Err(no_plan(alloc, name, bytes, out)),
     }
 }
 
-fn no_plan(alloc: Global, name: &str, bytes: &[u8]) -> Stop {
-    let mut out = Pen::new(alloc);
-    match why_plan(alloc, name, bytes, &mut out) {
-        Ok(_) => Stop::saying(PLAN_REFUSED, out),
-        Err(_) => Stop::NoMemory,
+fn no_plan(alloc: Global, name: &str, bytes: &[u8], out: &mut Pen) -> NoPlan {
+    match why_plan(alloc, name, bytes, out) {
+        Ok(faults) => NoPlan::Refused(faults),
+        Err(_) => NoPlan::NoMemory,
     }
+}
+
+fn too_large(alloc: Global, name: &str, out: &mut Pen) -> NoPlan {
+    let mut words = Words::new(alloc);
+    words
+        .message
+        .push("the file is no plan: it has over 1,048,576 bytes");
+    push_whole(out, name, &words);
+    NoPlan::Refused(1)
+}
+
+fn too_many(alloc: Global, name: &str, nodes: u32, out: &mut Pen) -> NoPlan {
+    let mut words = Words::new(alloc);
+    words.message.fill_each(
+        "the plan has {} nodes, of at most 4,096, or one of them a path of over 5,000 bytes",
+        &[nodes],
+    );
+    words
+        .help
+        .push("make it of fewer nodes, or nest them less deep");
+    push_whole(out, name, &words);
+    NoPlan::Refused(1)
 }

@@ -5,17 +5,22 @@ use crate::journal::journal_file;
 use crate::nodes::nodes_file;
 use crate::why::{why_plan_file, why_script_file};
 use crate::words::{Task, task_in};
-use px_machine::Machine;
 use px_pen::Pen;
 use px_ports::Host;
 use px_sem::Stepper;
-use std::alloc::Global;
+use px_value::NoMemory;
+use std::alloc::{AllocError, Global};
 
-/// Does what the words ask for, which are those behind the program's own name. The host is asked for files alone.
-pub fn view<H: Host>(alloc: Global, words: &[String], host: &mut H) -> Answer {
-    match answer::<H, Machine>(alloc, words, host) {
-        Ok(answer) | Err(Stop::Refused(answer)) => answer,
-        Err(Stop::NoMemory) => Answer::new(WANT_OF_MEMORY, String::new(alloc)),
+/// Does what the words ask for, which are those behind the program's own name, with runs on a stepper of this type. The
+/// host is asked for files alone.
+pub fn view<H: Host, S: Stepper>(alloc: Global, words: &[String], host: &mut H) -> Answer {
+    match answer::<H, S>(alloc, words, host) {
+        Ok(answer) => answer,
+        Err(_) => Answer {
+            status: WANT_OF_MEMORY,
+            text: String::new(alloc),
+            file: None,
+        },
     }
 }
 
@@ -23,42 +28,83 @@ fn answer<H: Host, S: Stepper>(
     alloc: Global,
     words: &[String],
     host: &mut H,
-) -> Result<Answer, Stop> {
-    match task_in(alloc, words)? {
-        Task::WhyPlan { plan } => why_plan_file::<H, S>(alloc, plan, host),
-        Task::WhyScript { script, plan } => why_script_file(alloc, script, plan, host),
-        Task::Nodes { plan, like } => nodes_file(alloc, plan, like, host),
-        Task::Journal { journal } => journal_file(alloc, journal, host),
+) -> Result<Answer, NoMemory> {
+    let mut out = Pen::new(alloc);
+    match asked::<H, S>(alloc, words, host, &mut out) {
+        Ok(file) => sent_to(alloc, file, out),
+        Err(Stop::Refused(status)) => shown(status, out),
+        Err(Stop::NoMemory) => Err(AllocError),
+    }
+}
+
+// Does what is asked for, and answers the name of the file where what is written goes, if it goes to one.
+fn asked<'a, H: Host, S: Stepper>(
+    alloc: Global,
+    words: &'a [String],
+    host: &mut H,
+    out: &mut Pen,
+) -> Result<Option<&'a str>, Stop> {
+    let task = task_in(alloc, words, out)?;
+    carry_out::<H, S>(alloc, task, host, out)?;
+    Ok(task.file())
+}
+
+fn carry_out<H: Host, S: Stepper>(
+    alloc: Global,
+    task: Task<'_>,
+    host: &mut H,
+    out: &mut Pen,
+) -> Result<(), Stop> {
+    match task {
+        Task::WhyPlan { plan } => why_plan_file::<H, S>(alloc, plan, host, out),
+        Task::WhyScript { script, plan } => why_script_file(alloc, script, plan, host, out),
+        Task::Nodes { plan, like } => nodes_file(alloc, plan, like, host, out),
+        Task::Journal { journal } => journal_file(alloc, journal, host, out),
         Task::ChartScript { plan, script, to } => {
-            spare(alloc, to, &[plan, script])?;
-            sent_to(alloc, to, chart_script::<H, S>(alloc, plan, script, host)?)
+            spare(to, plan, out)?;
+            spare(to, script, out)?;
+            chart_script::<H, S>(alloc, plan, script, host, out)
         }
         Task::ChartJournal { journal, to } => {
-            spare(alloc, to, &[journal])?;
-            sent_to(alloc, to, chart_journal::<H, S>(alloc, journal, host)?)
+            spare(to, journal, out)?;
+            chart_journal::<H, S>(alloc, journal, host, out)
         }
     }
 }
 
 // A picture doesn't take the place of a file that it is made of.
-fn spare(alloc: Global, to: Option<&str>, sources: &[&str]) -> Result<(), Stop> {
+fn spare(to: Option<&str>, source: &str, out: &mut Pen) -> Result<(), Stop> {
     match to {
-        Some(name) if sources.iter().any(|source| *source == name) => {
-            let mut out = Pen::new(alloc);
-            out.push(name);
-            out.push(": the picture is made of this file, and can't take its place\n");
-            Err(Stop::saying(USAGE, out))
+        Some(name) if name == source => {
+            let why = "{}: the picture is made of this file, and can't take its place\n";
+            out.fill(why, name);
+            Err(Stop::Refused(USAGE))
         }
         _ => Ok(()),
     }
 }
 
-// The answer, whose text goes to a file where it is a picture and one is named.
-fn sent_to(alloc: Global, to: Option<&str>, answer: Answer) -> Result<Answer, Stop> {
-    let Answer { status, text, .. } = answer;
-    let file = match to {
-        Some(name) if status == DONE => Some(String::from_str(alloc, name)?),
-        _ => None,
-    };
-    Ok(Answer { status, text, file })
+// The answer of a command that was carried out to its end.
+fn sent_to(alloc: Global, file: Option<&str>, out: Pen) -> Result<Answer, NoMemory> {
+    match file {
+        Some(name) => sent_to_file(String::from_str(alloc, name)?, out),
+        None => shown(DONE, out),
+    }
+}
+
+fn sent_to_file(name: String, out: Pen) -> Result<Answer, NoMemory> {
+    Ok(Answer {
+        status: DONE,
+        text: out.written()?,
+        file: Some(name),
+    })
+}
+
+// The answer on standard output.
+fn shown(status: u8, out: Pen) -> Result<Answer, NoMemory> {
+    Ok(Answer {
+        status,
+        text: out.written()?,
+        file: None,
+    })
 }

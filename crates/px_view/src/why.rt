@@ -2,9 +2,10 @@
 ghost use Rattle.px_core.specs.Fit.{IsFit};
 ghost use Rattle.px_core.specs.Plan.{tree_of};
 
-use crate::answer::{Answer, DONE, PLAN_REFUSED, RUNAWAY, SCRIPT_REFUSED, Stop};
+use crate::answer::{PLAN_REFUSED, RUNAWAY, SCRIPT_REFUSED, Stop};
 use crate::lines::why_script;
-use crate::reading::{fetch, plan_in};
+use crate::reading::{NoPlan, fetch, plan_in};
+use crate::runaway::why_start;
 use px_chart::paths_of;
 use px_compile::TEXT_LIMIT;
 use px_core::Plan;
@@ -13,7 +14,6 @@ use px_ports::Host;
 use px_script::SCRIPT_LIMIT;
 use px_sem::Stepper;
 use px_value::NoMemory;
-use px_why::{why_plan, why_start};
 use std::alloc::Global;
 
 /// Says what the plan in a file is refused for, or that it has no fault and its start settles.
@@ -21,40 +21,49 @@ pub fn why_plan_file<H: Host, S: Stepper>(
     alloc: Global,
     name: &str,
     host: &mut H,
-) -> Result<Answer, Stop> {
-    let bytes = fetch(alloc, name, TEXT_LIMIT, host)?;
-    let mut out = Pen::new(alloc);
-    let faults = why_plan(alloc, name, &bytes, &mut out)?;
-    if faults > 0 {
-        push_count(&mut out, name, faults);
-        return Ok(Answer::written(PLAN_REFUSED, out)?);
+    out: &mut Pen,
+) -> Result<(), Stop> {
+    let bytes = fetch(alloc, name, TEXT_LIMIT, host, out)?;
+    match plan_in(alloc, name, &bytes, out) {
+        Ok(plan) => {
+            let told = why_settling::<S>(alloc, name, &plan, out);
+            drop(plan);
+            told
+        }
+        Err(NoPlan::Refused(faults)) => Err(refused(name, faults, PLAN_REFUSED, out)),
+        Err(NoPlan::NoMemory) => Err(Stop::NoMemory),
     }
-    let plan = plan_in(alloc, name, &bytes)?;
-    let answer = why_settling::<S>(alloc, name, &plan);
-    drop(plan);
-    Ok(answer?)
 }
 
-fn push_count(out: &mut Pen, name: &str, faults: u32) {
-    out.push_all(&[name, ": "]);
+// Writes how many faults there are.
+fn refused(name: &str, faults: u32, status: u8, out: &mut Pen) -> Stop {
+    out.fill("{}: ", name);
     out.show(&faults);
     out.push(if faults == 1 { " fault\n" } else { " faults\n" });
+    Stop::Refused(status)
 }
 
 // Of a plan without a fault.
-fn why_settling<S: Stepper>(alloc: Global, name: &str, plan: &Plan) -> Result<Answer, NoMemory>
+fn why_settling<S: Stepper>(
+    alloc: Global,
+    name: &str,
+    plan: &Plan,
+    out: &mut Pen,
+) -> Result<(), Stop>
     requires fit { IsFit (tree_of plan.now) }
 {
-    let mut out = Pen::new(alloc);
-    if !why_start::<S>(alloc, name, plan, &mut out)? {
-        push_count(&mut out, name, 1);
-        return Answer::written(RUNAWAY, out);
+    if !why_start::<S>(alloc, name, plan, out)? {
+        return Err(refused(name, 1, RUNAWAY, out));
     }
-    let nodes = paths_of(alloc, plan)?.len();
-    out.push_all(&[name, ": no fault, "]);
+    let nodes = count_of_nodes(alloc, plan)?;
+    out.fill("{}: no fault, ", name);
     out.show(&nodes);
     out.push(if nodes == 1 { " node\n" } else { " nodes\n" });
-    Answer::written(DONE, out)
+    Ok(())
+}
+
+fn count_of_nodes(alloc: Global, plan: &Plan) -> Result<usize, NoMemory> {
+    Ok(paths_of(alloc, plan)?.len())
 }
 
 /// Says what the script in a file is refused for, over the plan in another, or that it has no fault.
@@ -63,23 +72,28 @@ pub fn why_script_file<H: Host>(
     script: &str,
     plan: &str,
     host: &mut H,
-) -> Result<Answer, Stop> {
-    let bytes = fetch(alloc, plan, TEXT_LIMIT, host)?;
-    let lines = fetch(alloc, script, SCRIPT_LIMIT, host)?;
-    let plan = plan_in(alloc, plan, &bytes)?;
-    let answer = why_lines(alloc, script, &lines, &plan);
+    out: &mut Pen,
+) -> Result<(), Stop> {
+    let bytes = fetch(alloc, plan, TEXT_LIMIT, host, out)?;
+    let lines = fetch(alloc, script, SCRIPT_LIMIT, host, out)?;
+    let plan = plan_in(alloc, plan, &bytes, out)?;
+    let told = why_lines(alloc, script, &lines, &plan, out);
     drop(plan);
-    Ok(answer?)
+    told
 }
 
-fn why_lines(alloc: Global, name: &str, lines: &[u8], plan: &Plan) -> Result<Answer, NoMemory>
+fn why_lines(
+    alloc: Global,
+    name: &str,
+    lines: &[u8],
+    plan: &Plan,
+    out: &mut Pen,
+) -> Result<(), Stop>
     requires fit { IsFit (tree_of plan.now) }
 {
-    let mut out = Pen::new(alloc);
-    if why_script(alloc, name, lines, plan, &mut out)? {
-        push_count(&mut out, name, 1);
-        return Answer::written(SCRIPT_REFUSED, out);
+    if why_script(alloc, name, lines, plan, out)? {
+        return Err(refused(name, 1, SCRIPT_REFUSED, out));
     }
-    out.push_all(&[name, ": no fault\n"]);
-    Answer::written(DONE, out)
+    out.fill("{}: no fault\n", name);
+    Ok(())
 }

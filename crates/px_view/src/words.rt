@@ -1,7 +1,8 @@
 // The command words.
-use crate::answer::{Answer, DONE, Stop, USAGE};
+use crate::answer::{DONE, Stop, USAGE};
 use clap::error::{Error, ErrorKind};
 use clap::{Arg, ArgMatches, Command};
+use px_pen::Pen;
 use px_value::NoMemory;
 use std::alloc::Global;
 
@@ -39,25 +40,38 @@ pub enum Task<'a> {
     },
 }
 
-/// The task that the words ask for, which are those behind the program's own name; else what is told to who wrote them.
-pub fn task_in<'a>(alloc: Global, words: &'a [String]) -> Result<Task<'a>, Stop> {
+impl<'a> Task<'a> {
+    /// The file where its picture goes, if it draws one and a file is named.
+    pub fn file(self) -> Option<&'a str> {
+        match self {
+            Task::ChartScript { to, .. } | Task::ChartJournal { to, .. } => to,
+            _ => None,
+        }
+    }
+}
+
+/// The task that the words ask for, which are those behind the program's own name; else who wrote them is told why.
+pub fn task_in<'a>(alloc: Global, words: &'a [String], out: &mut Pen) -> Result<Task<'a>, Stop> {
     match syntax(alloc)?.try_get_matches_from(words) {
         Ok(found) => match task_of(&found) {
             Some(task) => Ok(task),
             None => Err(Stop::NoMemory),
         },
-        Err(error) => Err(told(alloc, &error)),
+        Err(error) => Err(told(alloc, &error, out)),
     }
 }
 
-fn told(alloc: Global, error: &Error) -> Stop {
+fn told(alloc: Global, error: &Error, out: &mut Pen) -> Stop {
     let status = match error.kind() {
         ErrorKind::OutOfMemory => return Stop::NoMemory,
         ErrorKind::DisplayHelp | ErrorKind::DisplayVersion => DONE,
         _ => USAGE,
     };
     match error.to_string(alloc) {
-        Ok(text) => Stop::Refused(Answer::new(status, text)),
+        Ok(text) => {
+            out.push(text.as_str());
+            Stop::Refused(status)
+        }
         Err(_) => Stop::NoMemory,
     }
 }

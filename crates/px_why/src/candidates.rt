@@ -1,8 +1,8 @@
 // Tokens that are tried in place of one that can't stand where it does.
-use px_lex::{Keyword, LexFault, Sign, Token, TokenKind, lex};
+use px_lex::{LexFault, Token, lex};
 use px_plan_parse::parse;
 use px_syntax::ParseFault;
-use px_value::{Name, NameFault, NoMemory, Text, TextFault};
+use px_value::NoMemory;
 use std::alloc::{AllocError, Global};
 
 /// The tokens of a plan up to one that can't stand there.
@@ -44,70 +44,45 @@ impl Front {
         self.fault_at().is_none()
     }
 
-    /// Whether a plan goes on with the sign.
-    pub fn takes_sign(&mut self, sign: Sign) -> bool {
-        self.takes(TokenKind::Sign(sign))
-    }
-
-    /// Whether a plan goes on with the keyword.
-    pub fn takes_keyword(&mut self, keyword: Keyword) -> bool {
-        self.takes(TokenKind::Keyword(keyword))
-    }
-
-    /// The keyword that is spelled so, if a plan goes on with it.
-    pub fn takes_meant<'a>(&mut self, word: &'a str) -> Result<Option<&'a str>, NoMemory> {
-        let is_taken = self.takes_word(word);
-        self.tried()?;
-        Ok(if is_taken { Some(word) } else { None })
-    }
-
-    fn takes_word(&mut self, word: &str) -> bool {
-        match lex(self.alloc, word) {
+    /// Whether a plan goes on with the token that is spelled so.
+    pub fn takes(&mut self, spelling: &str) -> bool {
+        match lex(self.alloc, spelling) {
             Ok(tokens) => self.takes_last(tokens),
             Err(fault) => self.fails(matches!(fault, LexFault::NoMemory)),
         }
     }
 
-    /// Whether a plan goes on with a number.
-    pub fn takes_number(&mut self) -> bool {
-        self.takes(TokenKind::Integer(1))
-    }
-
-    /// Whether a plan goes on with this name.
-    pub fn takes_name(&mut self, name: &str) -> bool {
-        match Name::new(self.alloc, name) {
-            Ok(name) => self.takes(TokenKind::Identifier(name)),
-            Err(fault) => self.fails(matches!(fault, NameFault::NoMemory)),
-        }
-    }
-
-    /// Whether a plan goes on with a string.
-    pub fn takes_text(&mut self) -> bool {
-        match Text::new(self.alloc, "") {
-            Ok(text) => self.takes(TokenKind::Text(text)),
-            Err(fault) => self.fails(matches!(fault, TextFault::NoMemory)),
-        }
+    /// The spelling, if a plan goes on with its token.
+    pub fn takes_meant<'a>(&mut self, spelling: &'a str) -> Result<Option<&'a str>, NoMemory> {
+        let is_taken = self.takes(spelling);
+        self.tried()?;
+        Ok(if is_taken { Some(spelling) } else { None })
     }
 
     // Whether a plan goes on with the last of these tokens.
     fn takes_last(&mut self, mut tokens: Vec<Token>) -> bool {
         match tokens.pop() {
-            Some(Token { kind, .. }) => self.takes(kind),
+            Some(token) => self.takes_token(token),
             None => false,
         }
     }
 
-    fn takes(&mut self, kind: TokenKind) -> bool {
+    fn takes_token(&mut self, token: Token) -> bool {
         let end = self.tokens.len();
-        if self.tokens.push(Token { kind, at: 0 }).is_err() {
+        if self.tokens.push(token).is_err() {
             return self.fails(true);
         }
-        let goes_on = match self.fault_at() {
-            Some(token) => token > end,
-            None => true,
-        };
+        let goes_on = self.goes_beyond(end);
         self.tokens.truncate(end);
         goes_on
+    }
+
+    // Whether a plan goes on with the token of this number.
+    fn goes_beyond(&mut self, end: usize) -> bool {
+        match self.fault_at() {
+            Some(token) => token > end,
+            None => true,
+        }
     }
 
     // The token with which no plan goes on; None where the tokens are a plan.

@@ -31,18 +31,20 @@ impl<'a> Seen<'a> {
 
     fn redeclared(&self, token: usize, words: &mut Words) {
         let name = self.name(token);
-        let line = match self.declared_at(token) {
-            Some(declared) => self.line_of_first(declared),
-            None => 0,
-        };
         words
             .message
-            .push_all(&["`", name, "` is declared a second time in one place"]);
-        words.help.push("it stands in line ");
-        words.help.show(&line);
-        words
-            .help
-            .push(" already: give one of the two another name");
+            .fill("`{}` is declared a second time in one place", name);
+        words.help.fill_each(
+            "it stands in line {} already: give one of the two another name",
+            &[self.first_line(token)],
+        );
+    }
+
+    fn first_line(&self, token: usize) -> usize {
+        match self.declared_at(token) {
+            Some(declared) => self.line_of_first(declared),
+            None => 0,
+        }
     }
 
     fn line_of_first(&self, declared: Declared<'a>) -> usize {
@@ -55,8 +57,16 @@ impl<'a> Seen<'a> {
     fn not_assignable(&self, token: usize, words: &mut Words) {
         let name = self.name(token);
         match self.sign(token.saturating_add(1)) {
-            Some(Sign::OpenBracket) => no_array(name, words),
-            _ => whole_array(name, words),
+            Some(Sign::OpenBracket) => words.say_of(
+                name,
+                "`{}` is no array, and has no elements to write",
+                "leave the index away: `{} = ..`",
+            ),
+            _ => words.say_of(
+                name,
+                "`{}` is an array, which isn't written as a whole",
+                "write its elements one by one, as `{}[0] = ..`",
+            ),
         }
     }
 
@@ -64,7 +74,7 @@ impl<'a> Seen<'a> {
         let name = self.name(token);
         let is_lookup = token > 1 && self.is_lookup(token.saturating_sub(2));
         let like = if is_lookup { A_LOOKUP } else { A_COMMAND };
-        words.message.push_all(&["`", name, "` "]);
+        words.message.fill("`{}` ", name);
         match self.first_of(like, name) {
             Some(declared) => self.push_count(declared, &mut words.message),
             None => words
@@ -84,14 +94,10 @@ impl<'a> Seen<'a> {
     }
 
     fn push_count(&self, declared: Declared<'a>, message: &mut Pen) {
-        message.push("takes ");
         match declared.what.parameters() {
-            0 => message.push("no argument"),
-            1 => message.push("1 argument"),
-            count => {
-                message.show(&count);
-                message.push(" arguments");
-            }
+            0 => message.push("takes no argument"),
+            1 => message.push("takes 1 argument"),
+            count => message.fill_each("takes {} arguments", &[count]),
         }
         message.push(", by its declaration in line ");
         message.show(&self.line(declared.token));
@@ -124,7 +130,7 @@ impl<'a> Seen<'a> {
                 "tell the others in a second `Update`",
             );
         }
-        words.message.push_all(&["`", name, "` "]);
+        words.message.fill("`{}` ", name);
         match self.declared_at(token) {
             Some(declared) if declared.what.is_like(A_VARIABLE) => words.say(
                 "is too large",
@@ -134,18 +140,4 @@ impl<'a> Seen<'a> {
             None => words.message.push("has over 8 arguments"),
         }
     }
-}
-
-// Of an element of a variable that isn't an array.
-fn no_array(name: &str, words: &mut Words) {
-    words.message.push_all(&["`", name, "` is no array, and has no elements to write"]);
-    words
-        .help
-        .push_all(&["leave the index away: `", name, " = ..`"]);
-}
-
-// Of an array without an index.
-fn whole_array(name: &str, words: &mut Words) {
-    words.message.push_all(&["`", name, "` is an array, which isn't written as a whole"]);
-    words.help.push_all(&["write its elements one by one, as `", name, "[0] = ..`"]);
 }

@@ -8,66 +8,56 @@ use px_pen::Pen;
 use px_value::NoMemory;
 use std::alloc::Global;
 
-/// What helps more than what may stand somewhere.
-#[derive(Clone, Copy)]
-pub enum Hint<'a> {
-    /// A rule of the language.
-    Rule(&'static str),
-    /// This keyword is meant here.
-    Here(&'a str),
-    /// A keyword is meant in place of the word before.
-    Before { keyword: &'a str, word: &'a str },
-}
-
-impl<'a> Hint<'a> {
-    /// Writes the hint.
-    pub fn push(self, out: &mut Pen) {
-        match self {
-            Hint::Rule(rule) => out.push(rule),
-            Hint::Here(keyword) => push_meant(keyword, out),
-            Hint::Before { keyword, word } => {
-                out.push_all(&["is `", keyword, "` meant in place of `", word, "`?"]);
-            }
-        }
-    }
-}
-
-/// What helps at a cut behind a front, if there is such a thing.
-pub fn hint_for<'a>(
+/// Writes what helps at a cut behind a front more than what may stand there, and answers whether there is such a thing.
+pub fn push_hint(
     alloc: Global,
-    cut: &Cut<'a>,
+    cut: &Cut<'_>,
     wanted: &Wanted,
     front: &mut Front,
-) -> Result<Option<Hint<'a>>, NoMemory> {
+    out: &mut Pen,
+) -> Result<bool, NoMemory> {
+    let before = cut.before.spelled();
     let found = cut.place.spelled();
-    match rule_broken(cut.before.spelled(), found, wanted) {
-        Some(rule) => Ok(Some(Hint::Rule(rule))),
-        None => keyword_for(alloc, cut.before.spelled(), found, front),
+    match rule_broken(before, found, wanted) {
+        Some(rule) => {
+            out.push(rule);
+            Ok(true)
+        }
+        None => push_keyword(alloc, before, found, front, out),
     }
 }
 
-// The keyword that is meant here, or else by the word before.
-fn keyword_for<'a>(
+// Writes the keyword that is meant here, or else by the word before.
+fn push_keyword(
     alloc: Global,
-    before: &'a str,
-    found: &'a str,
+    before: &str,
+    found: &str,
     front: &mut Front,
-) -> Result<Option<Hint<'a>>, NoMemory> {
+    out: &mut Pen,
+) -> Result<bool, NoMemory> {
     match keyword_taken(alloc, front, found)? {
-        Some(keyword) => Ok(Some(Hint::Here(keyword))),
-        None => keyword_before(alloc, before, front),
+        Some(keyword) => {
+            push_meant(keyword, out);
+            Ok(true)
+        }
+        None => push_keyword_before(alloc, before, front, out),
     }
 }
 
-fn keyword_before<'a>(
+fn push_keyword_before(
     alloc: Global,
-    word: &'a str,
+    word: &str,
     front: &mut Front,
-) -> Result<Option<Hint<'a>>, NoMemory> {
+    out: &mut Pen,
+) -> Result<bool, NoMemory> {
     front.leave_last();
     match keyword_taken(alloc, front, word)? {
-        Some(keyword) if keyword != word => Ok(Some(Hint::Before { keyword, word })),
-        _ => Ok(None),
+        Some(keyword) if keyword != word => {
+            out.fill("is `{}` meant", keyword);
+            out.fill(" in place of `{}`?", word);
+            Ok(true)
+        }
+        _ => Ok(false),
     }
 }
 
@@ -92,7 +82,8 @@ const PAIRS: [(&str, &str, &str); 3] = [
 
 // The rule that is broken where the second stands behind the first.
 fn rule_broken(before: &str, found: &str, wanted: &Wanted) -> Option<&'static str> {
-    for (first, second, rule) in PAIRS {
+    for pair in &PAIRS {
+        let (first, second, rule) = *pair;
         if before == first && found == second {
             return Some(rule);
         }
@@ -141,7 +132,8 @@ fn rule_of_block(found: &str) -> Option<&'static str> {
     if is_type(found) {
         return Some("variables are declared before the first action of their block");
     }
-    for attribute in ATTRIBUTES {
+    for attribute in &ATTRIBUTES {
+        let attribute = *attribute;
         if found == attribute {
             return Some("conditions and a Priority stand before the first action of their block");
         }

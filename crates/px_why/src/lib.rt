@@ -3,9 +3,8 @@
 //! `place` finds the line and the column of a byte, and shows them; `declared` lists the names that a tree declares, and
 //! `nearest` finds the one that is meant, `spellings` the word of the language. `lexical`, `syntax`, with `cut`, `wanted`,
 //! `hints` and `candidates`, and `fault`, with `missing`, `misfit` and `naming`, say what a stage refuses, and `plan` tells
-//! each fault of a plan in turn; `report` is the form of what is told. `runaway` says which nodes go on where a start
-//! doesn't settle. Which faults there are, and where, is what the stages themselves answer: this crate only puts it into
-//! words.
+//! each fault of a plan in turn; `report` is the form of what is told. Which faults there are, and where, is what the
+//! stages themselves answer: this crate only puts it into words.
 #![tactic(auto)]
 
 mod candidates;
@@ -21,7 +20,6 @@ mod nearest;
 mod place;
 mod plan;
 mod report;
-mod runaway;
 mod seen;
 mod spellings;
 mod syntax;
@@ -31,4 +29,3 @@ pub use nearest::{Nearest, push_meant};
 pub use place::Place;
 pub use plan::why_plan;
 pub use report::{Words, push_fault, push_whole};
-pub use runaway::why_start;

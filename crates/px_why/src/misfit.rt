@@ -16,13 +16,12 @@ impl<'a> Seen<'a> {
         let name = self.name(token);
         let is_named = !name.is_empty() && self.is_alone(token, misfit.given);
         if is_named {
-            words.message.push_all(&["`", name, "` is "]);
+            words.message.fill("`{}` is ", name);
         } else {
             words.message.push("what begins here is ");
         }
-        words
-            .message
-            .push_all(&[given, "; ", wanted, " is wanted here"]);
+        words.message.push(given);
+        words.message.fill("; {} is wanted here", wanted);
         words.help.push(help_for(misfit, is_named));
     }
 
@@ -64,8 +63,16 @@ impl<'a> Seen<'a> {
         }
         match next {
             Some(Sign::OpenParen) => self.no_result(name, words),
-            Some(Sign::OpenBracket) => no_elements(name, words),
-            _ => no_index(name, words),
+            Some(Sign::OpenBracket) => words.say_of(
+                name,
+                "`{}` is no array, and has no elements",
+                "leave the index away: `{}`",
+            ),
+            _ => words.say_of(
+                name,
+                "`{}` is an array; one value is wanted here",
+                "name one of its elements, as `{}[0]`",
+            ),
         }
     }
 
@@ -84,16 +91,15 @@ impl<'a> Seen<'a> {
 
     // Of a command whose result is put into a variable.
     fn no_result(&self, name: &str, words: &mut Words) {
-        words.message.push_all(&["`", name, "` "]);
+        words.message.fill("`{}` ", name);
         match self.first_of(A_COMMAND, name) {
             Some(declared) => push_answer(declared.what, &mut words.message),
             None => words.message.push("has no result that fits the variable"),
         }
-        words.help.push_all(&[
-            "declare what it returns before the plan, as in `Integer Command ",
+        words.help.fill(
+            "declare what it returns before the plan, as in `Integer Command {};`",
             name,
-            ";`",
-        ]);
+        );
     }
 }
 
@@ -103,28 +109,12 @@ fn push_answer(what: What, message: &mut Pen) {
         What::Command {
             answer: Some(answer),
             ..
-        } => {
-            message.push_all(&["returns ", a_declared(answer)]);
-            message.push(", and the variable is of another type");
-        }
+        } => message.fill(
+            "returns {}, and the variable is of another type",
+            a_declared(answer),
+        ),
         _ => message.push("is declared without a result, and one is put into a variable"),
     }
-}
-
-fn no_elements(name: &str, words: &mut Words) {
-    words
-        .message
-        .push_all(&["`", name, "` is no array, and has no elements"]);
-    words.help.push_all(&["leave the index away: `", name, "`"]);
-}
-
-fn no_index(name: &str, words: &mut Words) {
-    words
-        .message
-        .push_all(&["`", name, "` is an array; one value is wanted here"]);
-    words
-        .help
-        .push_all(&["name one of its elements, as `", name, "[0]`"]);
 }
 
 // What helps; empty where nothing is known to.

@@ -20,7 +20,7 @@ impl<'a> Seen<'a> {
         let name = self.name(token);
         words
             .message
-            .push_all(&["no variable `", name, "` is declared here"]);
+            .fill("no variable `{}` is declared here", name);
         match self.first_of(A_VARIABLE, name) {
             Some(other) => {
                 seen_elsewhere(name, self.line(other.token), &mut words.help);
@@ -32,7 +32,7 @@ impl<'a> Seen<'a> {
 
     fn variable_meant(&self, alloc: Global, name: &'a str, help: &mut Pen) -> Result<(), NoMemory> {
         if self.first_of(A_LOOKUP, name).is_some() {
-            to_look_up(name, help);
+            help.fill("`{}` is a state of the outside: write `Lookup({})`", name);
             return Ok(());
         }
         match self.nearest(alloc, A_VARIABLE, name)? {
@@ -48,10 +48,19 @@ impl<'a> Seen<'a> {
     fn other_meant(&self, alloc: Global, name: &'a str, help: &mut Pen) -> Result<(), NoMemory> {
         match value_meant(alloc, name)? {
             Some(value) => push_meant(value, help),
-            None if self.first_of(What::Node, name).is_some() => to_ask_node(name, help),
-            None => to_declare(name, help),
+            None => self.not_near(name, help),
         }
         Ok(())
+    }
+
+    fn not_near(&self, name: &str, help: &mut Pen) {
+        match self.first_of(What::Node, name) {
+            Some(_) => help.fill("`{}` is a node: write `{}.state` or `{}.outcome`", name),
+            None => help.fill(
+                "declare it in this block or in one round it, as in `Integer {};`; a state of the outside is read by `Lookup({})`",
+                name,
+            ),
+        }
     }
 
     /// Says of a node that it isn't there, or that it is no command where its handle is asked for.
@@ -88,7 +97,11 @@ impl<'a> Seen<'a> {
     ) -> Result<(), NoMemory> {
         let name = self.name(token);
         match self.first_of(What::Node, name) {
-            Some(_) if self.asks_for_handle(token) => no_command(name, words),
+            Some(_) if self.asks_for_handle(token) => words.say_of(
+                name,
+                "`{}` is no command here, and has no `command_handle`",
+                "only a node that is one command has one; `{}.state` and `{}.outcome` every node has",
+            ),
             Some(other) => stands_elsewhere(name, self.line(other.token), words),
             None => return self.node_meant(alloc, name, words),
         }
@@ -99,7 +112,9 @@ impl<'a> Seen<'a> {
         not_seen(name, &mut words.message);
         match self.nearest(alloc, What::Node, name)? {
             Some(near) => push_meant(near, &mut words.help),
-            None => to_label(name, &mut words.help),
+            None => words
+                .help
+                .fill("give the node that is meant the label `{}:`", name),
         }
         Ok(())
     }
@@ -111,44 +126,8 @@ fn seen_elsewhere(name: &str, line: usize, help: &mut Pen) {
 }
 
 fn push_line(name: &str, line: usize, help: &mut Pen) {
-    help.push_all(&["the `", name, "` of line "]);
+    help.fill("the `{}` of line ", name);
     help.show(&line);
-}
-
-fn to_look_up(name: &str, help: &mut Pen) {
-    help.push_all(&[
-        "`",
-        name,
-        "` is a state of the outside: write `Lookup(",
-        name,
-        ")`",
-    ]);
-}
-
-fn to_ask_node(name: &str, help: &mut Pen) {
-    help.push_all(&[
-        "`",
-        name,
-        "` is a node: write `",
-        name,
-        ".state` or `",
-        name,
-        ".outcome`",
-    ]);
-}
-
-fn to_declare(name: &str, help: &mut Pen) {
-    help.push_all(&[
-        "declare it in this block or in one round it, as in `Integer ",
-        name,
-        ";`; a state of the outside is read by `Lookup(",
-        name,
-        ")`",
-    ]);
-}
-
-fn to_label(name: &str, help: &mut Pen) {
-    help.push_all(&["give the node that is meant the label `", name, ":`"]);
 }
 
 // Of a node that is named by how it is related.
@@ -165,7 +144,7 @@ fn no_related(keyword: Keyword, asks_for_handle: bool) -> &'static str {
 }
 
 fn not_seen(name: &str, message: &mut Pen) {
-    message.push_all(&["no node `", name, "` is seen from here"]);
+    message.fill("no node `{}` is seen from here", name);
 }
 
 fn stands_elsewhere(name: &str, line: usize, words: &mut Words) {
@@ -174,19 +153,4 @@ fn stands_elsewhere(name: &str, line: usize, words: &mut Words) {
     words.help.push(
         " stands elsewhere: a node sees its children, itself, and the nodes round it with their children",
     );
-}
-
-fn no_command(name: &str, words: &mut Words) {
-    words.message.push_all(&[
-        "`",
-        name,
-        "` is no command here, and has no `command_handle`",
-    ]);
-    words.help.push_all(&[
-        "only a node that is one command has one; `",
-        name,
-        ".state` and `",
-        name,
-        ".outcome` every node has",
-    ]);
 }

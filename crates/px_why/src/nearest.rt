@@ -54,5 +54,5 @@ impl<'a> Nearest<'a> {
 
 /// Writes the hint that this name may be meant.
 pub fn push_meant(name: &str, out: &mut Pen) {
-    out.push_all(&["is `", name, "` meant?"]);
+    out.fill("is `{}` meant?", name);
 }

@@ -6,11 +6,10 @@ use crate::report::{Words, push_fault, push_whole};
 use crate::seen::Seen;
 use crate::syntax::{cut_short, place_at, too_deep};
 use px_check::{Spot, first_behind};
-use px_compile::{TEXT_LIMIT, compile_tree};
 use px_lex::{LexFault, Token, lex};
 use px_pen::Pen;
 use px_plan_parse::parse;
-use px_syntax::{ExpandFault, ParseFault, PlanFault, Surface};
+use px_syntax::{ParseFault, Surface};
 use px_value::NoMemory;
 use std::alloc::{AllocError, Global};
 use std::str::from_utf8;
@@ -18,18 +17,9 @@ use std::str::from_utf8;
 /// The most faults that are told of one plan.
 const FAULT_LIMIT: u32 = 1_000;
 
-/// Writes why the bytes of a file are no plan that can be run, in words, and answers how many reasons there are: all
-/// faults of its tree, by their tokens, or the one reason for which it has no tree or is too large. None where there is no
-/// reason.
+/// Writes why the bytes of a file are no plan, in words, and answers how many reasons there are: all faults of its tree, by
+/// their tokens, or the one reason for which it has no tree. None where there is no reason.
 pub fn why_plan(alloc: Global, name: &str, bytes: &[u8], out: &mut Pen) -> Result<u32, NoMemory> {
-    if bytes.len() > TEXT_LIMIT {
-        let mut words = Words::new(alloc);
-        words
-            .message
-            .push("the file is no plan: it has over 1,048,576 bytes");
-        push_whole(out, name, &words);
-        return Ok(1);
-    }
     match from_utf8(bytes) {
         Ok(text) => why_text(alloc, name, text, out),
         Err(error) => {
@@ -41,11 +31,10 @@ pub fn why_plan(alloc: Global, name: &str, bytes: &[u8], out: &mut Pen) -> Resul
 
 fn not_text(alloc: Global, name: &str, bytes: &[u8], at: usize, out: &mut Pen) {
     let mut words = Words::new(alloc);
-    words.message.push("the byte ");
-    words.message.show(&at);
-    words.message.push(" of the file, in line ");
-    words.message.show(&line_at(bytes, at));
-    words.message.push(", is no text (UTF-8)");
+    words.message.fill_each(
+        "the byte {} of the file, in line {}, is no text (UTF-8)",
+        &[at, line_at(bytes, at)],
+    );
     words.help.push("save the plan as UTF-8");
     push_whole(out, name, &words);
 }
@@ -64,10 +53,7 @@ fn line_at(bytes: &[u8], at: usize) -> usize {
 fn why_text(alloc: Global, name: &str, text: &str, out: &mut Pen) -> Result<u32, NoMemory> {
     match lex(alloc, text) {
         Ok(tokens) => why_tokens(alloc, name, text, tokens, out),
-        Err(fault) => {
-            no_token(alloc, name, text, &fault, out)?;
-            Ok(1)
-        }
+        Err(fault) => no_token(alloc, name, text, &fault, out),
     }
 }
 
@@ -77,13 +63,13 @@ fn no_token(
     text: &str,
     fault: &LexFault,
     out: &mut Pen,
-) -> Result<(), NoMemory> {
+) -> Result<u32, NoMemory> {
     let at = byte_of(fault).ok_or(AllocError)?;
     let place = place_of(text, at);
     let mut words = Words::new(alloc);
     not_a_token(fault, &place, &mut words);
     push_fault(out, name, &place, &words);
-    Ok(())
+    Ok(1)
 }
 
 fn why_tokens(
@@ -99,32 +85,35 @@ fn why_tokens(
             drop(tree);
             found
         }
-        Err(fault) => {
-            no_tree(alloc, name, text, tokens, fault, out)?;
+        Err(ParseFault::SyntaxFault { token }) => {
+            no_syntax(alloc, name, text, tokens, token, out)
+        }
+        Err(ParseFault::Deep { token }) => {
+            deep(alloc, name, text, &tokens, token, out);
             Ok(1)
         }
+        Err(ParseFault::NoMemory) => Err(AllocError),
     }
 }
 
-fn no_tree(
+fn no_syntax(
     alloc: Global,
     name: &str,
     text: &str,
     tokens: Vec<Token>,
-    fault: ParseFault,
+    token: usize,
     out: &mut Pen,
-) -> Result<(), NoMemory> {
+) -> Result<u32, NoMemory> {
     let mut words = Words::new(alloc);
-    let place = match fault {
-        ParseFault::SyntaxFault { token } => cut_short(alloc, text, tokens, token, &mut words)?,
-        ParseFault::Deep { token } => {
-            too_deep(&tokens, token, &mut words);
-            place_at(text, &tokens, token)
-        }
-        ParseFault::NoMemory => return Err(AllocError),
-    };
+    let place = cut_short(alloc, text, tokens, token, &mut words)?;
     push_fault(out, name, &place, &words);
-    Ok(())
+    Ok(1)
+}
+
+fn deep(alloc: Global, name: &str, text: &str, tokens: &[Token], token: usize, out: &mut Pen) {
+    let mut words = Words::new(alloc);
+    too_deep(tokens, token, &mut words);
+    push_fault(out, name, &place_at(text, tokens, token), &words);
 }
 
 fn why_tree(
@@ -141,11 +130,7 @@ fn why_tree(
         tokens,
         names: &names,
     };
-    let found = each_fault(alloc, name, &seen, tree, out)?;
-    if found == 0 {
-        return too_large(alloc, name, text, out);
-    }
-    Ok(found)
+    each_fault(alloc, name, &seen, tree, out)
 }
 
 fn each_fault(
@@ -160,41 +145,22 @@ fn each_fault(
         let Some(spot) = first_behind(alloc, tree, floor)? else {
             return Ok(told);
         };
-        let mut words = Words::new(alloc);
-        seen.explain(alloc, spot, &mut words)?;
-        push_fault(out, name, &seen.place(spot.token), &words);
+        one_fault(alloc, name, seen, spot, out)?;
         floor = Some(spot);
     }
     out.push("these are the first 1,000 faults\n\n");
     Ok(FAULT_LIMIT)
 }
 
-// Of a tree without a fault.
-fn too_large(alloc: Global, name: &str, text: &str, out: &mut Pen) -> Result<u32, NoMemory> {
-    let bytes = text.as_bytes();
-    if bytes.len() > TEXT_LIMIT {
-        return Ok(0);
-    }
-    match compile_tree(alloc, bytes) {
-        Ok(made) => {
-            drop(made);
-            Ok(0)
-        }
-        Err(PlanFault::Expand(ExpandFault::TooMany { nodes })) => {
-            too_many(alloc, name, nodes, out);
-            Ok(1)
-        }
-        Err(_) => Err(AllocError),
-    }
-}
-
-fn too_many(alloc: Global, name: &str, nodes: u32, out: &mut Pen) {
+fn one_fault(
+    alloc: Global,
+    name: &str,
+    seen: &Seen<'_>,
+    spot: Spot,
+    out: &mut Pen,
+) -> Result<(), NoMemory> {
     let mut words = Words::new(alloc);
-    words.message.push("the plan has ");
-    words.message.show(&nodes);
-    words.message.push(" nodes, of at most 4,096, or one of them a path of over 5,000 bytes");
-    words
-        .help
-        .push("make it of fewer nodes, or nest them less deep");
-    push_whole(out, name, &words);
+    seen.explain(alloc, spot, &mut words)?;
+    push_fault(out, name, &seen.place(spot.token), &words);
+    Ok(())
 }

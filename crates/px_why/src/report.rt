@@ -25,17 +25,20 @@ impl Words {
         self.message.push(message);
         self.help.push(help);
     }
+
+    /// Writes both, with a name in place of each `{}`.
+    pub fn say_of(&mut self, name: &str, message: &str, help: &str) {
+        self.message.fill(message, name);
+        self.help.fill(help, name);
+    }
 }
 
 /// Writes a fault at a place of a file.
 pub fn push_fault(out: &mut Pen, name: &str, place: &Place<'_>, words: &Words) {
     out.push("error: ");
     out.append(&words.message);
-    out.push_all(&["\n  --> ", name, ":"]);
-    out.show(&place.line);
-    out.push(":");
-    out.show(&place.column());
-    out.push("\n");
+    out.fill("\n  --> {}:", name);
+    out.fill_each("{}:{}\n", &[place.line, place.column()]);
     push_excerpt(out, place);
     push_help(out, words);
 }
@@ -44,7 +47,7 @@ pub fn push_fault(out: &mut Pen, name: &str, place: &Place<'_>, words: &Words) {
 pub fn push_whole(out: &mut Pen, name: &str, words: &Words) {
     out.push("error: ");
     out.append(&words.message);
-    out.push_all(&["\n  --> ", name, "\n"]);
+    out.fill("\n  --> {}\n", name);
     push_help(out, words);
 }
 

@@ -1,7 +1,7 @@
 // Tokens that are no plan, in words.
 use crate::candidates::Front;
 use crate::cut::Cut;
-use crate::hints::hint_for;
+use crate::hints::push_hint;
 use crate::place::{Place, place_of};
 use crate::report::Words;
 use crate::wanted::Wanted;
@@ -33,7 +33,7 @@ pub fn cut_short<'a>(
 fn push_message(cut: &Cut<'_>, out: &mut Pen) {
     match cut.place.spelled() {
         "" => out.push("the plan ends here, and something is missing"),
-        found => out.push_all(&["`", found, "` can't stand here"]),
+        found => out.fill("`{}` can't stand here", found),
     }
 }
 
@@ -44,9 +44,8 @@ fn push_hints(
     out: &mut Pen,
 ) -> Result<(), NoMemory> {
     let wanted = Wanted::behind(alloc, front)?;
-    match hint_for(alloc, cut, &wanted, front)? {
-        Some(hint) => hint.push(out),
-        None => push_wanted(cut, &wanted, out),
+    if !push_hint(alloc, cut, &wanted, front, out)? {
+        push_wanted(cut, &wanted, out);
     }
     Ok(())
 }
@@ -56,14 +55,12 @@ fn push_wanted(cut: &Cut<'_>, wanted: &Wanted, out: &mut Pen) {
         return out.push("the plan is complete before it: leave the rest away");
     }
     if let Some(open) = cut.open {
-        out.push_all(&["the `", open.spelled(), "` of line "]);
-        out.show(&open.line);
-        out.push(" isn't closed; ");
+        out.fill("the `{}` of line ", open.spelled());
+        out.fill_each("{} isn't closed; ", &[open.line]);
     }
     if wanted.semicolon && cut.before.line < cut.place.line {
-        out.push("a `;` may be missing at the end of line ");
-        out.show(&cut.before.line);
-        out.push("; ");
+        let line = cut.before.line;
+        out.fill_each("a `;` may be missing at the end of line {}; ", &[line]);
     }
     out.push("what may stand here is ");
     wanted.push_phrase(out);

@@ -1,37 +1,39 @@
 // What may stand where a plan can't go on: each sort of token that the grammar takes there, by trying it.
 use crate::candidates::Front;
-use px_lex::{Keyword, Sign};
 use px_pen::Pen;
 use px_value::NoMemory;
 use std::alloc::{AllocError, Global};
 
+/// How a token of a sort is spelled, and how the sort is told.
+type Sort = (&'static str, &'static str);
+
 // Signs that are told by themselves.
-const SIGNS: [(Sign, &str); 9] = [
-    (Sign::Semicolon, "`;`"),
-    (Sign::Comma, "`,`"),
-    (Sign::Colon, "`:`"),
-    (Sign::Assign, "`=`"),
-    (Sign::Dot, "`.`"),
-    (Sign::CloseParen, "`)`"),
-    (Sign::CloseBracket, "`]`"),
-    (Sign::OpenBracket, "`[`"),
-    (Sign::CloseBrace, "`}`"),
+const SIGNS: [Sort; 10] = [
+    (";", "`;`"),
+    (",", "`,`"),
+    (":", "`:`"),
+    ("=", "`=`"),
+    (".", "`.`"),
+    (")", "`)`"),
+    ("]", "`]`"),
+    ("[", "`[`"),
+    ("}", "`}`"),
+    ("==", "an operator"),
 ];
 
-// Signs that are a part of what is told otherwise, where that is wanted.
-const OPENING: [(Sign, &str); 3] = [
-    (Sign::OpenParen, "`(`"),
-    (Sign::OpenList, "`#(`"),
-    (Sign::OpenBrace, "`{`"),
-];
-
-const KEYWORDS: [(Keyword, &str); 6] = [
-    (Keyword::ElseIf, "`elseif`"),
-    (Keyword::Else, "`else`"),
-    (Keyword::EndIf, "`endif`"),
-    (Keyword::NodeList, "`NodeList:`"),
-    (Keyword::Lookup, "`Lookup`"),
-    (Keyword::Command, "`Command`"),
+// What is a part of what is told otherwise, where that is wanted.
+const SMALLER: [Sort; 11] = [
+    ("1", "a number"),
+    ("\"\"", "a String"),
+    ("(", "`(`"),
+    ("#(", "`#(`"),
+    ("{", "`{`"),
+    ("elseif", "`elseif`"),
+    ("else", "`else`"),
+    ("endif", "`endif`"),
+    ("NodeList", "`NodeList:`"),
+    ("Lookup", "`Lookup`"),
+    ("Command", "`Command`"),
 ];
 
 /// What may stand somewhere, sort by sort.
@@ -55,76 +57,67 @@ impl Wanted {
         let mut wanted = Wanted {
             sorts: Vec::new(alloc),
             has_failed: false,
-            semicolon: front.takes_sign(Sign::Semicolon),
-            action: front.takes_keyword(Keyword::If),
+            semicolon: front.takes(";"),
+            action: front.takes("if"),
             is_complete: front.is_plan(),
         };
-        wanted.add_signs(front);
+        wanted.add_each(&SIGNS, front);
         if !wanted.add_larger(front) {
             wanted.add_smaller(front);
         }
-        front.tried()?;
-        if wanted.has_failed {
-            return Err(AllocError);
-        }
-        Ok(wanted)
+        wanted.tried(front)
     }
 
-    fn add(&mut self, is_taken: bool, sort: &'static str) {
+    // `NoMemory` where memory has run out for a sort or in a try.
+    fn tried(self, front: &Front) -> Result<Wanted, NoMemory> {
+        match front.tried() {
+            Ok(()) if !self.has_failed => Ok(self),
+            _ => Err(AllocError),
+        }
+    }
+
+    // Adds a sort if the token of this spelling is taken, and answers whether it is.
+    fn add(&mut self, spelling: &str, sort: &'static str, front: &mut Front) -> bool {
+        let is_taken = front.takes(spelling);
         if is_taken && !self.has_failed {
             self.has_failed = self.sorts.push(sort).is_err();
         }
+        is_taken
     }
 
-    fn add_each_sign(&mut self, front: &mut Front, signs: &[(Sign, &'static str)]) {
-        for (sign, sort) in signs {
-            let is_taken = front.takes_sign(*sign);
-            self.add(is_taken, *sort);
+    fn add_each(&mut self, sorts: &[Sort], front: &mut Front) {
+        for (spelling, sort) in sorts {
+            self.add(*spelling, *sort, front);
         }
-    }
-
-    fn add_signs(&mut self, front: &mut Front) {
-        self.add_each_sign(front, &SIGNS);
-        let operator = front.takes_sign(Sign::EqualEqual);
-        self.add(operator, "an operator");
     }
 
     // What begins with many tokens. Answers whether a name, a number or an opening bracket belongs to it.
     fn add_larger(&mut self, front: &mut Front) -> bool {
-        let expression = front.takes_keyword(Keyword::IsKnown);
-        self.add(expression, "an expression");
-        let literal = !expression && front.takes_keyword(Keyword::True);
-        self.add(literal, "a number, a String, `true` or `false`");
-        let action = self.action;
-        self.add(action, "an action");
-        let condition = front.takes_keyword(Keyword::Start);
-        self.add(condition, "a condition");
-        let block = !action && front.takes_keyword(Keyword::Concurrence);
-        self.add(block, "a block in `{ }`");
-        let of_type = front.takes_keyword(Keyword::Boolean);
-        self.add(of_type, "a type (`Integer`, `Boolean` or `String`)");
-        let number_type = !of_type && front.takes_keyword(Keyword::Integer);
-        self.add(number_type, "`Integer`");
-        expression || literal || action || block
+        let value = self.add("isKnown", "an expression", front)
+            || self.add("true", "a number, a String, `true` or `false`", front);
+        let action = self.add("if", "an action", front);
+        self.add("Start", "a condition", front);
+        let block = action || self.add("Concurrence", "a block in `{ }`", front);
+        self.add_type(front);
+        value || block
+    }
+
+    fn add_type(&mut self, front: &mut Front) {
+        if !self.add(
+            "Boolean",
+            "a type (`Integer`, `Boolean` or `String`)",
+            front,
+        ) {
+            self.add("Integer", "`Integer`", front);
+        }
     }
 
     fn add_smaller(&mut self, front: &mut Front) {
-        let name = front.takes_name("x");
-        self.add(name, "a name");
-        let attribute = !name && front.takes_name("state");
-        self.add(
-            attribute,
-            "`state`, `outcome`, `failure` or `command_handle`",
-        );
-        let number = front.takes_number();
-        self.add(number, "a number");
-        let text = front.takes_text();
-        self.add(text, "a String");
-        self.add_each_sign(front, &OPENING);
-        for (keyword, sort) in &KEYWORDS {
-            let is_taken = front.takes_keyword(*keyword);
-            self.add(is_taken, *sort);
+        if !self.add("x", "a name", front) {
+            let attribute = "`state`, `outcome`, `failure` or `command_handle`";
+            self.add("state", attribute, front);
         }
+        self.add_each(&SMALLER, front);
     }
 
     /// Writes the sorts as one phrase.

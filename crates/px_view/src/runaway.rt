@@ -2,11 +2,11 @@
 ghost use Rattle.px_core.specs.Fit.{IsFit};
 ghost use Rattle.px_core.specs.Plan.{tree_of};
 
-use crate::report::{Words, push_whole};
 use px_core::Plan;
 use px_pen::Pen;
 use px_sem::{Move, STEP_LIMIT, Stepper};
 use px_value::NoMemory;
+use px_why::{Words, push_whole};
 use std::alloc::Global;
 
 /// How many nodes are told.
@@ -40,6 +40,6 @@ fn push_going(moves: &[Move], words: &mut Words) {
         "let a node that repeats wait for the outside, as by `Start Lookup(go);`, or give it a Repeat that becomes false",
     );
     for moved in moves.iter().take(TOLD) {
-        words.message.push_all(&[" ", moved.node.as_str()]);
+        words.message.fill(" {}", moved.node.as_str());
     }
 }
