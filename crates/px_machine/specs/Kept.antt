@@ -119,7 +119,7 @@ truths_read states.Finishing t = record unread { exit = t.exit; post = t.post; i
 truths_read states.IterationEnded t = record unread { repeat = t.repeat }
 truths_read state t = unread
 
--- where it goes by these, or none where it stays
+-- where it goes by the six, or none where it stays
 abbrev pub arrival_of : Parts → Kept → ℕ → Option Arrival
 arrival_of parts kept node =
     dest (site_in (plan_in parts) node).head.kind (own_seen parts node).state
