@@ -88,7 +88,11 @@ impl Path {
         requires { length self.now + length name.now < PATH_LIMIT }
         ensures { IfOk result (λ path. path ≡ below self.now name.now) }
     {
-        let mut text = String::from_str(alloc, self.text.as_str())?;
+        let mut text = String::with_capacity(
+            alloc,
+            self.text.as_str().len() + 1 + name.as_str().len(),
+        )?;
+        text.push_str(self.text.as_str())?;
         text.push_str(".")?;
         text.push_str(name.as_str())?;
         Ok(Path {
