@@ -8,7 +8,7 @@ use Rattle.px_core.specs.Plan.{Site}
 use Rattle.px_event.specs.declared.event.Event.{Event}
 use Rattle.px_sem.specs.Conflicts.{is_quiet}
 use Rattle.px_sem.specs.Events.{take}
-use Rattle.px_sem.specs.Step.{micro}
+use Rattle.px_sem.specs.Step.{micro, moves}
 use Rattle.px_sem.specs.Tolerances.{tolerances}
 use Rattle.px_sem.specs.World.{LookState, Report, World}
 use Rattle.px_sem.specs.Stepper as stepper
@@ -30,12 +30,14 @@ use Rattle.px_parts.specs.Marks.{AreMarked, AreUnmarked, marked_world}
 use Rattle.px_parts.specs.Parts.{AreOfOnePlan, AreSame, AreStanding, plan_in, world_in}
 use Rattle.px_parts.specs.Seen.{AreSeenAsBefore}
 use Rattle.px_micro.specs.declared.sight.Going.{Going}
+use Rattle.px_micro.specs.Stepping as stepping
 use Rattle.px_machine.specs.declared.begun.Begun.{Begun}
 use Rattle.px_machine.specs.declared.begun.Begun.TheVariants as begun
 use Rattle.px_machine.specs.declared.kept.Kept.{Kept}
 use Rattle.px_machine.specs.Begun.{IsMarkedFor, IsUnderWay, begun_in, heard_of, is_event}
 use Rattle.px_machine.specs.Hearing.{HasHeard, heard_by}
 use Rattle.px_machine.specs.Kept.{own_in}
+use Rattle.px_machine.specs.Machine.{moves_after}
 use Rattle.px_machine.specs.Queue.{HaveGone, HaveRested}
 use Rattle.px_machine.specs.Right.{IsRight}
 use Rattle.px_machine.specs.Seen.{IsSameReport}
@@ -314,6 +316,14 @@ stepped_state now old middle new same one world =
       pending = begun_in now (world_of (one.plan i) (unwrap_or (one.cells i) []) (unwrap_or (one.reports i) [])
           (unwrap_or (one.actions i) []));
     }) ∙ ap stepper.stepped (same_state now old middle same)
+
+-- what a step tells is what was done, and else the moves are those of before
+pub moves_behind : (tells : Bool) (now : Begun) (old middle new : Parts) → AreSame old middle
+    → middle.moves.items ≡ old.moves.items → new.moves.items ≡ stepping.moves_after middle tells
+    → new.moves.items ≡ moves_after tells (state_with now old) old.moves.items
+moves_behind true now old middle new same kept told =
+    told ∙ ap (λ (state : stepper.State). moves state.nodes state.world) (same_state now old middle same)
+moves_behind false now old middle new same kept told = told ∙ kept
 
 pub seen_both : (first middle last : Parts) → AreSeenAsBefore first middle → AreSeenAsBefore middle last → AreSeenAsBefore first last
 seen_both first middle last one two = record { cells = two.cells ∙ one.cells; actions = two.actions ∙ one.actions }

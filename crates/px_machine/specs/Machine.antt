@@ -2,6 +2,7 @@
 use Rattle.std.specs.Prelude.{◌≡◌, Bool, true, false, List, []}
 use Rattle.px_sem.specs.declared.moves.Move.{Move}
 use Rattle.px_sem.specs.Conflicts.{is_quiet}
+use Rattle.px_sem.specs.Step.{moves}
 use Rattle.px_sem.specs.Stepper.{State, stepped}
 use Rattle.px_parts.specs.Marks.{marked_world}
 use Rattle.px_parts.specs.Parts.{plan_in, world_in}
@@ -15,9 +16,13 @@ state_in machine = record {
   pending = begun_in machine.begun (marked_world machine.parts);
 }
 
--- Where it answers true, the world was not quiet, and took one micro step, and the moves are those of before; else nothing
--- changed, and there are no moves.
-abbrev pub StepsOn : State → State → List Move → List Move → Bool → Type 0
-StepsOn old new before now true =
-    (is_quiet old.nodes old.world ≡ false) × (new ≡ stepped old) × (now ≡ before)
-StepsOn old new before now false = (is_quiet old.nodes old.world ≡ true) × (new ≡ old) × (now ≡ [])
+-- the moves behind a step: what was done, where it is told, and else those of before
+abbrev pub moves_after : Bool → State → List Move → List Move
+moves_after true old before = moves old.nodes old.world
+moves_after false old before = before
+
+-- Where it answers true, the world was not quiet, and took one micro step; else nothing changed, and there are no moves.
+abbrev pub StepsOn : Bool → State → State → List Move → List Move → Bool → Type 0
+StepsOn tells old new before now true =
+    (is_quiet old.nodes old.world ≡ false) × (new ≡ stepped old) × (now ≡ moves_after tells old before)
+StepsOn tells old new before now false = (is_quiet old.nodes old.world ≡ true) × (new ≡ old) × (now ≡ [])

@@ -1,5 +1,5 @@
 // The nodes that are woken, judged by what is kept: which go, and which writers would start.
-ghost use Rattle.std.specs.Prelude.{◌≡◌, ◌<◌, ◌++◌, [], length, IfOk, OnOk};
+ghost use Rattle.std.specs.Prelude.{◌≡◌, ◌<◌, ◌++◌, [], length, OnOk};
 ghost use Rattle.std.specs.List.{cons_option};
 ghost use Rattle.px_flat.specs.Flat.{plan_of};
 ghost use Rattle.px_assign.specs.Conflicts.{is_writer};
@@ -21,7 +21,6 @@ use px_parts::{Parts, state_of};
 use px_sem::Arrival;
 use px_tables::dest;
 use px_value::{NoMemory, NodeState};
-use std::alloc::Global;
 
 /// Where a node goes by what is kept, if it goes anywhere: by its kind, its own record, its parent's state, what it is told,
 /// whether its children are at rest, and those of its conditions that the rows of its state read.
@@ -101,22 +100,22 @@ fn look_at(
 
 /// Looks at all nodes that are woken. A loser of a conflict stays marked from step to step; a node that neither is woken nor
 /// marked goes nowhere. `NoMemory` leaves who was woken woken.
-pub(crate) fn look(alloc: Global, parts: &Parts, kept: &mut Kept) -> Result<Vec<Going>, NoMemory>
+pub(crate) fn look(parts: &Parts, kept: &mut Kept, going: &mut Vec<Going>) -> Result<(), NoMemory>
     requires stand { AreStanding parts.now }
     requires right { IsRight parts.now kept.old }
     requires now { IsNow parts.now kept.old }
     ensures right { IsRight parts.now kept.new }
     ensures now { IsNow parts.now kept.new }
     ensures conditions { kept.new.conditions ≡ kept.old.conditions }
-    ensures looked { IfOk result (λ going. HasLooked parts.now kept.new going.items) }
+    ensures looked { OnOk result (HasLooked parts.now kept.new going.new.items) }
     ensures simulation { OnOk result (IsSimulation parts.now kept.new) }
 {
-    let mut going = Vec::new(alloc);
+    going.clear();
     kept.queue.each_once();
     let mut at = kept.queue.first(WOKEN);
     'woken: while let Some(node) = at {
-        look_at(parts, kept, node, &mut going)?;
+        look_at(parts, kept, node, going)?;
         at = kept.queue.next(node);
     }
-    Ok(going)
+    Ok(())
 }

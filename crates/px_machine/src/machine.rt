@@ -12,7 +12,7 @@ use crate::queue::{have_gone, rest};
 use crate::stepping::goers;
 use px_core::Plan;
 use px_event::Event;
-use px_micro::{act, act_untold};
+use px_micro::{Going, Turns, act};
 use px_parts::Parts;
 use px_sem::{Move, STEP_LIMIT, Standing, StepFault, Stepper};
 use px_value::{Name, NoMemory, NodeState, Path};
@@ -24,6 +24,9 @@ pub struct Machine {
     parts: Parts,
     kept: Kept,
     begun: Begun,
+    // Who went in the last step, and what they did. Kept for their room: steps like those of before take no more.
+    going: Vec<Going>,
+    turns: Turns,
     ghost ready: { IsReady parts kept } by { Prim.hlevel (term_code, codes) },
     ghost marked: { IsMarkedFor begun parts } by { Prim.hlevel (props, codes) },
 }
@@ -33,22 +36,23 @@ impl Machine {
     ghost use Rattle.px_sem.specs.Stepper.{is_pending};
     ghost use Rattle.px_machine.specs.Machine.{StepsOn, state_in};
 
-    // A step whose moves nobody reads: they stay those of before until the world is quiet.
-    fn step_untold(&mut self, alloc: Global) -> Result<bool, NoMemory>
+    // Takes one micro step, or none where the world is quiet. Where nobody reads the moves, they stay those of before until
+    // it is.
+    fn take_step(&mut self, alloc: Global, tells: bool) -> Result<bool, NoMemory>
         requires pending { IsTrue (is_pending (state_in self.old).pending) }
-        ensures ok { IfOk result (StepsOn (state_in self.old) (state_in self.new)
+        ensures ok { IfOk result (StepsOn tells (state_in self.old) (state_in self.new)
             self.old.parts.moves.items self.new.parts.moves.items) }
         ensures err { OnErr result (state_in self.new ≡ state_in self.old) }
         ensures kept { OnErr result (self.new.parts.moves.items ≡ self.old.parts.moves.items) }
     {
-        let going = goers(alloc, &mut self.parts, &mut self.kept)?;
-        if going.is_empty() {
+        goers(alloc, &mut self.parts, &mut self.kept, &mut self.going)?;
+        if self.going.is_empty() {
             self.parts.moves.clear();
             rest(&mut self.kept.queue);
             return Ok(false);
         }
-        act_untold(alloc, &mut self.parts, &going)?;
-        have_gone(&mut self.kept.queue, &going);
+        act(alloc, &mut self.parts, &self.going, tells, &mut self.turns)?;
+        have_gone(&mut self.kept.queue, &self.going);
         Ok(true)
     }
 }
@@ -67,6 +71,8 @@ impl Stepper for Machine {
             parts,
             kept,
             begun: Begun::Start,
+            going: Vec::new(alloc),
+            turns: Turns::none(alloc),
         })
     }
 
@@ -89,15 +95,7 @@ impl Stepper for Machine {
     }
 
     fn step(&mut self, alloc: Global) -> Result<bool, NoMemory> {
-        let going = goers(alloc, &mut self.parts, &mut self.kept)?;
-        if going.is_empty() {
-            self.parts.moves.clear();
-            rest(&mut self.kept.queue);
-            return Ok(false);
-        }
-        act(alloc, &mut self.parts, &going)?;
-        have_gone(&mut self.kept.queue, &going);
-        Ok(true)
+        self.take_step(alloc, true)
     }
 
     fn moves(&self) -> &[Move] {
@@ -107,7 +105,7 @@ impl Stepper for Machine {
     fn advance(&mut self, alloc: Global, event: &Event) -> Result<u32, StepFault> {
         self.begin(alloc, event)?;
         for taken in 0..STEP_LIMIT + 1 {
-            match self.step_untold(alloc) {
+            match self.take_step(alloc, false) {
                 Ok(true) => {}
                 Ok(false) => return Ok(taken),
                 Err(fault) => {

@@ -1,5 +1,5 @@
 // The phases of a step.
-ghost use Rattle.std.specs.Prelude.{◌≡◌, IfOk};
+ghost use Rattle.std.specs.Prelude.{◌≡◌, OnOk};
 ghost use Rattle.px_parts.specs.Parts.{AreSame};
 ghost use Rattle.px_machine.specs.Stepping.{HasChosen, IsReady};
 
@@ -14,23 +14,24 @@ use px_parts::Parts;
 use px_value::NoMemory;
 use std::alloc::Global;
 
-/// All nodes that go, in preorder. The world stays as it is, and after `NoMemory` what is kept is as right as before.
+/// Finds all nodes that go, in preorder, in place of those of before. The world stays as it is, and after `NoMemory` what is kept is as right as before.
 pub(crate) fn goers(
     alloc: Global,
     parts: &mut Parts,
     kept: &mut Kept,
-) -> Result<Vec<Going>, NoMemory>
+    going: &mut Vec<Going>,
+) -> Result<(), NoMemory>
     requires ready { IsReady parts.old kept.old }
     ensures ready { IsReady parts.new kept.new }
     ensures same { AreSame parts.old parts.new }
     ensures moves { parts.new.moves.items ≡ parts.old.moves.items }
-    ensures chosen { IfOk result (λ going. HasChosen parts.new kept.new going.items) }
+    ensures chosen { OnOk result (HasChosen parts.new kept.new going.new.items) }
 {
     recall(&mut kept.queue);
     notice(parts, kept);
     refresh(alloc, parts, kept)?;
     catch_up(parts, kept);
-    let mut going = look(alloc, parts, kept)?;
-    contest(alloc, parts, kept, &mut going)?;
-    Ok(going)
+    look(parts, kept, going)?;
+    contest(alloc, parts, kept, going)?;
+    Ok(())
 }

@@ -20,6 +20,7 @@ pub mod Room
 pub mod Seeing
 pub mod Slots
 pub mod Targets
+pub mod Telling
 pub mod Turning
 pub mod UnderWay
 pub mod Writing

@@ -1,5 +1,6 @@
 -- What one micro step leaves.
-use Rattle.std.specs.Prelude.{◌≡◌, Bool, true, false, []}
+use Rattle.std.specs.Prelude.{◌≡◌, Bool, true, false, List, [], if◌then◌else◌}
+use Rattle.px_sem.specs.declared.moves.Move.{Move}
 use Rattle.px_sem.specs.Conflicts.{is_quiet}
 use Rattle.px_sem.specs.Step.{micro, moves}
 use Rattle.px_parts.specs.declared.parts.Parts.{Parts}
@@ -10,6 +11,19 @@ pub record HaveMoved (old new : Parts) : Type 0 where
   pub one_plan : AreOfOnePlan old new
   pub loud : is_quiet (plan_in old) (world_in old) ≡ false
   pub world : world_in new ≡ micro (plan_in old) (world_in old)
+
+-- these are the moves, where they are told; nothing else changes
+pub record HasTold (tells : Bool) (made : List Move) (old new : Parts) : Type 0 where
+  pub flat : new.flat ≡ old.flat
+  pub cells : new.cells ≡ old.cells
+  pub reports : new.reports ≡ old.reports
+  pub actions : new.actions ≡ old.actions
+  pub moves : new.moves.items ≡ (if tells then made else old.moves.items)
+
+-- the moves behind a step: what was done, where it is told, and else what they were
+abbrev pub moves_after : Parts → Bool → List Move
+moves_after old true = moves (plan_in old) (world_in old)
+moves_after old false = old.moves.items
 
 -- it did, with these moves
 pub record HaveStepped (old new : Parts) : Type 0 where

@@ -87,6 +87,14 @@ abbrev pub KnowsWritten : Turns → Type 0
 KnowsWritten made = (variable : ℕ) → contains nat_cmp made.written variable
     ≡ list_any (λ other. nat_eq variable other.variable) made.writes.items
 
+-- nothing is gathered
+pub record IsOfNoStep (made : Turns) : Type 0 where
+  pub writes : made.writes.items ≡ []
+  pub initial : made.initial.items ≡ []
+  pub turns : made.turns.items ≡ []
+  pub moves : made.moves.items ≡ []
+  pub written : KnowsWritten made
+
 -- one turn does what a node's move does, its variables apart
 pub record IsTurn (parts : Parts) (turn : Turn) : Type 0 where
   pub within : turn.going.node < length (plan_in parts)

@@ -7,8 +7,8 @@
 //! node, and `doing` by the kind of the move too, which is from `kinds`. `turns` gathers what those that go do, in the world
 //! before the step, and `moving` does it, which takes no memory. `step` is the list of these phases.
 //!
-//! A step has two halves: `going` says who goes, and `act` what all that go do, however they were found. `micro` is both,
-//! and `act_untold` is `act` where nobody reads the moves.
+//! A step has two halves: `going` says who goes, and `act` what all that go do, however they were found, and tells it where
+//! somebody reads the moves. `micro` is both. Who takes many steps keeps the room of `Turns` from one to the next.
 //! Who keeps what is asked of nodes, their truths and their parents' states finds their guards by `guards_by`.
 //!
 //! `specs/Candidates.antt` says which nodes a step has to be given, `specs/Going.antt` which of them go, and
@@ -37,6 +37,7 @@ pub use asked::asks_in;
 pub use guarded::guards_by;
 pub use sight::Going;
 pub use states::{is_active, is_at_rest, is_executing, is_waiting};
-pub use step::{act, act_untold, micro};
+pub use step::{act, micro};
 pub use truths::Truths;
+pub use turns::Turns;
 pub use wanting::going;

@@ -18,7 +18,6 @@ use px_cells::Cells;
 use px_command::Actions;
 use px_flat::{Abort, Act, Flat};
 use px_parts::Parts;
-use px_sem::Move;
 use px_value::{Failure, Outcome, Value};
 
 fn outcome_value(outcome: Option<Outcome>) -> Value
@@ -55,29 +54,29 @@ fn put(cells: &mut Cells, at: u32, value: Value)
 }
 
 // What the nodes that go write.
-fn write(cells: &mut Cells, writes: Vec<CellWrite>)
-    requires within { All (λ write. write.cell < length cells.old.contents.values) writes.items }
-    requires room { length writes.items ≤ cells.old.room }
-    ensures values { cells.new.contents.values ≡ fold put_write cells.old.contents.values writes.items }
+fn write(cells: &mut Cells, writes: &mut Vec<CellWrite>)
+    requires within { All (λ write. write.cell < length cells.old.contents.values) writes.old.items }
+    requires room { length writes.old.items ≤ cells.old.room }
+    ensures values { cells.new.contents.values ≡ fold put_write cells.old.contents.values writes.old.items }
     ensures marked { cells.new.contents.marked ≡ cells.old.contents.marked }
     ensures seen { cells.new.seen ≡ cells.old.seen }
-    ensures room { cells.old.room ≤ cells.new.room + length writes.items }
+    ensures room { cells.old.room ≤ cells.new.room + length writes.old.items }
 {
-    for CellWrite { cell, value, .. } in writes {
+    for CellWrite { cell, value, .. } in writes.drain(..) {
         put(cells, cell, value);
     }
 }
 
 // The initial values of those that begin to wait.
-fn begin(cells: &mut Cells, initial: Vec<CellValue>)
-    requires within { All (λ given. given.cell < length cells.old.contents.values) initial.items }
-    requires room { length initial.items ≤ cells.old.room }
-    ensures values { cells.new.contents.values ≡ fold put_value cells.old.contents.values initial.items }
+fn begin(cells: &mut Cells, initial: &mut Vec<CellValue>)
+    requires within { All (λ given. given.cell < length cells.old.contents.values) initial.old.items }
+    requires room { length initial.old.items ≤ cells.old.room }
+    ensures values { cells.new.contents.values ≡ fold put_value cells.old.contents.values initial.old.items }
     ensures marked { cells.new.contents.marked ≡ cells.old.contents.marked }
     ensures seen { cells.new.seen ≡ cells.old.seen }
-    ensures room { cells.old.room ≤ cells.new.room + length initial.items }
+    ensures room { cells.old.room ≤ cells.new.room + length initial.old.items }
 {
-    for CellValue { cell, value } in initial {
+    for CellValue { cell, value } in initial.drain(..) {
         put(cells, cell, value);
     }
 }
@@ -152,50 +151,47 @@ fn arrive(flat: &Flat, cells: &mut Cells, actions: &mut Actions, turn: Turn)
 }
 
 // All that go, one after another.
-fn arrive_all(flat: &Flat, cells: &mut Cells, actions: &mut Actions, turns: Vec<Turn>)
-    requires nodes { All (λ turn. turn.going.node < length (plan_of flat.now)) turns.items }
+fn arrive_all(flat: &Flat, cells: &mut Cells, actions: &mut Actions, turns: &mut Vec<Turn>)
+    requires nodes { All (λ turn. turn.going.node < length (plan_of flat.now)) turns.old.items }
     requires all_cells { length cells.old.contents.values ≡ all_cells (plan_of flat.now) }
     requires all_acts { length actions.old.contents.values ≡ length (plan_of flat.now) }
-    requires room { 5 * length turns.items ≤ cells.old.room }
-    requires acts_room { length turns.items ≤ actions.old.room }
+    requires room { 5 * length turns.old.items ≤ cells.old.room }
+    requires acts_room { length turns.old.items ≤ actions.old.room }
     ensures values { cells.new.contents.values
-        ≡ fold (with_turn (plan_of flat.now)) cells.old.contents.values turns.items }
+        ≡ fold (with_turn (plan_of flat.now)) cells.old.contents.values turns.old.items }
     ensures marked { cells.new.contents.marked ≡ cells.old.contents.marked }
     ensures seen { cells.new.seen ≡ cells.old.seen }
-    ensures acts { actions.new.contents.values ≡ fold with_turn_act actions.old.contents.values turns.items }
+    ensures acts { actions.new.contents.values ≡ fold with_turn_act actions.old.contents.values turns.old.items }
     ensures acts_marked { actions.new.contents.marked ≡ actions.old.contents.marked }
     ensures acts_seen { actions.new.seen ≡ actions.old.seen }
 {
-    for turn in turns {
+    for turn in turns.drain(..) {
         arrive(flat, cells, actions, turn);
     }
 }
 
 /// Moves all nodes that go: first what they write, then the initial values, which win over it, then the nodes
-/// themselves. Hands back the moves that are told.
-pub fn apply(parts: &mut Parts, turns: Turns) -> Vec<Move>
+/// themselves. The moves that are told stay.
+pub fn apply(parts: &mut Parts, turns: &mut Turns)
     requires stand { AreStanding parts.old }
-    requires turns { AreTurns parts.old (map (λ turn. turn.going) turns.turns.items) turns }
-    requires going { AreAllGoing (plan_in parts.old) (world_in parts.old) (map (λ turn. turn.going) turns.turns.items) }
-    requires cells { length turns.writes.items + length turns.initial.items + 5 * length turns.turns.items
+    requires turns { AreTurns parts.old (map (λ turn. turn.going) turns.old.turns.items) turns.old }
+    requires going { AreAllGoing (plan_in parts.old) (world_in parts.old) (map (λ turn. turn.going) turns.old.turns.items) }
+    requires cells { length turns.old.writes.items + length turns.old.initial.items + 5 * length turns.old.turns.items
         ≤ parts.old.cells.room }
-    requires actions { length turns.turns.items ≤ parts.old.actions.room }
+    requires actions { length turns.old.turns.items ≤ parts.old.actions.room }
     ensures world { world_in parts.new ≡ micro (plan_in parts.old) (world_in parts.old) }
-    ensures told { result.items ≡ turns.moves.items }
+    ensures told { turns.new.moves.items ≡ turns.old.moves.items }
     ensures moves { parts.new.moves.items ≡ parts.old.moves.items }
     ensures one_plan { AreOfOnePlan parts.old parts.new }
     ensures seen { AreSeenAsBefore parts.old parts.new }
     ensures stand { AreStanding parts.new }
 {
-    let Turns {
-        writes,
-        initial,
-        turns,
-        moves,
-        ..
-    } = turns;
-    write(&mut parts.cells, writes);
-    begin(&mut parts.cells, initial);
-    arrive_all(&parts.flat, &mut parts.cells, &mut parts.actions, turns);
-    moves
+    write(&mut parts.cells, &mut turns.writes);
+    begin(&mut parts.cells, &mut turns.initial);
+    arrive_all(
+        &parts.flat,
+        &mut parts.cells,
+        &mut parts.actions,
+        &mut turns.turns,
+    );
 }

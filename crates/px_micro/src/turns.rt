@@ -10,7 +10,7 @@ ghost use Rattle.px_flat.specs.Numbered.{held};
 ghost use Rattle.px_flat.specs.Row.{site_in};
 ghost use Rattle.px_micro.specs.Going.{AreAllGoing};
 ghost use Rattle.px_parts.specs.Parts.{AreStanding, plan_in, world_in};
-ghost use Rattle.px_micro.specs.Turns.{effects_in, from_cell, initial_in, moves_told, with_write, AreTurns, IsAdded, KnowsWritten};
+ghost use Rattle.px_micro.specs.Turns.{effects_in, from_cell, initial_in, moves_told, with_write, AreTurns, IsAdded, IsOfNoStep, KnowsWritten};
 
 use crate::doing::effects_of;
 use crate::effects::{CellWrite, Effects, UnderWay};
@@ -37,7 +37,7 @@ pub struct CellValue {
     pub value: Value,
 }
 
-/// All that a step does, and how it is told, if it is.
+/// All that a step does, and how it is told, if it is. It is kept from step to step, for its room.
 #[derive(Drop)]
 pub struct Turns {
     /// What is written, of each variable by the first node in preorder that writes it.
@@ -52,12 +52,9 @@ pub struct Turns {
 }
 
 impl Turns {
-    fn none(alloc: Global) -> Turns
-        ensures writes { result.writes.items ≡ [] }
-        ensures initial { result.initial.items ≡ [] }
-        ensures turns { result.turns.items ≡ [] }
-        ensures moves { result.moves.items ≡ [] }
-        ensures written { KnowsWritten result }
+    /// Of no step, without room.
+    pub fn none(alloc: Global) -> Turns
+        ensures { IsOfNoStep result }
     {
         Turns {
             writes: Vec::new(alloc),
@@ -66,6 +63,17 @@ impl Turns {
             moves: Vec::new(alloc),
             written: BTreeSet::new(alloc),
         }
+    }
+
+    // Forgets the step before.
+    fn clear(&mut self)
+        ensures { IsOfNoStep self.new }
+    {
+        self.writes.clear();
+        self.initial.clear();
+        self.turns.clear();
+        self.moves.clear();
+        self.written.clear();
     }
 
     /// How many cells are put at most: a node has five beside its variables.
@@ -241,21 +249,22 @@ fn told_move(
     })
 }
 
-/// The turns of the nodes that go, in preorder, and their moves where these are told.
-pub fn turns_of(
+/// Gathers the turns of the nodes that go, in preorder, and their moves where these are told.
+pub fn gather(
     alloc: Global,
     parts: &Parts,
     going: &[Going],
     tells: bool,
-) -> Result<Turns, NoMemory>
+    turns: &mut Turns,
+) -> Result<(), NoMemory>
     requires stand { AreStanding parts.now }
     requires going { AreAllGoing (plan_in parts.now) (world_in parts.now) going.now }
-    ensures turns { IfOk result (AreTurns parts.now going.now) }
-    ensures moves { IfOk result (λ made. made.moves.items ≡ moves_told parts.now tells going.now) }
+    ensures turns { OnOk result (AreTurns parts.now going.now turns.new) }
+    ensures moves { OnOk result (turns.new.moves.items ≡ moves_told parts.now tells going.now) }
 {
-    let mut turns = Turns::none(alloc);
+    turns.clear();
     for one in going {
         turns.add(alloc, parts, *one, tells)?;
     }
-    Ok(turns)
+    Ok(())
 }

@@ -12,7 +12,7 @@ woken-init c =
     let first = c.first-at.ensures in
     record {
       looked =
-          subst (λ going. HaveLookedBut c.args.parts.now kept going (rest_of kept.queue c.first-at.result)) (sym c.new-going.ensures.items)
+          subst (λ going. HaveLookedBut c.args.parts.now kept going (rest_of kept.queue c.first-at.result)) (sym c.clear.ensures.items)
           (subst (HaveLookedBut c.args.parts.now kept []) (sym first.walk) (looked_at_none c.args.parts.now kept c.requires.right c.requires.now.nobody));
       right = c.requires.right;
       now = c.requires.now;

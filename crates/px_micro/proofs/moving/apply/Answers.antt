@@ -8,36 +8,36 @@ use Rattle.px_micro.proofs.moving.apply.Goals as goal
 
 pub write-requires-clause-within : goal.write-requires-clause-within
 write-requires-clause-within c =
-    let ready : AreReady c.args.parts.now c.args.turns =
+    let ready : AreReady c.args.parts.now c.args.turns.now =
     record { stand = c.requires.stand; turns = c.requires.turns; going = c.requires.going } in
-    λ k d few. omega (arith, c.requires.stand.all_cells, writes_within c.args.parts.now c.args.turns ready k d few)
+    λ k d few. omega (arith, c.requires.stand.all_cells, writes_within c.args.parts.now c.args.turns.now ready k d few)
 
 pub begin-requires-clause-within : goal.begin-requires-clause-within
 begin-requires-clause-within c =
-    let ready : AreReady c.args.parts.now c.args.turns =
+    let ready : AreReady c.args.parts.now c.args.turns.now =
     record { stand = c.requires.stand; turns = c.requires.turns; going = c.requires.going } in
     λ k d few. omega (
       arith,
       ap length c.write.ensures.values,
-      written_length c.args.parts.now c.args.turns ready,
-      initial_within c.args.parts.now c.args.turns ready k d few,
+      written_length c.args.parts.now c.args.turns.now ready,
+      initial_within c.args.parts.now c.args.turns.now ready k d few,
     )
 
 pub arrive_all-requires-clause-nodes : goal.arrive_all-requires-clause-nodes
 arrive_all-requires-clause-nodes c =
-    turns_within c.args.parts.now c.args.turns
+    turns_within c.args.parts.now c.args.turns.now
     (record { stand = c.requires.stand; turns = c.requires.turns; going = c.requires.going })
 
 pub arrive_all-requires-clause-all_cells : goal.arrive_all-requires-clause-all_cells
 arrive_all-requires-clause-all_cells c =
-    ap length (c.begin.ensures.values ∙ ap (λ (cells : List Value). fold put_value cells c.args.turns.initial.items) c.write.ensures.values)
-    ∙ begun_all c.args.parts.now c.args.turns
+    ap length (c.begin.ensures.values ∙ ap (λ (cells : List Value). fold put_value cells c.args.turns.now.initial.items) c.write.ensures.values)
+    ∙ begun_all c.args.parts.now c.args.turns.now
     (record { stand = c.requires.stand; turns = c.requires.turns; going = c.requires.going })
 
 pub returns-clause-world : goal.returns-clause-world
 returns-clause-world c =
     let parts = c.args.parts.now in
-    let made = c.args.turns in
+    let made = c.args.turns.now in
     let cells : c.arrive_all.new.cells.contents.values ≡ cells_after parts made =
     c.arrive_all.ensures.values
     ∙ ap (λ (cells : List Value). fold (with_turn (plan_in parts)) cells made.turns.items)
@@ -48,7 +48,7 @@ returns-clause-world c =
 pub returns-clause-stand : goal.returns-clause-stand
 returns-clause-stand c =
     let parts = c.args.parts.now in
-    let made = c.args.turns in
+    let made = c.args.turns.now in
     let cells : c.arrive_all.new.cells.contents.values ≡ cells_after parts made =
     c.arrive_all.ensures.values
     ∙ ap (λ (cells : List Value). fold (with_turn (plan_in parts)) cells made.turns.items)

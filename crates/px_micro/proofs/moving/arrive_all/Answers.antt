@@ -1,5 +1,5 @@
 use Rattle.std.proofs.Common.{◌≡◌, ◌<◌, ◌∷◌, List, fold, length, All, ap, sym, ◌∙◌, subst, arith}
-use Rattle.std.specs.Vec.Iter.{into_iter_items}
+use Rattle.std.specs.Vec.Iter.{drain_items}
 use Rattle.std.proofs.lemmas.List.Elements.{All-head, All-tail}
 use Rattle.px_core.specs.Plan.{Site}
 use Rattle.px_flat.specs.Flat.{plan_of}
@@ -12,7 +12,7 @@ pub arrive-requires-clause-node : goal.arrive-requires-clause-node
 arrive-requires-clause-node c =
     let at = c.loop-turn in
     let plan : List Site = plan_of c.args.flat.now in
-    All-head (λ (turn : Turn). turn.going.node < length plan) c.in-Some.turn (into_iter_items c.next.new.self)
+    All-head (λ (turn : Turn). turn.going.node < length plan) c.in-Some.turn (drain_items c.next.new.self)
     (subst (All (λ (turn : Turn). turn.going.node < length plan)) c.in-Some.ensures.steps.0 at.invariant.within)
 
 pub arrive-requires-clause-room : goal.arrive-requires-clause-room
@@ -28,8 +28,8 @@ loop-turn-preserved c =
     let cells = at.cells.contents.values in
     let under = at.actions.contents.values in
     let one = c.in-Some.turn in
-    let left = into_iter_items c.next.new.self in
-    let steps : into_iter_items at.turn-iterator ≡ one ∷ left = c.in-Some.ensures.steps.0 in
+    let left = drain_items c.next.new.self in
+    let steps : drain_items at.turn-iterator ≡ one ∷ left = c.in-Some.ensures.steps.0 in
     record {
       can = tt;
       finite = tt;

@@ -1,5 +1,5 @@
 use Rattle.std.proofs.Common.{◌≡◌, ◌<◌, ◌∷◌, fold, length, All, ap, sym, ◌∙◌, subst, arith}
-use Rattle.std.specs.Vec.Iter.{into_iter_items}
+use Rattle.std.specs.Vec.Iter.{drain_items}
 use Rattle.std.proofs.lemmas.List.{length-set}
 use Rattle.std.proofs.lemmas.List.Elements.{All-tail}
 use Rattle.px_micro.specs.declared.effects.CellWrite.{CellWrite}
@@ -11,8 +11,8 @@ loop-cell-preserved c =
     let at = c.loop-cell in
     let old = at.cells.contents.values in
     let one = c.in-Some.field-0 in
-    let left = into_iter_items c.next.new.self in
-    let steps : into_iter_items at.cell-iterator ≡ one ∷ left = c.in-Some.ensures.steps.0 in
+    let left = drain_items c.next.new.self in
+    let steps : drain_items at.cell-iterator ≡ one ∷ left = c.in-Some.ensures.steps.0 in
     let put : c.put.new.cells.contents.values ≡ put_write old one = c.put.ensures.values in
     let sized : length c.put.new.cells.contents.values ≡ length old = ap length put ∙ length-set old one.cell one.value in
     let within : All (λ (one : CellWrite). one.cell < length old) left =

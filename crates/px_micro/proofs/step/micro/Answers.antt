@@ -15,3 +15,13 @@ returns-then-is_empty-clause-stepped c =
       quiet = quiet (plan_in parts) (world_in parts) going.items c.in_ok-going.ensures none;
       moves = c.clear.ensures.items;
     }
+
+pub returns-clause-stepped : goal.returns-clause-stepped
+returns-clause-stepped c =
+    let moved = c.in_ok-act.ensures.moved in
+    record {
+      one_plan = moved.one_plan;
+      loud = moved.loud;
+      world = moved.world;
+      moves = c.in_ok-act.ensures.moves;
+    }

@@ -13,8 +13,8 @@ loop-taken-init c =
       moves = c.begin.ensures.moves;
     }
 
-pub step_untold-requires : goal.step_untold-requires
-step_untold-requires c = record { pending = ap is_pending c.loop-taken.invariant.underway.pending }
+pub take_step-requires : goal.take_step-requires
+take_step-requires c = record { pending = ap is_pending c.loop-taken.invariant.underway.pending }
 
 pub returns-in-Ok-false-clause-settled : goal.returns-in-Ok-false-clause-settled
 returns-in-Ok-false-clause-settled c =

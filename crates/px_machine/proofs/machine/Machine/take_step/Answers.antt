@@ -6,22 +6,22 @@ use Rattle.px_sem.specs.World.{World}
 use Rattle.px_micro.proofs.Quiet.{quiet}
 use Rattle.px_machine.specs.Queue.{HaveGone}
 use Rattle.px_machine.specs.Stepping.{HasChosen}
-use Rattle.px_machine.proofs.Readying.{marked_still, one_both, ready_gone, ready_rested, ready_still, same_is_one, same_quiet, same_state, stepped_state}
-use Rattle.px_machine.proofs.machine.Machine.step_untold.Goals as goal
+use Rattle.px_machine.proofs.Readying.{marked_still, moves_behind, one_both, ready_gone, ready_rested, ready_still, same_is_one, same_quiet, same_state, stepped_state}
+use Rattle.px_machine.proofs.machine.Machine.take_step.Goals as goal
 
 -- none goes
 pub invariant_of-self-then-is_empty-2 : goal.invariant_of-self-then-is_empty-2
 invariant_of-self-then-is_empty-2 c =
     let machine = c.args.self.now in
     let middle = c.goers.new.parts in
-    let going = c.in_ok-going.going in
+    let going = c.goers.new.going in
     let same = c.goers.ensures.same in
     let none : going.items ≡ [] =
     nil_from_length going.items (omega (arith, eqb-true going.len 0 (sym c.is_empty.ensures ∙ c.if-is_empty.true), going.ok.0)) in
     record {
       ready =
           ready_rested middle _ c.goers.new.kept c.rest.new.queue c.goers.ensures.ready
-          (subst (HasChosen middle c.goers.new.kept) none c.in_ok-going.ensures.chosen) c.rest.ensures refl
+          (subst (HasChosen middle c.goers.new.kept) none c.in_ok-goers.ensures.chosen) c.rest.ensures refl
           (record { cells = refl; actions = refl }) c.goers.ensures.ready.stand refl;
       marked = marked_still machine.begun machine.parts _ machine.marked
           (same_is_one machine.parts _ (record { plan = same.plan; cells = same.cells; reports = same.reports; actions = same.actions }))
@@ -32,11 +32,11 @@ pub returns-then-is_empty-clause-ok : goal.returns-then-is_empty-clause-ok
 returns-then-is_empty-clause-ok c =
     let machine = c.args.self.now in
     let middle = c.goers.new.parts in
-    let going = c.in_ok-going.going in
+    let going = c.goers.new.going in
     let none : length going.items ≡ 0 =
     omega (arith, eqb-true going.len 0 (sym c.is_empty.ensures ∙ c.if-is_empty.true), going.ok.0) in (
       same_quiet machine.begun machine.parts middle true c.goers.ensures.same
-          (quiet (plan_in middle) (world_in middle) going.items c.in_ok-going.ensures.chosen.all none),
+          (quiet (plan_in middle) (world_in middle) going.items c.in_ok-goers.ensures.chosen.all none),
       same_state machine.begun machine.parts middle c.goers.ensures.same,
       c.clear.ensures.items,
     )
@@ -46,11 +46,11 @@ pub invariant_of-self-in-Break-branch-2 : goal.invariant_of-self-in-Break-branch
 invariant_of-self-in-Break-branch-2 c =
     let machine = c.args.self.now in
     let middle = c.goers.new.parts in
-    let new = c.act_untold.new.parts in
-    let same = c.in_err-act_untold.ensures.same in
+    let new = c.act.new.parts in
+    let same = c.in_err-act.ensures.left.same in
     record {
       ready =
-          ready_still middle new c.goers.new.kept c.goers.ensures.ready same.plan c.act_untold.ensures.seen c.act_untold.ensures.stand
+          ready_still middle new c.goers.new.kept c.goers.ensures.ready same.plan c.act.ensures.seen c.act.ensures.stand
           (λ i. (same.reports i).reports);
       marked = marked_still machine.begun machine.parts new machine.marked
           (one_both machine.parts middle new (same_is_one machine.parts middle c.goers.ensures.same) (same_is_one middle new same))
@@ -62,15 +62,15 @@ pub invariant_of-self-2 : goal.invariant_of-self-2
 invariant_of-self-2 c =
     let machine = c.args.self.now in
     let middle = c.goers.new.parts in
-    let new = c.act_untold.new.parts in
-    let moved = c.in_ok-act_untold.ensures.moved in
+    let new = c.act.new.parts in
+    let moved = c.in_ok-act.ensures.moved in
     let reports : new.reports.reports ≡ middle.reports.reports = ap (λ (world : World). world.reports) moved.world in
     record {
       ready =
-          ready_gone middle new c.goers.new.kept c.have_gone.new.queue c.in_ok-going.going.items c.goers.ensures.ready
-          c.in_ok-going.ensures.chosen
+          ready_gone middle new c.goers.new.kept c.have_gone.new.queue c.goers.new.going.items c.goers.ensures.ready
+          c.in_ok-goers.ensures.chosen
           (subst (HaveGone c.goers.new.kept.queue c.have_gone.new.queue) c.deref-2.ensures.value c.have_gone.ensures) moved.one_plan.plan
-          c.act_untold.ensures.seen c.act_untold.ensures.stand reports;
+          c.act.ensures.seen c.act.ensures.stand reports;
       marked = marked_still machine.begun machine.parts new machine.marked
           (one_both machine.parts middle new (same_is_one machine.parts middle c.goers.ensures.same) moved.one_plan)
           (reports ∙ (λ i. (c.goers.ensures.same.reports i).reports));
@@ -80,10 +80,10 @@ pub returns-clause-ok : goal.returns-clause-ok
 returns-clause-ok c =
     let machine = c.args.self.now in
     let middle = c.goers.new.parts in
-    let new = c.act_untold.new.parts in
+    let new = c.act.new.parts in
     let same = c.goers.ensures.same in
-    let moved = c.in_ok-act_untold.ensures.moved in (
+    let moved = c.in_ok-act.ensures.moved in (
       same_quiet machine.begun machine.parts middle false same moved.loud,
       stepped_state machine.begun machine.parts middle new same moved.one_plan moved.world,
-      c.act_untold.ensures.moves ∙ c.goers.ensures.moves,
+      moves_behind c.args.tells machine.begun machine.parts middle new same c.goers.ensures.moves c.in_ok-act.ensures.moves,
     )

@@ -1,6 +1,6 @@
 use Rattle.std.proofs.Common.{◌≡◌, take}
 use Rattle.px_micro.specs.Turns.{AreTurns, KnowsWritten, moves_told}
-use Rattle.px_micro.proofs.turns.turns_of.Given as goal
+use Rattle.px_micro.proofs.turns.gather.Given as goal
 
 abbrev pub invariant-loop-one : goal.invariant-loop-one
 invariant-loop-one l = record {

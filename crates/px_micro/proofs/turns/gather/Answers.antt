@@ -2,7 +2,7 @@ use Rattle.std.proofs.Common.{◌≡◌, take, ap, sym, ◌∙◌, subst}
 use Rattle.std.proofs.lemmas.List.{take_more, take_all}
 use Rattle.px_micro.specs.Turns.{AreTurns, moves_told}
 use Rattle.px_micro.proofs.Turning.{moves_then, turns_more}
-use Rattle.px_micro.proofs.turns.turns_of.Goals as goal
+use Rattle.px_micro.proofs.turns.gather.Goals as goal
 
 pub loop-one-preserved : goal.loop-one-preserved
 loop-one-preserved c = record {
