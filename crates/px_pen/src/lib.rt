@@ -32,19 +32,22 @@ impl Pen {
 
     /// Writes a text with this word in place of each `{}`.
     pub fn fill(&mut self, text: &str, word: &str) {
-        for (place, piece) in text.split("{}").enumerate() {
-            if place > 0 {
-                self.push(word);
-            }
+        let mut pieces = text.split("{}");
+        if let Some(front) = pieces.next() {
+            self.push(front);
+        }
+        for piece in pieces {
+            self.push(word);
             self.push(piece);
         }
     }
 
     /// Writes a text with these things, in turn, in place of its `{}`.
     pub fn fill_each<D: Display>(&mut self, text: &str, things: &[D]) {
-        for (place, piece) in text.split("{}").enumerate() {
+        let mut things = things.iter();
+        for piece in text.split("{}") {
             self.push(piece);
-            if let Some(thing) = things.get(place) {
+            if let Some(thing) = things.next() {
                 self.show(thing);
             }
         }
@@ -80,11 +83,13 @@ impl Pen {
     /// As `append`; of a text that has more characters than `most` the front, and dots behind it.
     pub fn append_front(&mut self, other: &Pen, most: usize, dots: &str) {
         self.has_failed = self.has_failed || other.has_failed;
-        for (place, c) in other.text.as_str().chars().enumerate() {
-            if place >= most {
-                return self.push(dots);
+        let text = other.text.as_str();
+        match text.char_indices().nth(most) {
+            Some((end, _)) => {
+                self.push(text.get(..end).unwrap_or(text));
+                self.push(dots);
             }
-            self.push_char(c);
+            None => self.push(text),
         }
     }
 
