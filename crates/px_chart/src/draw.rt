@@ -26,11 +26,12 @@ pub fn picture_of(alloc: Global, title: &str, recording: &Recording) -> Pen {
 
 impl Drawing {
     fn draw(&mut self, title: &str, recording: &Recording) {
+        let rows = recording.rows.len();
         self.frame(title);
-        self.bands(recording.rows.len());
+        self.bands(rows);
         self.columns(&recording.columns);
         self.rows(&recording.rows, &recording.again);
-        self.numbers_again(&recording.columns, recording.rows.len());
+        self.numbers_again(&recording.columns, rows);
         self.push("</svg>\n");
     }
 }

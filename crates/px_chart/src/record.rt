@@ -72,9 +72,8 @@ fn start_and_post<S: Stepper>(
     if !settles(alloc, stepper, recording)? {
         return Err(RecordFault::Runaway);
     }
-    recording.end_start()?;
-    post_each(alloc, stepper, entries, recording)?;
-    Ok(())
+    recording.end_start();
+    Ok(post_each(alloc, stepper, entries, recording)?)
 }
 
 // Steps until the world is quiet and settles it, and answers whether it does so; each step is kept.
@@ -92,7 +91,7 @@ fn settles<S: Stepper>(
             stepper.settle();
             return Ok(true);
         }
-        recording.step(stepper.moves())?;
+        recording.step(stepper.moves());
     }
     Ok(false)
 }
@@ -112,9 +111,9 @@ fn post_each<S: Stepper>(
         if fate.is_accepted() {
             count = count.saturating_add(1);
         }
-        recording.end_entry(entry, fate)?;
+        recording.end_entry(entry, fate);
     }
-    Ok(())
+    recording.whole()
 }
 
 // Posts an event, and answers what becomes of it.
@@ -135,8 +134,7 @@ fn post<S: Stepper>(
         Offered::Refused(reply) => Ok(fate_by(reply)),
         Offered::Pending { .. } => {
             stepper.give_up();
-            take(alloc, stepper, event, recording)?;
-            Ok(Fate::Accepted)
+            take(alloc, stepper, event, recording)
         }
     }
 }
@@ -156,7 +154,7 @@ fn take<S: Stepper>(
     stepper: &mut S,
     event: &Event,
     recording: &mut Recording,
-) -> Result<(), NoMemory>
+) -> Result<Fate, NoMemory>
     requires nothing { (S.state stepper.old).pending ≡ Pending.Nothing }
     requires fit { IsTrue (is_fit_event event.now) }
     ensures rest { OnOk result ((S.state stepper.new).pending ≡ Pending.Nothing) }
@@ -165,5 +163,5 @@ fn take<S: Stepper>(
     if !settles(alloc, stepper, recording)? {
         stepper.give_up();
     }
-    Ok(())
+    Ok(Fate::Accepted)
 }

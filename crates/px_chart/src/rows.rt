@@ -94,14 +94,17 @@ impl Row {
     }
 }
 
-/// A row for each node of a plan, each before those below it, without anything that they did.
-pub fn rows_of(alloc: Global, plan: &Plan) -> Result<Box<Rows>, NoMemory> {
+/// Adds a row for each node of a plan, each before those below it, without anything that they did.
+pub fn add_rows(alloc: Global, plan: &Plan, rows: &mut Rows) -> Result<(), NoMemory> {
     let nodes = paths_of(alloc, plan)?;
-    let mut rows = Box::new(alloc, IndexMap::new(alloc))?;
-    for node in &nodes {
-        add_row(alloc, node, &mut rows)?;
+    add_each(alloc, &nodes, rows)
+}
+
+fn add_each(alloc: Global, nodes: &[NodePath<'_>], rows: &mut Rows) -> Result<(), NoMemory> {
+    for node in nodes {
+        add_row(alloc, node, rows)?;
     }
-    Ok(rows)
+    Ok(())
 }
 
 fn add_row(alloc: Global, node: &NodePath<'_>, rows: &mut Rows) -> Result<(), NoMemory> {
