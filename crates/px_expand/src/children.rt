@@ -34,6 +34,17 @@ impl Children {
         }
     }
 
+    /// No children yet, and room for so many.
+    fn with_room(alloc: Global, count: usize) -> Result<Children, NoMemory>
+        ensures by_name { IfOk result (λ made. made.by_name.entries ≡ []) }
+        ensures paths { IfOk result (λ made. made.paths.items ≡ []) }
+    {
+        Ok(Children {
+            by_name: IndexMap::with_capacity(alloc, count)?,
+            paths: Vec::with_capacity(alloc, count)?,
+        })
+    }
+
     /// A child of this name more. After an error the children are of no use.
     pub(crate) fn push(&mut self, alloc: Global, parent: &Path, name: Name) -> Result<(), NoMemory>
         requires { length parent.now + length name < PATH_LIMIT }
@@ -59,7 +70,7 @@ impl Children {
         ensures paths { IfOk result (λ made. made.paths.items
             ≡ paths_of (actions_seen path.now 1 (actions_in_turn (map action_of actions.now)))) }
     {
-        let mut children = Children::none(alloc);
+        let mut children = Children::with_room(alloc, actions.len())?;
         for (number, action) in actions.iter().enumerate() {
             let name = name_of(alloc, number + 1, action)?;
             children.push(alloc, path, name)?;

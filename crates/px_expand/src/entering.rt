@@ -94,7 +94,7 @@ fn names_of(alloc: Global, variables: &[Variable]) -> Result<IndexSet<Name>, NoM
     ensures { IfOk result
         (λ names. names.keys ≡ each_once (map (λ variable. variable.name) (map variable_data variables.now))) }
 {
-    let mut names = IndexSet::new(alloc);
+    let mut names = IndexSet::with_capacity(alloc, variables.len())?;
     for variable in variables {
         names.insert(variable.name.copy(alloc)?)?;
     }

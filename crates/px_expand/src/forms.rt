@@ -429,7 +429,9 @@ fn turn_paths(alloc: Global, path: &Path, body: Path) -> Result<Vec<Path>, NoMem
     requires { length path.now + length step_name < PATH_LIMIT }
     ensures { IfOk result (λ paths. paths.items ≡ body ∷ below path.now step_name ∷ []) }
 {
-    let mut paths = one(alloc, body)?;
+    // `#set` goes before them.
+    let mut paths = Vec::with_capacity(alloc, 3)?;
+    paths.push(body)?;
     paths.push(child_path(alloc, path, Generated::Step)?)?;
     Ok(paths)
 }

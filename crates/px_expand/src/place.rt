@@ -144,27 +144,34 @@ impl Own {
 pub(crate) fn one<T: Drop>(alloc: Global, item: T) -> Result<Vec<T>, NoMemory>
     ensures { IfOk result (λ made. made.items ≡ item ∷ []) }
 {
-    let mut made = Vec::new(alloc);
+    first(alloc, item, 1)
+}
+
+/// This alone, with room for so many.
+fn first<T: Drop>(alloc: Global, item: T, room: usize) -> Result<Vec<T>, NoMemory>
+    ensures { IfOk result (λ made. made.items ≡ item ∷ []) }
+{
+    let mut made = Vec::with_capacity(alloc, room)?;
     made.push(item)?;
     Ok(made)
 }
 
-/// A node with none beside it.
+/// A node with none beside it, and room for a `#set` before it.
 pub(crate) fn only(alloc: Global, node: Box<CoreNode>) -> Result<Vec<CoreNode>, NoMemory>
     ensures { IfOk result (λ nodes. nodes.items ≡ node.value ∷ []) }
 {
-    one(alloc, Box::into_inner(node))
+    first(alloc, Box::into_inner(node), 2)
 }
 
-/// A node with another behind it.
+/// A node with another behind it, and room for a `#set` before them.
 pub(crate) fn both(
     alloc: Global,
-    first: Box<CoreNode>,
+    front: Box<CoreNode>,
     behind: Box<CoreNode>,
 ) -> Result<Vec<CoreNode>, NoMemory>
-    ensures { IfOk result (λ nodes. nodes.items ≡ first.value ∷ behind.value ∷ []) }
+    ensures { IfOk result (λ nodes. nodes.items ≡ front.value ∷ behind.value ∷ []) }
 {
-    let mut nodes = only(alloc, first)?;
+    let mut nodes = first(alloc, Box::into_inner(front), 3)?;
     push(&mut nodes, behind)?;
     Ok(nodes)
 }
