@@ -16,7 +16,7 @@ use Rattle.px_expr_parse.specs.Opening.{opening_of, Begins}
 use Rattle.px_expr_parse.specs.Tail.{closed_arguments}
 use Rattle.px_expr_parse.specs.Verdict.{Agree, AgreeBefore, GoesOn, IsLongest, IsRead, IsRefused, IsFound, IsMissing, HasSign, LacksSign}
 use Rattle.px_expr_parse.proofs.Chains.{spine}
-use Rattle.px_expr_parse.proofs.Closed.{closer_ends, paren_closes, comma_closes}
+use Rattle.px_expr_parse.proofs.Closed.{closer_ends, not_both}
 use Rattle.px_expr_parse.proofs.Completions.{before, begun_as, begun_before, begun_here, moved, short_token}
 use Rattle.px_expr_parse.proofs.Openings.{rest_of}
 use Rattle.px_expr_parse.proofs.Parts.{agree_before}
@@ -37,12 +37,6 @@ pub in_turn_push :
     (terms : List Term) (term : Term) → in_turn (terms ++ term ∷ []) ≡ in_front terms (More term NoTerms)
 in_turn_push [] term = refl
 in_turn_push (first ∷ terms) term = ap (λ (x : Terms). More first x) (in_turn_push terms term)
-
--- two signs don't stand at one place
-pub paren_or_comma :
-    (tokens : List Token) (place : ℕ) → HasSign tokens place signs.CloseParen → HasSign tokens place signs.Comma → ⊥
-paren_or_comma tokens place a b =
-    let e : Some (kinds.Sign signs.CloseParen) ≡ Some (kinds.Sign signs.Comma) = sym a ∙ b in cc
 
 -- what stands behind an argument: the parenthesis, or a comma and more
 abbrev pub NextArgument : List Token → ℕ → Terms → ℕ → Type 0
@@ -85,8 +79,8 @@ with_first_argument tokens at first (More second rest) middle end o next =
 ends_argument :
     (tokens : List Token) (place : ℕ) (rest : Terms) (end : ℕ) → NextArgument tokens place rest end
     → GoesOn 0 tokens place → ⊥
-ends_argument tokens place NoTerms end next = closer_ends tokens place signs.CloseParen paren_closes next.0
-ends_argument tokens place (More first rest) end next = closer_ends tokens place signs.Comma comma_closes next.0
+ends_argument tokens place NoTerms end next = closer_ends tokens place signs.CloseParen refl next.0
+ends_argument tokens place (More first rest) end next = closer_ends tokens place signs.Comma refl next.0
 
 -- so where the first is read, it is that one
 pub is_first_argument :
@@ -132,7 +126,7 @@ no_arguments tokens from within lacks =
         ∙ subst (λ (place : ℕ). HasSign others place signs.CloseParen) o.1 o.2.0))
     only others agree (More first rest) end o = (first, rest, refl, o)
 
-module _ (tokens : List Token) (from : ℕ) (so_far : List Term) (at : ℕ) (begun : HasArguments tokens from so_far at) where
+module _ {tokens : List Token} {from : ℕ} {so_far : List Term} {at : ℕ} (begun : HasArguments tokens from so_far at) where
   pub refuse_argument :
       (fault : ParseFault) → IsRefused 0 tokens at fault → IsMissing closed_arguments tokens from fault
   refuse_argument (faults.SyntaxFault token) g = (
@@ -150,11 +144,14 @@ module _ (tokens : List Token) (from : ℕ) (so_far : List Term) (at : ℕ) (beg
   refuse_argument (faults.Deep token) g = g
   refuse_argument faults.NoMemory g = g
 
-  module _ (tree : Term) (to : ℕ) (read : IsRead 0 tokens at tree to) where
+  module _ {tree : Term} {to : ℕ} (read : IsRead 0 tokens at tree to) where
     -- what all arguments are, where this is the next one
+    abbrev Nexts : List Token → Terms → ℕ → Type 0
+    Nexts others other end = (rest : Terms) × (other ≡ in_front so_far (More tree rest)) × NextArgument others to rest end
+
     nexts :
         (others : List Token) → Agree tokens others to → (other : Terms) (end : ℕ) → closed_arguments other others from end
-        → (rest : Terms) × (other ≡ in_front so_far (More tree rest)) × NextArgument others to rest end
+        → Nexts others other end
     nexts others agree other end o =
         let s = begun.only others (agree_before tokens others at to (omega (arith, read.advances)) agree) other end o in
         let is = is_first_argument others at tree to (read.longest others agree) s.0 s.1 end s.3 in
@@ -187,11 +184,10 @@ module _ (tokens : List Token) (from : ℕ) (so_far : List Term) (at : ℕ) (beg
         }
       where
         more :
-            (others : List Token) → HasSign others to signs.Comma → (other : Terms) (end : ℕ)
-            → (rest : Terms) × (other ≡ in_front so_far (More tree rest)) × NextArgument others to rest end
+            (others : List Token) → HasSign others to signs.Comma → (other : Terms) (end : ℕ) → Nexts others other end
             → (first : Term) × (rest : Terms) × (other ≡ in_front (so_far ++ tree ∷ []) (More first rest))
             × closed_arguments (More first rest) others (to + 1) end
-        more others there other end (NoTerms, is, next) = absurd (paren_or_comma others to next.0 there)
+        more others there other end (NoTerms, is, next) = absurd (not_both others to signs.CloseParen signs.Comma (λ e. cc) next.0 there)
         more others there other end (More first rest, is, next) =
             (first, rest, is ∙ sym (in_front_push so_far tree (More first rest)), next.1)
 
@@ -215,11 +211,10 @@ module _ (tokens : List Token) (from : ℕ) (so_far : List Term) (at : ℕ) (beg
         }
       where
         all :
-            (others : List Token) → HasSign others to signs.CloseParen → (other : Terms) (end : ℕ)
-            → (rest : Terms) × (other ≡ in_front so_far (More tree rest)) × NextArgument others to rest end
+            (others : List Token) → HasSign others to signs.CloseParen → (other : Terms) (end : ℕ) → Nexts others other end
             → (other ≡ in_turn (so_far ++ tree ∷ [])) × (end ≡ to + 1)
         all others there other end (NoTerms, is, next) = (is ∙ sym (in_turn_push so_far tree), next.1)
-        all others there other end (More first rest, is, next) = absurd (paren_or_comma others to there next.0)
+        all others there other end (More first rest, is, next) = absurd (not_both others to signs.CloseParen signs.Comma (λ e. cc) there next.0)
 
     -- neither
     pub missing_last :
@@ -234,46 +229,38 @@ module _ (tokens : List Token) (from : ℕ) (so_far : List Term) (at : ℕ) (beg
           begun_as (begun_here (short_token (kinds.Sign signs.CloseParen))) (λ others agree end none close. (in_front so_far (More tree NoTerms), spells_on others agree NoTerms end close)),
         )
       where
-        none :
-            (others : List Token) → Agree tokens others to → (other : Terms) (end : ℕ)
-            → (rest : Terms) × (other ≡ in_front so_far (More tree rest)) × NextArgument others to rest end → ⊥
+        none : (others : List Token) → Agree tokens others to → (other : Terms) (end : ℕ) → Nexts others other end → ⊥
         none others agree other end (NoTerms, is, next) = lacks.1 (sym (agree to (omega arith)) ∙ next.0)
         none others agree other end (More first rest, is, next) = no_comma (sym (agree to (omega arith)) ∙ next.0)
 
--- no expression begins with a sign with which none opens
-pub no_expression :
-    (which : Sign) → opening_of (kinds.Sign which) ≡ openings.Nothing → unary_of (kinds.Sign which) ≡ None
-    → (tokens : List Token) (from : ℕ) → HasSign tokens from which → (tree : Term) (end : ℕ)
+-- a sign with which no expression begins
+abbrev BeginsNone : Sign → Type 0
+BeginsNone which = (opening_of (kinds.Sign which) ≡ openings.Nothing) × (unary_of (kinds.Sign which) ≡ None)
+
+closing_begins_none : BeginsNone signs.CloseParen
+unfolding opening_of unary_of
+closing_begins_none = (refl, refl)
+
+colon_begins_none : BeginsNone signs.Colon
+unfolding opening_of unary_of
+colon_begins_none = (refl, refl)
+
+no_expression :
+    (which : Sign) → BeginsNone which → (tokens : List Token) (from : ℕ) → HasSign tokens from which → (tree : Term) (end : ℕ)
     → expression tree tokens from end → ⊥
-no_expression which opens_nothing is_no_operator tokens from there tree end o =
+no_expression which none tokens from there tree end o =
     let begins : Begins tokens from openings.Nothing =
     record {
-      opens = ap (option_map opening_of) there ∙ ap (λ (opening : Opening). Some opening) opens_nothing;
-      no_operator = ap (option_and_then unary_of) there ∙ is_no_operator;
+      opens = ap (option_map opening_of) there ∙ ap (λ (opening : Opening). Some opening) none.0;
+      no_operator = ap (option_and_then unary_of) there ∙ none.1;
     } in
     let s = spine from tree 0 end o in
     rest_of tokens from openings.Nothing begins s.first s.middle s.stands
 
-closing_opens_nothing : opening_of (kinds.Sign signs.CloseParen) ≡ openings.Nothing
-unfolding opening_of
-closing_opens_nothing = refl
-
-closing_is_no_operator : unary_of (kinds.Sign signs.CloseParen) ≡ None
-unfolding unary_of
-closing_is_no_operator = refl
-
-colon_opens_nothing : opening_of (kinds.Sign signs.Colon) ≡ openings.Nothing
-unfolding opening_of
-colon_opens_nothing = refl
-
-colon_is_no_operator : unary_of (kinds.Sign signs.Colon) ≡ None
-unfolding unary_of
-colon_is_no_operator = refl
-
 pub no_colon :
     (tokens : List Token) (from : ℕ) → HasSign tokens from signs.Colon → (tree : Term) (end : ℕ)
     → expression tree tokens from end → ⊥
-no_colon = no_expression signs.Colon colon_opens_nothing colon_is_no_operator
+no_colon = no_expression signs.Colon colon_begins_none
 
 -- nothing but the parenthesis
 pub found_none :
@@ -294,4 +281,4 @@ found_none tokens from inside paren =
     only others there NoTerms end o = (refl, omega (arith, o.1, o.2.1))
     only others there (More first rest) end o =
         let f = first_argument others from first rest end o in
-        absurd (no_expression signs.CloseParen closing_opens_nothing closing_is_no_operator others from there first f.0 f.1)
+        absurd (no_expression signs.CloseParen closing_begins_none others from there first f.0 f.1)

@@ -8,7 +8,7 @@ use Rattle.px_lex.specs.declared.token.Token.{Token}
 use Rattle.px_lex.specs.declared.token.TokenKind.{TokenKind}
 use Rattle.px_lex.specs.declared.token.TokenKind.TheVariants as kinds
 use Rattle.px_syntax.specs.declared.expr.Identifier.{Identifier}
-use Rattle.px_syntax.specs.Expr.{Term, Variable}
+use Rattle.px_syntax.specs.Expr.{Term}
 use Rattle.px_syntax.specs.ExprGrammar.{expression}
 use Rattle.px_syntax.specs.Form.{identifier, kind_at}
 use Rattle.px_syntax.specs.Operator.{binary_of, unary_of}
@@ -16,7 +16,7 @@ use Rattle.px_expr_parse.specs.declared.opening.Opening.{Opening}
 use Rattle.px_expr_parse.specs.declared.opening.Opening.TheVariants as openings
 use Rattle.px_expr_parse.specs.Opening.{Begins, opening_of}
 use Rattle.px_expr_parse.specs.Verdict.{HasSign, IsFound}
-use Rattle.px_expr_parse.proofs.Closed.{closer_ends, semicolon_closes}
+use Rattle.px_expr_parse.proofs.Closed.{closer_ends}
 use Rattle.px_expr_parse.proofs.Loops.{loop_begins, loop_ends}
 use Rattle.px_expr_parse.proofs.Openings.{opening_of_name}
 use Rattle.px_expr_parse.proofs.Primaries.{read_variable}
@@ -74,13 +74,12 @@ module _ (others : List Token) (from : ℕ) (name : List ℕ) (has : kind_at oth
         → HasSign others end signs.Semicolon → ⊥
     no_value paren tree end o semicolon =
         let variable = read_variable others from (record { name = name; token = from }) opens found_name (λ is. cc) (λ is. cc) in
-        let read = loop_ends 0 others from (Variable (record { name = name; token = from })) (from + 1)
-        (loop_begins 0 others from (Variable (record { name = name; token = from })) (from + 1) (lit≤ tt) variable)
+        let read = loop_ends (loop_begins {floor = 0} (lit≤ tt) variable)
         (λ operator is. absurd (let none = ap (option_and_then binary_of) paren ∙ paren_no_operator in cc)) in
         elim ((read.longest others (λ place le. refl)).only tree end o) [
           | inl same ↦
               let there : HasSign others end signs.OpenParen =
               subst (λ (p : ℕ). HasSign others p signs.OpenParen) (sym same.1) paren in
               cc
-          | inr ends ↦ closer_ends others end signs.Semicolon semicolon_closes semicolon ends.1
+          | inr ends ↦ closer_ends others end signs.Semicolon refl semicolon ends.1
         ]

@@ -7,7 +7,7 @@ use Rattle.px_syntax.specs.declared.operator.BinaryOperator.{BinaryOperator}
 use Rattle.px_syntax.specs.declared.operator.Operator.TheVariants as operators
 use Rattle.px_syntax.specs.ExprGrammar.{operand, bare}
 use Rattle.px_syntax.specs.Operator.{binary_of, level_of}
-use Rattle.px_syntax.specs.Expr.{Term, Literal, Enumerated, Variable, Element, Attribute, Look, UnaryCall, BinaryCall, Unary, Binary}
+use Rattle.px_syntax.specs.Expr.{Term, Unary, Binary}
 use Rattle.px_expr_parse.specs.Verdict.{binary_at, GoesOn, operation, index, attribute, IsLongest, IsCutShort}
 use Rattle.px_syntax.proofs.Levels.{binary_level, unary_level}
 
@@ -92,22 +92,6 @@ alone from floor tree end o = record { first = tree; middle = end; stands = o; g
 pub spine :
     {tokens : List Token} (from : ℕ) (tree : Term) (floor end : ℕ)
     → operand floor tree tokens from end → Spine tokens from floor tree end
-spine from (Literal value token) floor end (pairs, free, inside) =
-    alone from floor (Literal value token) end (pairs, λ z. lit≤ tt, inside)
-spine from (Enumerated value token) floor end (pairs, free, inside) =
-    alone from floor (Enumerated value token) end (pairs, λ z. lit≤ tt, inside)
-spine from (Variable name) floor end (pairs, free, inside) =
-    alone from floor (Variable name) end (pairs, λ z. lit≤ tt, inside)
-spine from (Element array place) floor end (pairs, free, inside) =
-    alone from floor (Element array place) end (pairs, λ z. lit≤ tt, inside)
-spine from (Attribute node word) floor end (pairs, free, inside) =
-    alone from floor (Attribute node word) end (pairs, λ z. lit≤ tt, inside)
-spine from (Look word token name args tolerance) floor end (pairs, free, inside) =
-    alone from floor (Look word token name args tolerance) end (pairs, λ z. lit≤ tt, inside)
-spine from (UnaryCall function token argument) floor end (pairs, free, inside) =
-    alone from floor (UnaryCall function token argument) end (pairs, λ z. lit≤ tt, inside)
-spine from (BinaryCall function token first second) floor end (pairs, free, inside) =
-    alone from floor (BinaryCall function token first second) end (pairs, λ z. lit≤ tt, inside)
 spine from (Unary operator token argument) floor end (pairs, free, inside) =
     alone from floor (Unary operator token argument) end
     (pairs, λ z. omega (arith, unary_level operator), inside)
@@ -124,6 +108,7 @@ spine {tokens = tokens} from (Binary operator left right) floor end (zero, free,
           more operator left right inside.0 end (free refl) rest.grown inside.2.1.0
           (subst (λ (place : ℕ). operand (level operator + 1) right tokens place end) next inside.2.2);
     }
+spine from tree floor end (pairs, free, inside) = alone from floor tree end (pairs, λ z. lit≤ tt, inside)
 
 -- What is read of the operand behind the next operator: it is this one, or it ends early where an expression goes on.
 abbrev pub Only : List Token → ℕ → ℕ → Term → ℕ → Type 0

@@ -7,6 +7,7 @@ use Rattle.px_lex.specs.declared.sign.Sign.TheVariants as signs
 use Rattle.px_lex.specs.declared.token.Token.{Token}
 use Rattle.px_lex.specs.declared.token.TokenKind.{TokenKind}
 use Rattle.px_lex.specs.declared.token.TokenKind.TheVariants as kinds
+use Rattle.px_syntax.specs.declared.expr.Attribute.{Attribute as AttributeWord}
 use Rattle.px_syntax.specs.declared.expr.Attribute.TheVariants as attributes
 use Rattle.px_syntax.specs.declared.expr.Literal.TheVariants as literals
 use Rattle.px_syntax.specs.declared.word.LookWord.{LookWord}
@@ -173,10 +174,14 @@ short_before kind f =
 pub short_closed : (which : Sign) → Shortest (closed which)
 short_closed which = short_before (kinds.Sign which) short_expression
 
+abbrev pub word : AttributeWord → Form
+word which = one (kinds.Identifier (attribute_word which))
+
+pub short_word : Shortest word
+short_word = in_one (kinds.Identifier (attribute_word attributes.State)) (λ others place has. (attributes.State, (has, refl)))
+
 pub short_attribute : Shortest attribute
-short_attribute =
-    short_behind (kinds.Sign signs.Dot)
-    (in_one (kinds.Identifier (attribute_word attributes.State)) (λ others place has. (attributes.State, (has, refl))))
+short_attribute = short_behind (kinds.Sign signs.Dot) short_word
 
 pub short_named : Shortest named
 short_named = short_behind (kinds.Sign signs.OpenParen) (short_before (kinds.Sign signs.CloseParen) short_name)

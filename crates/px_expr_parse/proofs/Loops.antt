@@ -20,15 +20,6 @@ pub record HasSpine (floor : ℕ) (tokens : List Token) (from : ℕ) (left : Ter
   pub spine : (others : List Token) → Agree tokens others at → IsSpine floor others from left at
 
 module _ (floor : ℕ) (tokens : List Token) (from : ℕ) where
-  pub loop_begins :
-      (first : Term) (at : ℕ) → floor ≤ 8 → IsRead 8 tokens from first at → HasSpine floor tokens from first at
-  loop_begins first at le read =
-      record {
-        advances = read.advances;
-        within = read.within;
-        spine = λ others agree. spine_begins floor others from first at le (read.longest others agree);
-      }
-
   pub loop_refused : (fault : ParseFault) → floor ≤ 8 → IsRefused 8 tokens from fault → IsRefused floor tokens from fault
   loop_refused (faults.SyntaxFault token) le g = (
     g.0,
@@ -39,7 +30,16 @@ module _ (floor : ℕ) (tokens : List Token) (from : ℕ) where
   loop_refused (faults.Deep token) le g = g
   loop_refused faults.NoMemory le g = g
 
-  module _ (left : Term) (at : ℕ) (so_far : HasSpine floor tokens from left at) where
+module _ {floor : ℕ} {tokens : List Token} {from : ℕ} where
+  pub loop_begins : {first : Term} {at : ℕ} → floor ≤ 8 → IsRead 8 tokens from first at → HasSpine floor tokens from first at
+  loop_begins {first = first} {at = at} le read =
+      record {
+        advances = read.advances;
+        within = read.within;
+        spine = λ others agree. spine_begins floor others from first at le (read.longest others agree);
+      }
+
+  module _ {left : Term} {at : ℕ} (so_far : HasSpine floor tokens from left at) where
     -- the operator there in other tokens that agree
     there :
         (others : List Token) (last : ℕ) → at ≤ last → Agree tokens others last → (operator : BinaryOperator)
@@ -61,9 +61,9 @@ module _ (floor : ℕ) (tokens : List Token) (from : ℕ) where
 
     module _ (next : BinaryOperator) (is : binary_at tokens at ≡ Some next) (allowed : floor ≤ level next) where
       pub loop_goes_on :
-          (right : Term) (to : ℕ) → IsRead (level next + 1) tokens (at + 1) right to
+          {right : Term} {to : ℕ} → IsRead (level next + 1) tokens (at + 1) right to
           → HasSpine floor tokens from (Binary next left right) to
-      loop_goes_on right to read =
+      loop_goes_on {right = right} {to = to} read =
           record {
             advances = omega (arith, so_far.advances, read.advances);
             within = read.within;
@@ -103,12 +103,24 @@ module _ (floor : ℕ) (tokens : List Token) (from : ℕ) where
 
 -- ---- the whole
 
-module _ (tokens : List Token) (from : ℕ) where
+pub is_no_expression :
+    (tokens : List Token) (from : ℕ) (fault : ParseFault) → IsRefused 0 tokens from fault → IsNoExpression tokens from fault
+is_no_expression tokens from (faults.SyntaxFault token) g =
+    record {
+      within = g.1;
+      none = λ tree end o. (g.2 tokens (λ place le. refl) tree end o).1;
+      begun = begins_expression tokens from token g.1 g.3;
+      beyond = λ others agree inside tree end o. (g.2 others agree tree end o).0;
+    }
+is_no_expression tokens from (faults.Deep token) g = g
+is_no_expression tokens from faults.NoMemory g = g
+
+module _ {tokens : List Token} {from : ℕ} where
   pub is_expression :
-      (tree : Term) (to : ℕ) → IsRead 0 tokens from tree to
+      {tree : Term} {to : ℕ} → IsRead 0 tokens from tree to
       → (HasSign tokens to signs.OpenBracket → ⊥) → (HasSign tokens to signs.Dot → ⊥)
       → IsExpression tokens from tree to
-  is_expression tree to read no_bracket no_dot =
+  is_expression {tree = tree} {to = to} read no_bracket no_dot =
       let longest = read.longest tokens (λ place le. refl) in
       record {
         advances = read.advances;
@@ -127,23 +139,11 @@ module _ (tokens : List Token) (from : ℕ) where
       ended longest (index is) = no_bracket is
       ended longest (attribute is) = no_dot is
 
-  pub is_no_expression :
-      (fault : ParseFault) → IsRefused 0 tokens from fault → IsNoExpression tokens from fault
-  is_no_expression (faults.SyntaxFault token) g =
-      record {
-        within = g.1;
-        none = λ tree end o. (g.2 tokens (λ place le. refl) tree end o).1;
-        begun = begins_expression tokens from token g.1 g.3;
-        beyond = λ others agree inside tree end o. (g.2 others agree tree end o).0;
-      }
-  is_no_expression (faults.Deep token) g = g
-  is_no_expression faults.NoMemory g = g
-
   -- a bracket or a dot behind an expression
   pub is_followed :
-      (tree : Term) (to : ℕ) → IsRead 0 tokens from tree to → GoesOn 0 tokens to
+      {tree : Term} {to : ℕ} → IsRead 0 tokens from tree to → GoesOn 0 tokens to
       → IsFaultAt tokens from to
-  is_followed tree to read follows =
+  is_followed {tree = tree} {to = to} read follows =
       record {
         within = read.within;
         none = λ other end o. elim ((read.longest tokens (λ place le. refl)).only other end o) [
@@ -166,9 +166,9 @@ module _ (tokens : List Token) (from : ℕ) where
 
   -- the same of all tokens that agree
   pub is_refused :
-      (tree : Term) (to : ℕ) → IsRead 0 tokens from tree to → GoesOn 0 tokens to
+      {tree : Term} {to : ℕ} → IsRead 0 tokens from tree to → GoesOn 0 tokens to
       → IsRefused 0 tokens from (faults.SyntaxFault to)
-  is_refused tree to read follows = (
+  is_refused {tree = tree} {to = to} read follows = (
     omega (arith, read.advances),
     read.within,
     λ others agree other end o. elim ((read.longest others agree).only other end o) [

@@ -1,15 +1,16 @@
 -- Parts that end by themselves, joined to longer ones.
-use Rattle.std.proofs.Common.{◌≡◌, ℕ, ◌+◌, ◌≤◌, ◌<◌, refl, sym, ap, subst, ◌∙◌, List, length, arith}
+use Rattle.std.proofs.Common.{◌≡◌, ℕ, ◌+◌, ◌≤◌, ◌<◌, inl, inr, refl, sym, ap, subst, ◌∙◌, List, length, arith}
 use Rattle.px_lex.specs.declared.sign.Sign.{Sign}
 use Rattle.px_lex.specs.declared.token.Token.{Token}
 use Rattle.px_syntax.specs.declared.fault.ParseFault.{ParseFault}
 use Rattle.px_syntax.specs.declared.fault.ParseFault.TheVariants as faults
 use Rattle.px_syntax.specs.Expr.{Term}
+use Rattle.px_syntax.specs.ExprGrammar.{expression}
 use Rattle.px_syntax.specs.Form.{Form, sign, ◌then◌}
-use Rattle.px_expr_parse.specs.Verdict.{Agree, GoesOn, IsRead, IsFound, IsMissing, HasSign, LacksSign}
+use Rattle.px_expr_parse.specs.Verdict.{Agree, AgreeBefore, GoesOn, IsRead, IsRefused, IsFound, IsMissing, HasSign, LacksSign}
 use Rattle.px_lex.specs.declared.token.TokenKind.TheVariants as kinds
 use Rattle.px_expr_parse.proofs.Completions.{Shortest, before, begun_as, begun_before, begun_here, moved, short_behind, short_token}
-use Rattle.px_expr_parse.proofs.Spans.{IsLocal}
+use Rattle.px_expr_parse.proofs.Spans.{IsLocal, local_expression}
 
 -- tokens that agree up to a place agree up to each one before it
 pub agree_before :
@@ -17,202 +18,205 @@ pub agree_before :
     → Agree tokens others early
 agree_before tokens others early late le agree place before = agree place (omega (arith, le, before))
 
+-- two and three tokens on, one by one
+pub two : (n : ℕ) → n + 2 ≡ n + 1 + 1
+two n = omega arith
+
+pub three : (n : ℕ) → n + 3 ≡ n + 1 + 1 + 1
+three n = omega arith
+
+-- ---- a part that ends with another, of which it is built
+
+pub record EndsWith {A B : Type 0} (whole : A → Form) (inner : B → Form) (build : B → A) (tokens : List Token) (from early : ℕ) : Type 0 where
+  pub begins : from ≤ early
+  pub builds :
+      (others : List Token) → AgreeBefore tokens others early → (b : B) (end : ℕ) → inner b others early end
+      → whole (build b) others from end
+  pub splits :
+      (others : List Token) → Agree tokens others early → (a : A) (end : ℕ) → whole a others from end
+      → (b : B) × (a ≡ build b) × inner b others early end
+
+module _ {A B : Type 0} {whole : A → Form} {inner : B → Form} {build : B → A} {tokens : List Token} {from early : ℕ}
+    (e : EndsWith whole inner build tokens from early)
+  where
+    pub found_ending : {b : B} {to : ℕ} → IsFound inner tokens early b to → IsFound whole tokens from (build b) to
+    found_ending {b = b} {to = to} g =
+        record {
+          advances = omega (arith, e.begins, g.advances);
+          within = g.within;
+          only = λ others agree.
+              let agree_early = agree_before tokens others early to g.advances agree in
+              let one = g.only others agree in
+              record {
+                spelled = e.builds others (λ place inside. agree_early place (omega (arith, inside))) b to one.spelled;
+                only = λ other end o.
+                    let s = e.splits others agree_early other end o in
+                    let is = one.only s.0 end s.2 in
+                    (s.1 ∙ ap build is.0, is.1);
+              };
+        }
+
+    pub missing_ending : (fault : ParseFault) → IsMissing inner tokens early fault → IsMissing whole tokens from fault
+    missing_ending (faults.SyntaxFault token) g = (
+      omega (arith, e.begins, g.0),
+      g.1,
+      λ others agree other end o.
+          let s = e.splits others (agree_before tokens others early token g.0 agree) other end o in g.2 others agree s.0 end s.2,
+      begun_as g.3 (λ others agree end b o. (build b, e.builds others (before tokens others early token g.0 agree) b end o)),
+    )
+    missing_ending (faults.Deep token) g = g
+    missing_ending faults.NoMemory g = g
+
+-- ---- one part and then another
+
+abbrev pub both : {A B : Type 0} → (A → Form) → (B → Form) → A × B → Form
+both first second parts = first parts.0 then second parts.1
+
 -- a form that begins with no token with which an expression goes on
 abbrev pub IsClosing : {B : Type 0} → (B → Form) → Type 0
 IsClosing form =
     (tokens : List Token) (part : _) (from end : ℕ) → form part tokens from end → GoesOn 0 tokens from → ⊥
 
-module _ {A B : Type 0} (first : A → Form) (second : B → Form) where
-  abbrev pub both : A × B → Form
-  both parts = first parts.0 then second parts.1
+-- before a second part no other first one stands
+pub record IsSettled {A B : Type 0} (first : A → Form) (second : B → Form) (tokens : List Token) (from : ℕ) (a : A) (middle : ℕ) : Type 0 where
+  pub begins : from ≤ middle
+  pub stands : (others : List Token) → AgreeBefore tokens others middle → first a others from middle
+  pub only :
+      (others : List Token) → Agree tokens others middle → (other : A) (place : ℕ) → first other others from place
+      → (b : B) (end : ℕ) → second b others place end → (other ≡ a) × (place ≡ middle)
 
-  pub found_both :
-      (tokens : List Token) (from middle to : ℕ) (a : A) (b : B)
-      → IsFound first tokens from a middle → IsFound second tokens middle b to
-      → IsFound both tokens from (a, b) to
-  found_both tokens from middle to a b f g =
+module _ {A B : Type 0} (first : A → Form) (second : B → Form) {tokens : List Token} {from middle : ℕ} {a : A} where
+  settled : IsLocal (first a) → IsFound first tokens from a middle → IsSettled first second tokens from a middle
+  settled l f =
       record {
-        advances = omega (arith, f.advances, g.advances);
-        within = g.within;
-        only = λ others agree.
-            let one_first = f.only others (agree_before tokens others middle to g.advances agree) in
-            let one_second = g.only others agree in
-            record {
-              spelled = (middle, one_first.spelled, one_second.spelled);
-              only = λ other end o.
-                  let is_first = one_first.only other.0 o.0 o.1 in
-                  let moved : second other.1 others middle end =
-                  subst (λ (place : ℕ). second other.1 others place end) is_first.1 o.2 in
-                  let is_second = one_second.only other.1 end moved in (
-                    let e : other.0 ≡ a = is_first.0 in let h : other.1 ≡ b = is_second.0 in
-                        ap (λ (x : A). (x, other.1)) e ∙ ap (λ (y : B). (a, y)) h,
-                    is_second.1,
-                  );
-            };
+        begins = f.advances;
+        stands = moved tokens l (λ others agree. (f.only others agree).spelled);
+        only = λ others agree other place o b end r. (f.only others agree).only other place o;
       }
 
-  pub missing_second :
-      (tokens : List Token) (from middle : ℕ) (a : A) (fault : ParseFault)
-      → IsLocal (first a) → IsFound first tokens from a middle → IsMissing second tokens middle fault
-      → IsMissing both tokens from fault
-  missing_second tokens from middle a (faults.SyntaxFault token) l f g = (
-    omega (arith, f.advances, g.0),
-    g.1,
-    λ others agree other end o.
-        let is_first = (f.only others (agree_before tokens others middle token g.0 agree)).only other.0 o.0 o.1 in
-        g.2 others agree other.1 end (subst (λ (place : ℕ). second other.1 others place end) is_first.1 o.2),
-    begun_as g.3 (λ others agree end b o.
-        ((a, b), (middle, moved tokens l (λ others agree. (f.only others agree).spelled) others (before tokens others middle token g.0 agree), o))),
-  )
-  missing_second tokens from middle a (faults.Deep token) l f g = g
-  missing_second tokens from middle a faults.NoMemory l f g = g
+  ends_settled : IsSettled first second tokens from a middle → EndsWith (both first second) second (λ (b : B). (a, b)) tokens from middle
+  ends_settled s =
+      record {
+        begins = s.begins;
+        builds = λ others agree b end o. (middle, s.stands others agree, o);
+        splits = λ others agree other end o.
+            let is = s.only others agree other.0 o.0 o.1 other.1 end o.2 in (
+              other.1,
+              ap (λ (x : A). (x, other.1)) is.0,
+              subst (λ (place : ℕ). second other.1 others place end) is.1 o.2,
+            );
+      }
 
-  pub missing_first :
+  pub ends_both : IsLocal (first a) → IsFound first tokens from a middle → EndsWith (both first second) second (λ (b : B). (a, b)) tokens from middle
+  ends_both l f = ends_settled (settled l f)
+
+pub missing_first :
+    {A B : Type 0} (first : A → Form) (second : B → Form) (tokens : List Token) (from : ℕ) (fault : ParseFault) → Shortest second
+    → IsMissing first tokens from fault → IsMissing (both first second) tokens from fault
+missing_first first second tokens from (faults.SyntaxFault token) short f = (
+  f.0,
+  f.1,
+  λ others agree other end o. f.2 others agree other.0 o.0 o.1,
+  begun_before short f.3 (λ others agree middle end a b o r. ((a, b), (middle, o, r))),
+)
+missing_first first second tokens from (faults.Deep token) short f = f
+missing_first first second tokens from faults.NoMemory short f = f
+
+-- an expression, and what closes it
+module _ {B : Type 0} (second : B → Form) (closing : IsClosing second) where
+  pub ends_closed :
+      {tokens : List Token} {from middle : ℕ} {tree : Term} → IsRead 0 tokens from tree middle
+      → EndsWith (both expression second) second (λ (b : B). (tree, b)) tokens from middle
+  ends_closed {tokens = tokens} {tree = tree} f =
+      ends_settled expression second (record {
+        begins = omega (arith, f.advances);
+        stands = moved tokens (local_expression tree) (λ others agree. (f.longest others agree).spelled);
+        only = λ others agree other place o b end r. elim ((f.longest others agree).only other place o) [
+          | inl same ↦ same
+          | inr ends ↦ absurd (closing others b place end r ends.1)
+        ];
+      })
+
+  pub missing_closed :
       (tokens : List Token) (from : ℕ) (fault : ParseFault) → Shortest second
-      → IsMissing first tokens from fault → IsMissing both tokens from fault
-  missing_first tokens from (faults.SyntaxFault token) short f = (
+      → IsRefused 0 tokens from fault → IsMissing (both expression second) tokens from fault
+  missing_closed tokens from (faults.SyntaxFault token) short f = (
     f.0,
     f.1,
-    λ others agree other end o. f.2 others agree other.0 o.0 o.1,
+    λ others agree other end o. closing others other.1 o.0 end o.2 (f.2 others agree other.0 o.0 o.1).1,
     begun_before short f.3 (λ others agree middle end a b o r. ((a, b), (middle, o, r))),
   )
-  missing_first tokens from (faults.Deep token) short f = f
-  missing_first tokens from faults.NoMemory short f = f
+  missing_closed tokens from (faults.Deep token) short f = f
+  missing_closed tokens from faults.NoMemory short f = f
 
--- a sign before a part
-module _ {B : Type 0} (which : Sign) (second : B → Form) where
-  abbrev pub behind_sign : B → Form
-  behind_sign part = sign which then second part
+-- ---- signs
 
-  pub found_behind_sign :
-      (tokens : List Token) (from to : ℕ) (b : B)
-      → HasSign tokens from which → IsFound second tokens (from + 1) b to
-      → IsFound behind_sign tokens from b to
-  found_behind_sign tokens from to b has g =
+abbrev pub sign_alone : Sign → Unit {0} → Form
+sign_alone which none = sign which
+
+-- a sign behind a part, and one before it
+abbrev pub before_sign : {A : Type 0} → (A → Form) → Sign → A → Form
+before_sign first which part = first part then sign which
+
+abbrev pub behind_sign : {B : Type 0} → Sign → (B → Form) → B → Form
+behind_sign which second part = sign which then second part
+
+module _ (which : Sign) (tokens : List Token) (from : ℕ) where
+  pub found_sign : from < length tokens → HasSign tokens from which → IsFound (sign_alone which) tokens from tt (from + 1)
+  found_sign inside has =
       record {
-        advances = omega (arith, g.advances);
-        within = g.within;
-        only = λ others agree.
-            let one_second = g.only others agree in
-            record {
-              spelled = (from + 1, (agree from (omega (arith, g.advances)) ∙ has, refl), one_second.spelled);
-              only = λ other end o.
-                  one_second.only other end (subst (λ (place : ℕ). second other others place end) o.1.1 o.2);
-            };
+        advances = omega arith;
+        within = omega (arith, inside);
+        only = λ others agree. record { spelled = (agree from (omega arith) ∙ has, refl); only = λ other end o. (refl, o.1) };
       }
 
-  pub missing_behind_sign :
-      (tokens : List Token) (from : ℕ) (fault : ParseFault) → HasSign tokens from which
-      → IsMissing second tokens (from + 1) fault → IsMissing behind_sign tokens from fault
-  missing_behind_sign tokens from (faults.SyntaxFault token) has g = (
-    omega (arith, g.0),
-    g.1,
-    λ others agree other end o.
-        g.2 others agree other end (subst (λ (place : ℕ). second other others place end) o.1.1 o.2),
-    begun_as g.3 (λ others agree end b o. (b, (from + 1, (agree from (omega (arith, g.0)) ∙ has, refl), o))),
-  )
-  missing_behind_sign tokens from (faults.Deep token) has g = g
-  missing_behind_sign tokens from faults.NoMemory has g = g
-
-  pub missing_sign :
-      (tokens : List Token) (from : ℕ) (fault : ParseFault) → from ≤ length tokens → Shortest second
-      → LacksSign tokens from which fault → IsMissing behind_sign tokens from fault
-  missing_sign tokens from fault within short lacks =
-      subst (λ (f : ParseFault). IsMissing behind_sign tokens from f) (sym lacks.0) (
+  pub missing_alone : (fault : ParseFault) → from ≤ length tokens → LacksSign tokens from which fault → IsMissing (sign_alone which) tokens from fault
+  missing_alone fault within lacks =
+      subst (λ (f : ParseFault). IsMissing (sign_alone which) tokens from f) (sym lacks.0) (
         omega arith,
         within,
-        λ others agree other end o.
-            lacks.1 (sym (agree from (omega arith)) ∙ o.1.0),
+        λ others agree none end o. lacks.1 (sym (agree from (omega arith)) ∙ o.0),
+        begun_here (short_token (kinds.Sign which)),
+      )
+
+-- a sign before a part
+module _ {B : Type 0} (which : Sign) (tokens : List Token) (from : ℕ) (second : B → Form) where
+  pub ends_behind : HasSign tokens from which → EndsWith (behind_sign which second) second (λ (b : B). b) tokens from (from + 1)
+  ends_behind has =
+      record {
+        begins = omega arith;
+        builds = λ others agree b end o. (from + 1, (agree from (omega arith) ∙ has, refl), o);
+        splits = λ others agree other end o. (other, refl, subst (λ (place : ℕ). second other others place end) o.1.1 o.2);
+      }
+
+  pub missing_sign :
+      (fault : ParseFault) → from ≤ length tokens → Shortest second → LacksSign tokens from which fault
+      → IsMissing (behind_sign which second) tokens from fault
+  missing_sign fault within short lacks =
+      subst (λ (f : ParseFault). IsMissing (behind_sign which second) tokens from f) (sym lacks.0) (
+        omega arith,
+        within,
+        λ others agree other end o. lacks.1 (sym (agree from (omega arith)) ∙ o.1.0),
         begun_here (short_behind (kinds.Sign which) short),
       )
 
 -- a sign behind a part
-module _ {A : Type 0} (first : A → Form) (which : Sign) where
-  abbrev pub before_sign : A → Form
-  before_sign part = first part then sign which
-
-  pub found_before_sign :
-      (tokens : List Token) (from middle : ℕ) (a : A) → middle < length tokens
-      → IsFound first tokens from a middle → HasSign tokens middle which
-      → IsFound before_sign tokens from a (middle + 1)
-  found_before_sign tokens from middle a inside f has =
+module _ {A : Type 0} (which : Sign) (tokens : List Token) (from : ℕ) (first : A → Form) where
+  pub ends_before : EndsWith (before_sign first which) (both first (sign_alone which)) (λ (parts : A × Unit {0}). parts.0) tokens from from
+  ends_before =
       record {
-        advances = omega (arith, f.advances);
-        within = omega (arith, inside);
-        only = λ others agree.
-            let one_first = f.only others (agree_before tokens others middle (middle + 1) (omega arith) agree) in
-            record {
-              spelled = (middle, one_first.spelled, (agree middle (omega arith) ∙ has, refl));
-              only = λ other end o.
-                  let is_first = one_first.only other o.0 o.1 in
-                  (is_first.0, omega (arith, is_first.1, o.2.1));
-            };
+        begins = omega arith;
+        builds = λ others agree parts end o. o;
+        splits = λ others agree a end o. ((a, tt), refl, o);
       }
 
+  pub missing_before : (fault : ParseFault) → IsMissing first tokens from fault → IsMissing (before_sign first which) tokens from fault
+  missing_before fault f =
+      missing_ending ends_before fault (missing_first first (sign_alone which) tokens from fault (short_token (kinds.Sign which)) f)
+
   pub missing_behind :
-      (tokens : List Token) (from middle : ℕ) (a : A) (fault : ParseFault)
-      → IsLocal (first a) → IsFound first tokens from a middle → LacksSign tokens middle which fault
-      → IsMissing before_sign tokens from fault
-  missing_behind tokens from middle a fault l f lacks =
-      subst (λ (g : ParseFault). IsMissing before_sign tokens from g) (sym lacks.0) (
-        f.advances,
-        f.within,
-        λ others agree other end o.
-            let is_first = (f.only others agree).only other o.0 o.1 in
-            lacks.1 (sym (agree middle (omega arith)) ∙ (subst (λ (place : ℕ). HasSign others place which) is_first.1 o.2.0)),
-        begun_as (begun_here (short_token (kinds.Sign which))) (λ others agree end none o.
-            (a, (middle, moved tokens l (λ others agree. (f.only others agree).spelled) others agree, o))),
-      )
-
-  pub missing_before_sign :
-      (tokens : List Token) (from : ℕ) (fault : ParseFault)
-      → IsMissing first tokens from fault → IsMissing before_sign tokens from fault
-  missing_before_sign tokens from (faults.SyntaxFault token) f = (
-    f.0,
-    f.1,
-    λ others agree other end o. f.2 others agree other o.0 o.1,
-    begun_before (short_token (kinds.Sign which)) f.3 (λ others agree middle end a none o r. (a, (middle, o, r))),
-  )
-  missing_before_sign tokens from (faults.Deep token) f = f
-  missing_before_sign tokens from faults.NoMemory f = f
-
--- Where a part of one form is made of one of another, they are found and missing together.
-module _ {A B : Type 0} (inner : B → Form) (whole : A → Form) (make : B → A) (tokens : List Token) (from : ℕ)
-    (builds : (others : List Token) (b : B) (end : ℕ) → inner b others from end → whole (make b) others from end)
-    (splits : (others : List Token) → Agree tokens others from → (a : A) (end : ℕ) → whole a others from end
-    → (b : B) × (a ≡ make b) × inner b others from end)
-  where
-    pub found_as : (b : B) (to : ℕ) → IsFound inner tokens from b to → IsFound whole tokens from (make b) to
-    found_as b to f =
-        record {
-          advances = f.advances;
-          within = f.within;
-          only = λ others agree.
-              let one = f.only others agree in
-              record {
-                spelled = builds others b to one.spelled;
-                only = λ other end o.
-                    let parts = splits others (agree_before tokens others from to f.advances agree) other end o in
-                    let is = one.only parts.0 end parts.2 in (parts.1 ∙ ap make is.0, is.1);
-              };
-        }
-
-    pub missing_as : (fault : ParseFault) → IsMissing inner tokens from fault → IsMissing whole tokens from fault
-    missing_as (faults.SyntaxFault token) g = (
-      g.0,
-      g.1,
-      λ others agree other end o.
-          let parts = splits others (agree_before tokens others from token g.0 agree) other end o in
-          g.2 others agree parts.0 end parts.2,
-      begun_as g.3 (λ others agree end b o. (make b, builds others b end o)),
-    )
-    missing_as (faults.Deep token) g = g
-    missing_as faults.NoMemory g = g
-
--- the same tree up to the same place, said in other words
-pub read_as :
-    (floor : ℕ) (tokens : List Token) (from : ℕ) (tree other : Term) (to end : ℕ) → other ≡ tree → end ≡ to
-    → IsRead floor tokens from tree to → IsRead floor tokens from other end
-read_as floor tokens from tree other to end same_tree same_place read =
-    subst (λ (x : Term). IsRead floor tokens from x end) (sym same_tree)
-    (subst (λ (place : ℕ). IsRead floor tokens from tree place) (sym same_place) read)
+      {a : A} {middle : ℕ} (fault : ParseFault) → IsLocal (first a) → IsFound first tokens from a middle → LacksSign tokens middle which fault
+      → IsMissing (before_sign first which) tokens from fault
+  missing_behind {middle = middle} fault l f lacks =
+      missing_ending ends_before fault
+      (missing_ending (ends_both first (sign_alone which) l f) fault (missing_alone which tokens middle fault f.within lacks))

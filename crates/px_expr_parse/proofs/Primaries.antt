@@ -1,14 +1,10 @@
 -- Each sort of expression that is no operation between two operands, from what is read behind its first token.
-use Rattle.std.proofs.Common.{◌≡◌, ℕ, suc, ◌+◌, ◌≤◌, ◌<◌, ◌⊎◌, inl, inr, refl, sym, ap, subst, ◌∙◌, List, length, Option, Some, None, true, false, arith, lit≤}
+use Rattle.std.proofs.Common.{◌≡◌, ℕ, suc, ◌+◌, ◌≤◌, ◌<◌, inl, inr, refl, sym, ap, subst, ◌∙◌, List, length, Option, Some, None, true, false, arith, lit≤}
 use Rattle.std.specs.Option.{option_map, option_and_then}
 use Rattle.std.proofs.lemmas.Option.{same_Some}
-use Rattle.px_lex.specs.declared.keyword.Keyword.{Keyword}
-use Rattle.px_lex.specs.declared.keyword.Keyword.TheVariants as words
-use Rattle.px_lex.specs.declared.sign.Sign.{Sign}
 use Rattle.px_lex.specs.declared.sign.Sign.TheVariants as signs
 use Rattle.px_lex.specs.declared.token.Token.{Token}
 use Rattle.px_lex.specs.declared.token.TokenKind.{TokenKind}
-use Rattle.px_lex.specs.declared.token.TokenKind.TheVariants as kinds
 use Rattle.px_syntax.specs.declared.expr.Attribute.{Attribute as AttributeWord}
 use Rattle.px_syntax.specs.declared.expr.Enumerated.{Enumerated as EnumeratedValue}
 use Rattle.px_syntax.specs.declared.expr.Identifier.{Identifier}
@@ -23,19 +19,20 @@ use Rattle.px_syntax.specs.declared.word.BinaryFunction.{BinaryFunction}
 use Rattle.px_syntax.specs.declared.word.LookWord.{LookWord}
 use Rattle.px_syntax.specs.declared.word.UnaryFunction.{UnaryFunction}
 use Rattle.px_syntax.specs.Expr.{Term, Terms, Literal, Enumerated, Variable, Element, Attribute, Look, UnaryCall, BinaryCall, Unary}
-use Rattle.px_syntax.specs.ExprGrammar.{operand, literal_kind, look_keyword, unary_keyword, binary_keyword}
-use Rattle.px_syntax.specs.Form.{Form, kind_at, identifier, nothing}
+use Rattle.px_syntax.specs.ExprGrammar.{operand, literal_kind}
+use Rattle.px_syntax.specs.Form.{Form, kind_at, identifier, nothing, one}
 use Rattle.px_syntax.specs.Operator.{unary_of}
 use Rattle.px_syntax.proofs.Levels.{unary_level}
 use Rattle.px_expr_parse.specs.declared.opening.Opening.{Opening}
 use Rattle.px_expr_parse.specs.declared.opening.Opening.TheVariants as openings
 use Rattle.px_expr_parse.specs.Opening.{opening_of, Begins}
 use Rattle.px_expr_parse.specs.Tail.{closed, indexed, attribute, argument, two_arguments, look_state}
-use Rattle.px_expr_parse.specs.Verdict.{Agree, unary_at, GoesOn, index, attribute as attribute_follows, IsRead, IsRefused, IsFound, IsMissing, HasSign}
+use Rattle.px_expr_parse.specs.Verdict.{Agree, unary_at, index, attribute as attribute_follows, IsRead, IsRefused, IsFound, IsMissing, HasSign}
+use Rattle.px_expr_parse.proofs.Closed.{not_both}
 use Rattle.px_expr_parse.proofs.Completions.{begun_as, begun_here, short_operand}
-use Rattle.px_expr_parse.proofs.Openings.{opened, Produced, IsLeaf, NameRest, named_attribute, rest_of, prefix_of, token_there}
+use Rattle.px_expr_parse.proofs.Openings.{opened, IsLeaf, Produced, NameRest, named_attribute, rest_of, prefix_of, token_there}
 use Rattle.px_expr_parse.proofs.Parts.{agree_before}
-use Rattle.px_expr_parse.proofs.Productions.{begins_too, read_produced, refuse_produced, read_opened, refuse_opened, Never}
+use Rattle.px_expr_parse.proofs.Productions.{begins_too, read_produced, IsOpened, Never, Produces}
 
 -- no part behind the first token
 abbrev pub alone : Unit {0} → Form
@@ -68,213 +65,79 @@ literal_kind_one (literals.Text x) (literals.Boolean true) e = cc
 literal_kind_one (literals.Text x) (literals.Boolean false) e = cc
 literal_kind_one (literals.Text x) (literals.Text y) e = cc
 
+-- ---- what a word or a parenthesis begins
+
+one_there :
+    (others : List Token) (from : ℕ) {kind wanted : TokenKind} → kind_at others from ≡ Some kind → kind ≡ wanted
+    → one wanted others from (from + 1)
+one_there others from at is = (at ∙ ap (λ (k : TokenKind). Some k) is, refl)
+
+module _ (from : ℕ) where
+  pub opens_paren : IsOpened openings.Paren (λ (tree : Term). tree) (closed signs.CloseParen) from
+  opens_paren =
+      record {
+        rest = λ others tree end r. r;
+        builds = λ others kind at is tree end o.
+            (suc o.1.0, λ z. absurd (omega arith), (from + 1, one_there others from at is, (o.0, o.1.2, o.2)));
+      }
+
+  pub opens_self : IsOpened openings.SelfNode (λ (which : AttributeWord). Attribute (nodes.SelfNode from) which) attribute from
+  opens_self =
+      record {
+        rest = λ others tree end r. r;
+        builds = λ others kind at is which end o. (0, λ z. lit≤ tt, (from + 1, (refl, one_there others from at is), o));
+      }
+
+  pub opens_parent : IsOpened openings.Parent (λ (which : AttributeWord). Attribute (nodes.Parent from) which) attribute from
+  opens_parent =
+      record {
+        rest = λ others tree end r. r;
+        builds = λ others kind at is which end o. (0, λ z. lit≤ tt, (from + 1, (refl, one_there others from at is), o));
+      }
+
+  pub opens_sibling :
+      IsOpened openings.Sibling (λ (parts : Identifier × AttributeWord). Attribute (nodes.Sibling from parts.0) parts.1) named_attribute from
+  opens_sibling =
+      record {
+        rest = λ others tree end r. r;
+        builds = λ others kind at is parts end o. (0, λ z. lit≤ tt, (o.0, (from + 1, (refl, one_there others from at is), o.1), o.2));
+      }
+
+  pub opens_child :
+      IsOpened openings.Child (λ (parts : Identifier × AttributeWord). Attribute (nodes.Child from parts.0) parts.1) named_attribute from
+  opens_child =
+      record {
+        rest = λ others tree end r. r;
+        builds = λ others kind at is parts end o. (0, λ z. lit≤ tt, (o.0, (from + 1, (refl, one_there others from at is), o.1), o.2));
+      }
+
+  pub opens_look :
+      (word : LookWord)
+      → IsOpened (openings.Look word) (λ (parts : Identifier × (Terms × Option Tolerance)). Look word from parts.0 parts.1.0 parts.1.1) (look_state word) from
+  opens_look word =
+      record {
+        rest = λ others tree end r. r;
+        builds = λ others kind at is parts end o. (0, λ z. lit≤ tt, (from + 1, (refl, one_there others from at is), o));
+      }
+
+  pub opens_unary_call :
+      (function : UnaryFunction) → IsOpened (openings.UnaryCall function) (λ (tree : Term). UnaryCall function from tree) argument from
+  opens_unary_call function =
+      record {
+        rest = λ others tree end r. r;
+        builds = λ others kind at is tree end o. (0, λ z. lit≤ tt, (from + 1, (refl, one_there others from at is), o));
+      }
+
+  pub opens_binary_call :
+      (function : BinaryFunction)
+      → IsOpened (openings.BinaryCall function) (λ (parts : Term × Term). BinaryCall function from parts.0 parts.1) two_arguments from
+  opens_binary_call function =
+      record {
+        rest = λ others tree end r. r;
+        builds = λ others kind at is parts end o. (0, λ z. lit≤ tt, (from + 1, (refl, one_there others from at is), o));
+      }
+
 module _ (tokens : List Token) (from : ℕ) where
-  keyword_there :
-      (opening : Opening) (word : Keyword) → (kind : TokenKind) → kind_at tokens from ≡ Some kind
-      → kind ≡ kinds.Keyword word → kind_at tokens from ≡ Some (kinds.Keyword word)
-  keyword_there opening word kind at is = at ∙ ap (λ (k : TokenKind). Some k) is
-
-  -- ---- parentheses
-
-  module _ (begins : Begins tokens from openings.Paren) where
-    builds_paren :
-        (others : List Token) → kind_at others from ≡ kind_at tokens from → (tree : Term) (end : ℕ)
-        → closed signs.CloseParen tree others (from + 1) end → operand 8 tree others from end
-    builds_paren others same tree end o =
-        let t = token_there tokens from openings.Paren begins in (
-          suc o.1.0,
-          λ z. absurd (omega arith),
-          (from + 1, (same ∙ t.1 ∙ ap (λ (k : TokenKind). Some k) t.2, refl), (o.0, o.1.2, o.2)),
-        )
-
-    pub read_paren :
-        (tree : Term) (to : ℕ) → IsFound (closed signs.CloseParen) tokens (from + 1) tree to
-        → IsRead 8 tokens from tree to
-    read_paren =
-        read_opened (λ (tree : Term). tree) (closed signs.CloseParen) tokens from openings.Paren begins
-        (λ others tree end r. r) builds_paren
-
-    pub refuse_paren :
-        (fault : ParseFault) → IsMissing (closed signs.CloseParen) tokens (from + 1) fault
-        → IsRefused 8 tokens from fault
-    refuse_paren =
-        refuse_opened (λ (tree : Term). tree) (closed signs.CloseParen) tokens from openings.Paren begins
-        (λ others tree end r. r) builds_paren
-
-  -- ---- attributes
-
-  module _ (begins : Begins tokens from openings.SelfNode) where
-    builds_self :
-        (others : List Token) → kind_at others from ≡ kind_at tokens from → (which : AttributeWord) (end : ℕ)
-        → attribute which others (from + 1) end → operand 8 (Attribute (nodes.SelfNode from) which) others from end
-    builds_self others same which end o =
-        let t = token_there tokens from openings.SelfNode begins in
-        (0, λ z. lit≤ tt, (from + 1, (refl, (same ∙ keyword_there openings.SelfNode words.SelfNode t.0 t.1 t.2, refl)), o))
-
-    pub read_self :
-        (which : AttributeWord) (to : ℕ) → IsFound attribute tokens (from + 1) which to
-        → IsRead 8 tokens from (Attribute (nodes.SelfNode from) which) to
-    read_self =
-        read_opened (λ (which : AttributeWord). Attribute (nodes.SelfNode from) which) attribute tokens from openings.SelfNode begins
-        (λ others tree end r. r) builds_self
-
-    pub refuse_self :
-        (fault : ParseFault) → IsMissing attribute tokens (from + 1) fault → IsRefused 8 tokens from fault
-    refuse_self =
-        refuse_opened (λ (which : AttributeWord). Attribute (nodes.SelfNode from) which) attribute tokens from openings.SelfNode begins
-        (λ others tree end r. r) builds_self
-
-  module _ (begins : Begins tokens from openings.Parent) where
-    builds_parent :
-        (others : List Token) → kind_at others from ≡ kind_at tokens from → (which : AttributeWord) (end : ℕ)
-        → attribute which others (from + 1) end → operand 8 (Attribute (nodes.Parent from) which) others from end
-    builds_parent others same which end o =
-        let t = token_there tokens from openings.Parent begins in
-        (0, λ z. lit≤ tt, (from + 1, (refl, (same ∙ keyword_there openings.Parent words.Parent t.0 t.1 t.2, refl)), o))
-
-    pub read_parent :
-        (which : AttributeWord) (to : ℕ) → IsFound attribute tokens (from + 1) which to
-        → IsRead 8 tokens from (Attribute (nodes.Parent from) which) to
-    read_parent =
-        read_opened (λ (which : AttributeWord). Attribute (nodes.Parent from) which) attribute tokens from openings.Parent begins
-        (λ others tree end r. r) builds_parent
-
-    pub refuse_parent :
-        (fault : ParseFault) → IsMissing attribute tokens (from + 1) fault → IsRefused 8 tokens from fault
-    refuse_parent =
-        refuse_opened (λ (which : AttributeWord). Attribute (nodes.Parent from) which) attribute tokens from openings.Parent begins
-        (λ others tree end r. r) builds_parent
-
-  module _ (begins : Begins tokens from openings.Sibling) where
-    builds_sibling :
-        (others : List Token) → kind_at others from ≡ kind_at tokens from → (parts : Identifier × AttributeWord) (end : ℕ)
-        → named_attribute parts others (from + 1) end → operand 8 (Attribute (nodes.Sibling from parts.0) parts.1) others from end
-    builds_sibling others same parts end o =
-        let t = token_there tokens from openings.Sibling begins in (
-          0,
-          λ z. lit≤ tt,
-          (o.0, (from + 1, (refl, (same ∙ keyword_there openings.Sibling words.Sibling t.0 t.1 t.2, refl)), o.1), o.2),
-        )
-
-    pub read_sibling :
-        (parts : Identifier × AttributeWord) (to : ℕ) → IsFound named_attribute tokens (from + 1) parts to
-        → IsRead 8 tokens from (Attribute (nodes.Sibling from parts.0) parts.1) to
-    read_sibling =
-        read_opened (λ (parts : Identifier × AttributeWord). Attribute (nodes.Sibling from parts.0) parts.1)
-        named_attribute tokens from openings.Sibling begins (λ others tree end r. r) builds_sibling
-
-    pub refuse_sibling :
-        (fault : ParseFault) → IsMissing named_attribute tokens (from + 1) fault → IsRefused 8 tokens from fault
-    refuse_sibling =
-        refuse_opened (λ (parts : Identifier × AttributeWord). Attribute (nodes.Sibling from parts.0) parts.1)
-        named_attribute tokens from openings.Sibling begins (λ others tree end r. r) builds_sibling
-
-  module _ (begins : Begins tokens from openings.Child) where
-    builds_child :
-        (others : List Token) → kind_at others from ≡ kind_at tokens from → (parts : Identifier × AttributeWord) (end : ℕ)
-        → named_attribute parts others (from + 1) end → operand 8 (Attribute (nodes.Child from parts.0) parts.1) others from end
-    builds_child others same parts end o =
-        let t = token_there tokens from openings.Child begins in (
-          0,
-          λ z. lit≤ tt,
-          (o.0, (from + 1, (refl, (same ∙ keyword_there openings.Child words.Child t.0 t.1 t.2, refl)), o.1), o.2),
-        )
-
-    pub read_child :
-        (parts : Identifier × AttributeWord) (to : ℕ) → IsFound named_attribute tokens (from + 1) parts to
-        → IsRead 8 tokens from (Attribute (nodes.Child from parts.0) parts.1) to
-    read_child =
-        read_opened (λ (parts : Identifier × AttributeWord). Attribute (nodes.Child from parts.0) parts.1)
-        named_attribute tokens from openings.Child begins (λ others tree end r. r) builds_child
-
-    pub refuse_child :
-        (fault : ParseFault) → IsMissing named_attribute tokens (from + 1) fault → IsRefused 8 tokens from fault
-    refuse_child =
-        refuse_opened (λ (parts : Identifier × AttributeWord). Attribute (nodes.Child from parts.0) parts.1)
-        named_attribute tokens from openings.Child begins (λ others tree end r. r) builds_child
-
-  -- ---- lookups and calls
-
-  module _ (word : LookWord) (begins : Begins tokens from (openings.Look word)) where
-    builds_look :
-        (others : List Token) → kind_at others from ≡ kind_at tokens from → (parts : Identifier × (Terms × Option Tolerance)) (end : ℕ)
-        → look_state word parts others (from + 1) end → operand 8 (Look word from parts.0 parts.1.0 parts.1.1) others from end
-    builds_look others same parts end o =
-        let t = token_there tokens from (openings.Look word) begins in (
-          0,
-          λ z. lit≤ tt,
-          (from + 1, (refl, (same ∙ keyword_there (openings.Look word) (look_keyword word) t.0 t.1 t.2, refl)), o),
-        )
-
-    pub read_look :
-        (parts : Identifier × (Terms × Option Tolerance)) (to : ℕ) → IsFound (look_state word) tokens (from + 1) parts to
-        → IsRead 8 tokens from (Look word from parts.0 parts.1.0 parts.1.1) to
-    read_look =
-        read_opened (λ (parts : Identifier × (Terms × Option Tolerance)). Look word from parts.0 parts.1.0 parts.1.1)
-        (look_state word) tokens from (openings.Look word) begins (λ others tree end r. r) builds_look
-
-    pub refuse_look :
-        (fault : ParseFault) → IsMissing (look_state word) tokens (from + 1) fault → IsRefused 8 tokens from fault
-    refuse_look =
-        refuse_opened (λ (parts : Identifier × (Terms × Option Tolerance)). Look word from parts.0 parts.1.0 parts.1.1)
-        (look_state word) tokens from (openings.Look word) begins (λ others tree end r. r) builds_look
-
-  module _ (function : UnaryFunction) (begins : Begins tokens from (openings.UnaryCall function)) where
-    builds_unary_call :
-        (others : List Token) → kind_at others from ≡ kind_at tokens from → (tree : Term) (end : ℕ)
-        → argument tree others (from + 1) end → operand 8 (UnaryCall function from tree) others from end
-    builds_unary_call others same tree end o =
-        let t = token_there tokens from (openings.UnaryCall function) begins in (
-          0,
-          λ z. lit≤ tt,
-          (
-            from + 1,
-            (refl, (same ∙ keyword_there (openings.UnaryCall function) (unary_keyword function) t.0 t.1 t.2, refl)),
-            o,
-          ),
-        )
-
-    pub read_unary_call :
-        (tree : Term) (to : ℕ) → IsFound argument tokens (from + 1) tree to
-        → IsRead 8 tokens from (UnaryCall function from tree) to
-    read_unary_call =
-        read_opened (λ (tree : Term). UnaryCall function from tree) argument tokens from (openings.UnaryCall function) begins
-        (λ others tree end r. r) builds_unary_call
-
-    pub refuse_unary_call :
-        (fault : ParseFault) → IsMissing argument tokens (from + 1) fault → IsRefused 8 tokens from fault
-    refuse_unary_call =
-        refuse_opened (λ (tree : Term). UnaryCall function from tree) argument tokens from (openings.UnaryCall function) begins
-        (λ others tree end r. r) builds_unary_call
-
-  module _ (function : BinaryFunction) (begins : Begins tokens from (openings.BinaryCall function)) where
-    builds_binary_call :
-        (others : List Token) → kind_at others from ≡ kind_at tokens from → (parts : Term × Term) (end : ℕ)
-        → two_arguments parts others (from + 1) end → operand 8 (BinaryCall function from parts.0 parts.1) others from end
-    builds_binary_call others same parts end o =
-        let t = token_there tokens from (openings.BinaryCall function) begins in (
-          0,
-          λ z. lit≤ tt,
-          (
-            from + 1,
-            (refl, (same ∙ keyword_there (openings.BinaryCall function) (binary_keyword function) t.0 t.1 t.2, refl)),
-            o,
-          ),
-        )
-
-    pub read_binary_call :
-        (parts : Term × Term) (to : ℕ) → IsFound two_arguments tokens (from + 1) parts to
-        → IsRead 8 tokens from (BinaryCall function from parts.0 parts.1) to
-    read_binary_call =
-        read_opened (λ (parts : Term × Term). BinaryCall function from parts.0 parts.1)
-        two_arguments tokens from (openings.BinaryCall function) begins (λ others tree end r. r) builds_binary_call
-
-    pub refuse_binary_call :
-        (fault : ParseFault) → IsMissing two_arguments tokens (from + 1) fault → IsRefused 8 tokens from fault
-    refuse_binary_call =
-        refuse_opened (λ (parts : Term × Term). BinaryCall function from parts.0 parts.1)
-        two_arguments tokens from (openings.BinaryCall function) begins (λ others tree end r. r) builds_binary_call
-
   -- ---- one token
 
   -- a tree of one token, where each tree that begins so is it
@@ -285,13 +148,13 @@ module _ (tokens : List Token) (from : ℕ) where
       → ((others : List Token) → kind_at others from ≡ kind_at tokens from → operand 8 leaf others from (from + 1))
       → IsRead 8 tokens from leaf (from + 1)
   read_leaf leaf inside one builds =
-      read_produced (λ (part : Unit {0}). leaf) alone Never tokens from
-      (λ others agree tree end o.
-      let is = one others agree tree end o in inl (record { part = tt; built = is.0; rest = is.1 }))
-      (λ others same part end o.
-      subst (λ (place : ℕ). operand 8 leaf others from place) (sym o) (builds others same))
-      tt (from + 1) (λ others end agree ends. absurd ends)
-      (found_alone tokens (from + 1) (omega (arith, inside)))
+      read_produced {build = λ (part : Unit {0}). leaf} {form = alone} {Short = Never}
+      (record {
+        inverts = λ others agree tree end o.
+            let is = one others agree tree end o in inl (record { part = tt; built = is.0; rest = is.1 });
+        builds = λ others same part end o. subst (λ (place : ℕ). operand 8 leaf others from place) (sym o) (builds others same);
+        goes_on = λ others ends. absurd ends;
+      }) (λ others ends. absurd ends) (found_alone tokens (from + 1) (omega (arith, inside)))
 
   pub read_literal :
       (value : LiteralValue) → Begins tokens from openings.Literal
@@ -423,15 +286,6 @@ module _ (tokens : List Token) (from : ℕ) where
         let same = ((found.only others agree).only r.0 (from + 1) r.1).0 in
         subst (λ (which : Identifier). NameRest which others from tree end) same r.2
 
-    -- the token behind the name is not there in other tokens that agree
-    lacks_there :
-        (others : List Token) (which : Sign) → Agree tokens others (from + 1)
-        → (HasSign tokens (from + 1) which → ⊥) → HasSign others (from + 1) which → ⊥
-    lacks_there others which agree lacks has = lacks (sym (agree (from + 1) (omega arith)) ∙ has)
-
-    bracket_or_dot : (others : List Token) → HasSign others (from + 1) signs.OpenBracket → HasSign others (from + 1) signs.Dot → ⊥
-    bracket_or_dot others bracket dot = let e : Some (kinds.Sign signs.OpenBracket) ≡ Some (kinds.Sign signs.Dot) = sym bracket ∙ dot in cc
-
     name_there : (others : List Token) → kind_at others from ≡ kind_at tokens from → identifier name others from (from + 1)
     name_there others same =
         let at = (found.only tokens (λ place le. refl)).spelled in (at.0, (same ∙ at.1.0, refl))
@@ -442,86 +296,46 @@ module _ (tokens : List Token) (from : ℕ) where
     read_variable no_bracket no_dot =
         read_leaf (Variable name) (omega (arith, found.within))
         (λ others agree tree end o.
+        let same = sym (agree (from + 1) (omega arith)) in
         elim (name_rest others agree tree end o) [
           | inl leaf ↦ leaf
-          | inr (inl p) ↦ absurd (lacks_there others signs.OpenBracket agree no_bracket p.rest.1.0)
-          | inr (inr p) ↦ absurd (lacks_there others signs.Dot agree no_dot p.rest.1.0)
+          | inr (inl p) ↦ absurd (no_bracket (same ∙ p.rest.1.0))
+          | inr (inr p) ↦ absurd (no_dot (same ∙ p.rest.1.0))
         ])
         (λ others same. (0, λ z. lit≤ tt, name_there others same))
 
-    -- the name alone ends behind its token
-    abbrev Short : List Token → ℕ → Type 0
-    Short others end = end ≡ from + 1
+    -- a bracket or a dot behind the name: the name alone ends before it
+    pub produces_element :
+        HasSign tokens (from + 1) signs.OpenBracket
+        → Produces (λ (place : Term). Element name place) indexed (λ others. HasSign others (from + 1) signs.OpenBracket) tokens from
+    produces_element has =
+        record {
+          inverts = λ others agree tree end o.
+              let there : HasSign others (from + 1) signs.OpenBracket = agree (from + 1) (omega arith) ∙ has in
+              elim (name_rest others agree tree end o) [
+                | inl leaf ↦ inr (leaf.1, there)
+                | inr (inl p) ↦ inl p
+                | inr (inr p) ↦ absurd (not_both others (from + 1) signs.OpenBracket signs.Dot (λ e. cc) there p.rest.1.0)
+              ];
+          builds = λ others same part end o. (0, λ z. lit≤ tt, (from + 1, name_there others same, o));
+          goes_on = λ others there. index there;
+        }
 
-    module _ (has : HasSign tokens (from + 1) signs.OpenBracket) where
-      bracket_there : (others : List Token) → Agree tokens others (from + 1) → HasSign others (from + 1) signs.OpenBracket
-      bracket_there others agree = agree (from + 1) (omega arith) ∙ has
-
-      elements : (others : List Token) → Agree tokens others (from + 1) → (tree : Term) (end : ℕ) → operand 8 tree others from end
-          → Produced (λ (place : Term). Element name place) indexed others from tree end ⊎ Short others end
-      elements others agree tree end o =
-          elim (name_rest others agree tree end o) [
-            | inl leaf ↦ inr leaf.1
-            | inr (inl p) ↦ inl p
-            | inr (inr p) ↦ absurd (bracket_or_dot others (bracket_there others agree) p.rest.1.0)
-          ]
-
-      indexes : (others : List Token) (end : ℕ) → Agree tokens others (from + 1) → Short others end → GoesOn 8 others end
-      indexes others end agree is =
-          index (subst (λ (place : ℕ). HasSign others place signs.OpenBracket) (sym is) (bracket_there others agree))
-
-      builds_element :
-          (others : List Token) → kind_at others from ≡ kind_at tokens from → (place : Term) (end : ℕ)
-          → indexed place others (from + 1) end → operand 8 (Element name place) others from end
-      builds_element others same place end o = (0, λ z. lit≤ tt, (from + 1, name_there others same, o))
-
-      pub read_element :
-          (place : Term) (to : ℕ) → from + 1 < to → IsFound indexed tokens (from + 1) place to
-          → IsRead 8 tokens from (Element name place) to
-      read_element place to longer g =
-          read_produced (λ (place : Term). Element name place) indexed Short tokens from elements builds_element
-          place to (λ others end agree is. (omega (arith, is, longer), indexes others end agree is)) g
-
-      pub refuse_element :
-          (fault : ParseFault) → IsMissing indexed tokens (from + 1) fault → IsRefused 8 tokens from fault
-      refuse_element =
-          refuse_produced (λ (place : Term). Element name place) indexed Short tokens from elements builds_element
-          (λ others end agree is. (is, indexes others end agree is))
-
-    module _ (has : HasSign tokens (from + 1) signs.Dot) where
-      dot_there : (others : List Token) → Agree tokens others (from + 1) → HasSign others (from + 1) signs.Dot
-      dot_there others agree = agree (from + 1) (omega arith) ∙ has
-
-      attributes : (others : List Token) → Agree tokens others (from + 1) → (tree : Term) (end : ℕ) → operand 8 tree others from end
-          → Produced (λ (which : AttributeWord). Attribute (nodes.Named name) which) attribute others from tree end ⊎ Short others end
-      attributes others agree tree end o =
-          elim (name_rest others agree tree end o) [
-            | inl leaf ↦ inr leaf.1
-            | inr (inl p) ↦ absurd (bracket_or_dot others p.rest.1.0 (dot_there others agree))
-            | inr (inr p) ↦ inl p
-          ]
-
-      follows : (others : List Token) (end : ℕ) → Agree tokens others (from + 1) → Short others end → GoesOn 8 others end
-      follows others end agree is =
-          attribute_follows (subst (λ (place : ℕ). HasSign others place signs.Dot) (sym is) (dot_there others agree))
-
-      builds_named :
-          (others : List Token) → kind_at others from ≡ kind_at tokens from → (which : AttributeWord) (end : ℕ)
-          → attribute which others (from + 1) end → operand 8 (Attribute (nodes.Named name) which) others from end
-      builds_named others same which end o = (0, λ z. lit≤ tt, (from + 1, name_there others same, o))
-
-      pub read_named :
-          (which : AttributeWord) (to : ℕ) → from + 1 < to → IsFound attribute tokens (from + 1) which to
-          → IsRead 8 tokens from (Attribute (nodes.Named name) which) to
-      read_named which to longer g =
-          read_produced (λ (which : AttributeWord). Attribute (nodes.Named name) which) attribute Short tokens from attributes builds_named
-          which to (λ others end agree is. (omega (arith, is, longer), follows others end agree is)) g
-
-      pub refuse_named :
-          (fault : ParseFault) → IsMissing attribute tokens (from + 1) fault → IsRefused 8 tokens from fault
-      refuse_named =
-          refuse_produced (λ (which : AttributeWord). Attribute (nodes.Named name) which) attribute Short tokens from attributes builds_named
-          (λ others end agree is. (is, follows others end agree is))
+    pub produces_named :
+        HasSign tokens (from + 1) signs.Dot
+        → Produces (λ (which : AttributeWord). Attribute (nodes.Named name) which) attribute (λ others. HasSign others (from + 1) signs.Dot) tokens from
+    produces_named has =
+        record {
+          inverts = λ others agree tree end o.
+              let there : HasSign others (from + 1) signs.Dot = agree (from + 1) (omega arith) ∙ has in
+              elim (name_rest others agree tree end o) [
+                | inl leaf ↦ inr (leaf.1, there)
+                | inr (inl p) ↦ absurd (not_both others (from + 1) signs.OpenBracket signs.Dot (λ e. cc) p.rest.1.0 there)
+                | inr (inr p) ↦ inl p
+              ];
+          builds = λ others same part end o. (0, λ z. lit≤ tt, (from + 1, name_there others same, o));
+          goes_on = λ others there. attribute_follows there;
+        }
 
 -- where a name begins, it is not missing
 pub refuse_name :

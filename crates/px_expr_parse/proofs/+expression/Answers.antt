@@ -1,40 +1,39 @@
-use Rattle.std.proofs.Common.{◌≡◌, ◌+◌, refl, sym, ap, subst, ◌∙◌, arith, Option, Some, List, [], ◌∷◌, ◌++◌, map}
+use Rattle.std.proofs.Common.{◌≡◌, ◌+◌, refl, sym, ap, ◌∙◌, arith, Some}
 use Rattle.std.proofs.lemmas.List.{map_push}
-use Rattle.std.proofs.lemmas.Result.{IfErr-weaker, IfOk-weaker, err_from_is_err_and}
+use Rattle.std.proofs.lemmas.Result.{IfErr-weaker, IfOk-weaker}
+use Rattle.px_value.proofs.General.{handed_on}
 use Rattle.std.proofs.lemmas.Bool.{false≢true}
 use Rattle.px_lex.specs.declared.sign.Sign.TheVariants as signs
-use Rattle.px_syntax.specs.declared.expr.NodeReference.TheVariants as nodes
-use Rattle.px_syntax.specs.declared.expr.Tolerance.{Tolerance}
-use Rattle.px_syntax.specs.Expr.{Attribute, BinaryCall, Element, Enumerated, Look, Term, Terms, Unary, UnaryCall, Variable, in_turn, term_of}
+use Rattle.px_lex.specs.declared.token.TokenKind.TheVariants as kinds
+use Rattle.px_syntax.specs.Expr.{term_of}
 use Rattle.px_syntax.specs.Form.{identifier}
-use Rattle.px_syntax.specs.ExprGrammar.{look_end}
+use Rattle.px_syntax.specs.ExprGrammar.{expression, look_end}
 use Rattle.px_syntax.specs.declared.word.LookWord.{LookWord}
 use Rattle.px_syntax.proofs.Levels.{binary_level}
 use Rattle.px_expr_parse.specs.Tail.{closed, closed_arguments, look_rest, second_argument}
-use Rattle.px_expr_parse.specs.Verdict.{IsFound}
-use Rattle.px_expr_parse.proofs.Arguments.{HasArguments, found_none, last_argument, missing_last, no_arguments, one_more_argument, refuse_argument}
-use Rattle.px_expr_parse.proofs.Closed.{closed_by, closer_ends, closer_of, comma_closes, found_closed, found_with_sign, missing_close_part, missing_closed, missing_expression, missing_sign_behind}
-use Rattle.px_lex.specs.declared.token.TokenKind.TheVariants as kinds
-use Rattle.px_expr_parse.proofs.Chains.{level}
-use Rattle.px_expr_parse.proofs.Completions.{Shortest, short_behind, short_both, short_closed, short_expression, short_look_end, short_look_rest, short_name}
-use Rattle.px_expr_parse.proofs.Lookups.{found_given, found_left_out, missing_given, missing_left_out}
-use Rattle.px_expr_parse.proofs.Spans.{local_closed_arguments, local_identifier}
 use Rattle.px_expr_parse.specs.declared.opening.Opening.TheVariants as openings
-use Rattle.px_expr_parse.proofs.Loops.{HasSpine, loop_begins, loop_ends, loop_goes_on, loop_refused, loop_stops}
-use Rattle.px_expr_parse.proofs.Parts.{IsClosing, both, found_behind_sign, found_both, missing_behind_sign, missing_first, missing_second, missing_sign, read_as}
-use Rattle.px_expr_parse.proofs.Primaries.{begins_with, read_binary_call, read_element, read_enumerated, read_look, read_named, read_paren, read_prefix, read_unary_call, read_variable, refuse_binary_call, refuse_element, refuse_end, refuse_look, refuse_name, refuse_named, refuse_nothing, refuse_paren, refuse_prefix, refuse_unary_call}
+use Rattle.px_expr_parse.proofs.Arguments.{found_none, last_argument, missing_last, no_arguments, one_more_argument, refuse_argument}
+use Rattle.px_expr_parse.proofs.Chains.{level}
+use Rattle.px_expr_parse.proofs.Closed.{closer_ends, closes}
+use Rattle.px_expr_parse.proofs.Completions.{Shortest, short_behind, short_both, short_closed, short_expression, short_look_end, short_look_rest, short_name, short_token}
+use Rattle.px_expr_parse.proofs.Lookups.{ends_given, ends_left_out}
+use Rattle.px_expr_parse.proofs.Loops.{loop_begins, loop_ends, loop_goes_on, loop_refused, loop_stops}
+use Rattle.px_expr_parse.proofs.Parts.{IsClosing, both, ends_before, ends_behind, ends_both, ends_closed, found_ending, found_sign, missing_alone, missing_closed, missing_ending, missing_first, missing_sign, sign_alone, three, two}
+use Rattle.px_expr_parse.proofs.Primaries.{begins_with, opens_binary_call, opens_look, opens_paren, opens_unary_call, produces_element, produces_named, read_enumerated, read_prefix, read_variable, refuse_end, refuse_name, refuse_nothing, refuse_prefix}
+use Rattle.px_expr_parse.proofs.Productions.{read_opened, read_produced, refuse_opened, refuse_produced}
+use Rattle.px_expr_parse.proofs.Spans.{local_closed_arguments, local_identifier}
 use Rattle.px_expr_parse.proofs.+expression.Goals as goal
 use Rattle.px_expr_parse.proofs.+expression.Goals.{operation::operation-in-Some+then-level-floor, operation::operation-in_default}
 
 -- a comma closes the first of two arguments
 second_closes : IsClosing second_argument
-second_closes tokens part from end o = closer_ends tokens from signs.Comma comma_closes o.1.0
+second_closes tokens part from end o = closer_ends tokens from signs.Comma refl o.1.0
 
 -- the shortest of what stands behind a word
 short_second : Shortest second_argument
 short_second = short_behind (kinds.Sign signs.Comma) (short_closed signs.CloseParen)
 
-short_two : Shortest (closed_by second_argument second_closes)
+short_two : Shortest (both expression second_argument)
 short_two =
     short_both short_expression short_second (λ others from middle end first second o r. ((first, second), (middle, o, r)))
 
@@ -54,113 +53,100 @@ argument::arguments-loop-args-init t c =
 
 pub argument::arguments-returns-in_err-arg-clause-fault : goal.argument::arguments-returns-in_err-arg-clause-fault
 argument::arguments-returns-in_err-arg-clause-fault t c =
-    let p = err_from_is_err_and c.from_residual.result c.from_residual.ensures.1 in
-    rw (p.1, p.2) (refuse_argument c.args.tokens.now c.args.from (map term_of c.loop-args.args.items) c.loop-args.at c.loop-args.invariant
-    c.in_err-arg.field-0.0 c.in_err-arg.ensures.fault)
+    handed_on _ _ _ c.from_residual.ensures.1
+    (refuse_argument c.loop-args.invariant c.in_err-arg.field-0.0 c.in_err-arg.ensures.fault)
 
 pub argument::arguments-returns-in_err-expect-clause-fault : goal.argument::arguments-returns-in_err-expect-clause-fault
 argument::arguments-returns-in_err-expect-clause-fault t c =
-    let p = err_from_is_err_and c.from_residual-in_err-expect.result c.from_residual-in_err-expect.ensures.1 in
-    rw (p.1, p.2) (missing_last c.args.tokens.now c.args.from (map term_of c.loop-args.args.items) c.loop-args.at c.loop-args.invariant
-    (term_of c.in_ok-arg.arg) c.in_ok-arg.end c.in_ok-arg.ensures.ok c.in_err-expect.field-0.0
+    handed_on _ _ _ c.from_residual-in_err-expect.ensures.1
+    (missing_last c.loop-args.invariant c.in_ok-arg.ensures.ok c.in_err-expect.field-0.0
     (λ has. false≢true (c.if-not-is_sign.ensures.answer.1 has)) c.in_err-expect.ensures.fault)
 
 pub argument::arguments-returns-then-not-is_sign-clause-ok : goal.argument::arguments-returns-then-not-is_sign-clause-ok
 argument::arguments-returns-then-not-is_sign-clause-ok t c =
-    let trees : map term_of c.push.new.self.items ≡ map term_of c.loop-args.args.items ++ term_of c.in_ok-arg.arg ∷ [] =
-    ap (map term_of) c.in_ok-push.ensures.items ∙ map_push term_of c.loop-args.args.items c.in_ok-arg.arg in
-    subst (λ (ts : List Term). IsFound closed_arguments c.args.tokens.now c.args.from (in_turn ts) (c.in_ok-arg.end + 1)) (sym trees)
-    (last_argument c.args.tokens.now c.args.from (map term_of c.loop-args.args.items) c.loop-args.at c.loop-args.invariant
-    (term_of c.in_ok-arg.arg) c.in_ok-arg.end c.in_ok-arg.ensures.ok c.in_ok-expect.ensures.ok.0 c.in_ok-expect.ensures.ok.1)
+    rw (c.in_ok-push.ensures.items, map_push term_of c.loop-args.args.items c.in_ok-arg.arg)
+    (last_argument c.loop-args.invariant c.in_ok-arg.ensures.ok c.in_ok-expect.ensures.ok.0 c.in_ok-expect.ensures.ok.1)
 
 pub argument::arguments-loop-args-preserved : goal.argument::arguments-loop-args-preserved
 argument::arguments-loop-args-preserved t c =
-    let trees : map term_of c.push.new.self.items ≡ map term_of c.loop-args.args.items ++ term_of c.in_ok-arg.arg ∷ [] =
-    ap (map term_of) c.in_ok-push.ensures.items ∙ map_push term_of c.loop-args.args.items c.in_ok-arg.arg in
-    subst (λ (ts : List Term). HasArguments c.args.tokens.now c.args.from ts (c.in_ok-arg.end + 1)) (sym trees)
-    (one_more_argument c.args.tokens.now c.args.from (map term_of c.loop-args.args.items) c.loop-args.at c.loop-args.invariant
-    (term_of c.in_ok-arg.arg) c.in_ok-arg.end c.in_ok-arg.ensures.ok (c.if-not-is_sign.ensures.inside refl)
+    rw (c.in_ok-push.ensures.items, map_push term_of c.loop-args.args.items c.in_ok-arg.arg)
+    (one_more_argument c.loop-args.invariant c.in_ok-arg.ensures.ok (c.if-not-is_sign.ensures.inside refl)
     (c.if-not-is_sign.ensures.answer.0 refl))
 
 pub argument::closed-returns-in_err-tree-clause-fault : goal.argument::closed-returns-in_err-tree-clause-fault
 argument::closed-returns-in_err-tree-clause-fault t c =
-    let p = err_from_is_err_and c.from_residual.result c.from_residual.ensures.1 in
-    rw (p.1, p.2) (missing_expression c.args.close (closer_of c.args.close c.requires.closer) c.args.tokens.now c.args.from
-    c.in_err-tree.field-0.0 c.in_err-tree.ensures.fault)
+    handed_on _ _ _ c.from_residual.ensures.1
+    (missing_ending (ends_before c.args.close c.args.tokens.now c.args.from expression) c.in_err-tree.field-0.0
+    (missing_closed (sign_alone c.args.close) (closes c.args.close c.requires.closer) c.args.tokens.now c.args.from c.in_err-tree.field-0.0
+    (short_token (kinds.Sign c.args.close)) c.in_err-tree.ensures.fault))
 
 pub argument::closed-returns-in_err-expect-clause-fault : goal.argument::closed-returns-in_err-expect-clause-fault
 argument::closed-returns-in_err-expect-clause-fault t c =
-    let p = err_from_is_err_and c.from_residual-in_err-expect.result c.from_residual-in_err-expect.ensures.1 in
-    rw (p.1, p.2) (missing_sign_behind c.args.close (closer_of c.args.close c.requires.closer) c.args.tokens.now c.args.from
-    c.in_ok-tree.end (term_of c.in_ok-tree.tree) c.in_err-expect.field-0.0 c.in_ok-tree.ensures.ok c.in_err-expect.ensures.fault)
+    handed_on _ _ _ c.from_residual-in_err-expect.ensures.1
+    (missing_ending (ends_before c.args.close c.args.tokens.now c.args.from expression) c.in_err-expect.field-0.0
+    (missing_ending (ends_closed (sign_alone c.args.close) (closes c.args.close c.requires.closer) c.in_ok-tree.ensures.ok) c.in_err-expect.field-0.0
+    (missing_alone c.args.close c.args.tokens.now c.in_ok-tree.end c.in_err-expect.field-0.0 c.in_ok-tree.ensures.ok.within c.in_err-expect.ensures.fault)))
 
 pub argument::closed-returns-clause-ok : goal.argument::closed-returns-clause-ok
 argument::closed-returns-clause-ok t c =
-    found_with_sign c.args.close (closer_of c.args.close c.requires.closer) c.args.tokens.now c.args.from
-    c.in_ok-tree.end (term_of c.in_ok-tree.tree) c.in_ok-expect.ensures.ok.0 c.in_ok-tree.ensures.ok c.in_ok-expect.ensures.ok.1
+    found_ending (ends_before c.args.close c.args.tokens.now c.args.from expression)
+    (found_ending (ends_closed (sign_alone c.args.close) (closes c.args.close c.requires.closer) c.in_ok-tree.ensures.ok)
+    (found_sign c.args.close c.args.tokens.now c.in_ok-tree.end c.in_ok-expect.ensures.ok.0 c.in_ok-expect.ensures.ok.1))
 
 pub lookup::look_rest-returns-in_err-tolerance-clause-fault : goal.lookup::look_rest-returns-in_err-tolerance-clause-fault
 lookup::look_rest-returns-in_err-tolerance-clause-fault t c =
-    let p = err_from_is_err_and c.from_residual.result c.from_residual.ensures.1 in
-    rw (p.1, p.2) (missing_left_out c.args.word c.args.tokens.now c.args.from (λ has. false≢true (c.if-not-is_sign.ensures.answer.1 has))
+    handed_on _ _ _ c.from_residual.ensures.1
+    (missing_ending (ends_left_out c.args.word c.args.tokens.now c.args.from (λ has. false≢true (c.if-not-is_sign.ensures.answer.1 has)))
     c.in_err-tolerance.field-0.0 c.in_err-tolerance.ensures.fault)
 
 pub lookup::look_rest-returns-then-not-is_sign-clause-ok : goal.lookup::look_rest-returns-then-not-is_sign-clause-ok
 lookup::look_rest-returns-then-not-is_sign-clause-ok t c =
     rw c.new.ensures.items
-    (found_left_out c.args.word c.args.tokens.now c.args.from (λ has. false≢true (c.if-not-is_sign.ensures.answer.1 has))
-    c.in_ok-tolerance.tolerance c.in_ok-tolerance.end c.in_ok-tolerance.ensures.ok)
+    (found_ending (ends_left_out c.args.word c.args.tokens.now c.args.from (λ has. false≢true (c.if-not-is_sign.ensures.answer.1 has)))
+    c.in_ok-tolerance.ensures.ok)
 
 pub lookup::look_rest-returns-in_err-args-clause-fault : goal.lookup::look_rest-returns-in_err-args-clause-fault
 lookup::look_rest-returns-in_err-args-clause-fault t c =
-    let p = err_from_is_err_and c.from_residual-in_err-args.result c.from_residual-in_err-args.ensures.1 in
     let opening = c.if-not-is_sign.ensures.answer.0 refl in
-    rw (p.1, p.2) (missing_given c.args.word c.args.tokens.now c.args.from opening c.in_err-args.field-0.0
-    (missing_behind_sign signs.OpenParen (both closed_arguments (look_end c.args.word)) c.args.tokens.now c.args.from c.in_err-args.field-0.0 opening
+    handed_on _ _ _ c.from_residual-in_err-args.ensures.1
+    (missing_ending (ends_given c.args.word c.args.tokens.now c.args.from opening) c.in_err-args.field-0.0
+    (missing_ending (ends_behind signs.OpenParen c.args.tokens.now c.args.from (both closed_arguments (look_end c.args.word)) opening) c.in_err-args.field-0.0
     (missing_first closed_arguments (look_end c.args.word) c.args.tokens.now (c.args.from + 1) c.in_err-args.field-0.0 (short_look_end c.args.word)
     c.in_err-args.ensures.fault)))
 
 pub lookup::look_rest-returns-in_err-tolerance-2-clause-fault : goal.lookup::look_rest-returns-in_err-tolerance-2-clause-fault
 lookup::look_rest-returns-in_err-tolerance-2-clause-fault t c =
-    let p = err_from_is_err_and c.from_residual-in_err-tolerance-2.result c.from_residual-in_err-tolerance-2.ensures.1 in
     let opening = c.if-not-is_sign.ensures.answer.0 refl in
-    let args = in_turn (map term_of c.in_ok-args.args.items) in
-    rw (p.1, p.2) (missing_given c.args.word c.args.tokens.now c.args.from opening c.in_err-tolerance-2.field-0.0
-    (missing_behind_sign signs.OpenParen (both closed_arguments (look_end c.args.word)) c.args.tokens.now c.args.from c.in_err-tolerance-2.field-0.0 opening
-    (missing_second closed_arguments (look_end c.args.word) c.args.tokens.now (c.args.from + 1) c.in_ok-args.middle args c.in_err-tolerance-2.field-0.0
-    (local_closed_arguments args) c.in_ok-args.ensures.ok c.in_err-tolerance-2.ensures.fault)))
+    handed_on _ _ _ c.from_residual-in_err-tolerance-2.ensures.1
+    (missing_ending (ends_given c.args.word c.args.tokens.now c.args.from opening) c.in_err-tolerance-2.field-0.0
+    (missing_ending (ends_behind signs.OpenParen c.args.tokens.now c.args.from (both closed_arguments (look_end c.args.word)) opening) c.in_err-tolerance-2.field-0.0
+    (missing_ending (ends_both closed_arguments (look_end c.args.word) (local_closed_arguments _) c.in_ok-args.ensures.ok) c.in_err-tolerance-2.field-0.0
+    c.in_err-tolerance-2.ensures.fault)))
 
 pub lookup::look_rest-returns-clause-ok : goal.lookup::look_rest-returns-clause-ok
 lookup::look_rest-returns-clause-ok t c =
     let opening = c.if-not-is_sign.ensures.answer.0 refl in
-    let args = in_turn (map term_of c.in_ok-args.args.items) in
-    let parts : Terms × Option Tolerance = (args, c.in_ok-tolerance-2.tolerance) in
-    found_given c.args.word c.args.tokens.now c.args.from opening parts c.in_ok-tolerance-2.end
-    (found_behind_sign signs.OpenParen (both closed_arguments (look_end c.args.word)) c.args.tokens.now c.args.from c.in_ok-tolerance-2.end parts opening
-    (found_both closed_arguments (look_end c.args.word) c.args.tokens.now (c.args.from + 1) c.in_ok-args.middle c.in_ok-tolerance-2.end args
-    c.in_ok-tolerance-2.tolerance c.in_ok-args.ensures.ok c.in_ok-tolerance-2.ensures.ok))
+    found_ending (ends_given c.args.word c.args.tokens.now c.args.from opening)
+    (found_ending (ends_behind signs.OpenParen c.args.tokens.now c.args.from (both closed_arguments (look_end c.args.word)) opening)
+    (found_ending (ends_both closed_arguments (look_end c.args.word) (local_closed_arguments _) c.in_ok-args.ensures.ok) c.in_ok-tolerance-2.ensures.ok))
 
 pub operation::operand-returns-in_err-tree-clause-fault : goal.operation::operand-returns-in_err-tree-clause-fault
 operation::operand-returns-in_err-tree-clause-fault t c =
-    let p = err_from_is_err_and c.from_residual.result c.from_residual.ensures.1 in
-    rw (p.1, p.2) (refuse_prefix c.args.tokens.now c.args.from c.in-Some.operator (sym c.in-Some.ensures.value)
-    c.in_err-tree.field-0.0 c.in_err-tree.ensures.fault)
+    handed_on _ _ _ c.from_residual.ensures.1
+    (refuse_prefix c.args.tokens.now c.args.from c.in-Some.operator (sym c.in-Some.ensures.value) c.in_err-tree.field-0.0 c.in_err-tree.ensures.fault)
 
 pub operation::operand-returns-clause-ok : goal.operation::operand-returns-clause-ok
 operation::operand-returns-clause-ok t c =
-    read_as 8 c.args.tokens.now c.args.from (Unary c.in-Some.operator c.args.from (term_of c.in_ok-tree.tree)) (term_of c.in_ok-unary.field-0)
-    c.in_ok-tree.end c.in_ok-tree.end c.in_ok-unary.ensures refl
-    (read_prefix c.args.tokens.now c.args.from c.in-Some.operator (sym c.in-Some.ensures.value)
+    rw c.in_ok-unary.ensures (read_prefix c.args.tokens.now c.args.from c.in-Some.operator (sym c.in-Some.ensures.value)
     (term_of c.in_ok-tree.tree) c.in_ok-tree.end c.in_ok-tree.ensures.ok)
 
 pub operation::operation-returns-in_err-left-clause-fault : goal.operation::operation-returns-in_err-left-clause-fault
 operation::operation-returns-in_err-left-clause-fault t c =
-    let p = err_from_is_err_and c.from_residual.result c.from_residual.ensures.1 in
-    rw (p.1, p.2) (loop_refused c.args.floor c.args.tokens.now c.args.from c.in_err-left.field-0.0 c.requires.level c.in_err-left.ensures.fault)
+    handed_on _ _ _ c.from_residual.ensures.1
+    (loop_refused c.args.floor c.args.tokens.now c.args.from c.in_err-left.field-0.0 c.requires.level c.in_err-left.ensures.fault)
 
 pub operation::operation-loop-operator-init : goal.operation::operation-loop-operator-init
-operation::operation-loop-operator-init t c =
-    loop_begins c.args.floor c.args.tokens.now c.args.from (term_of c.in_ok-left.left) c.in_ok-left.at c.requires.level c.in_ok-left.ensures.ok
+operation::operation-loop-operator-init t c = loop_begins c.requires.level c.in_ok-left.ensures.ok
 
 pub operation::operation-overflow_add-level : goal.operation::operation-overflow_add-level
 operation::operation-overflow_add-level t c = omega (arith, (binary_level c.in-Some.operator).1)
@@ -173,21 +159,19 @@ operation::operation-operation-requires t c =
 
 pub operation::operation-returns-in_err-right-clause-fault : goal.operation::operation-returns-in_err-right-clause-fault
 operation::operation-returns-in_err-right-clause-fault t c =
-    let p = err_from_is_err_and c.from_residual-in_err-right.result c.from_residual-in_err-right.ensures.1 in
-    rw (p.1, p.2) (loop_stops c.args.floor c.args.tokens.now c.args.from (term_of c.loop-operator.left) c.loop-operator.at
-    c.loop-operator.invariant c.in-Some.operator (sym c.in-Some.ensures.value) (omega (arith, c.level-level.ensures, c.if-level-floor.false))
+    handed_on _ _ _ c.from_residual-in_err-right.ensures.1
+    (loop_stops c.loop-operator.invariant c.in-Some.operator (sym c.in-Some.ensures.value) (omega (arith, c.level-level.ensures, c.if-level-floor.false))
     c.in_err-right.field-0.0 (rw c.level-level.ensures at c.in_err-right.ensures.fault))
 
 pub operation::operation-loop-operator-preserved : goal.operation::operation-loop-operator-preserved
 operation::operation-loop-operator-preserved t c =
-    subst (λ (tree : Term). HasSpine c.args.floor c.args.tokens.now c.args.from tree c.in_ok-right.end) (sym c.in_ok-left-2.ensures)
-    (loop_goes_on c.args.floor c.args.tokens.now c.args.from (term_of c.loop-operator.left) c.loop-operator.at
-    c.loop-operator.invariant c.in-Some.operator (sym c.in-Some.ensures.value) (omega (arith, c.level-level.ensures, c.if-level-floor.false))
-    (term_of c.in_ok-right.right) c.in_ok-right.end (rw c.level-level.ensures at c.in_ok-right.ensures.ok))
+    rw c.in_ok-left-2.ensures
+    (loop_goes_on c.loop-operator.invariant c.in-Some.operator (sym c.in-Some.ensures.value) (omega (arith, c.level-level.ensures, c.if-level-floor.false))
+    (rw c.level-level.ensures at c.in_ok-right.ensures.ok))
 
 pub operation::operation-returns-clause-ok : goal.operation::operation-returns-clause-ok
 operation::operation-returns-clause-ok t c =
-    loop_ends c.args.floor c.args.tokens.now c.args.from (term_of c.loop-operator.left) c.loop-operator.at c.loop-operator.invariant
+    loop_ends c.loop-operator.invariant
     (elim c.match-binary_at.branch [
       | operation::operation-in-Some+then-level-floor w ↦
           λ operator is.
@@ -201,152 +185,140 @@ operation::operation-returns-clause-ok t c =
 
 pub primary::unary_call-returns-in_err-expect-clause-fault : goal.primary::unary_call-returns-in_err-expect-clause-fault
 primary::unary_call-returns-in_err-expect-clause-fault t c =
-    let p = err_from_is_err_and c.from_residual.result c.from_residual.ensures.1 in
-    rw (p.1, p.2) (refuse_unary_call c.args.tokens.now c.args.from c.args.function c.requires.begins c.in_err-expect.field-0.0
-    (missing_sign signs.OpenParen (closed signs.CloseParen) c.args.tokens.now (c.args.from + 1) c.in_err-expect.field-0.0 (omega (arith, c.requires.place)) (short_closed signs.CloseParen) c.in_err-expect.ensures.fault))
+    handed_on _ _ _ c.from_residual.ensures.1
+    (refuse_opened (opens_unary_call c.args.from c.args.function) c.requires.begins c.in_err-expect.field-0.0
+    (missing_sign signs.OpenParen c.args.tokens.now (c.args.from + 1) (closed signs.CloseParen) c.in_err-expect.field-0.0
+    (omega (arith, c.requires.place)) (short_closed signs.CloseParen) c.in_err-expect.ensures.fault))
 
 pub primary::unary_call-returns-in_err-argument-clause-fault : goal.primary::unary_call-returns-in_err-argument-clause-fault
 primary::unary_call-returns-in_err-argument-clause-fault t c =
-    let p = err_from_is_err_and c.from_residual-in_err-argument.result c.from_residual-in_err-argument.ensures.1 in
-    let two : c.args.from + 2 ≡ c.args.from + 1 + 1 = omega arith in
-    rw (p.1, p.2) (refuse_unary_call c.args.tokens.now c.args.from c.args.function c.requires.begins c.in_err-argument.field-0.0
-    (missing_behind_sign signs.OpenParen (closed signs.CloseParen) c.args.tokens.now (c.args.from + 1) c.in_err-argument.field-0.0 c.in_ok-expect.ensures.ok.1 (rw two at c.in_err-argument.ensures.fault)))
+    handed_on _ _ _ c.from_residual-in_err-argument.ensures.1
+    (refuse_opened (opens_unary_call c.args.from c.args.function) c.requires.begins c.in_err-argument.field-0.0
+    (missing_ending (ends_behind signs.OpenParen c.args.tokens.now (c.args.from + 1) (closed signs.CloseParen) c.in_ok-expect.ensures.ok.1)
+    c.in_err-argument.field-0.0 (rw (two c.args.from) at c.in_err-argument.ensures.fault)))
 
 pub primary::unary_call-returns-clause-ok : goal.primary::unary_call-returns-clause-ok
 primary::unary_call-returns-clause-ok t c =
-    let two : c.args.from + 2 ≡ c.args.from + 1 + 1 = omega arith in
-    read_as 8 c.args.tokens.now c.args.from (UnaryCall c.args.function c.args.from (term_of c.in_ok-argument.argument)) (term_of c.in_ok-unary_call.field-0)
-    c.in_ok-argument.end c.in_ok-argument.end c.in_ok-unary_call.ensures refl
-    (read_unary_call c.args.tokens.now c.args.from c.args.function c.requires.begins (term_of c.in_ok-argument.argument) c.in_ok-argument.end
-    (found_behind_sign signs.OpenParen (closed signs.CloseParen) c.args.tokens.now (c.args.from + 1) c.in_ok-argument.end (term_of c.in_ok-argument.argument)
-    c.in_ok-expect.ensures.ok.1 (rw two at c.in_ok-argument.ensures.ok)))
+    rw c.in_ok-unary_call.ensures (read_opened (opens_unary_call c.args.from c.args.function) c.requires.begins
+    (found_ending (ends_behind signs.OpenParen c.args.tokens.now (c.args.from + 1) (closed signs.CloseParen) c.in_ok-expect.ensures.ok.1)
+    (rw (two c.args.from) at c.in_ok-argument.ensures.ok)))
 
 pub primary::binary_call-returns-in_err-expect-clause-fault : goal.primary::binary_call-returns-in_err-expect-clause-fault
 primary::binary_call-returns-in_err-expect-clause-fault t c =
-    let p = err_from_is_err_and c.from_residual.result c.from_residual.ensures.1 in
-    rw (p.1, p.2) (refuse_binary_call c.args.tokens.now c.args.from c.args.function c.requires.begins c.in_err-expect.field-0.0
-    (missing_sign signs.OpenParen (closed_by second_argument second_closes) c.args.tokens.now (c.args.from + 1) c.in_err-expect.field-0.0 (omega (arith, c.requires.place)) short_two c.in_err-expect.ensures.fault))
+    handed_on _ _ _ c.from_residual.ensures.1
+    (refuse_opened (opens_binary_call c.args.from c.args.function) c.requires.begins c.in_err-expect.field-0.0
+    (missing_sign signs.OpenParen c.args.tokens.now (c.args.from + 1) (both expression second_argument) c.in_err-expect.field-0.0
+    (omega (arith, c.requires.place)) short_two c.in_err-expect.ensures.fault))
 
 pub primary::binary_call-returns-in_err-first-clause-fault : goal.primary::binary_call-returns-in_err-first-clause-fault
 primary::binary_call-returns-in_err-first-clause-fault t c =
-    let p = err_from_is_err_and c.from_residual-in_err-first.result c.from_residual-in_err-first.ensures.1 in
-    let two : c.args.from + 2 ≡ c.args.from + 1 + 1 = omega arith in
-    rw (p.1, p.2) (refuse_binary_call c.args.tokens.now c.args.from c.args.function c.requires.begins c.in_err-first.field-0.0
-    (missing_behind_sign signs.OpenParen (closed_by second_argument second_closes) c.args.tokens.now (c.args.from + 1) c.in_err-first.field-0.0 c.in_ok-expect.ensures.ok.1
-    (missing_closed second_argument second_closes c.args.tokens.now (c.args.from + 1 + 1) c.in_err-first.field-0.0 short_second (rw two at c.in_err-first.ensures.fault))))
+    handed_on _ _ _ c.from_residual-in_err-first.ensures.1
+    (refuse_opened (opens_binary_call c.args.from c.args.function) c.requires.begins c.in_err-first.field-0.0
+    (missing_ending (ends_behind signs.OpenParen c.args.tokens.now (c.args.from + 1) (both expression second_argument) c.in_ok-expect.ensures.ok.1)
+    c.in_err-first.field-0.0
+    (missing_closed second_argument second_closes c.args.tokens.now (c.args.from + 1 + 1) c.in_err-first.field-0.0 short_second
+    (rw (two c.args.from) at c.in_err-first.ensures.fault))))
 
 pub primary::binary_call-returns-in_err-expect-2-clause-fault : goal.primary::binary_call-returns-in_err-expect-2-clause-fault
 primary::binary_call-returns-in_err-expect-2-clause-fault t c =
-    let p = err_from_is_err_and c.from_residual-in_err-expect-2.result c.from_residual-in_err-expect-2.ensures.1 in
-    let two : c.args.from + 2 ≡ c.args.from + 1 + 1 = omega arith in
-    rw (p.1, p.2) (refuse_binary_call c.args.tokens.now c.args.from c.args.function c.requires.begins c.in_err-expect-2.field-0.0
-    (missing_behind_sign signs.OpenParen (closed_by second_argument second_closes) c.args.tokens.now (c.args.from + 1) c.in_err-expect-2.field-0.0 c.in_ok-expect.ensures.ok.1
-    (missing_close_part second_argument second_closes c.args.tokens.now (c.args.from + 1 + 1) c.in_ok-first.middle (term_of c.in_ok-first.first) c.in_err-expect-2.field-0.0
-    (rw two at c.in_ok-first.ensures.ok)
-    (missing_sign signs.Comma (closed signs.CloseParen) c.args.tokens.now c.in_ok-first.middle c.in_err-expect-2.field-0.0 c.in_ok-first.ensures.ok.within (short_closed signs.CloseParen) c.in_err-expect-2.ensures.fault))))
+    handed_on _ _ _ c.from_residual-in_err-expect-2.ensures.1
+    (refuse_opened (opens_binary_call c.args.from c.args.function) c.requires.begins c.in_err-expect-2.field-0.0
+    (missing_ending (ends_behind signs.OpenParen c.args.tokens.now (c.args.from + 1) (both expression second_argument) c.in_ok-expect.ensures.ok.1)
+    c.in_err-expect-2.field-0.0
+    (missing_ending (ends_closed second_argument second_closes (rw (two c.args.from) at c.in_ok-first.ensures.ok)) c.in_err-expect-2.field-0.0
+    (missing_sign signs.Comma c.args.tokens.now c.in_ok-first.middle (closed signs.CloseParen) c.in_err-expect-2.field-0.0
+    c.in_ok-first.ensures.ok.within (short_closed signs.CloseParen) c.in_err-expect-2.ensures.fault))))
 
 pub primary::binary_call-returns-in_err-second-clause-fault : goal.primary::binary_call-returns-in_err-second-clause-fault
 primary::binary_call-returns-in_err-second-clause-fault t c =
-    let p = err_from_is_err_and c.from_residual-in_err-second.result c.from_residual-in_err-second.ensures.1 in
-    let two : c.args.from + 2 ≡ c.args.from + 1 + 1 = omega arith in
-    rw (p.1, p.2) (refuse_binary_call c.args.tokens.now c.args.from c.args.function c.requires.begins c.in_err-second.field-0.0
-    (missing_behind_sign signs.OpenParen (closed_by second_argument second_closes) c.args.tokens.now (c.args.from + 1) c.in_err-second.field-0.0 c.in_ok-expect.ensures.ok.1
-    (missing_close_part second_argument second_closes c.args.tokens.now (c.args.from + 1 + 1) c.in_ok-first.middle (term_of c.in_ok-first.first) c.in_err-second.field-0.0
-    (rw two at c.in_ok-first.ensures.ok)
-    (missing_behind_sign signs.Comma (closed signs.CloseParen) c.args.tokens.now c.in_ok-first.middle c.in_err-second.field-0.0 c.in_ok-expect-2.ensures.ok.1 c.in_err-second.ensures.fault))))
+    handed_on _ _ _ c.from_residual-in_err-second.ensures.1
+    (refuse_opened (opens_binary_call c.args.from c.args.function) c.requires.begins c.in_err-second.field-0.0
+    (missing_ending (ends_behind signs.OpenParen c.args.tokens.now (c.args.from + 1) (both expression second_argument) c.in_ok-expect.ensures.ok.1)
+    c.in_err-second.field-0.0
+    (missing_ending (ends_closed second_argument second_closes (rw (two c.args.from) at c.in_ok-first.ensures.ok)) c.in_err-second.field-0.0
+    (missing_ending (ends_behind signs.Comma c.args.tokens.now c.in_ok-first.middle (closed signs.CloseParen) c.in_ok-expect-2.ensures.ok.1)
+    c.in_err-second.field-0.0 c.in_err-second.ensures.fault))))
 
 pub primary::binary_call-returns-clause-ok : goal.primary::binary_call-returns-clause-ok
 primary::binary_call-returns-clause-ok t c =
-    let two : c.args.from + 2 ≡ c.args.from + 1 + 1 = omega arith in
-    let first = term_of c.in_ok-first.first in
-    let second = term_of c.in_ok-second.second in
-    read_as 8 c.args.tokens.now c.args.from (BinaryCall c.args.function c.args.from first second) (term_of c.in_ok-tree.tree)
-    c.in_ok-second.end c.in_ok-second.end c.in_ok-tree.ensures refl
-    (read_binary_call c.args.tokens.now c.args.from c.args.function c.requires.begins (first, second) c.in_ok-second.end
-    (found_behind_sign signs.OpenParen (closed_by second_argument second_closes) c.args.tokens.now (c.args.from + 1) c.in_ok-second.end (first, second)
-    c.in_ok-expect.ensures.ok.1
-    (found_closed second_argument second_closes c.args.tokens.now (c.args.from + 1 + 1) c.in_ok-first.middle c.in_ok-second.end first second
-    (rw two at c.in_ok-first.ensures.ok)
-    (found_behind_sign signs.Comma (closed signs.CloseParen) c.args.tokens.now c.in_ok-first.middle c.in_ok-second.end second
-    c.in_ok-expect-2.ensures.ok.1 c.in_ok-second.ensures.ok))))
+    rw c.in_ok-tree.ensures (read_opened (opens_binary_call c.args.from c.args.function) c.requires.begins
+    (found_ending (ends_behind signs.OpenParen c.args.tokens.now (c.args.from + 1) (both expression second_argument) c.in_ok-expect.ensures.ok.1)
+    (found_ending (ends_closed second_argument second_closes (rw (two c.args.from) at c.in_ok-first.ensures.ok))
+    (found_ending (ends_behind signs.Comma c.args.tokens.now c.in_ok-first.middle (closed signs.CloseParen) c.in_ok-expect-2.ensures.ok.1)
+    c.in_ok-second.ensures.ok))))
 
 pub primary::look-returns-in_err-expect-clause-fault : goal.primary::look-returns-in_err-expect-clause-fault
 primary::look-returns-in_err-expect-clause-fault t c =
-    let p = err_from_is_err_and c.from_residual.result c.from_residual.ensures.1 in
-    rw (p.1, p.2) (refuse_look c.args.tokens.now c.args.from c.args.word c.requires.begins c.in_err-expect.field-0.0
-    (missing_sign signs.OpenParen (both identifier (look_rest c.args.word)) c.args.tokens.now (c.args.from + 1) c.in_err-expect.field-0.0 (omega (arith, c.requires.place)) (short_look c.args.word) c.in_err-expect.ensures.fault))
+    handed_on _ _ _ c.from_residual.ensures.1
+    (refuse_opened (opens_look c.args.from c.args.word) c.requires.begins c.in_err-expect.field-0.0
+    (missing_sign signs.OpenParen c.args.tokens.now (c.args.from + 1) (both identifier (look_rest c.args.word)) c.in_err-expect.field-0.0
+    (omega (arith, c.requires.place)) (short_look c.args.word) c.in_err-expect.ensures.fault))
 
 pub primary::look-returns-in_err-name-clause-fault : goal.primary::look-returns-in_err-name-clause-fault
 primary::look-returns-in_err-name-clause-fault t c =
-    let p = err_from_is_err_and c.from_residual-in_err-name.result c.from_residual-in_err-name.ensures.1 in
-    let two : c.args.from + 2 ≡ c.args.from + 1 + 1 = omega arith in
-    rw (p.1, p.2) (refuse_look c.args.tokens.now c.args.from c.args.word c.requires.begins c.in_err-name.field-0.0
-    (missing_behind_sign signs.OpenParen (both identifier (look_rest c.args.word)) c.args.tokens.now (c.args.from + 1) c.in_err-name.field-0.0 c.in_ok-expect.ensures.ok.1
-    (missing_first identifier (look_rest c.args.word) c.args.tokens.now (c.args.from + 1 + 1) c.in_err-name.field-0.0 (short_look_rest c.args.word) (rw two at c.in_err-name.ensures.fault))))
+    handed_on _ _ _ c.from_residual-in_err-name.ensures.1
+    (refuse_opened (opens_look c.args.from c.args.word) c.requires.begins c.in_err-name.field-0.0
+    (missing_ending (ends_behind signs.OpenParen c.args.tokens.now (c.args.from + 1) (both identifier (look_rest c.args.word)) c.in_ok-expect.ensures.ok.1)
+    c.in_err-name.field-0.0
+    (missing_first identifier (look_rest c.args.word) c.args.tokens.now (c.args.from + 1 + 1) c.in_err-name.field-0.0 (short_look_rest c.args.word)
+    (rw (two c.args.from) at c.in_err-name.ensures.fault))))
 
 pub primary::look-returns-in_err-args-clause-fault : goal.primary::look-returns-in_err-args-clause-fault
 primary::look-returns-in_err-args-clause-fault t c =
-    let p = err_from_is_err_and c.from_residual-in_err-args.result c.from_residual-in_err-args.ensures.1 in
-    let two : c.args.from + 2 ≡ c.args.from + 1 + 1 = omega arith in
-    let three : c.args.from + 3 ≡ c.args.from + 1 + 1 + 1 = omega arith in
-    rw (p.1, p.2) (refuse_look c.args.tokens.now c.args.from c.args.word c.requires.begins c.in_err-args.field-0.0
-    (missing_behind_sign signs.OpenParen (both identifier (look_rest c.args.word)) c.args.tokens.now (c.args.from + 1) c.in_err-args.field-0.0 c.in_ok-expect.ensures.ok.1
-    (missing_second identifier (look_rest c.args.word) c.args.tokens.now (c.args.from + 1 + 1) (c.args.from + 1 + 1 + 1) c.in_ok-name.name c.in_err-args.field-0.0
-    (local_identifier c.in_ok-name.name) (rw two at c.in_ok-name.ensures.ok) (rw three at c.in_err-args.ensures.fault))))
+    handed_on _ _ _ c.from_residual-in_err-args.ensures.1
+    (refuse_opened (opens_look c.args.from c.args.word) c.requires.begins c.in_err-args.field-0.0
+    (missing_ending (ends_behind signs.OpenParen c.args.tokens.now (c.args.from + 1) (both identifier (look_rest c.args.word)) c.in_ok-expect.ensures.ok.1)
+    c.in_err-args.field-0.0
+    (missing_ending (ends_both identifier (look_rest c.args.word) (local_identifier c.in_ok-name.name) (rw (two c.args.from) at c.in_ok-name.ensures.ok))
+    c.in_err-args.field-0.0 (rw (three c.args.from) at c.in_err-args.ensures.fault))))
 
 pub primary::look-returns-clause-ok : goal.primary::look-returns-clause-ok
 primary::look-returns-clause-ok t c =
-    let two : c.args.from + 2 ≡ c.args.from + 1 + 1 = omega arith in
-    let three : c.args.from + 3 ≡ c.args.from + 1 + 1 + 1 = omega arith in
-    let parts : Terms × Option Tolerance = (in_turn (map term_of c.in_ok-args.args.items), c.in_ok-args.tolerance) in
-    read_as 8 c.args.tokens.now c.args.from (Look c.args.word c.args.from c.in_ok-name.name parts.0 parts.1) (term_of c.look.result)
-    c.in_ok-args.end c.in_ok-args.end c.look.ensures refl
-    (read_look c.args.tokens.now c.args.from c.args.word c.requires.begins (c.in_ok-name.name, parts) c.in_ok-args.end
-    (found_behind_sign signs.OpenParen (both identifier (look_rest c.args.word)) c.args.tokens.now (c.args.from + 1) c.in_ok-args.end (c.in_ok-name.name, parts)
-    c.in_ok-expect.ensures.ok.1
-    (found_both identifier (look_rest c.args.word) c.args.tokens.now (c.args.from + 1 + 1) (c.args.from + 1 + 1 + 1) c.in_ok-args.end c.in_ok-name.name parts
-    (rw two at c.in_ok-name.ensures.ok) (rw three at c.in_ok-args.ensures.ok))))
+    rw c.look.ensures (read_opened (opens_look c.args.from c.args.word) c.requires.begins
+    (found_ending (ends_behind signs.OpenParen c.args.tokens.now (c.args.from + 1) (both identifier (look_rest c.args.word)) c.in_ok-expect.ensures.ok.1)
+    (found_ending (ends_both identifier (look_rest c.args.word) (local_identifier c.in_ok-name.name) (rw (two c.args.from) at c.in_ok-name.ensures.ok))
+    (rw (three c.args.from) at c.in_ok-args.ensures.ok))))
 
 pub primary::named-returns-in_err-name-clause-fault : goal.primary::named-returns-in_err-name-clause-fault
 primary::named-returns-in_err-name-clause-fault t c =
-    let p = err_from_is_err_and c.from_residual.result c.from_residual.ensures.1 in
-    rw (p.1, p.2) (refuse_name c.args.tokens.now c.args.from c.in_err-name.field-0.0 c.requires.begins c.in_err-name.ensures.fault)
+    handed_on _ _ _ c.from_residual.ensures.1
+    (refuse_name c.args.tokens.now c.args.from c.in_err-name.field-0.0 c.requires.begins c.in_err-name.ensures.fault)
 
 pub primary::named-returns-in_err-index-clause-fault : goal.primary::named-returns-in_err-index-clause-fault
 primary::named-returns-in_err-index-clause-fault t c =
-    let p = err_from_is_err_and c.from_residual-in_err-index.result c.from_residual-in_err-index.ensures.1 in
-    let two : c.args.from + 2 ≡ c.args.from + 1 + 1 = omega arith in
-    rw (p.1, p.2) (refuse_element c.args.tokens.now c.args.from c.in_ok-name.name c.requires.begins c.in_ok-name.ensures.ok (c.if-is_sign.ensures.answer.0 refl) c.in_err-index.field-0.0
-    (missing_behind_sign signs.OpenBracket (closed signs.CloseBracket) c.args.tokens.now (c.args.from + 1) c.in_err-index.field-0.0 (c.if-is_sign.ensures.answer.0 refl) (rw two at c.in_err-index.ensures.fault)))
+    let bracket = c.if-is_sign.ensures.answer.0 refl in
+    handed_on _ _ _ c.from_residual-in_err-index.ensures.1
+    (refuse_produced (produces_element c.args.tokens.now c.args.from c.in_ok-name.name c.requires.begins c.in_ok-name.ensures.ok bracket) c.in_err-index.field-0.0
+    (missing_ending (ends_behind signs.OpenBracket c.args.tokens.now (c.args.from + 1) (closed signs.CloseBracket) bracket)
+    c.in_err-index.field-0.0 (rw (two c.args.from) at c.in_err-index.ensures.fault)))
 
 pub primary::named-returns-then-is_sign-clause-ok : goal.primary::named-returns-then-is_sign-clause-ok
 primary::named-returns-then-is_sign-clause-ok t c =
-    let two : c.args.from + 2 ≡ c.args.from + 1 + 1 = omega arith in
-    let index = term_of c.in_ok-index.index in
-    read_as 8 c.args.tokens.now c.args.from (Element c.in_ok-name.name index) (term_of c.in_ok-element.field-0)
-    c.in_ok-index.end c.in_ok-index.end c.in_ok-element.ensures refl
-    (read_element c.args.tokens.now c.args.from c.in_ok-name.name c.requires.begins c.in_ok-name.ensures.ok (c.if-is_sign.ensures.answer.0 refl)
-    index c.in_ok-index.end (omega (arith, c.in_ok-index.ensures.ok.advances))
-    (found_behind_sign signs.OpenBracket (closed signs.CloseBracket) c.args.tokens.now (c.args.from + 1) c.in_ok-index.end index
-    (c.if-is_sign.ensures.answer.0 refl) (rw two at c.in_ok-index.ensures.ok)))
+    let bracket = c.if-is_sign.ensures.answer.0 refl in
+    rw c.in_ok-element.ensures
+    (read_produced (produces_element c.args.tokens.now c.args.from c.in_ok-name.name c.requires.begins c.in_ok-name.ensures.ok bracket)
+    (λ others there. omega (arith, c.in_ok-index.ensures.ok.advances))
+    (found_ending (ends_behind signs.OpenBracket c.args.tokens.now (c.args.from + 1) (closed signs.CloseBracket) bracket)
+    (rw (two c.args.from) at c.in_ok-index.ensures.ok)))
 
 pub primary::named-returns-in_err-attribute-clause-fault : goal.primary::named-returns-in_err-attribute-clause-fault
 primary::named-returns-in_err-attribute-clause-fault t c =
-    let p = err_from_is_err_and c.from_residual-in_err-attribute.result c.from_residual-in_err-attribute.ensures.1 in
-    rw (p.1, p.2) (refuse_named c.args.tokens.now c.args.from c.in_ok-name.name c.requires.begins c.in_ok-name.ensures.ok (c.if-is_sign-2.ensures.answer.0 refl)
+    let dot = c.if-is_sign-2.ensures.answer.0 refl in
+    handed_on _ _ _ c.from_residual-in_err-attribute.ensures.1
+    (refuse_produced (produces_named c.args.tokens.now c.args.from c.in_ok-name.name c.requires.begins c.in_ok-name.ensures.ok dot)
     c.in_err-attribute.field-0.0 c.in_err-attribute.ensures.fault)
 
 pub primary::named-returns-then-is_sign-2-clause-ok : goal.primary::named-returns-then-is_sign-2-clause-ok
 primary::named-returns-then-is_sign-2-clause-ok t c =
-    read_as 8 c.args.tokens.now c.args.from (Attribute (nodes.Named c.in_ok-name.name) c.in_ok-attribute.attribute) (term_of c.attribute.result)
-    (c.args.from + 1 + 2) (c.args.from + 3) c.attribute.ensures (omega arith)
-    (read_named c.args.tokens.now c.args.from c.in_ok-name.name c.requires.begins c.in_ok-name.ensures.ok (c.if-is_sign-2.ensures.answer.0 refl)
-    c.in_ok-attribute.attribute (c.args.from + 1 + 2) (omega arith) c.in_ok-attribute.ensures.ok)
+    let end : c.args.from + 3 ≡ c.args.from + 1 + 2 = omega arith in
+    let dot = c.if-is_sign-2.ensures.answer.0 refl in
+    rw (c.attribute.ensures, end)
+    (read_produced (produces_named c.args.tokens.now c.args.from c.in_ok-name.name c.requires.begins c.in_ok-name.ensures.ok dot)
+    (λ others there. omega arith) c.in_ok-attribute.ensures.ok)
 
 pub primary::named-returns-clause-ok : goal.primary::named-returns-clause-ok
 primary::named-returns-clause-ok t c =
-    read_as 8 c.args.tokens.now c.args.from (Variable c.in_ok-name.name) (term_of c.variable.result) (c.args.from + 1) (c.args.from + 1) c.variable.ensures refl
-    (read_variable c.args.tokens.now c.args.from c.in_ok-name.name c.requires.begins c.in_ok-name.ensures.ok
+    rw c.variable.ensures (read_variable c.args.tokens.now c.args.from c.in_ok-name.name c.requires.begins c.in_ok-name.ensures.ok
     (λ has. false≢true (c.if-is_sign.ensures.answer.1 has)) (λ has. false≢true (c.if-is_sign-2.ensures.answer.1 has)))
 
 pub primary::primary-returns-in_default-clause-fault : goal.primary::primary-returns-in_default-clause-fault
@@ -356,20 +328,18 @@ primary::primary-returns-in_default-clause-fault t c =
 pub primary::primary-returns-in-Paren-clause-ok : goal.primary::primary-returns-in-Paren-clause-ok
 primary::primary-returns-in-Paren-clause-ok t c =
     let begins = begins_with c.args.tokens.now c.args.from c.in-Some.kind.now openings.Paren c.in-Some.ensures.1 c.in-Paren.ensures c.requires.no_operator in
-    IfOk-weaker c.closed.result _ _ (λ read found. read_paren c.args.tokens.now c.args.from begins (term_of read.0) read.1 found) c.closed.ensures.ok
+    IfOk-weaker c.closed.result _ _ (λ read found. read_opened (opens_paren c.args.from) begins found) c.closed.ensures.ok
 
 pub primary::primary-returns-in-Paren-clause-fault : goal.primary::primary-returns-in-Paren-clause-fault
 primary::primary-returns-in-Paren-clause-fault t c =
     let begins = begins_with c.args.tokens.now c.args.from c.in-Some.kind.now openings.Paren c.in-Some.ensures.1 c.in-Paren.ensures c.requires.no_operator in
-    IfErr-weaker c.closed.result _ _ (λ fault missing. refuse_paren c.args.tokens.now c.args.from begins fault missing) c.closed.ensures.fault
+    IfErr-weaker c.closed.result _ _ (λ fault missing. refuse_opened (opens_paren c.args.from) begins fault missing) c.closed.ensures.fault
 
 pub primary::primary-returns-in-Enumerated-clause-ok : goal.primary::primary-returns-in-Enumerated-clause-ok
 primary::primary-returns-in-Enumerated-clause-ok t c =
     let begins = begins_with c.args.tokens.now c.args.from c.in-Some.kind.now (openings.Enumerated c.in-Enumerated.value) c.in-Some.ensures.1
     c.in-Enumerated.ensures c.requires.no_operator in
-    read_as 8 c.args.tokens.now c.args.from (Enumerated c.in-Enumerated.value c.args.from) (term_of c.enumerated.result)
-    (c.args.from + 1) (c.args.from + 1) c.enumerated.ensures refl
-    (read_enumerated c.args.tokens.now c.args.from c.in-Enumerated.value begins c.in-Some.ensures.0)
+    rw c.enumerated.ensures (read_enumerated c.args.tokens.now c.args.from c.in-Enumerated.value begins c.in-Some.ensures.0)
 
 pub primary::primary-returns-in-Nothing-clause-fault : goal.primary::primary-returns-in-Nothing-clause-fault
 primary::primary-returns-in-Nothing-clause-fault t c =

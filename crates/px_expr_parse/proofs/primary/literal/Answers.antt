@@ -1,7 +1,5 @@
-use Rattle.std.proofs.Common.{◌≡◌, ◌+◌, refl, sym, ap, ◌∙◌, Some}
+use Rattle.std.proofs.Common.{◌≡◌, sym, ap, ◌∙◌, Some}
 use Rattle.px_lex.specs.declared.token.TokenKind.{TokenKind}
-use Rattle.px_syntax.specs.Expr.{Literal, term_of}
-use Rattle.px_expr_parse.proofs.Parts.{read_as}
 use Rattle.px_expr_parse.proofs.Primaries.{read_literal}
 use Rattle.px_expr_parse.proofs.Openings.{token_there}
 use Rattle.px_expr_parse.specs.declared.opening.Opening.TheVariants as openings
@@ -17,7 +15,5 @@ unreachable-requires c =
 pub returns-clause-ok : goal.returns-clause-ok
 returns-clause-ok c =
     let kind = rw c.in-Some.is at c.in_ok-value.ensures in
-    read_as 8 c.args.tokens.now c.args.from (Literal c.in-Some.value c.args.from) (term_of c.literal.result)
-    (c.args.from + 1) (c.args.from + 1) c.literal.ensures refl
-    (read_literal c.args.tokens.now c.args.from c.in-Some.value c.requires.begins
+    rw c.literal.ensures (read_literal c.args.tokens.now c.args.from c.in-Some.value c.requires.begins
     (c.requires.token ∙ ap (λ (k : TokenKind). Some k) kind) c.requires.place)
