@@ -1,8 +1,9 @@
 -- The number after the last descendant, by the tree and by the list of nodes.
-use Rattle.std.proofs.Common.{◌≡◌, ◌≢◌, ℕ, zero, suc, ◌+◌, ◌-◌, ◌<◌, ◌≤◌, Bool, true, false, ◌||◌, ◌&&◌, cond, List, [], ◌∷◌, ◌++◌, length, get_or, drop, refl, ap, sym, ◌∙◌, arith, inl, inr, append_assoc, append-nil, length-append}
+use Rattle.std.proofs.Common.{◌≡◌, ℕ, zero, suc, ◌+◌, ◌-◌, ◌<◌, ◌≤◌, Bool, true, false, ◌||◌, ◌&&◌, cond, List, [], ◌∷◌, ◌++◌, length, get_or, drop, refl, ap, sym, ◌∙◌, arith, inl, inr, append_assoc, append-nil, length-append}
 use Rattle.std.specs.List.{list_all, list_any, prefix_len}
 use Rattle.std.proofs.Math.Bool.{or-true}
 use Rattle.std.proofs.lemmas.Bool.{cases_lt, and_parts}
+use Rattle.std.proofs.lemmas.Grind.{common_steps}
 use Rattle.std.proofs.lemmas.List.{get_or_append_left, get_or-append-add, drop-drop, drop_at}
 use Rattle.std.proofs.lemmas.List.Folds.{length-prefix_len, list_all-append}
 use Rattle.px_core.specs.Plan.{Tree, NoNode, Branch, Site, no_site, is_same, count_of, path_under, site_under, sites_under, sites}
@@ -42,10 +43,7 @@ shorter_more n m (path ∷ paths) le h = let lt : length path < n = h.0 in (omeg
 
 pub not_among : (own : List ℕ) (paths : List (List ℕ)) → Shorter (length own) paths → list_any (is_same own) paths ≡ false
 not_among own [] h = refl
-not_among own (path ∷ paths) h =
-    let lt : length path < length own = h.0 in
-    let differ : own ≢ path = λ same. let long : length own ≡ length path = ap length same in absurd (omega arith) in
-    ap (λ b. b || list_any (is_same own) paths) (same-other own path differ) ∙ not_among own paths h.1
+not_among own (path ∷ paths) h = grind (arith, common_steps, same-other, not_among own paths h.1)
 
 -- the least length of the paths under these ancestors
 abbrev pub depth : List (List ℕ) → ℕ

@@ -1,7 +1,7 @@
 -- The extents of the first nodes, one after another.
 use Rattle.std.proofs.Common.{◌≡◌, ◌≢◌, ℕ, ◌+◌, ◌-◌, ◌<◌, ◌≤◌, nat_eq, true, false, List, [], ◌∷◌, ◌++◌, length, get_or, map, sum, ap, sym, ◌∙◌, arith, ◌⊎◌, inl, inr, length-append}
 use Rattle.std.proofs.lemmas.Bool.Decides.{eqb_tells}
-use Rattle.std.proofs.lemmas.List.{get_or_append_left, get_or_push, take_all}
+use Rattle.std.proofs.lemmas.List.{get_or_append_left, get_or_push}
 use Rattle.px_core.specs.declared.variable.Variable.{Variable}
 use Rattle.px_core.specs.Fit.{cells_of, cells_of_site}
 use Rattle.px_core.specs.Plan.{Site, no_site, variable_data}
@@ -74,11 +74,3 @@ cells_fit rows laid i cell d variables within is few here =
       sum_more cells_of_site (sites_of rows) i no_site inside,
       sum_front cells_of_site (sites_of rows) (i + 1),
     )
-
--- those of the last node end all
-pub cells_to_last : (plan : List Site) → 0 < length plan
-    → first_cell plan (length plan - 1) + cells_of_site (site_in plan (length plan - 1)) ≡ variable_cells plan
-cells_to_last plan some =
-    let last : ℕ = length plan - 1 in
-    sym (sum_more cells_of_site plan last no_site (omega arith))
-    ∙ ap variable_cells (take_all (last + 1) plan (omega arith))

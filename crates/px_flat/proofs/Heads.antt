@@ -1,5 +1,6 @@
 -- The heads of nodes in preorder.
 use Rattle.std.proofs.Common.{◌≡◌, ℕ, ◌<◌, List, [], ◌∷◌, ◌++◌, length, get_or, map, refl, ap, sym, ◌∙◌, arith, append_assoc, append-nil}
+use Rattle.std.proofs.lemmas.Grind.{common_steps}
 use Rattle.std.specs.Borrow.{Bor}
 use Rattle.std.proofs.lemmas.List.{get_or-map, length-map, map-append}
 use Rattle.px_core.proofs.Trees.{node_tree}
@@ -12,12 +13,7 @@ use Rattle.px_flat.proofs.Trees.{node_head}
 pub heads_of_more : (nodes more : List CoreNode)
     → heads_in (trees (nodes ++ more)) ≡ heads_in (trees nodes) ++ heads_in (trees more)
 heads_of_more [] more = refl
-heads_of_more (node ∷ nodes) more =
-    ap heads_in (node_tree node (trees (nodes ++ more)))
-    ∙ ap (λ rest. node_head node ∷ (heads_in (below_it node) ++ rest)) (heads_of_more nodes more)
-    ∙ ap (λ all. node_head node ∷ all)
-    (sym (append_assoc (heads_in (below_it node)) (heads_in (trees nodes)) (heads_in (trees more))))
-    ∙ ap (λ tree. heads_in tree ++ heads_in (trees more)) (sym (node_tree node (trees nodes)))
+heads_of_more (node ∷ nodes) more = grind (arith, common_steps, node_tree, append_assoc, heads_of_more nodes more)
 
 pub heads_of_one : (node : CoreNode) → heads_in (trees (node ∷ [])) ≡ node_head node ∷ heads_in (below_it node)
 heads_of_one node =
@@ -44,13 +40,7 @@ heads_are nodes tree plan lent same =
 
 pub length-heads : (nodes : List (Bor CoreNode)) (plan : List Site) → heads_of nodes ≡ map (λ site. site.head) plan
     → length nodes ≡ length plan
-length-heads nodes plan heads =
-    omega (
-      arith,
-      ap length heads,
-      length-map nodes (λ (node : Bor CoreNode). node_head node.now),
-      length-map plan (λ (site : Site). site.head),
-    )
+length-heads nodes plan heads = grind (arith, common_steps, length-map)
 
 pub head_at : (nodes : List (Bor CoreNode)) (plan : List Site) (i : ℕ) (node : Bor CoreNode)
     → heads_of nodes ≡ map (λ site. site.head) plan → i < length nodes → node ≡ get_or nodes i node

@@ -4,11 +4,12 @@ use Rattle.std.specs.List.{list_all, list_any, flat_map, All}
 use Rattle.std.proofs.Math.Logic.{∥∥₁_elim}
 use Rattle.std.proofs.Props.{props}
 use Rattle.std.proofs.lemmas.Bool.{and_parts, and_from, or_left, or_right}
+use Rattle.std.proofs.lemmas.Grind.{common_steps}
 use Rattle.std.proofs.lemmas.List.Folds.{list_all-append, list_any-append}
 use Rattle.std.proofs.lemmas.List.Sums.{AllPass-from_list_all}
 use Rattle.px_core.specs.Expr.{Term}
-use Rattle.px_core.specs.Fit.{Reference, references, references_of_site, references_of_target, terms_of, terms_of_conditions, targets_of, path_is_there, variable_is_there, paths_are_there, variables_are_there, has_right_variables, has_one_root, AreDistinct}
-use Rattle.px_core.specs.Plan.{Site, Head, Tree, NoNode, Branch, no_site, is_same, count_of}
+use Rattle.px_core.specs.Fit.{Reference, references, references_of_site, references_of_target, terms_of, terms_of_conditions, targets_of, path_is_there, variable_is_there, paths_are_there, variables_are_there, has_right_variables, AreDistinct}
+use Rattle.px_core.specs.Plan.{Site, Head, no_site, is_same}
 use Rattle.px_core.proofs.Paths.{same-self}
 use Rattle.px_flat.specs.declared.names.Names.{Names}
 use Rattle.px_flat.specs.Extents.{AreBelow}
@@ -67,11 +68,7 @@ pub few_cells : (plan : List Site) → IsFitPlan plan → variable_cells plan �
 few_cells plan fit = subst (λ plan. variable_cells plan ≤ 131072) (sym fit.nodes) fit.fit.cells
 
 some_node : (plan : List Site) → IsFitPlan plan → 0 < length plan
-some_node plan fit = omega (arith, ap length fit.nodes, length-sites_under [] fit.tree, rooted fit.tree refl)
-  where
-    rooted : (tree : Tree) → fit.tree ≡ tree → 0 < count_of fit.tree
-    rooted NoNode is = absurd (cc (sym fit.fit.root ∙ ap has_one_root is))
-    rooted (Branch head children rest) is = rw is (omega arith)
+some_node plan fit = grind (arith, common_steps, length-sites_under)
 
 -- what the tables keep of a fit plan whose paths differ
 pub record IsSound (plan : List Site) : Type 0 where

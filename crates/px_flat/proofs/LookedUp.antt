@@ -1,8 +1,9 @@
 -- Lookup names and tolerances that are added one after another.
-use Rattle.std.proofs.Common.{◌≡◌, ℕ, ◌+◌, ◌<◌, List, [], ◌∷◌, ◌++◌, length, get_or, take, fold, Option, Some, None, refl, ap, ◌∙◌, append-nil}
+use Rattle.std.proofs.Common.{◌≡◌, ℕ, ◌+◌, ◌<◌, List, [], ◌∷◌, ◌++◌, length, get_or, take, fold, Option, Some, None, refl, ap, ◌∙◌, ◌≤◌, map, sym, arith}
 use Rattle.std.specs.List.{cons_option, flat_map}
-use Rattle.std.proofs.lemmas.Grind.{flat_map-append}
-use Rattle.std.proofs.lemmas.List.{take_more}
+use Rattle.std.proofs.lemmas.Grind.{common_steps}
+use Rattle.std.proofs.lemmas.List.Folds.{flat_map-map}
+use Rattle.std.proofs.lemmas.List.{take_all}
 use Rattle.std.proofs.lemmas.List.Sums.{fold-append}
 use Rattle.px_core.specs.Expr.{Term, in_turn}
 use Rattle.px_sem.specs.Tolerances.{tolerances_in, tolerances_in_each, with_tolerance}
@@ -31,23 +32,17 @@ pub own_then : (tolerances : List ℕ) (own : Option ℕ) (more : List ℕ)
 own_then tolerances None more = refl
 own_then tolerances (Some own) more = refl
 
--- those of one thing more
 module _ {X Y Z : Type 0} (with_one : Z → Y → Z) (f : X → List Y) (start : Z) where
+  -- those of one thing more
   pub one_more : (xs : List X) (i : ℕ) (d : X) → i < length xs
       → fold with_one start (flat_map f (take (i + 1) xs))
       ≡ fold with_one (fold with_one start (flat_map f (take i xs))) (f (get_or xs i d))
-  one_more xs i d within =
-      ap (λ front. fold with_one start (flat_map f front)) (take_more xs i d within)
-      ∙ ap (fold with_one start) (flat_map-append f (take i xs) (get_or xs i d ∷ []))
-      ∙ fold-append with_one start (flat_map f (take i xs)) (f (get_or xs i d) ++ [])
-      ∙ ap (fold with_one (fold with_one start (flat_map f (take i xs)))) (append-nil (f (get_or xs i d)))
+  one_more xs i d within = grind (arith, common_steps)
 
-pub looked_more : {X : Type 0} (f : X → List (List ℕ)) (names : List (List ℕ)) (xs : List X) (i : ℕ) (d : X) → i < length xs
-    → fold with_name names (flat_map f (take (i + 1) xs))
-    ≡ fold with_name (fold with_name names (flat_map f (take i xs))) (f (get_or xs i d))
-looked_more f names xs i d within = one_more with_name f names xs i d within
-
-pub tolerated_more : {X : Type 0} (f : X → List ℕ) (tolerances : List ℕ) (xs : List X) (i : ℕ) (d : X) → i < length xs
-    → fold with_tolerance tolerances (flat_map f (take (i + 1) xs))
-    ≡ fold with_tolerance (fold with_tolerance tolerances (flat_map f (take i xs))) (f (get_or xs i d))
-tolerated_more f tolerances xs i d within = one_more with_tolerance f tolerances xs i d within
+  -- those of all things that others have
+  pub all_had : {W : Type 0} (has : W → X) (owners : List W) (i : ℕ) (so_far : Z) → length owners ≤ i
+      → so_far ≡ fold with_one start (flat_map (λ owner. f (has owner)) (take i owners))
+      → so_far ≡ fold with_one start (flat_map f (map has owners))
+  all_had has owners i so_far past is = is
+      ∙ ap (λ front. fold with_one start (flat_map (λ owner. f (has owner)) front)) (take_all i owners past)
+      ∙ ap (fold with_one start) (sym (flat_map-map f has owners))

@@ -9,7 +9,7 @@ use Rattle.px_sem.specs.Events.{with_record}
 use Rattle.px_sem.specs.World.{NodeRecord, LookState, Report, record_at}
 use Rattle.px_flat.specs.declared.act.Act.{Act}
 use Rattle.px_flat.specs.declared.act.Act.TheVariants as under_way
-use Rattle.px_flat.specs.Layout.{variable_cells, first_cell, node_cell, state_cell, outcome_cell, failure_cell, handle_cell, acknowledgement_cell, all_cells}
+use Rattle.px_flat.specs.Layout.{variable_cells, first_cell, node_cell, state_cell, handle_cell, acknowledgement_cell, all_cells}
 use Rattle.px_flat.specs.Numbered.{held}
 use Rattle.px_flat.specs.Parts.{values_in, record_in, world_of, action_in, act_of, state_in, outcome_in, failure_in}
 use Rattle.px_flat.specs.Row.{site_in}
@@ -81,60 +81,6 @@ written_there : (plan : List Site) (cells : List Value) (node part : ℕ) (value
     → held (set cells (node_cell plan node + part) value) (node_cell plan node + part) ≡ value
 written_there plan cells node part value within small all =
     get_or-set_same cells (node_cell plan node + part) value values.Unknown (omega arith)
-
--- the state
-pub state_written : (plan : List Site) (cells : List Value) (reports : List (LookState × Report)) (acts : List Act)
-    (node : ℕ) (value : Value) → AreDistinct plan → node < length plan → length cells ≡ all_cells plan
-    → world_of plan (set cells (state_cell plan node) value) reports acts
-    ≡ with_record (world_of plan cells reports acts) (site_in plan node).path
-    (record (record_at (world_of plan cells reports acts) (site_in plan node).path) { state = state_in value })
-state_written plan cells reports acts node value distinct within all =
-    let here : node_cell plan node + 0 ≡ state_cell plan node = omega arith in
-    let new : List Value = set cells (node_cell plan node + 0) value in
-    ap (λ n. world_of plan (set cells n value) reports acts) (sym here)
-    ∙ written_field plan cells reports acts node 0 value (λ (r : NodeRecord). record r { state = state_in value })
-    distinct within (omega arith) (λ i. record {
-      state = state_in ((ap (held new) (sym here) ∙ written_there plan cells node 0 value within (omega arith) all) i);
-      outcome = outcome_in (kept plan cells node 0 1 value (λ is. absurd (omega arith)) i);
-      failure = failure_in (kept plan cells node 0 2 value (λ is. absurd (omega arith)) i);
-      variables = variables_stay plan cells (node_cell plan node + 0) value node within (omega arith) i;
-      action = action_in (act_of acts node) (kept plan cells node 0 3 value (λ is. absurd (omega arith)) i)
-          (kept plan cells node 0 4 value (λ is. absurd (omega arith)) i);
-    })
-
--- the outcome
-pub outcome_written : (plan : List Site) (cells : List Value) (reports : List (LookState × Report)) (acts : List Act)
-    (node : ℕ) (value : Value) → AreDistinct plan → node < length plan → length cells ≡ all_cells plan
-    → world_of plan (set cells (outcome_cell plan node) value) reports acts
-    ≡ with_record (world_of plan cells reports acts) (site_in plan node).path
-    (record (record_at (world_of plan cells reports acts) (site_in plan node).path) { outcome = outcome_in value })
-outcome_written plan cells reports acts node value distinct within all =
-    written_field plan cells reports acts node 1 value (λ (r : NodeRecord). record r { outcome = outcome_in value })
-    distinct within (omega arith) (λ i. record {
-      state = state_in (state_kept plan cells node 1 value (omega arith) i);
-      outcome = outcome_in (written_there plan cells node 1 value within (omega arith) all i);
-      failure = failure_in (kept plan cells node 1 2 value (λ is. absurd (omega arith)) i);
-      variables = variables_stay plan cells (node_cell plan node + 1) value node within (omega arith) i;
-      action = action_in (act_of acts node) (kept plan cells node 1 3 value (λ is. absurd (omega arith)) i)
-          (kept plan cells node 1 4 value (λ is. absurd (omega arith)) i);
-    })
-
--- the failure
-pub failure_written : (plan : List Site) (cells : List Value) (reports : List (LookState × Report)) (acts : List Act)
-    (node : ℕ) (value : Value) → AreDistinct plan → node < length plan → length cells ≡ all_cells plan
-    → world_of plan (set cells (failure_cell plan node) value) reports acts
-    ≡ with_record (world_of plan cells reports acts) (site_in plan node).path
-    (record (record_at (world_of plan cells reports acts) (site_in plan node).path) { failure = failure_in value })
-failure_written plan cells reports acts node value distinct within all =
-    written_field plan cells reports acts node 2 value (λ (r : NodeRecord). record r { failure = failure_in value })
-    distinct within (omega arith) (λ i. record {
-      state = state_in (state_kept plan cells node 2 value (omega arith) i);
-      outcome = outcome_in (kept plan cells node 2 1 value (λ is. absurd (omega arith)) i);
-      failure = failure_in (written_there plan cells node 2 value within (omega arith) all i);
-      variables = variables_stay plan cells (node_cell plan node + 2) value node within (omega arith) i;
-      action = action_in (act_of acts node) (kept plan cells node 2 3 value (λ is. absurd (omega arith)) i)
-          (kept plan cells node 2 4 value (λ is. absurd (omega arith)) i);
-    })
 
 -- the handle, which is in the action
 pub handle_written : (plan : List Site) (cells : List Value) (reports : List (LookState × Report)) (acts : List Act)

@@ -1,10 +1,11 @@
 -- The values of a node's expressions, with numbers and without.
-use Rattle.std.proofs.Common.{◌≡◌, ℕ, zero, suc, ◌<◌, List, [], ◌∷◌, ◌++◌, length, get_or, subst, arith, Some}
+use Rattle.std.proofs.Common.{◌≡◌, ℕ, zero, suc, ◌<◌, List, [], ◌∷◌, ◌++◌, length, get_or, arith, Some, rules}
+use Rattle.std.proofs.lemmas.Grind.{common_steps}
 use Rattle.std.specs.List.{flat_map, All}
 use Rattle.std.specs.Option.{ForSome}
 use Rattle.px_value.specs.declared.value.Value.{Value}
 use Rattle.px_core.specs.Expr.{Term}
-use Rattle.px_core.specs.Fit.{Reference, Array, references, references_of_target, terms_of, terms_of_conditions, targets_of}
+use Rattle.px_core.specs.Fit.{Reference, references, references_of_target, terms_of, terms_of_conditions, targets_of}
 use Rattle.px_core.specs.Plan.{Site, Head, TargetData}
 use Rattle.px_sem.specs.World.{LookState, Report}
 use Rattle.px_flat.specs.declared.act.Act.{Act}
@@ -18,19 +19,13 @@ use Rattle.px_flat.proofs.NumberedValues.{numbered_value-numbered}
 -- the index of a target is known with it
 index_known : (plan : List Site) (target : TargetData) → AreKnown plan (references_of_target target) (lookups_in_target target)
     → (index : Term) → target.index ≡ Some index → AreKnown plan (references index) (lookups_in index)
-index_known plan target known index is =
-    back plan (Array target.owner target.name ∷ []) (references index) [] (lookups_in index)
-    (subst (λ index. AreKnown plan (references_of_target (record { owner = target.owner; name = target.name; index = index }))
-    (lookups_in_target (record { owner = target.owner; name = target.name; index = index }))) is known)
+index_known plan target known index is = search rules
 
 each_index : (plan : List Site) (targets : List TargetData)
     → AreKnown plan (flat_map references_of_target targets) (flat_map lookups_in_target targets)
     → All (λ target. ForSome target.index (λ index. AreKnown plan (references index) (lookups_in index))) targets
 each_index plan [] known k d within = absurd (omega arith)
-each_index plan (target ∷ targets) known zero d within =
-    index_known plan target
-    (front plan (references_of_target target) (flat_map references_of_target targets) (lookups_in_target target)
-    (flat_map lookups_in_target targets) known)
+each_index plan (target ∷ targets) known zero d within = grind (arith, common_steps, index_known)
 each_index plan (target ∷ targets) known (suc k) d within =
     each_index plan targets
     (back plan (references_of_target target) (flat_map references_of_target targets) (lookups_in_target target)

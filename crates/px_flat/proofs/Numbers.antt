@@ -2,6 +2,7 @@
 use Rattle.std.proofs.Common.{◌≡◌, ◌≢◌, ℕ, zero, suc, ◌+◌, ◌<◌, false, not, cond, nat_lt, List, [], ◌∷◌, ◌++◌, length, get_or, take, refl, ap, sym, ◌∙◌, arith, Option, Some, None, if◌then◌else◌}
 use Rattle.std.specs.List.{list_any, position_or_len}
 use Rattle.std.proofs.lemmas.Bool.{lt-ltb}
+use Rattle.std.proofs.lemmas.Grind.{common_steps}
 use Rattle.std.proofs.lemmas.List.{take_more, get_or-map, get_or-take, length-map, length-take-le}
 use Rattle.std.proofs.lemmas.List.Folds.{list_any_none}
 use Rattle.indexmap.specs.IndexSet.{insert_key}
@@ -65,11 +66,7 @@ first_place (site ∷ plan) (suc i) distinct within =
 
 pub number_is : (plan : List Site) (i : ℕ) → AreDistinct plan → i < length plan
     → number_at plan (site_in plan i).path ≡ Some i
-number_is plan i distinct within =
-    let place = first_place plan i distinct within in
-    let inside : i < length (paths_of plan) = omega (arith, length-map plan (λ site. site.path)) in
-    ap (λ n. cond (nat_lt n (length (paths_of plan))) (Some n) None) place
-    ∙ ap (λ b. cond b (Some i) None) (lt-ltb i (length (paths_of plan)) inside)
+number_is plan i distinct within = grind (arith, common_steps, first_place, length-map, nat_lt, lt-ltb)
 
 -- ---- the row of a node
 

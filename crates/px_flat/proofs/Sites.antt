@@ -1,19 +1,17 @@
 -- Rows by number: each row's site stands over its parent's, and a look-up by path finds it.
 use Rattle.std.proofs.Common.{◌≡◌, ℕ, zero, suc, ◌+◌, ◌<◌, List, [], ◌∷◌, ◌++◌, length, get_or}
-use Rattle.std.proofs.Common.{map, refl, ap, sym, ◌∙◌, subst, arith, Option, Some, None, length-append, zero-add}
-use Rattle.std.proofs.Common.{add-zero}
-use Rattle.std.specs.List.{zip}
-use Rattle.std.specs.Map.{lookup}
-use Rattle.std.specs.Option.{unwrap_or, ForSome}
+use Rattle.std.proofs.Common.{refl, ap, sym, ◌∙◌, subst, arith, length-append, zero-add}
+use Rattle.std.proofs.Common.{add-zero, rules}
+use Rattle.std.specs.Option.{unwrap_or}
 use Rattle.std.proofs.lemmas.List.{get_or_append_left}
 use Rattle.std.proofs.Math.Seq.{get_or-append_seam}
+use Rattle.std.proofs.lemmas.Grind.{common_steps}
 use Rattle.px_core.specs.Fit.{AreDistinct}
-use Rattle.px_core.specs.Plan.{Site, is_same, no_site, site_at}
-use Rattle.px_core.proofs.Paths.{same-self, distinct_behind, head_differs, found_itself}
+use Rattle.px_core.specs.Plan.{Site, no_site, site_at}
+use Rattle.px_core.proofs.Paths.{found_itself}
 use Rattle.px_sem.specs.World as world
 use Rattle.px_flat.specs.declared.row.Row.{Row}
-use Rattle.px_flat.specs.Row.{head_data}
-use Rattle.px_flat.specs.Rows.{above_in, site_of, grown, sites_of, IsBefore, IsLaid}
+use Rattle.px_flat.specs.Rows.{site_of, grown, sites_of, IsBefore, IsLaid}
 
 -- ---- sites of rows
 
@@ -21,12 +19,7 @@ pub length-grown : (sites : List Site) (rows : List Row)
     → length (grown sites rows) ≡ length sites + length rows
 length-grown sites [] = omega arith
 length-grown sites (row ∷ rows) =
-    omega (
-      arith,
-      length-grown (sites ++ site_of sites row ∷ []) rows,
-      length-append sites
-          (site_of sites row ∷ []),
-    )
+    grind (arith, common_steps, length-append, length-grown (sites ++ site_of sites row ∷ []) rows)
 
 -- what is there stays
 pub grown_before : (sites : List Site) (rows : List Row) (i : ℕ) (d : Site) → i < length sites
@@ -41,12 +34,7 @@ grown_before sites (row ∷ rows) i d h =
 site_of_more : (sites more : List Site) (row : Row) → IsBefore (length sites) row
     → ((j : ℕ) (d : Site) → j < length sites → get_or more j d ≡ get_or sites j d)
     → site_of sites row ≡ site_of more row
-site_of_more sites more row before same =
-    ap (λ above. record { path = row.path; above = above; head = head_data row.head }) (by row.parent before)
-  where
-    by : (parent : Option ℕ) → ForSome parent (λ j. j < length sites) → above_in sites parent ≡ above_in more parent
-    by None h = refl
-    by (Some j) h = rw (same j no_site (h j refl)) refl
+site_of_more sites more row before same = search rules
 
 -- each row is a site over the whole list, where its parent stands before it
 grown_at : (sites : List Site) (rows : List Row) (i : ℕ) (d : Site) (e : Row) → i < length rows
@@ -90,19 +78,6 @@ grown-push sites [] row = refl
 grown-push sites (first ∷ rows) row = grown-push (sites ++ site_of sites first ∷ []) rows row
 
 -- ---- look-ups by path
-
-pub found_record : (sites : List Site) (records : List world.NodeRecord) (i : ℕ) (e : world.NodeRecord) → AreDistinct sites
-    → i < length sites
-    → length records ≡ length sites
-    → unwrap_or (lookup (λ key. is_same key (get_or sites i no_site).path) (zip (map (λ s. s.path) sites) records)) e
-    ≡ get_or records i e
-found_record [] records i e distinct h long = absurd (omega arith)
-found_record (site ∷ sites) [] i e distinct h long = absurd (omega arith)
-found_record (site ∷ sites) (r ∷ records) zero e distinct h long = rw (same-self site.path) refl
-found_record (site ∷ sites) (r ∷ records) (suc i) e distinct h long =
-    let within : i < length sites = omega arith in
-    rw (head_differs site sites i distinct within)
-    (found_record sites records i e (distinct_behind site sites distinct) within (omega arith))
 
 pub found_site : (sites : List Site) (i : ℕ) → AreDistinct sites → i < length sites
     → site_at sites (get_or sites i no_site).path ≡ get_or sites i no_site

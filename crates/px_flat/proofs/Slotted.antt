@@ -1,11 +1,11 @@
 -- Slots one after another, and where they say that a variable stands.
-use Rattle.std.proofs.Common.{◌≡◌, ℕ, zero, suc, ◌+◌, ◌<◌, Bool, true, false, not, ◌||◌, List, [], ◌∷◌, ◌++◌, length, get_or, map, sum, take, refl, ap, sym, ◌∙◌, subst, arith, length-append, if◌then◌else◌}
+use Rattle.std.proofs.Common.{◌≡◌, ℕ, zero, suc, ◌+◌, ◌<◌, true, false, not, List, [], ◌∷◌, ◌++◌, length, get_or, map, sum, take, refl, ap, sym, ◌∙◌, subst, arith, length-append, if◌then◌else◌, rules, Option, Some, None}
 use Rattle.std.specs.List.{list_any, list_all}
 use Rattle.std.specs.Map.{lookup}
-use Rattle.std.specs.Option.{unwrap_or}
+use Rattle.std.specs.Option.{unwrap_or, option_and_then}
 use Rattle.std.proofs.lemmas.Bool.{and_parts}
-use Rattle.std.proofs.lemmas.Cmp.{nat_list_eq_equiv}
 use Rattle.std.proofs.lemmas.List.Sums.{sum_by-cons, AllPass-from_list_all}
+use Rattle.std.proofs.lemmas.List.{get_or-map, length-map}
 use Rattle.indexmap.specs.IndexMap.{insert_entry}
 use Rattle.px_core.specs.declared.variable.Variable.{Variable}
 use Rattle.px_core.specs.Fit.{all_differ, cells_of, variables_differ}
@@ -21,7 +21,9 @@ use Rattle.px_flat.specs.Row.{site_in}
 use Rattle.px_flat.specs.Rows.{IsLaid, sites_of}
 use Rattle.px_flat.specs.Slots.{place_data, slots_from}
 use Rattle.px_flat.proofs.Sites.{site_at_number}
+use Rattle.px_flat.proofs.Sums.{sum_more}
 use Rattle.px_flat.proofs.Trees.{each_put}
+use Rattle.px_core.proofs.Cells.{cells_are}
 
 -- ---- one after another
 
@@ -34,20 +36,7 @@ other_name : (name : List ℕ) (variables : List VariableData) (i : ℕ) (d : Va
     → not (list_any (is_same name) (map (λ variable. variable.name) variables)) ≡ true
     → is_same (get_or variables i d).name name ≡ false
 other_name name [] i d within none = absurd (omega arith)
-other_name name (variable ∷ variables) i d within none =
-    by i within (is_same name variable.name) refl none (other_name name variables)
-  where
-    Others : Type 0
-    Others = (k : ℕ) (d : VariableData) → k < length variables
-        → not (list_any (is_same name) (map (λ variable. variable.name) variables)) ≡ true
-        → is_same (get_or variables k d).name name ≡ false
-
-    by : (i : ℕ) → i < length (variable ∷ variables) → (b : Bool) → is_same name variable.name ≡ b
-        → not (b || list_any (is_same name) (map (λ variable. variable.name) variables)) ≡ true
-        → Others → is_same (get_or (variable ∷ variables) i d).name name ≡ false
-    by i within true is none others = absurd (cc none)
-    by zero within false is none others = nat_list_eq_equiv.symm variable.name name ∙ is
-    by (suc i) within false is none others = others i d (omega arith) none
+other_name name (variable ∷ variables) i d within none = search (rules, other_name name variables)
 
 -- one variable more is inserted behind the others
 pub slots_more : (first i : ℕ) (variables : List VariableData) (d : VariableData) → i < length variables
@@ -81,37 +70,57 @@ pub length-slots_from : (first : ℕ) (variables : List VariableData) → length
 length-slots_from first [] = refl
 length-slots_from first (variable ∷ variables) = omega (arith, length-slots_from (first + cells_of variable) variables)
 
+-- the next of variables, and the cells of those as far as it
+pub record IsNext (variables : List Variable) (i : ℕ) (here : Variable) : Type 0 where
+  pub within : i < length (map variable_data variables)
+  pub is : get_or (map variable_data variables) i (variable_data here) ≡ variable_data here
+  pub cells : sum (map cells_of (take (i + 1) (map variable_data variables)))
+      ≡ sum (map cells_of (take i (map variable_data variables))) + unwrap_or here.size 1
+
+pub next : (variables : List Variable) (i : ℕ) (here : Variable) → i < length variables → here ≡ get_or variables i here
+    → IsNext variables i here
+next variables i here below is_here =
+    let all : List VariableData = map variable_data variables in
+    let within : i < length all = omega (arith, length-map variables variable_data) in
+    let is : get_or all i (variable_data here) ≡ variable_data here =
+    get_or-map variable_data variables i here (variable_data here) below ∙ ap variable_data (sym is_here) in
+    record {
+      within = within;
+      is = is;
+      cells = omega (arith, sum_more cells_of all i (variable_data here) within, ap cells_of is, cells_are (variable_data here));
+    }
+
 -- ---- where a variable stands
 
-pub place_in_slots : (cell : ℕ) (variables : List VariableData) (name : List ℕ) (none : Slot)
+place_in_slots : (cell : ℕ) (variables : List VariableData) (name : List ℕ) (none : Slot)
     → place_data (unwrap_or (lookup (is_same name) (slots_from cell variables)) none)
     ≡ unwrap_or (place_from cell variables name) (place_data none)
 place_in_slots cell [] name none = refl
 place_in_slots cell (variable ∷ variables) name none =
-    by (is_same name variable.name) refl (place_in_slots (cell + cells_of variable) variables name none)
-  where
-    by : (b : Bool) → is_same name variable.name ≡ b
-        → place_data (unwrap_or (lookup (is_same name) (slots_from (cell + cells_of variable) variables)) none)
-        ≡ unwrap_or (place_from (cell + cells_of variable) variables name) (place_data none)
-        → place_data (unwrap_or (lookup (is_same name) (slots_from cell (variable ∷ variables))) none)
-        ≡ unwrap_or (place_from cell (variable ∷ variables) name) (place_data none)
-    by true is rest = rw (is, sym (nat_list_eq_equiv.symm name variable.name) ∙ is) refl
-    by false is rest = rw (is, sym (nat_list_eq_equiv.symm name variable.name) ∙ is) rest
+    search (rules, place_in_slots (cell + cells_of variable) variables name none)
 
-pub kind_in_slots : (cell : ℕ) (variables : List VariableData) (name : List ℕ) (none : Slot)
+kind_in_slots : (cell : ℕ) (variables : List VariableData) (name : List ℕ) (none : Slot)
     → (unwrap_or (lookup (is_same name) (slots_from cell variables)) none).kind
     ≡ unwrap_or (kind_among variables name) none.kind
 kind_in_slots cell [] name none = refl
 kind_in_slots cell (variable ∷ variables) name none =
-    by (is_same name variable.name) refl (kind_in_slots (cell + cells_of variable) variables name none)
-  where
-    by : (b : Bool) → is_same name variable.name ≡ b
-        → (unwrap_or (lookup (is_same name) (slots_from (cell + cells_of variable) variables)) none).kind
-        ≡ unwrap_or (kind_among variables name) none.kind
-        → (unwrap_or (lookup (is_same name) (slots_from cell (variable ∷ variables))) none).kind
-        ≡ unwrap_or (kind_among (variable ∷ variables) name) none.kind
-    by true is rest = rw (is, sym (nat_list_eq_equiv.symm name variable.name) ∙ is) refl
-    by false is rest = rw (is, sym (nat_list_eq_equiv.symm name variable.name) ∙ is) rest
+    search (rules, kind_in_slots (cell + cells_of variable) variables name none)
+
+-- the slot of the variable that a node declares
+abbrev pub slot_in : List Site → List ℕ → Slot → Option ℕ → Slot
+slot_in plan name none number = unwrap_or (option_and_then (λ node.
+    lookup (is_same name) (slots_from (first_cell plan node) (site_in plan node).head.variables)) number) none
+
+pub read_in_plan : (plan : List Site) (name : List ℕ) (none : Slot) (number : Option ℕ)
+    → (place_data (slot_in plan name none number) ≡ unwrap_or (option_and_then (λ node.
+    place_from (first_cell plan node) (site_in plan node).head.variables name) number) (place_data none))
+    × ((slot_in plan name none number).kind ≡ unwrap_or (option_and_then (λ node.
+    kind_among (site_in plan node).head.variables name) number) none.kind)
+read_in_plan plan name none None = (refl, refl)
+read_in_plan plan name none (Some node) = (
+  place_in_slots (first_cell plan node) (site_in plan node).head.variables name none,
+  kind_in_slots (first_cell plan node) (site_in plan node).head.variables name none,
+)
 
 -- ---- the slots of each node
 

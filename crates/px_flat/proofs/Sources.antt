@@ -1,5 +1,5 @@
 -- An expression has the same value wherever all its sources are the same.
-use Rattle.std.proofs.Common.{◌≡◌, ℕ, ◌+◌, ◌<◌, List, [], ◌∷◌, ◌++◌, length, take, drop, get_or, refl, ap, sym, ◌∙◌, subst, arith, All}
+use Rattle.std.proofs.Common.{◌≡◌, ℕ, ◌+◌, ◌<◌, List, [], ◌∷◌, ◌++◌, length, take, drop, get_or, refl, ap, sym, ◌∙◌, subst, arith, All, rules}
 use Rattle.std.proofs.lemmas.List.{ext_get_or, get_or_append_left, get_or-append-add, get_or-drop, get_or-take, length-append, length-drop, length-take}
 use Rattle.std.proofs.lemmas.List.Elements.{All-head, All-tail}
 use Rattle.px_value.specs.declared.value.Value.TheVariants.{Unknown}
@@ -27,10 +27,7 @@ module _ (plan : List Site) (one other : Present) (long : length one.cells ≡ l
 
   -- one cell holds the same
   cell : (at : ℕ) → AreSame (Cells at 1 ∷ []) → held one.cells at ≡ held other.cells at
-  cell at all =
-      let here : at + 0 ≡ at = omega arith in
-      subst (λ at. held one.cells at ≡ held other.cells at) here
-      (All-head (IsSame plan one other) (Cells at 1) [] all 0 (omega arith))
+  cell at all = search (rules, All-head)
 
   -- an array's cells hold the same
   cells : (first size : ℕ) → IsSame plan one other (Cells first size)

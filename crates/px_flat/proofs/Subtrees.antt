@@ -1,5 +1,5 @@
 -- The nodes below a node are those behind it, up to the number after its last descendant.
-use Rattle.std.proofs.Common.{◌≡◌, ◌≢◌, ℕ, zero, suc, ◌+◌, ◌-◌, ◌<◌, ◌≤◌, Bool, true, false, ◌&&◌, nat_lt, List, [], ◌∷◌, ◌++◌, length, get_or, drop, take_while, refl, ap, sym, ◌∙◌, subst, arith, ◌⊎◌, inl, inr, append_assoc, length-append}
+use Rattle.std.proofs.Common.{◌≡◌, ◌≢◌, ℕ, zero, suc, ◌+◌, ◌-◌, ◌<◌, ◌≤◌, Bool, true, false, ◌&&◌, nat_lt, List, [], ◌∷◌, ◌++◌, length, get_or, drop, take_while, refl, ap, sym, ◌∙◌, subst, arith, ◌⊎◌, inl, inr, append_assoc, length-append, rules}
 use Rattle.std.specs.List.{list_all, list_any}
 use Rattle.std.proofs.lemmas.Bool.{cases_lt, lt-ltb, le-ltb, or_parts, or_from, false_from_ne_true, true≢false}
 use Rattle.std.proofs.lemmas.List.{get_or_append_left, get_or-append-add, drop_at}
@@ -299,7 +299,4 @@ below_split plan node other split within =
 -- in a fit plan whose paths differ
 pub are_below : (plan : List Site) → IsFitPlan plan → AreDistinct plan → (node : ℕ) → node < length plan
     → AreBelow plan node (after_last plan node)
-are_below plan fit distinct node within = λ other there.
-    below_split plan node other (subst (λ plan. IsSplit plan node) (sym fit.nodes)
-    (split_at [] fit.tree node tt (subst Differ fit.nodes (differ_from plan distinct))
-    (omega (arith, ap length fit.nodes, length-sites_under [] fit.tree)))) there
+are_below plan fit distinct node within = search (rules, below_split, split_at, differ_from, length-sites_under)

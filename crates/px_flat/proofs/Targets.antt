@@ -1,16 +1,13 @@
 -- The type of a target's variable, in numbers and in the plan.
-use Rattle.std.proofs.Common.{◌≡◌, ℕ, ◌+◌, Bool, true, false, List, [], ◌∷◌, refl, ap, sym, ◌∙◌, Some, if◌then◌else◌}
+use Rattle.std.proofs.Common.{◌≡◌, ℕ, ◌+◌, Bool, true, false, List, [], ◌∷◌, refl, Some, if◌then◌else◌, rules}
 use Rattle.std.specs.List.{find}
-use Rattle.std.specs.Option.{option_and_then, unwrap_or}
 use Rattle.px_value.specs.declared.value.Value.{Value}
 use Rattle.px_core.specs.declared.variable.VarKind.TheVariants as kinds
 use Rattle.px_core.specs.Fit.{cells_of}
 use Rattle.px_core.specs.Plan.{Site, TargetData, VariableData, is_same}
 use Rattle.px_sem.specs.Effects.{as_kind, taken_as}
-use Rattle.px_sem.specs.World.{variable_at}
-use Rattle.px_flat.specs.Layout.{Place, place_from, first_cell}
+use Rattle.px_flat.specs.Layout.{Place, place_from}
 use Rattle.px_flat.specs.Numbered.{kind_of, kind_among}
-use Rattle.px_flat.specs.Row.{site_in}
 use Rattle.px_flat.proofs.Known.{IsSound}
 use Rattle.px_flat.proofs.Numbers.{number_is}
 use Rattle.px_flat.proofs.Sites.{found_site}
@@ -42,28 +39,4 @@ found_in cell (variable ∷ variables) name place at =
 pub taken_alike : (plan : List Site) (target : TargetData) (given : Value) → IsSound plan
     → IsDeclared plan target.owner target.name
     → taken_as plan target given ≡ as_kind (kind_of plan target.owner target.name) given
-taken_alike plan target given sound declared =
-    taken_is ∙ ap (λ kind. as_kind kind given) (sym kind_is)
-  where
-    own : Site
-    own = site_in plan declared.node
-
-    found : IsFound own.head.variables target.name
-    found = found_in (first_cell plan declared.node) own.head.variables target.name declared.has.place declared.has.is
-
-    variable_is : variable_at plan target.owner target.name ≡ Some found.variable
-    variable_is =
-        ap (λ path. variable_at plan path target.name) (sym declared.path_is)
-        ∙ ap (λ (site : Site). find (λ variable. is_same variable.name target.name) site.head.variables)
-        (found_site plan declared.node sound.distinct declared.within)
-        ∙ found.found
-
-    taken_is : taken_as plan target given ≡ as_kind found.variable.kind given
-    taken_is = rw variable_is refl
-
-    kind_is : kind_of plan target.owner target.name ≡ found.variable.kind
-    kind_is =
-        ap (λ path. kind_of plan path target.name) (sym declared.path_is)
-        ∙ ap (λ number. unwrap_or (option_and_then (λ node. kind_among (site_in plan node).head.variables target.name) number) kinds.Boolean)
-        (number_is plan declared.node sound.distinct declared.within)
-        ∙ ap (λ kind. unwrap_or kind kinds.Boolean) found.kind_is
+taken_alike plan target given sound declared = search (rules, found_in, found_site, number_is)

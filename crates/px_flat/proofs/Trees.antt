@@ -1,7 +1,7 @@
 -- Nodes laid out one after another, each with all that is below it.
-use Rattle.std.proofs.Common.{◌≡◌, ℕ, zero, suc, ◌+◌, ◌<◌, ◌≤◌, true, false, List, [], ◌∷◌, ◌++◌, length}
-use Rattle.std.proofs.Common.{get_or, nat_eq, ◌≢◌, refl, ap, sym, ◌∙◌, subst, arith, Some, None, take, ◌⊎◌, inl, inr}
-use Rattle.std.proofs.Common.{append_assoc, append-nil, length-append}
+use Rattle.std.proofs.Common.{◌≡◌, ℕ, zero, suc, ◌+◌, ◌<◌, ◌≤◌, true, List, [], ◌∷◌, ◌++◌, length}
+use Rattle.std.proofs.Common.{get_or, refl, ap, sym, ◌∙◌, subst, arith, Some, None, take}
+use Rattle.std.proofs.Common.{append_assoc, append-nil, length-append, rules}
 use Rattle.std.proofs.lemmas.Bool.{and_parts}
 use Rattle.std.specs.Prelude.{nat_le}
 use Rattle.std.specs.List.{list_all}
@@ -11,6 +11,7 @@ use Rattle.std.proofs.lemmas.List.{get_or_append_left, take_more}
 use Rattle.std.proofs.lemmas.List.Folds.{list_all-append}
 use Rattle.std.proofs.lemmas.List.Sums.{list_all-from_AllPass}
 use Rattle.std.proofs.Math.Seq.{get_or-append_seam}
+use Rattle.std.proofs.lemmas.Grind.{common_steps}
 use Rattle.px_value.specs.Name.{is_name}
 use Rattle.px_value.specs.Path.{below}
 use Rattle.px_core.proofs.Trees.{node_tree}
@@ -36,26 +37,13 @@ pub sites_of_more : (above : List (List ℕ)) (nodes more : List CoreNode)
     → sites_under above (trees (nodes ++ more)) ≡ sites_under above (trees nodes) ++ sites_under above (trees more)
 sites_of_more above [] more = refl
 sites_of_more above (node ∷ nodes) more =
-    ap (sites_under above) (node_tree node (trees (nodes ++ more)))
-    ∙ ap (λ rest. site ∷ (inner ++ rest)) (sites_of_more above nodes more)
-    ∙ ap (λ all. site ∷ all) (sym (append_assoc inner (sites_under above (trees nodes))
-    (sites_under above (trees more))))
-    ∙ ap (λ tree. sites_under above tree ++ sites_under above (trees more)) (sym (node_tree node (trees nodes)))
-  where
-    site : Site
-    site = site_under above (node_head node)
-
-    inner : List Site
-    inner = sites_under (path_under above (node_head node).name ∷ above) (below_it node)
+    grind (arith, common_steps, node_tree, append_assoc, sites_of_more above nodes more)
 
 -- one node: its own site, and those below it
 pub sites_of_one : (above : List (List ℕ)) (node : CoreNode)
     → sites_under above (trees (node ∷ []))
     ≡ site_under above (node_head node) ∷ sites_under (path_under above (node_head node).name ∷ above) (below_it node)
-sites_of_one above node =
-    ap (sites_under above) (node_tree node NoNode)
-    ∙ ap (λ all. site_under above (node_head node) ∷ all)
-    (append-nil (sites_under (path_under above (node_head node).name ∷ above) (below_it node)))
+sites_of_one above node = grind (arith, common_steps, node_tree, append-nil)
 
 -- the first nodes are laid
 pub record LaidSoFar (old rows : List Row) (parent : ℕ) (done : List CoreNode) : Type 0 where
@@ -73,11 +61,7 @@ parent_stays old rows parent done h so_far =
 
 pub long_enough : (old rows : List Row) (parent : ℕ) (done : List CoreNode) → parent < length old
     → LaidSoFar old rows parent done → parent < length rows
-long_enough old rows parent done h so_far =
-    let e : length (sites_of rows) ≡ length (sites_of old) + length (sites_under (above_in (sites_of old) (Some parent)) (trees done))
-    = ap length so_far.sites ∙ length-append (sites_of old)
-    (sites_under (above_in (sites_of old) (Some parent)) (trees done)) in
-    omega (arith, length-sites_of rows, length-sites_of old)
+long_enough old rows parent done h so_far = grind (arith, common_steps, length-append, length-sites_of)
 
 -- the path of the parent, which the next node's path goes on from
 pub parent_path : (old rows : List Row) (parent : ℕ) (done : List CoreNode) → parent < length old
@@ -112,21 +96,7 @@ pub record NextIsShort (above : List (List ℕ)) (node : CoreNode) : Type 0 wher
 short_parts : (above : List (List ℕ)) (node : CoreNode) (nodes : List CoreNode)
     → list_all has_short_path (sites_under above (trees (node ∷ nodes))) ≡ true
     → NextIsShort above node × (list_all has_short_path (sites_under above (trees nodes)) ≡ true)
-short_parts above node nodes short = (record { own = parts.0; inner = inner.0 }, inner.1)
-  where
-    rest : List Site
-    rest = sites_under above (trees nodes)
-
-    parts : (has_short_path (site_under above (node_head node)) ≡ true)
-        × (list_all has_short_path (sites_under (path_under above (node_head node).name ∷ above) (below_it
-        node) ++ rest) ≡ true)
-    parts = and_parts _ _ (sym (ap (λ tree. list_all has_short_path (sites_under above tree))
-        (node_tree node (trees nodes))) ∙ short)
-
-    inner : (list_all has_short_path (sites_under (path_under above (node_head node).name ∷ above)
-        (below_it node)) ≡ true) × (list_all has_short_path rest ≡ true)
-    inner = and_parts _ _ (sym (list_all-append has_short_path
-        (sites_under (path_under above (node_head node).name ∷ above) (below_it node)) rest) ∙ parts.1)
+short_parts above node nodes short = grind (arith, common_steps, and_parts, node_tree, list_all-append)
 
 pub next_is_short : (above : List (List ℕ)) (nodes : List CoreNode) (i : ℕ) (d : CoreNode) → i < length nodes
     → list_all has_short_path (sites_under above (trees nodes)) ≡ true → NextIsShort above (get_or nodes i d)
@@ -149,17 +119,8 @@ pub each_put : {X : Type 0} (P : ℕ → X → Type 0) (rows : List X) (row : X)
     → ((i : ℕ) (d : X) → i < length rows → P i (get_or rows i d))
     → P (length rows) row → (i : ℕ) (d : X) → i < length (rows ++ row ∷ [])
     → P i (get_or (rows ++ row ∷ []) i d)
-each_put P rows row each here i d h = by (eqb_tells i (length rows))
-  where
-    by : ((nat_eq i (length rows) ≡ true) × (i ≡ length rows)) ⊎
-        ((nat_eq i (length rows) ≡ false) × (i ≢ length rows))
-        → P i (get_or (rows ++ row ∷ []) i d)
-    by (inl same) = subst (λ n. P n (get_or (rows ++ row ∷ []) n d)) (sym same.1)
-        (subst (λ p. P (length rows) p) (sym (get_or-append_seam rows row [] d)) here)
-    by (inr other) =
-        let differ : i ≢ length rows = other.1 in
-        let lt : i < length rows = omega (arith, length-append rows (row ∷ [])) in
-        subst (λ p. P i p) (sym (get_or_append_left rows (row ∷ []) d i lt)) (each i d lt)
+each_put P rows row each here i d h =
+    grind (arith, common_steps, eqb_tells, get_or-append_seam, length-append, get_or_append_left)
 
 pub put_next : (old rows : List Row) (parent : ℕ) (done : List CoreNode) (node : CoreNode) → parent < length old
     → LaidSoFar old rows parent done
@@ -191,30 +152,8 @@ pub laid_next : (old rows put rows' : List Row) (parent : ℕ) (done : List Core
     → LaidSoFar old rows parent done → IsPut old rows put parent node
     → sites_of rows' ≡ sites_of put ++ sites_under (above_in (sites_of put) (Some (length rows))) (below_it node)
     → IsLinked rows' → IsNamed rows' → LaidSoFar old rows' parent (done ++ node ∷ [])
-laid_next old rows put rows' parent done node so_far is_put inner linked named = record {
-  sites = inner
-      ∙ ap (λ above. sites_of put ++ sites_under above (below_it node)) is_put.above
-      ∙ ap (λ all. all ++ below) is_put.sites
-      ∙ ap (λ all. (all ++ site ∷ []) ++ below) so_far.sites
-      ∙ append_assoc (sites_of old ++ before) (site ∷ []) below
-      ∙ append_assoc (sites_of old) before (site ∷ below)
-      ∙ ap (λ all. sites_of old ++ all) (sym (sites_of_more above done (node ∷ []) ∙ ap (λ all. before ++ all)
-      (sites_of_one above node)));
-  linked = linked;
-  named = named;
-}
-  where
-    above : List (List ℕ)
-    above = above_in (sites_of old) (Some parent)
-
-    before : List Site
-    before = sites_under above (trees done)
-
-    site : Site
-    site = site_under above (node_head node)
-
-    below : List Site
-    below = sites_under (path_under above (node_head node).name ∷ above) (below_it node)
+laid_next old rows put rows' parent done node so_far is_put inner linked named =
+    grind (arith, common_steps, append_assoc, sites_of_more, sites_of_one)
 
 -- the loop's step
 pub laid_more : (old rows : List Row) (parent : ℕ) (nodes : List CoreNode) (i : ℕ) (d : CoreNode) → i < length nodes
@@ -237,10 +176,7 @@ pub next_room : (old rows : List Row) (parent : ℕ) (done : List CoreNode) (nod
     → LaidSoFar old rows parent done
     → NextIsShort (above_in (sites_of old) (Some parent)) node
     → length (path_at rows parent) + length (node_head node).name < 5000
-next_room old rows parent done node h so_far is_short =
-    subst (λ path. length path + length (node_head node).name < 5000)
-    (sym (parent_path old rows parent done h so_far))
-    (short_room (get_or (sites_of old) parent no_site).path (node_head node).name is_short.own)
+next_room old rows parent done node h so_far is_short = grind (arith, common_steps, parent_path, short_room)
 
 -- a child has fewer nodes below it than its parent
 pub child_smaller : (nodes : List CoreNode) (i : ℕ) (d : CoreNode) → i < length nodes
@@ -268,27 +204,12 @@ pub count_next : (nodes : List CoreNode) (i : ℕ) (d : CoreNode) → i < length
     → count_of (trees (take i nodes)) + (1 + count_of (below_it (get_or nodes i d))) ≤ count_of (trees nodes)
 count_next [] i d h = absurd (omega arith)
 count_next (node ∷ nodes) zero d h = omega (arith, ap count_of (node_tree node (trees nodes)))
-count_next (node ∷ nodes) (suc i) d h =
-    omega (
-      arith,
-      ap count_of (node_tree node (trees nodes)),
-      ap count_of (node_tree node (trees (take i nodes))),
-      count_next nodes i d (omega arith),
-    )
+count_next (node ∷ nodes) (suc i) d h = grind (arith, common_steps, node_tree, count_next nodes i d (omega arith))
 
 -- how many rows are laid
 pub laid_count : (old rows : List Row) (parent : ℕ) (done : List CoreNode) → LaidSoFar old rows parent done
     → length rows ≡ length old + count_of (trees done)
-laid_count old rows parent done so_far =
-    let above : List (List ℕ) = above_in (sites_of old) (Some parent) in
-    omega (
-      arith,
-      ap length so_far.sites,
-      length-append (sites_of old) (sites_under above (trees done)),
-      length-sites_under above (trees done),
-      length-sites_of rows,
-      length-sites_of old,
-    )
+laid_count old rows parent done so_far = search (rules, length-append, length-sites_under, length-sites_of)
 
 -- ---- the ends
 
@@ -363,10 +284,7 @@ rooted front rows root row none is root_is = subst (λ ps. IsRooted ps root)
 pub sites_of_root : (root : CoreNode)
     → sites (fold-CoreNode (Tree → Tree) branch root NoNode)
     ≡ site_under [] (node_head root) ∷ sites_under ((node_head root).name ∷ []) (below_it root)
-sites_of_root root =
-    ap sites (node_tree root NoNode)
-    ∙ ap (λ all. site_under [] (node_head root) ∷ all)
-    (append-nil (sites_under ((node_head root).name ∷ []) (below_it root)))
+sites_of_root root = grind (arith, common_steps, node_tree, append-nil)
 
 pub above_root : (rows : List Row) (root : CoreNode) → IsRooted rows root
     → above_in (sites_of rows) (Some 0) ≡ (node_head root).name ∷ []
@@ -375,20 +293,13 @@ above_root rows root is = ap (λ all. (get_or all 0 no_site).path ∷ (get_or al
 pub short_below : (root : CoreNode)
     → list_all has_short_path (sites (fold-CoreNode (Tree → Tree) branch root NoNode)) ≡ true
     → list_all has_short_path (sites_under ((node_head root).name ∷ []) (below_it root)) ≡ true
-short_below root short =
-    (and_parts (has_short_path (site_under [] (node_head root)))
-    (list_all has_short_path (sites_under ((node_head root).name ∷ []) (below_it root)))
-    (sym (ap (list_all has_short_path) (sites_of_root root)) ∙ short)).1
+short_below root short = grind (arith, common_steps, and_parts, sites_of_root)
 
 -- all is laid
 pub all_laid : (rows rows' : List Row) (root : CoreNode) → IsRooted rows root
     → sites_of rows' ≡ sites_of rows ++ sites_under (above_in (sites_of rows) (Some 0)) (below_it root)
     → sites_of rows' ≡ sites (fold-CoreNode (Tree → Tree) branch root NoNode)
-all_laid rows rows' root is inner =
-    inner
-    ∙ ap (λ at. sites_of rows ++ sites_under at (below_it root)) (above_root rows root is)
-    ∙ ap (λ all. all ++ sites_under ((node_head root).name ∷ []) (below_it root)) is.sites
-    ∙ sym (sites_of_root root)
+all_laid rows rows' root is inner = grind (arith, common_steps, above_root, sites_of_root)
 
 pub laid : (rows : List Row) (tree : Tree) (spare : Row) → sites_of rows ≡ sites tree
     → siblings_differ tree ≡ true → IsLinked rows → IsNamed rows → IsLaid rows

@@ -1,9 +1,10 @@
 -- What a numbered expression has of a variable and of a lookup name.
 use Rattle.std.proofs.Common.{◌≡◌, ℕ, suc, ◌+◌, ◌<◌, ◌≤◌, Bool, true, false, not, ◌&&◌, ◌⊎◌, cond, nat_le, map, sum, List, [], ◌∷◌, length, get_or, take, drop, position, refl, ap, sym, ◌∙◌, subst, arith, inl, inr, Option, Some, None, if◌then◌else◌}
 use Rattle.std.specs.List.{list_all, list_any, position_or_len}
-use Rattle.std.specs.Option.{option_and_then, unwrap_or}
+use Rattle.std.specs.Option.{unwrap_or}
 use Rattle.std.specs.Cmp.Lexicographic.{same_text}
 use Rattle.std.proofs.lemmas.Bool.{and_parts, or_cases, leb-true, lt-ltb}
+use Rattle.std.proofs.lemmas.Grind.{common_steps}
 use Rattle.std.proofs.lemmas.List.{get_or-take, get_or-drop}
 use Rattle.px_value.specs.declared.value.Value.{Value}
 use Rattle.px_value.specs.declared.value.Value.TheVariants.{Unknown}
@@ -82,12 +83,7 @@ has_place test cell (variable ∷ variables) name right there =
 pub place_of-node : (plan : List Site) (owner name : List ℕ) (node : ℕ) → AreDistinct plan → node < length plan
     → (site_in plan node).path ≡ owner → (has : HasPlace (first_cell plan node) (site_in plan node).head.variables name)
     → place_of plan owner name ≡ has.place
-place_of-node plan owner name node distinct within path_is has =
-    ap (λ path. place_of plan path name) (sym path_is)
-    ∙ ap (λ number. unwrap_or (option_and_then (λ node. place_from (first_cell plan node)
-    (site_in plan node).head.variables name) number) (record { first = 0; size = 0 }))
-    (number_is plan node distinct within)
-    ∙ ap (λ place. unwrap_or place (record { first = 0; size = 0 })) has.is
+place_of-node plan owner name node distinct within path_is has = grind (arith, common_steps, number_is)
 
 -- what stands at the place of a variable
 pub record IsPlaced (plan : List Site) (cells : List Value) (reports : List (LookState × Report)) (acts : List Act)
@@ -169,16 +165,9 @@ first_name (first ∷ names) name there =
 -- the name that stands at the number of a name
 pub name_at : (names : List (List ℕ)) (name : List ℕ) → list_any (is_same name) names ≡ true
     → get_or names (unwrap_or (position (is_same name) names) 0) [] ≡ name
-name_at names name there =
-    let found = first_name names name there in
-    ap (λ b. get_or names (unwrap_or (cond b (Some (position_or_len (is_same name) names)) None) 0) [])
-    (lt-ltb (position_or_len (is_same name) names) (length names) found.0)
-    ∙ found.1
+name_at names name there = grind (arith, common_steps, first_name, lt-ltb)
 
 -- the number of a name is below that of the names
 pub number_within : (names : List (List ℕ)) (name : List ℕ) → list_any (is_same name) names ≡ true
     → unwrap_or (position (is_same name) names) 0 < length names
-number_within names name there =
-    let found = first_name names name there in
-    subst (λ b. unwrap_or (cond b (Some (position_or_len (is_same name) names)) None) 0 < length names)
-    (sym (lt-ltb (position_or_len (is_same name) names) (length names) found.0)) found.0
+number_within names name there = grind (arith, common_steps)

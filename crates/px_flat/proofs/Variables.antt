@@ -1,13 +1,14 @@
 -- What a node of a fit plan writes is declared, and a cell belongs to one variable at most.
-use Rattle.std.proofs.Common.{◌≡◌, ℕ, ◌+◌, ◌<◌, ◌≤◌, Bool, true, false, not, ◌&&◌, List, [], ◌∷◌, ◌++◌, length, map, sum, take, refl, ap, sym, ◌∙◌, subst, arith, inl, inr, Option, Some, None, if◌then◌else◌}
+use Rattle.std.proofs.Common.{◌≡◌, ℕ, ◌+◌, ◌<◌, ◌≤◌, Bool, true, false, not, ◌&&◌, List, [], ◌∷◌, length, refl, ap, sym, ◌∙◌, subst, arith, inl, inr, Option, Some, None, if◌then◌else◌, rules}
 use Rattle.std.specs.List.{list_all, list_any, flat_map}
 use Rattle.std.specs.Cmp.Lexicographic.{same_text}
 use Rattle.std.proofs.lemmas.Bool.{and_parts, cases_lt}
+use Rattle.std.proofs.lemmas.Grind.{common_steps}
 use Rattle.std.proofs.lemmas.List.{take-take}
 use Rattle.std.proofs.lemmas.List.Folds.{list_all-append}
 use Rattle.std.proofs.lemmas.List.Sums.{AllPass-from_list_all}
 use Rattle.px_core.specs.Expr.{Term}
-use Rattle.px_core.specs.Fit.{Scalar, Array, references, references_of_target, terms_of, terms_of_conditions, targets_of, variable_is_there, variables_are_there, declares_scalar, declares_array, is_array, cells_of, cells_of_site, has_right_variables}
+use Rattle.px_core.specs.Fit.{Scalar, Array, references, references_of_target, targets_of, variable_is_there, declares_scalar, declares_array, is_array, cells_of, cells_of_site, has_right_variables}
 use Rattle.px_core.specs.Plan.{Site, BodyData, Nothing, Assign, Command, Update, TargetData, VariableData, no_site, is_same}
 use Rattle.px_sem.specs.Conflicts.{target_of}
 use Rattle.px_flat.specs.Layout.{Place, place_from, first_cell}
@@ -40,13 +41,7 @@ place_behind cell (variable ∷ variables) name place at =
 -- the cells of a later node stand behind those of an earlier one
 pub cells_apart : (plan : List Site) (i j : ℕ) → i < j → j ≤ length plan
     → first_cell plan i + cells_of_site (site_in plan i) ≤ first_cell plan j
-cells_apart plan i j before within =
-    omega (
-      arith,
-      sum_more cells_of_site plan i no_site (omega arith),
-      sum_front cells_of_site (take j plan) (i + 1),
-      ap (λ sites. sum (map cells_of_site sites)) (take-take (i + 1) j plan (omega arith)),
-    )
+cells_apart plan i j before within = grind (arith, common_steps, sum_more, sum_front, take-take)
 
 -- ---- what is declared
 
@@ -85,31 +80,16 @@ its_target : (plan : List Site) (body : BodyData) (target : TargetData) → targ
     → list_all (variable_is_there plan) (flat_map references_of_target (targets_of body)) ≡ true
     → list_all (variable_is_there plan) (references_of_target target) ≡ true
 its_target plan Nothing target is there = absurd (cc)
-its_target plan (Assign own value) target is there =
-    let same : own ≡ target = (cc) in
-    subst (λ target. list_all (variable_is_there plan) (references_of_target target) ≡ true) same
-    (and_parts (list_all (variable_is_there plan) (references_of_target own)) true
-    (sym (list_all-append (variable_is_there plan) (references_of_target own) []) ∙ there)).0
+its_target plan (Assign own value) target is there = grind (arith, common_steps)
 its_target plan (Command name args None) target is there = absurd (cc)
-its_target plan (Command name args (Some own)) target is there =
-    let same : own ≡ target = (cc) in
-    subst (λ target. list_all (variable_is_there plan) (references_of_target target) ≡ true) same
-    (and_parts (list_all (variable_is_there plan) (references_of_target own)) true
-    (sym (list_all-append (variable_is_there plan) (references_of_target own) []) ∙ there)).0
+its_target plan (Command name args (Some own)) target is there = grind (arith, common_steps)
 its_target plan (Update pairs) target is there = absurd (cc)
 
 -- what a node of a fit plan writes is declared
 pub target_declared : (plan : List Site) (node : ℕ) (target : TargetData) → IsSound plan → node < length plan
     → target_of (site_in plan node).head.body ≡ Some target → IsDeclared plan target.owner target.name
 target_declared plan node target sound within is =
-    let head = (site_in plan node).head in
-    let front = flat_map references (terms_of_conditions head.conditions) ++ flat_map references (terms_of head.body) in
-    let targets = flat_map references_of_target (targets_of head.body) in
-    let all : list_all (variable_is_there plan) (front ++ targets) ≡ true =
-    AllPass-from_list_all (variables_are_there plan) plan sound.declared node no_site within in
-    reference_declared plan target.owner target.name target.index sound (its_target plan head.body target is
-    (and_parts (list_all (variable_is_there plan) front) (list_all (variable_is_there plan) targets)
-    (sym (list_all-append (variable_is_there plan) front targets) ∙ all)).1)
+    search (rules, AllPass-from_list_all, reference_declared, its_target, and_parts, list_all-append)
 
 -- ---- one cell, one variable
 

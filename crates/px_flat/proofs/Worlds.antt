@@ -5,6 +5,7 @@ use Rattle.std.specs.Map.{lookup}
 use Rattle.std.specs.Option.{unwrap_or}
 use Rattle.std.specs.Cmp.Lexicographic.{same_text}
 use Rattle.std.proofs.lemmas.Bool.{and_parts, or_cases}
+use Rattle.std.proofs.lemmas.Grind.{common_steps}
 use Rattle.std.proofs.lemmas.List.{drop-drop}
 use Rattle.px_value.specs.declared.value.Value.{Value}
 use Rattle.px_value.specs.declared.value.Value.TheVariants as values
@@ -27,12 +28,7 @@ found_among : (plan : List Site) (f : ℕ → NodeRecord) (first i : ℕ) → Ar
     → lookup (λ key. is_same key (site_in plan i).path) (map (λ entry. (entry.1.path, f entry.0)) (enumerate_from first plan))
     ≡ Some (f (first + i))
 found_among [] f first i distinct within = absurd (omega arith)
-found_among (site ∷ plan) f first zero distinct within =
-    let here : first ≡ first + 0 = omega arith in
-    ap (λ b. cond b (Some (f first))
-    (lookup (λ key. is_same key site.path) (map (λ entry. (entry.1.path, f entry.0)) (enumerate_from (first + 1) plan))))
-    (same-self site.path)
-    ∙ ap (λ n. Some (f n)) here
+found_among (site ∷ plan) f first zero distinct within = grind (arith, common_steps, same-self)
 found_among (site ∷ plan) f first (suc i) distinct within =
     let own : List ℕ = (site_in plan i).path in
     let other : site.path ≢ own = λ same.

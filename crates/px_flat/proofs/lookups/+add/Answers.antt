@@ -1,10 +1,8 @@
 use Rattle.std.proofs.Common.{◌≡◌, rules, fold, map, ap, sym, ◌∙◌}
 use Rattle.std.specs.List.{flat_map}
-use Rattle.std.proofs.lemmas.List.{take_all}
-use Rattle.std.proofs.lemmas.List.Folds.{flat_map-map}
 use Rattle.px_core.specs.Expr.{term_of}
 use Rattle.px_flat.specs.Lookups.{with_name, lookups_in}
-use Rattle.px_flat.proofs.LookedUp.{names_then, each_lookup}
+use Rattle.px_flat.proofs.LookedUp.{names_then, each_lookup, all_had}
 use Rattle.px_flat.proofs.Terms.{look, binary}
 use Rattle.px_flat.proofs.lookups.+add.Goals as goal
 
@@ -32,9 +30,5 @@ add-returns-in_ok-add-in-Binary-2 t c =
     ∙ ap (λ e. fold with_name keys (lookups_in (term_of e))) (sym w.is)
 
 pub add_each-returns : goal.add_each-returns
-add_each-returns t c =
-    let keys = c.args.names.now.keys in
-    c.loop-expr.invariant
-    ∙ ap (λ exprs. fold with_name keys (flat_map (λ e. lookups_in (term_of e)) exprs))
-    (take_all c.loop-expr.expr-index c.args.exprs.now c.loop-expr-test.false)
-    ∙ ap (fold with_name keys) (sym (flat_map-map lookups_in term_of c.args.exprs.now))
+add_each-returns t c = all_had with_name lookups_in c.args.names.now.keys term_of c.args.exprs.now c.loop-expr.expr-index _
+    c.loop-expr-test.false c.loop-expr.invariant

@@ -1,18 +1,12 @@
 use Rattle.std.proofs.Common.{fold, map, ap, sym, ◌∙◌}
-use Rattle.std.specs.List.{flat_map}
-use Rattle.std.proofs.lemmas.List.{take_all}
 use Rattle.std.proofs.lemmas.List.Folds.{flat_map-map}
-use Rattle.px_core.specs.Expr.{term_of}
+use Rattle.px_flat.proofs.LookedUp.{all_had}
 use Rattle.px_core.specs.Plan.{pair_data}
 use Rattle.px_flat.specs.Lookups.{with_name, lookups_in}
 use Rattle.px_flat.proofs.lookups.add_pairs.Goals as goal
 
 pub returns : goal.returns
 returns c =
-    let keys = c.args.names.now.keys in
-    let pairs = c.args.pairs.now in
-    c.loop-pair.invariant
-    ∙ ap (λ pairs. fold with_name keys (flat_map (λ pair. lookups_in (term_of pair.value)) pairs))
-    (take_all c.loop-pair.pair-index pairs c.loop-pair-test.false)
-    ∙ ap (fold with_name keys) (sym (flat_map-map (λ pair. lookups_in pair.value) pair_data pairs))
-    ∙ ap (fold with_name keys) (sym (flat_map-map lookups_in (λ pair. pair.value) (map pair_data pairs)))
+    all_had with_name (λ pair. lookups_in pair.value) c.args.names.now.keys pair_data c.args.pairs.now c.loop-pair.pair-index _
+    c.loop-pair-test.false c.loop-pair.invariant
+    ∙ ap (fold with_name c.args.names.now.keys) (sym (flat_map-map lookups_in (λ pair. pair.value) (map pair_data c.args.pairs.now)))

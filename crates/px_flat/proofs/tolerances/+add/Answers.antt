@@ -1,10 +1,8 @@
 use Rattle.std.proofs.Common.{◌≡◌, [], rules, fold, map, ap, sym, ◌∙◌}
 use Rattle.std.specs.List.{cons_option, flat_map}
-use Rattle.std.proofs.lemmas.List.{take_all}
-use Rattle.std.proofs.lemmas.List.Folds.{flat_map-map}
 use Rattle.px_core.specs.Expr.{in_turn, term_of}
 use Rattle.px_sem.specs.Tolerances.{tolerances_in, tolerances_in_each, with_tolerance}
-use Rattle.px_flat.proofs.LookedUp.{tolerances_then, each_tolerance, own_then}
+use Rattle.px_flat.proofs.LookedUp.{tolerances_then, each_tolerance, own_then, all_had}
 use Rattle.px_flat.proofs.Terms.{look, binary}
 use Rattle.px_flat.proofs.tolerances.+add.Goals as goal
 
@@ -33,9 +31,5 @@ add-returns-in_ok-add-in-Binary-2 t c =
     ∙ ap (λ e. fold with_tolerance known (tolerances_in (term_of e))) (sym w.is)
 
 pub add_each-returns : goal.add_each-returns
-add_each-returns t c =
-    let known = c.args.tolerances.now.items in
-    c.loop-expr.invariant
-    ∙ ap (λ exprs. fold with_tolerance known (flat_map (λ e. tolerances_in (term_of e)) exprs))
-    (take_all c.loop-expr.expr-index c.args.exprs.now c.loop-expr-test.false)
-    ∙ ap (fold with_tolerance known) (sym (flat_map-map tolerances_in term_of c.args.exprs.now))
+add_each-returns t c = all_had with_tolerance tolerances_in c.args.tolerances.now.items term_of c.args.exprs.now c.loop-expr.expr-index _
+    c.loop-expr-test.false c.loop-expr.invariant

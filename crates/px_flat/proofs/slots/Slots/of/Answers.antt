@@ -1,52 +1,22 @@
-use Rattle.std.proofs.Common.{◌≡◌, ◌+◌, ◌<◌, List, length, get_or, map, sum, take, ap, sym, ◌∙◌, arith}
-use Rattle.std.proofs.lemmas.List.{get_or-map, length-map, take_all}
+use Rattle.std.proofs.Common.{◌≡◌, ◌+◌, List, get_or, map, sum, take, ap, sym, ◌∙◌, arith}
+use Rattle.std.proofs.lemmas.List.{length-map, take_all}
 use Rattle.indexmap.specs.IndexMap.{insert_entry}
 use Rattle.px_core.proofs.Cells.{cells_are}
 use Rattle.px_core.specs.Fit.{cells_of}
 use Rattle.px_core.specs.Plan.{VariableData, variable_data, is_same}
 use Rattle.px_flat.specs.declared.slots.Slot.{Slot}
 use Rattle.px_flat.specs.Slots.{slots_from}
-use Rattle.px_flat.proofs.Slotted.{slots_more, slot_at, length-slots_from}
-use Rattle.px_flat.proofs.Sums.{sum_more, sum_front}
+use Rattle.px_flat.proofs.Slotted.{slots_more, slot_at, length-slots_from, next}
+use Rattle.px_flat.proofs.Sums.{sum_front}
 use Rattle.px_flat.proofs.slots.Slots.of.Goals as goal
-use Rattle.px_flat.proofs.slots.Slots.of.Goals.{In_ok-insert}
-
--- the next variable
-record IsNext (c : In_ok-insert) : Type 0 where
-  pub within : c.loop-variable.variable-index < length (map variable_data c.args.variables.now)
-  pub is : get_or (map variable_data c.args.variables.now) c.loop-variable.variable-index (variable_data c.variable-item.result)
-      ≡ variable_data c.variable-item.result
-  pub cells : c.loop-variable.cell + c.unwrap_or-size.result
-      ≡ c.args.first + sum (map cells_of (take (c.loop-variable.variable-index + 1) (map variable_data c.args.variables.now)))
-
-next : (c : In_ok-insert) → IsNext c
-next c =
-    let variables = c.args.variables.now in
-    let all : List VariableData = map variable_data variables in
-    let i = c.loop-variable.variable-index in
-    let here = variable_data c.variable-item.result in
-    let within : i < length all = omega (arith, length-map variables variable_data, c.loop-variable-test.true) in
-    let is : get_or all i here ≡ here =
-    get_or-map variable_data variables i c.variable-item.result here c.loop-variable-test.true
-    ∙ ap variable_data (sym c.variable-item.is) in
-    record {
-      within = within;
-      is = is;
-      cells = omega (
-        arith,
-        c.loop-variable.invariant.1,
-        sum_more cells_of all i here within,
-        ap cells_of is,
-        cells_are here,
-        c.unwrap_or-size.ensures,
-      );
-    }
 
 pub overflow_add-cell : goal.overflow_add-cell
 overflow_add-cell c =
     omega (
       arith,
-      (next c).cells,
+      c.loop-variable.invariant.1,
+      c.unwrap_or-size.ensures,
+      (next _ c.loop-variable.variable-index c.variable-item.result c.loop-variable-test.true c.variable-item.is).cells,
       c.requires.few,
       sum_front cells_of (map variable_data c.args.variables.now) (c.loop-variable.variable-index + 1),
     )
@@ -56,7 +26,7 @@ loop-variable-preserved c =
     let all : List VariableData = map variable_data c.args.variables.now in
     let i = c.loop-variable.variable-index in
     let here = variable_data c.variable-item.result in
-    let following = next c in
+    let following = next _ i c.variable-item.result c.loop-variable-test.true c.variable-item.is in
     let size : c.unwrap_or-size.result ≡ cells_of here = c.unwrap_or-size.ensures ∙ sym (cells_are here) in
     let slot : slot_at c.loop-variable.cell here ≡ slot_at (c.args.first + sum (map cells_of (take i all))) (get_or all i here) =
     λ j. slot_at (c.loop-variable.invariant.1 j) (sym following.is j) in
@@ -67,7 +37,7 @@ loop-variable-preserved c =
           ∙ (λ j. insert_entry is_same (c.loop-variable.invariant.0 j)
           ((c.in_ok-copy.ensures.copy ∙ ap (λ variable. variable.name) (sym following.is)) j) ((made ∙ slot) j))
           ∙ slots_more c.args.first i all here following.within c.requires.differ,
-      following.cells,
+      omega (arith, c.loop-variable.invariant.1, c.unwrap_or-size.ensures, following.cells),
     )
 
 pub returns : goal.returns
