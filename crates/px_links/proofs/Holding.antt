@@ -1,5 +1,6 @@
 -- Which list holds which cell after a call.
 use Rattle.std.proofs.Common.{◌≡◌, ℕ, ◌<◌, length, Some, None, refl, ap, sym, ◌∙◌, arith, subst}
+use Rattle.std.proofs.lemmas.Grind.{common_steps}
 use Rattle.std.specs.List.{position}
 use Rattle.px_links.specs.declared.links.Links.TheInside.{Inside}
 use Rattle.px_links.specs.Links.{LinksData, pushed, popped, unlinked, first_of, holder_of, HoldsOthersAsBefore}
@@ -12,11 +13,7 @@ use Rattle.px_links.proofs.Unlinking.{holders-unlinked}
 module _ (links : Inside) (now : LinksData) (view : links_data links ≡ now) (kept : IsKept links) where
   pub held-pushed : (list cell : ℕ) → list < length now.lists → cell < now.cells → holder_of now cell ≡ None
       → HoldsOthersAsBefore now (pushed now list cell) cell (Some list)
-  held-pushed list cell =
-      subst (λ (now : LinksData). list < length now.lists → cell < now.cells → holder_of now cell ≡ None
-      → HoldsOthersAsBefore now (pushed now list cell) cell (Some list)) view
-      (λ there below absent. holders-pushed links.cells.items links.ends.items (lists_in links.cells.items links.ends.items)
-      kept list cell (omega (arith, there, kept.sized)) below (holder_now links (links_data links) refl kept cell ∙ absent))
+  held-pushed list cell = grind (arith, common_steps, holders-pushed, holder_now)
 
   pub held-unlinked : (list cell : ℕ) → holder_of now cell ≡ Some list
       → HoldsOthersAsBefore now (unlinked now cell) cell None

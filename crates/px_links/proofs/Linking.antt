@@ -3,6 +3,7 @@ use Rattle.std.proofs.Common.{◌≡◌, ◌≢◌, ℕ, zero, suc, ◌-◌, ◌
 use Rattle.std.specs.Option.{option_or}
 use Rattle.std.proofs.lemmas.Bool.{eqb-true, eq-eqb, or_left, or_right}
 use Rattle.std.proofs.lemmas.Bool.Decides.{eqb_tells}
+use Rattle.std.proofs.lemmas.Grind.{common_steps}
 use Rattle.px_links.specs.Lists.{has, without, behind}
 use Rattle.px_links.specs.Keeping.{walk, AreLinked, is_number}
 use Rattle.px_links.specs.Relinking.{past}
@@ -58,10 +59,7 @@ module _ (next before : ℕ → Option ℕ) where
   pub leads_on : (ahead first : Option ℕ) (list : List ℕ) (last : Option ℕ) (cell : ℕ)
       → AreLinked next before ahead first list last → has list cell ≡ true → LeadsOn list last cell
   leads_on ahead first [] last cell linked has_it = absurd (cc)
-  leads_on ahead first (head ∷ []) last cell linked has_it = elim (eqb_tells cell head) [
-    | inl same ↦ rw (same.1) (inl (linked.2.0, linked.2.1))
-    | inr other ↦ absurd (cc (sym has_it ∙ ap (λ b. b || false) other.0))
-  ]
+  leads_on ahead first (head ∷ []) last cell linked has_it = grind (arith, common_steps)
   leads_on ahead first (head ∷ (other ∷ list)) last cell linked has_it = elim (eqb_tells cell head) [
     | inl same ↦ rw (same.1) (inr (other, linked.2.0, linked.2.1, or_right (nat_eq other head) _ (has_head other list)))
     | inr apart ↦ elim (leads_on (Some head) (next head) (other ∷ list) last cell linked.2
@@ -146,10 +144,7 @@ past_here : {gone cell : ℕ} (other : Option ℕ) → gone ≡ cell → past go
 past_here {gone} {cell} other same = rw (eq-eqb cell gone (sym same)) refl
 
 past_other : {gone cell : ℕ} (other : Option ℕ) → gone ≢ cell → past gone other (Some cell) ≡ Some cell
-past_other {gone} {cell} other apart = elim (eqb_tells cell gone) [
-  | inl same ↦ absurd (apart (sym same.1))
-  | inr is ↦ rw (is.0) refl
-]
+past_other {gone} {cell} other apart = grind (arith, common_steps)
 
 module _ (next before then_next then_before : ℕ → Option ℕ) where
   -- the links of a list stay

@@ -1,9 +1,7 @@
 -- A list without its first cell, and one that has none.
-use Rattle.std.proofs.Common.{◌≡◌, ◌≢◌, ℕ, ◌<◌, true, List, [], ◌∷◌, length, drop, Some, None, slice_get, ap, arith, inl, inr}
-use Rattle.std.proofs.lemmas.Bool.{cases_lt}
-use Rattle.std.proofs.lemmas.List.{get_or_past, get_or-set_same, length-drop}
+use Rattle.std.proofs.Common.{◌≡◌, ◌≢◌, ℕ, ◌<◌, true, List, [], ◌∷◌, length, Some, None, slice_get, arith}
+use Rattle.std.proofs.lemmas.Grind.{common_steps}
 use Rattle.std.proofs.lemmas.List.Quantifiers.{position-Some}
-use Rattle.std.proofs.lemmas.Option.{slice_get_within}
 use Rattle.px_links.specs.Links.{LinksData, first_of, holder_of, popped}
 use Rattle.px_links.specs.Lists.{has, nth}
 
@@ -19,11 +17,4 @@ nobody_in links list none cell held =
 -- without its first one a list is shorter
 pub shorter_at : (links : LinksData) (list cell : ℕ) → first_of links list ≡ Some cell
     → length (nth (popped links list).lists list) < length (nth links.lists list)
-shorter_at links list cell first =
-    let cells : List ℕ = nth links.lists list in
-    let some : 0 < length cells = slice_get_within cells 0 cell first in
-    let inside : list < length links.lists = elim (cases_lt list (length links.lists)) [
-      | inl below ↦ below
-      | inr past ↦ absurd (omega (arith, some, ap length (get_or_past links.lists list [] past)))
-    ] in
-    omega (arith, some, ap length (get_or-set_same links.lists list (drop 1 cells) [] inside), length-drop 1 cells)
+shorter_at links list cell first = grind (arith, common_steps)

@@ -1,36 +1,22 @@
 -- A cell is linked in behind the others of a list.
-use Rattle.std.proofs.Common.{◌≡◌, ◌≢◌, ℕ, ◌<◌, Bool, true, false, ◌||◌, nat_eq, List, [], ◌∷◌, ◌++◌, length, set, Option, Some, None, IfSome, AllPairs, refl, ap, sym, ◌∙◌, arith, inl, inr, subst}
+use Rattle.std.proofs.Common.{◌≡◌, ◌≢◌, ℕ, ◌<◌, true, false, nat_eq, List, [], ◌∷◌, ◌++◌, length, set, Option, Some, None, IfSome, AllPairs, ap, sym, ◌∙◌, arith, inl, inr, subst, rules}
 use Rattle.std.specs.Prelude.{if◌then◌else◌}
 use Rattle.std.specs.List.{position}
 use Rattle.std.specs.Option.{option_or}
-use Rattle.std.proofs.lemmas.Bool.{eq-eqb, cases_Bool, or_right}
+use Rattle.std.proofs.lemmas.Bool.{eq-eqb, cases_Bool}
 use Rattle.std.proofs.lemmas.Bool.Decides.{eqb_tells}
-use Rattle.std.proofs.lemmas.List.{get_or-set_same, get_or-set_other, length-set}
-use Rattle.std.proofs.lemmas.List.Folds.{list_any-append, list_any_at}
+use Rattle.std.proofs.lemmas.Grind.{common_steps}
+use Rattle.std.proofs.lemmas.List.{get_or-set_same, get_or-set_other}
+use Rattle.std.proofs.lemmas.List.Folds.{list_any_at}
 use Rattle.std.proofs.lemmas.List.Quantifiers.{all_pairs_push}
 use Rattle.px_links.specs.declared.cell.Cell.{Cell}
 use Rattle.px_links.specs.declared.cell.Ends.{Ends}
 use Rattle.px_links.specs.Lists.{has, nth, with_last}
 use Rattle.px_links.specs.Keeping.{cell_at, ends_at, AreLinked, is_number, IsTable}
 use Rattle.px_links.specs.Relinking.{with_next}
-use Rattle.px_links.proofs.Linking.{linked_same, linked_push, number_here, here_number, if_some}
+use Rattle.px_links.proofs.Linking.{linked_same, linked_push, number_here, if_some}
 use Rattle.px_links.proofs.Reading.{holder-read}
 use Rattle.px_links.proofs.Tables.{next_in, before_in, no_ends, leads_on_in, last_in, within, one_holder, next-set, length-next}
-
--- a list with one cell more has that one and the others
-has-new : (list : List ℕ) (new : ℕ) → has (list ++ new ∷ []) new ≡ true
-has-new [] new = rw (eq-eqb new new refl) refl
-has-new (head ∷ list) new = or_right (nat_eq new head) _ (has-new list new)
-
-has-old : (list : List ℕ) (new cell : ℕ) → new ≢ cell → has (list ++ new ∷ []) cell ≡ has list cell
-has-old list new cell apart = list_any-append (nat_eq cell) list (new ∷ []) ∙ elim (eqb_tells cell new) [
-  | inl same ↦ absurd (apart (sym same.1))
-  | inr is ↦ rw (is.0) (or_false (has list cell))
-]
-  where
-    or_false : (b : Bool) → (b || (false || false)) ≡ b
-    or_false true = refl
-    or_false false = refl
 
 -- the links of the table with the cell
 abbrev pub cells_with : List Cell → List Ends → ℕ → ℕ → List Cell
@@ -80,13 +66,7 @@ module _ (cells : List Cell) (ends : List Ends) (lists : List (List ℕ)) (table
   -- what was the last leads on to the new cell
   leads_then : (cell : ℕ) → has (nth lists list) cell ≡ true
       → (if is_number end cell then Some new else next_in cells cell) ≡ option_or (next_in cells cell) (Some new)
-  leads_then cell has_it = elim (leads_on_in cells ends lists table list cell has_it) [
-    | inl is_last ↦ rw (here_number end cell is_last.1, is_last.0) refl
-    | inr leads ↦ elim (cases_Bool (is_number end cell)) [
-      | inl is ↦ absurd (cc (end_has cell (number_here end cell is)).1)
-      | inr is ↦ rw (is, leads.1) refl
-    ]
-  ]
+  leads_then cell has_it = grind (arith, common_steps, leads_on_in, end_has, number_here)
 
   -- other lists don't have what was the last
   not_end : (other cell : ℕ) → nat_eq list other ≡ false → has (nth lists other) cell ≡ true → is_number end cell ≡ false
@@ -123,40 +103,10 @@ module _ (cells : List Cell) (ends : List Ends) (lists : List (List ℕ)) (table
   linked_other : (other : ℕ) → nat_eq list other ≡ false → list ≢ other
       → AreLinked (next_in cells_then) (before_in cells_then) None (ends_at ends_then other).first
       (nth lists_then other) (ends_at ends_then other).last
-  linked_other other differs apart = rw (nth-other other apart, get_or-set_other ends list other _ _ (λ same. apart (sym same))) (
-      linked_same (next_in cells) (before_in cells) (next_in cells_then) (before_in cells_then) None
-      (ends_at ends other).first (nth lists other) (ends_at ends other).last
-      (λ cell has_it.
-      let at = at_old cell (other_than other cell has_it) in (
-        ap (λ (at : Cell). at.next) at
-            ∙ ap (λ b. if b then Some new else next_in cells cell) (not_end other cell differs has_it),
-        ap (λ (at : Cell). at.before) at,
-      ))
-      (table.linked other)
-      )
-
-  -- who has which cell
-  held_new : (other : ℕ) → is_number (cell_at cells_then new).holder other ≡ has (nth lists_then other) new
-  held_new other = ap (λ (at : Cell). is_number at.holder other) at_new ∙ elim (eqb_tells list other) [
-    | inl same ↦ same.0 ∙ subst (λ other. true ≡ has (nth lists_then other) new) same.1
-        (sym (ap (λ list. has list new) nth-there ∙ has-new (nth lists list) new))
-    | inr apart ↦ apart.0 ∙ sym (ap (λ list. has list new) (nth-other other apart.1) ∙ in_none other)
-  ]
-
-  has-then : (other cell : ℕ) → new ≢ cell → has (nth lists_then other) cell ≡ has (nth lists other) cell
-  has-then other cell apart = elim (eqb_tells list other) [
-    | inl same ↦ subst (λ other. has (nth lists_then other) cell ≡ has (nth lists other) cell) same.1
-        (ap (λ list. has list cell) nth-there ∙ has-old (nth lists list) new cell apart)
-    | inr differs ↦ ap (λ list. has list cell) (nth-other other differs.1)
-  ]
+  linked_other other differs apart = search (rules, get_or-set_other, linked_same, at_old, other_than, not_end)
 
   held_then : (cell other : ℕ) → is_number (cell_at cells_then cell).holder other ≡ has (nth lists_then other) cell
-  held_then cell other = elim (eqb_tells new cell) [
-    | inl same ↦ subst (λ cell. is_number (cell_at cells_then cell).holder other ≡ has (nth lists_then other) cell)
-        same.1 (held_new other)
-    | inr apart ↦ ap (λ (at : Cell). is_number at.holder other) (at_old cell (λ same. apart.1 (sym same)))
-        ∙ table.held cell other ∙ sym (has-then other cell apart.1)
-  ]
+  held_then cell other = grind (arith, common_steps)
 
   absent_then : (cell : ℕ) → (cell_at cells_then cell).holder ≡ None → (cell_at cells_then cell).next ≡ None
   absent_then cell none = elim (eqb_tells new cell) [
@@ -183,23 +133,9 @@ module _ (cells : List Cell) (ends : List Ends) (lists : List (List ℕ)) (table
   ]
 
   pub table_with : IsTable cells_then ends_then lists_then
-  table_with = record {
-    sized = length-set ends list _ ∙ table.sized ∙ sym (length-set lists list _);
-    linked = λ other. elim (eqb_tells list other) [
-      | inl same ↦ subst (λ other. AreLinked (next_in cells_then) (before_in cells_then) None (ends_at ends_then other).first
-          (nth lists_then other) (ends_at ends_then other).last) same.1 linked_there
-      | inr apart ↦ linked_other other apart.0 apart.1
-    ];
-    held = held_then;
-    absent = absent_then;
-    once = once_then;
-  }
+  table_with = grind (arith, common_steps, linked_there, linked_other, held_then, absent_then, once_then)
 
   -- the list has the cell then, and each other one is held as before
   pub holders-pushed : (other : ℕ) → position (λ list. has list other) lists_then
       ≡ (if nat_eq new other then Some list else position (λ list. has list other) lists)
-  holders-pushed other = holder-read cells_then ends_then lists_then table_with other ∙ elim (eqb_tells new other) [
-    | inl same ↦ rw (same.0, sym same.1) (ap (λ (at : Cell). at.holder) at_new)
-    | inr apart ↦ rw (apart.0) (ap (λ (at : Cell). at.holder) (at_old other (λ same. apart.1 (sym same)))
-        ∙ sym (holder-read cells ends lists table other))
-  ]
+  holders-pushed other = grind (arith, common_steps, holder-read, table_with, eqb_tells, at_new, at_old)

@@ -6,6 +6,7 @@ use Rattle.std.proofs.lemmas.Bool.{eq-eqb, lt-ltb, le-ltb, cases_Bool, cases_lt}
 use Rattle.std.proofs.lemmas.Bool.Decides.{eqb_tells}
 use Rattle.std.proofs.lemmas.List.{get_or_default, get_or_past, get_or-set_same, get_or-set_other, length-set, length-map, same_lists}
 use Rattle.std.proofs.Math.ListN.{get_or-map}
+use Rattle.std.proofs.lemmas.Grind.{common_steps}
 use Rattle.std.proofs.lemmas.List.Sums.{position_or_len_is}
 use Rattle.px_links.specs.declared.cell.Cell.{Cell}
 use Rattle.px_links.specs.declared.cell.Ends.{Ends}
@@ -13,8 +14,8 @@ use Rattle.px_links.specs.declared.links.Links.TheInside.{Inside}
 use Rattle.px_links.specs.Links.{LinksData, first_of, last_of, holder_of, next_of}
 use Rattle.px_links.specs.Lists.{has, without, behind, nth, without_cell}
 use Rattle.px_links.specs.Keeping.{cell_at, ends_at, AreLinked, is_number, IsTable, IsKept, links_data, lists_in}
-use Rattle.px_links.proofs.Linking.{leads_back, linked_first, linked_last, linked_behind, number_here, here_number}
-use Rattle.px_links.proofs.Tables.{next_in, before_in, first_in, list_within, first_within, last_within, holder_within, next_within, one_holder}
+use Rattle.px_links.proofs.Linking.{leads_back, linked_first, linked_last, linked_behind, number_here}
+use Rattle.px_links.proofs.Tables.{next_in, before_in, first_in, list_within, first_within, last_within, next_within, one_holder}
 
 -- the list that is a cell's holder is the only one that has it
 holder_position : (lists : List (List ℕ)) (cell : ℕ) (holder : Option ℕ)
@@ -53,14 +54,7 @@ module _ (cells : List Cell) (ends : List Ends) (lists : List (List ℕ)) (table
 
   pub next-read : (cell : ℕ)
       → (cell_at cells cell).next ≡ option_and_then (λ list. behind (nth lists list) cell) (position (λ list. has list cell) lists)
-  next-read cell = rw (holder-read cell) (by (cell_at cells cell).holder refl)
-    where
-      by : (holder : Option ℕ) → (cell_at cells cell).holder ≡ holder
-          → (cell_at cells cell).next ≡ option_and_then (λ list. behind (nth lists list) cell) holder
-      by None is = table.absent cell is
-      by (Some list) is = linked_behind (next_in cells) (before_in cells) None (ends_at ends list).first (nth lists list)
-          (ends_at ends list).last cell (table.linked list)
-          (sym (table.held cell list) ∙ here_number (cell_at cells cell).holder list is)
+  next-read cell = grind (arith, common_steps, holder-read, linked_behind)
 
 -- ---- a cell that is not there, or is the first, is taken out
 
@@ -76,15 +70,7 @@ first-without : (next before : ℕ → Option ℕ) (first : Option ℕ) (list : 
     → AreLinked next before None first list last → first ≡ Some gone → without list gone ≡ drop 1 list
 first-without next before first [] last gone linked is = refl
 first-without next before first (head ∷ list) last gone linked is =
-    let same : gone ≡ head = cc in
-    let once : has list gone ≡ false = elim (cases_Bool (has list gone)) [
-      | inl has_it ↦ elim (leads_back next before (Some head) (next head) list last gone linked.2 has_it) [
-        | inl is_first ↦ absurd (cc)
-        | inr leads ↦ absurd (cc)
-      ]
-      | inr absent ↦ absent
-    ] in
-    rw (eq-eqb gone head same) (without-absent list gone once)
+    grind (arith, common_steps, leads_back, without-absent)
 
 same_nth : (lists others : List (List ℕ)) → length lists ≡ length others
     → ((list : ℕ) → nth lists list ≡ nth others list) → lists ≡ others
@@ -143,12 +129,7 @@ module _ (links : Inside) (now : LinksData) (view : links_data links ≡ now) (k
 
   pub holder_is : (cell : ℕ) (read : Cell) → cell < now.cells → read ≡ get_or cells cell read
       → (read.holder ≡ holder_of now cell) × IfSome read.holder (λ list. list < length now.lists)
-  holder_is cell read below is =
-      let here = cell_read cell read below is in (
-        ap (λ (at : Cell). at.holder) here ∙ holder_now cell,
-        subst (λ (links : LinksData). IfSome read.holder (λ list. list < length links.lists)) view
-            (rw here (holder_within cells ends lists kept cell)),
-      )
+  holder_is cell read below is = grind (arith, common_steps, cell_read, holder_now)
 
   pub next_is : (cell : ℕ) (read : Cell) → cell < now.cells → read ≡ get_or cells cell read
       → (read.next ≡ next_of now cell) × IfSome read.next (λ other. other < now.cells)

@@ -1,17 +1,17 @@
 -- What a table of links is, and what one link that is set does to it.
-use Rattle.std.proofs.Common.{◌≡◌, ℕ, ◌<◌, ◌≤◌, true, List, [], length, Option, Some, None, IfSome, refl, ap, sym, ◌∙◌, arith, inl, inr, subst}
+use Rattle.std.proofs.Common.{◌≡◌, ℕ, ◌<◌, ◌≤◌, true, List, [], length, Option, Some, None, IfSome, refl, sym, ◌∙◌, arith, inl, inr, subst}
 use Rattle.std.specs.Prelude.{if◌then◌else◌}
-use Rattle.std.proofs.lemmas.Bool.{cases_lt}
-use Rattle.std.proofs.lemmas.Bool.Decides.{Decides-eqb, eqb_tells}
-use Rattle.std.proofs.lemmas.List.{get_or-map, get_or_default, get_or-set_same, get_or-set_other, get_or_past, length-set, length-map, same_lists}
+use Rattle.std.proofs.lemmas.Bool.Decides.{Decides-eqb}
+use Rattle.std.proofs.lemmas.Grind.{common_steps}
+use Rattle.std.proofs.lemmas.List.{get_or-map, get_or_default, length-set, length-map, same_lists}
 use Rattle.std.proofs.lemmas.Map.Made.{IsDistinct-from_AllPairs}
 use Rattle.std.proofs.lemmas.Map.Steps.{length-le_from_distinct_below}
 use Rattle.px_links.specs.declared.cell.Cell.{Cell}
 use Rattle.px_links.specs.declared.cell.Ends.{Ends}
 use Rattle.px_links.specs.Lists.{has, nth}
 use Rattle.px_links.specs.Keeping.{cell_at, ends_at, walk, lists_in, is_number, IsTable}
-use Rattle.px_links.specs.Relinking.{with_next, with_before}
-use Rattle.px_links.proofs.Linking.{LeadsOn, LeadsBack, walk-list, leads_on, leads_back, first_is, last_is, number_here, here_number, if_some}
+use Rattle.px_links.specs.Relinking.{with_next}
+use Rattle.px_links.proofs.Linking.{LeadsOn, LeadsBack, walk-list, leads_on, leads_back, first_is, last_is, here_number, if_some}
 
 -- the links of the cells, one way and the other
 abbrev pub next_in : List Cell → ℕ → Option ℕ
@@ -51,17 +51,10 @@ module _ (cells : List Cell) (ends : List Ends) (lists : List (List ℕ)) (table
 
   -- lists have cells of the table, and the table has lists
   pub within : (list cell : ℕ) → has (nth lists list) cell ≡ true → cell < length cells
-  within list cell has_it = elim (cases_lt cell (length cells)) [
-    | inl below ↦ below
-    | inr past ↦ absurd (cc (sym has_it ∙ sym (table.held cell list)
-        ∙ ap (λ (at : Cell). is_number at.holder list) (get_or_past cells cell _ past)))
-  ]
+  within list cell has_it = grind (arith, common_steps)
 
   pub list_within : (list cell : ℕ) → has (nth lists list) cell ≡ true → list < length ends
-  list_within list cell has_it = elim (cases_lt list (length lists)) [
-    | inl below ↦ omega (arith, below, table.sized)
-    | inr past ↦ absurd (cc (sym has_it ∙ ap (λ cells. has cells cell) (get_or_past lists list [] past)))
-  ]
+  list_within list cell has_it = grind (arith, common_steps)
 
   -- what is read of the table is in range
   pub first_within : (list : ℕ) → IfSome (ends_at ends list).first (λ cell. cell < length cells)
@@ -69,11 +62,6 @@ module _ (cells : List Cell) (ends : List Ends) (lists : List (List ℕ)) (table
 
   pub last_within : (list : ℕ) → IfSome (ends_at ends list).last (λ cell. cell < length cells)
   last_within list = if_some (ends_at ends list).last (λ cell is. within list cell (last_in list cell is).0)
-
-  pub holder_within : (cell : ℕ) → IfSome (cell_at cells cell).holder (λ list. list < length lists)
-  holder_within cell = if_some (cell_at cells cell).holder (λ list is.
-      let there = list_within list cell (sym (table.held cell list) ∙ here_number (cell_at cells cell).holder list is) in
-      omega (arith, there, table.sized))
 
   pub next_within : (cell : ℕ) → IfSome (next_in cells cell) (λ other. other < length cells)
   next_within cell = by (cell_at cells cell).holder refl
@@ -107,10 +95,7 @@ module _ (cells : List Cell) (ends : List Ends) (lists : List (List ℕ)) (table
   -- a cell is in one list at most
   pub one_holder : (list other cell : ℕ) → has (nth lists list) cell ≡ true → has (nth lists other) cell ≡ true
       → list ≡ other
-  one_holder list other cell has_it has_too =
-      let first : (cell_at cells cell).holder ≡ Some list = number_here _ list (table.held cell list ∙ has_it) in
-      let second : (cell_at cells cell).holder ≡ Some other = number_here _ other (table.held cell other ∙ has_too) in
-      cc
+  one_holder list other cell has_it has_too = grind (arith, common_steps)
 
 -- ---- one link
 
@@ -122,29 +107,9 @@ pub next-set : (at next : Option ℕ) (cells : List Cell) (cell : ℕ) → IfSom
       holder = (cell_at cells cell).holder;
     }
 next-set None next cells cell within = refl
-next-set (Some at) next cells cell within = elim (eqb_tells at cell) [
-  | inl same ↦ rw (same.0, sym same.1, get_or-set_same) refl
-  | inr apart ↦ rw (apart.0) (get_or-set_other cells at cell _ _ (λ same. apart.1 (sym same)))
-]
-
--- a cell after its link back is set
-pub before-set : (at before : Option ℕ) (cells : List Cell) (cell : ℕ) → IfSome at (λ at. at < length cells)
-    → cell_at (with_before at before cells) cell ≡ record {
-      next = (cell_at cells cell).next;
-      before = if is_number at cell then before else (cell_at cells cell).before;
-      holder = (cell_at cells cell).holder;
-    }
-before-set None before cells cell within = refl
-before-set (Some at) before cells cell within = elim (eqb_tells at cell) [
-  | inl same ↦ rw (same.0, sym same.1, get_or-set_same) refl
-  | inr apart ↦ rw (apart.0) (get_or-set_other cells at cell _ _ (λ same. apart.1 (sym same)))
-]
+next-set (Some at) next cells cell within = grind (arith, common_steps)
 
 -- there are as many cells
 pub length-next : (at next : Option ℕ) (cells : List Cell) → length (with_next at next cells) ≡ length cells
 length-next None next cells = refl
 length-next (Some at) next cells = length-set cells at _
-
-pub length-before : (at before : Option ℕ) (cells : List Cell) → length (with_before at before cells) ≡ length cells
-length-before None before cells = refl
-length-before (Some at) before cells = length-set cells at _

@@ -1,14 +1,14 @@
 -- A cell is taken out of its list.
-use Rattle.std.proofs.Common.{◌≡◌, ◌≢◌, ℕ, ◌<◌, true, false, not, nat_eq, List, [], length, set, Option, Some, None, IfSome, refl, ap, sym, ◌∙◌, arith, inl, inr, subst}
+use Rattle.std.proofs.Common.{◌≡◌, ◌≢◌, ℕ, ◌<◌, true, false, not, nat_eq, List, [], length, set, Option, Some, None, IfSome, ap, sym, ◌∙◌, arith, inl, inr, subst}
 use Rattle.std.specs.Prelude.{if◌then◌else◌}
 use Rattle.std.specs.List.{position}
 use Rattle.std.proofs.lemmas.Bool.{eqb-true, cases_Bool}
 use Rattle.std.proofs.lemmas.Bool.Decides.{eqb_tells}
 use Rattle.std.proofs.lemmas.List.{get_or-set_same, get_or-set_other, length-set, length-map}
 use Rattle.std.proofs.Math.ListN.{get_or-map}
+use Rattle.std.proofs.lemmas.Grind.{common_steps}
 use Rattle.std.proofs.lemmas.List.Kept.{AllPairs-filter}
 use Rattle.std.proofs.lemmas.Map.Views.{any-filter_same}
-use Rattle.px_value.proofs.General.{same_bool}
 use Rattle.px_links.specs.declared.cell.Cell.{Cell}
 use Rattle.px_links.specs.declared.cell.Ends.{Ends}
 use Rattle.px_links.specs.Lists.{has, without, nth, without_cell}
@@ -16,7 +16,7 @@ use Rattle.px_links.specs.Keeping.{cell_at, ends_at, AreLinked, is_number, IsTab
 use Rattle.px_links.specs.Relinking.{past, with_next, with_before}
 use Rattle.px_links.proofs.Linking.{leads_apart, linked_without, number_here, here_number, if_some}
 use Rattle.px_links.proofs.Reading.{holder-read}
-use Rattle.px_links.proofs.Tables.{next_in, before_in, leads_on_in, leads_back_in, first_in, last_in, within, list_within, next-set, before-set, length-next, length-before}
+use Rattle.px_links.proofs.Tables.{next_in, before_in, leads_on_in, leads_back_in, first_in, last_in, within, list_within}
 
 -- a list without a cell has the others
 has-gone : (list : List ℕ) (gone : ℕ) → has (without list gone) gone ≡ false
@@ -60,18 +60,10 @@ module _ (cells : List Cell) (ends : List Ends) (lists : List (List ℕ)) (table
 
   -- what stands behind the cell, and before it, are cells of its list
   on_has : (cell : ℕ) → on ≡ Some cell → (has (nth lists list) cell ≡ true) × (before_in cells cell ≡ Some gone)
-  on_has cell is = elim (leads_on_in cells ends lists table list gone in_list) [
-    | inl is_last ↦ absurd (cc)
-    | inr leads ↦ let same : leads.0 ≡ cell = cc in
-        (ap (has (nth lists list)) (sym same) ∙ leads.3, ap (before_in cells) (sym same) ∙ leads.2)
-  ]
+  on_has cell is = grind (arith, common_steps, leads_on_in, in_list)
 
   back_has : (cell : ℕ) → back ≡ Some cell → (has (nth lists list) cell ≡ true) × (next_in cells cell ≡ Some gone)
-  back_has cell is = elim (leads_back_in cells ends lists table list gone in_list) [
-    | inl is_first ↦ absurd (cc)
-    | inr leads ↦ let same : leads.0 ≡ cell = cc in
-        (ap (has (nth lists list)) (sym same) ∙ leads.3, ap (next_in cells) (sym same) ∙ leads.2)
-  ]
+  back_has cell is = grind (arith, common_steps, leads_back_in, in_list)
 
   pub on_within : IfSome (cell_at cells gone).next (λ at. at < length cells)
   on_within = if_some on (λ at is. within cells ends lists table list at (on_has at is).0)
@@ -84,53 +76,30 @@ module _ (cells : List Cell) (ends : List Ends) (lists : List (List ℕ)) (table
 
   -- a link on is to the cell exactly where the cell's link back is to its holder
   on_to : (other cell : ℕ) → has (nth lists other) cell ≡ true → is_number back cell ≡ is_number (next_in cells cell) gone
-  on_to other cell has_it = same_bool (is_number back cell) (is_number (next_in cells cell) gone)
-      (λ is. here_number _ gone (back_has cell (number_here back cell is)).1)
-      (λ is. elim (leads_on_in cells ends lists table other cell has_it) [
-        | inl is_last ↦ absurd (cc (number_here _ gone is))
-        | inr leads ↦ let same : leads.0 ≡ gone = cc (number_here _ gone is) in
-            here_number back cell (ap (before_in cells) (sym same) ∙ leads.2)
-      ])
+  on_to other cell has_it = grind (arith, common_steps, back_has, number_here, leads_on_in)
 
   back_to : (other cell : ℕ) → has (nth lists other) cell ≡ true → is_number on cell ≡ is_number (before_in cells cell) gone
-  back_to other cell has_it = same_bool (is_number on cell) (is_number (before_in cells cell) gone)
-      (λ is. here_number _ gone (on_has cell (number_here on cell is)).1)
-      (λ is. elim (leads_back_in cells ends lists table other cell has_it) [
-        | inl is_first ↦ absurd (cc (number_here _ gone is))
-        | inr leads ↦ let same : leads.0 ≡ gone = cc (number_here _ gone is) in
-            here_number on cell (ap (next_in cells) (sym same) ∙ leads.2)
-      ])
+  back_to other cell has_it = grind (arith, common_steps, on_has, number_here, leads_back_in)
 
   abbrev cells_then : List Cell
   cells_then = cells_without cells gone
 
   -- the cell itself, and another one
   at_gone : cell_at cells_then gone ≡ record { next = None; before = None; holder = None }
-  at_gone =
-      let there : gone < length cells = within cells ends lists table list gone in_list in
-      get_or-set_same (with_before on back (with_next back on cells)) gone _ _
-      (omega (arith, there, length-before on back (with_next back on cells), length-next back on cells))
+  at_gone = grind (arith, common_steps)
 
   at_other : (cell : ℕ) → cell ≢ gone → cell_at cells_then cell ≡ record {
     next = if is_number back cell then on else (cell_at cells cell).next;
     before = if is_number on cell then back else (cell_at cells cell).before;
     holder = (cell_at cells cell).holder;
   }
-  at_other cell apart =
-      get_or-set_other (with_before on back (with_next back on cells)) gone cell _ _ apart
-      ∙ before-set on back (with_next back on cells) cell
-      (subst (λ many. IfSome on (λ at. at < many)) (sym (length-next back on cells)) on_within)
-      ∙ ap (λ (at : Cell). record { next = at.next; before = if is_number on cell then back else at.before; holder = at.holder })
-      (next-set back on cells cell back_within)
+  at_other cell apart = grind (arith, common_steps, on_within, back_within)
 
   abbrev ends_then : List Ends
   ends_then = ends_without cells ends list gone
 
   past-none : (link beside : Option ℕ) → (link ≡ Some gone → ⊥) → past gone beside link ≡ link
-  past-none link beside none = elim (cases_Bool (is_number link gone)) [
-    | inl is ↦ absurd (none (number_here link gone is))
-    | inr is ↦ rw is refl
-  ]
+  past-none link beside none = grind (arith, common_steps)
 
   -- the ends of a list that does not have the cell stay
   past_same : (other : ℕ) (link beside : Option ℕ) → (link ≡ Some gone → has (nth lists other) gone ≡ true)

@@ -1,9 +1,10 @@
 -- A walk along a list, from a cell to the one behind it.
-use Rattle.std.proofs.Common.{◌≡◌, ◌≢◌, ℕ, suc, true, ◌||◌, nat_eq, List, [], ◌∷◌, slice_get, Option, Some, None, is_some, IfSome, IsSome, AllPairs, refl, ap, sym, ◌∙◌, arith, subst, inl, inr}
+use Rattle.std.proofs.Common.{◌≡◌, ◌≢◌, ℕ, suc, true, ◌||◌, nat_eq, List, [], ◌∷◌, slice_get, Option, Some, None, IfSome, IsSome, AllPairs, refl, ap, sym, ◌∙◌, arith, subst, inl, inr, rules}
 use Rattle.std.specs.Prelude.{if◌then◌else◌}
-use Rattle.std.specs.Option.{option_and_then, unwrap_or}
+use Rattle.std.specs.Option.{unwrap_or}
 use Rattle.std.proofs.lemmas.Bool.{eqb-true, eq-eqb, or_right}
 use Rattle.std.proofs.lemmas.Bool.Decides.{eqb_tells}
+use Rattle.std.proofs.lemmas.Grind.{common_steps}
 use Rattle.std.proofs.lemmas.Map.Views.{Contains-from_any}
 use Rattle.px_links.specs.declared.cell.Cell.{Cell}
 use Rattle.px_links.specs.declared.cell.Ends.{Ends}
@@ -40,10 +41,7 @@ behind_has (first ∷ list) cell other is = elim (eqb_tells cell first) [
 -- a list without its first cell, from a cell that isn't the first
 from-tail : (first : ℕ) (list : List ℕ) (at : Option ℕ) → (at ≡ Some first → ⊥) → from_at (first ∷ list) at ≡ from_at list at
 from-tail first list None apart = refl
-from-tail first list (Some cell) apart = elim (eqb_tells cell first) [
-  | inl same ↦ absurd (apart (ap Some same.1))
-  | inr is ↦ rw (is.0) refl
-]
+from-tail first list (Some cell) apart = grind (arith, common_steps)
 
 from-behind : (list : List ℕ) (cell : ℕ) → AllPairs (λ a b. a ≢ b) list → has list cell ≡ true
     → from_cell list cell ≡ cell ∷ from_at list (behind list cell)
@@ -101,14 +99,7 @@ module _ (links : Inside) (now : LinksData) (view : links_data links ≡ now) (k
       held-in list other (behind_has (nth table.lists list) cell other is))
 
   next-holder : (cell : ℕ) → IfSome (next_of table cell) (λ other. holder_of table other ≡ holder_of table cell)
-  next-holder cell = by (holder_of table cell) refl
-    where
-      by : (holder : Option ℕ) → holder_of table cell ≡ holder
-          → IfSome (next_of table cell) (λ other. holder_of table other ≡ holder_of table cell)
-      by None none = subst (λ holder. IfSome (option_and_then (λ list. behind (nth table.lists list) cell) holder)
-          (λ other. holder_of table other ≡ holder)) (sym none) tt
-      by (Some list) held = subst (λ holder. IfSome (option_and_then (λ list. behind (nth table.lists list) cell) holder)
-          (λ other. holder_of table other ≡ holder)) (sym held) (behind-holder cell list held)
+  next-holder cell = search (rules, behind-holder)
 
   -- the cells from one on, in the list that has it
   rest-in : (list : ℕ) (at : Option ℕ) → IfSome at (λ cell. holder_of table cell ≡ Some list)
@@ -120,16 +111,7 @@ module _ (links : Inside) (now : LinksData) (view : links_data links ≡ now) (k
   first-rest list = rest-in list (first_of table list) (first-holder list) ∙ from-first (nth table.lists list)
 
   next-rest : (cell : ℕ) → IsSome (holder_of table cell) → rest_of table (Some cell) ≡ cell ∷ rest_of table (next_of table cell)
-  next-rest cell = by (holder_of table cell) refl
-    where
-      by : (holder : Option ℕ) → holder_of table cell ≡ holder → IsSome (holder_of table cell)
-          → rest_of table (Some cell) ≡ cell ∷ rest_of table (next_of table cell)
-      by None none some = absurd (cc (subst (λ holder. is_some holder ≡ true) none some))
-      by (Some list) held some =
-          rest-in list (Some cell) held
-          ∙ from-behind (nth table.lists list) cell (kept.once list) (has-held list cell held)
-          ∙ ap (λ rest. cell ∷ rest) (sym (rest-in list _ (behind-holder cell list held)))
-          ∙ ap (λ holder. cell ∷ rest_of table (option_and_then (λ list. behind (nth table.lists list) cell) holder)) (sym held)
+  next-rest cell = grind (arith, common_steps, rest-in, from-behind, has-held, behind-holder)
 
   -- the same of what contracts see
   pub first-walk : (list : ℕ) → IfSome (first_of now list) (λ cell. holder_of now cell ≡ Some list)
