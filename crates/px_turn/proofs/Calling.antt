@@ -1,5 +1,5 @@
 -- A seat that has the turn calls the next one.
-use Rattle.std.proofs.Common.{◌≡◌, ℕ, ◌+◌, ◌%◌, ◌^◌, ◌<◌, true, is_some, nat_eq, List, [], ◌∷◌, length, set, get_or, Option, Some, refl, sym, ap, ◌∙◌, subst, arith, length-set}
+use Rattle.std.proofs.Common.{rules, ◌≡◌, ℕ, ◌+◌, ◌%◌, ◌^◌, ◌<◌, true, nat_eq, List, [], ◌∷◌, length, set, get_or, Option, Some, refl, sym, ap, ◌∙◌, subst, arith, length-set}
 use mathlib.Core.Logic.{dite}
 use mathlib.Core.Option.{some, none}
 use native.Mathlib.Decide.{ℕ_discrete}
@@ -7,7 +7,7 @@ use lib.ListN.{get_elem?}
 use Rattle.atomic_table.specs.Table.{State, step, stepped, gives, put_back, Allows}
 use Rattle.atomic_table.proofs.Lists.{set_here}
 use Rattle.px_turn.specs.declared.view.View.{View}
-use Rattle.px_turn.specs.Histories.{is_number, items, AreMade}
+use Rattle.px_turn.specs.Histories.{items, AreMade}
 use Rattle.px_turn.specs.Views.{without_turn, GoesOn}
 use Rattle.px_turn.specs.Rule.{one_if, waiting, holders, AreTickets, Fits, IsRuled}
 use Rattle.px_turn.specs.Steps.{Sat, called}
@@ -20,17 +20,12 @@ module _ {T I : Type 0} (served : ℕ) (views : List (View T I)) (id : ℕ) (v :
     (at : get_elem? views id ≡ some v) (holds : v.ticket ≡ Some served) (are : AreTickets served views) where
   pub waiting_less : waiting (set views id (without_turn v)) + 1 ≡ waiting views
   waiting_less =
-      let changed = total_set (λ (u : View T I). one_if (is_some u.ticket)) views id v (without_turn v) at in
-      let held : one_if (is_some v.ticket) ≡ 1 = ap (λ k. one_if (is_some k)) holds in
-      omega arith
+      search (rules, total_set)
 
   holders_less : (ticket : ℕ)
       → holders ticket (set views id (without_turn v)) + one_if (nat_eq served ticket) ≡ holders ticket views
   holders_less ticket =
-      let changed = total_set (λ (u : View T I). one_if (is_number u.ticket ticket)) views id v (without_turn v) at in
-      let held : one_if (is_number v.ticket ticket) ≡ one_if (nat_eq served ticket) =
-      ap (λ k. one_if (is_number k ticket)) holds in
-      omega arith
+      search (rules, total_set)
 
   pub tickets_less : AreTickets (served + 1) (set views id (without_turn v))
   tickets_less = let less = waiting_less in record {

@@ -1,12 +1,10 @@
 -- The end.
-use Rattle.std.proofs.Common.{◌≡◌, ◌≢◌, ℕ, suc, ◌+◌, ◌<◌, true, false, List, [], ◌∷◌, ◌++◌, map, length, Option, Some, IsSome, unwrap_or, refl, sym, ap, ◌∙◌, subst, arith, All, ◌≤◌}
+use Rattle.std.proofs.lemmas.Grind.{common_steps}
+use Rattle.std.proofs.Common.{rules, ◌≡◌, ◌≢◌, ℕ, ◌+◌, ◌<◌, true, false, List, ◌++◌, length, Option, Some, IsSome, unwrap_or, refl, sym, ap, ◌∙◌, subst, arith, All, ◌≤◌}
 use Rattle.std.proofs.lemmas.Bool.{false_from_ne_true}
-use mathlib.Core.Logic.{dite}
 use mathlib.Core.Option.{some, some-injective}
-use native.Mathlib.Decide.{ℕ_discrete}
 use lib.ListN.{get_elem?}
 use Rattle.atomic_table.specs.Table.{State, Final, Seen}
-use Rattle.px_turn.specs.declared.view.Record.{Record}
 use Rattle.px_turn.specs.declared.view.Stamped.{Stamped}
 use Rattle.px_turn.specs.declared.view.View.{View}
 use Rattle.px_turn.specs.Histories.{items, opened, AreMade, HasPositions}
@@ -20,11 +18,7 @@ use Rattle.px_turn.proofs.Splitting.{is_first}
 
 module _ {T I : Type 0} where
   long_numbers : (v : View T I) → v.live ≡ true → length (numbers v) ≡ length v.joined + 1
-  long_numbers v live = ap (λ (l : List ℕ). length l) (numbers_are v live) ∙ long v.joined
-    where
-      long : (list : List Record) → suc (length (map (λ (r : Record). r.number) list)) ≡ length list + 1
-      long [] = refl
-      long (r ∷ list) = let rest = long list in omega arith
+  long_numbers v live = grind (arith, common_steps, numbers_are)
 
   -- who has no record is live no more
   not_live : (v : View T I) → length (numbers v) ≡ 0 → v.live ≡ false
@@ -35,9 +29,7 @@ module _ {T I : Type 0} where
       → length (numbers v) ≡ length views → (j : ℕ) (u : View T I) → j ≢ id → get_elem? views j ≡ some u
       → u.live ≡ false
   others_spent views id v are at all j u apart there =
-      let both = two_of (λ (x : View T I). length (numbers x)) views j id u v there at apart in
-      let recorded = are.recorded in
-      not_live u (omega arith)
+      search (rules, two_of, not_live)
 
   -- and it has each number
   each_once : (views : List (View T I)) (id : ℕ) (v : View T I) → AreNumbered views → get_elem? views id ≡ some v
@@ -53,23 +45,12 @@ module _ {T I : Type 0} where
 module _ {T I : Type 0} (list : T → List I) (goes_on : T → T → Type 0) (key : T) where
   nobody_has : (s : State (Option T) (View T I)) (ruled : IsRuled list goes_on key s) (id : ℕ) (v : View T I)
       → get_elem? s.views id ≡ some v → v.turn ≡ false → length (numbers v) ≡ length s.views → HaveNoTurn s.views
-  nobody_has s ruled id v at off all j u there = dite (ℕ_discrete j id)
-      (λ same. ap (λ (x : View T I). x.turn) (one_only s.views j id u v there at same) ∙ off)
-      (λ apart. ((ruled.each j u there).spent (others_spent s.views id v ruled.numbered at all j u apart there)).0)
+  nobody_has s ruled id v at off all j u there = search (rules, one_only, others_spent)
 
   seen_all : (s : State (Option T) (View T I)) (ruled : IsRuled list goes_on key s) (id : ℕ) (v : View T I)
       → get_elem? s.views id ≡ some v → length (numbers v) ≡ length s.views → v.seen ≡ ruled.history
   seen_all s ruled id v at all =
-      let longest = ruled.longest in
-      let fits = ruled.each id v at in
-      dite (ℕ_discrete longest.0 id)
-      (λ same. ap (λ (x : View T I). x.seen) (one_only s.views id longest.0 v longest.1.0 at longest.1.1 (sym same))
-      ∙ longest.1.2)
-      (λ apart.
-      let gone = (ruled.each longest.0 longest.1.0 longest.1.1).spent
-      (others_spent s.views id v ruled.numbered at all longest.0 longest.1.0 apart longest.1.1) in
-      let empty : length ruled.history ≡ 0 = ap (λ (l : List (Stamped I)). length l) (sym longest.1.2 ∙ gone.1) in
-      sym (front_whole v.seen ruled.history fits.seen (omega arith)))
+      grind (arith, common_steps, one_only, others_spent, front_whole)
 
   pub closes : (id : ℕ) (v : View T I) (words : List ℕ) (slots : List (Option T)) → v.live ≡ true → v.number ≡ 0
       → v.turn ≡ false

@@ -1,5 +1,5 @@
 -- A seat looks at the count.
-use Rattle.std.proofs.Common.{◌≡◌, ℕ, List, length, set, get_or, refl, sym, ap, ◌∙◌, subst, arith, length-set}
+use Rattle.std.proofs.Common.{rules, ◌≡◌, ℕ, List, length, set, get_or, refl, sym, ap, ◌∙◌, subst, arith, length-set}
 use mathlib.Core.Option.{none}
 use Rattle.atomic_table.specs.Table.{step, keeps, Allows}
 use Rattle.px_turn.specs.declared.view.View.{View}
@@ -33,20 +33,11 @@ module _ {T I : Type 0} (list : T → List I) (goes_on : T → T → Type 0) (ke
           tickets = tickets_same ruled.served s.views id me.0 w at refl ruled.tickets;
           numbered = numbered_same s.views id me.0 w at refl refl refl refl ruled.numbered;
           each = each_set (Fits key ruled.history ruled.served) s.views id w
-              record {
-                turn = fits.turn;
-                spent = fits.spent;
-                seen = fits.seen;
-                told = fits.told;
-                known = omega arith;
-                made = fits.made;
-                opening = fits.opening;
-              }
+              (search rules)
               (λ j u apart there. ruled.each j u there);
           longest = longest_set ruled.history s.views id me.0 w at (λ is. is) ruled.longest;
           at_home = λ none_has.
-              let home = ruled.at_home (no_turn_before s.views id me.0 w at (λ is. is) none_has) in
-              record { value = home.value; home = home.home; stands = home.stands; goes_on_with = home.goes_on_with };
+              let home = ruled.at_home (no_turn_before s.views id me.0 w at (λ is. is) none_has) in search rules;
           begins = ruled.begins;
           makers = subst (λ n. AreMade n ruled.later) (sym (length-set s.views id w)) ruled.makers;
         },

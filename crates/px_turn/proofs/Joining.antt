@@ -1,5 +1,6 @@
 -- A seat is joined into another.
-use Rattle.std.proofs.Common.{◌≡◌, ◌≢◌, ◌⊎◌, ℕ, ◌+◌, ◌<◌, ◌≤◌, Bool, true, false, is_some, ltb, lt-ltb, le-ltb, if◌then◌else◌, List, ◌∷◌, ◌++◌, length, set, None, refl, sym, ap, ◌∙◌, subst, ⊎_elim, inl, inr, arith, length-set, length-append, All}
+use Rattle.std.proofs.lemmas.Grind.{common_steps}
+use Rattle.std.proofs.Common.{rules, ◌≡◌, ◌≢◌, ◌⊎◌, ℕ, ◌+◌, Bool, true, false, ltb, lt-ltb, le-ltb, if◌then◌else◌, List, ◌∷◌, ◌++◌, length, set, None, refl, sym, ap, ◌∙◌, subst, inl, inr, arith, length-set, length-append, All}
 use mathlib.Core.Logic.{dite}
 use mathlib.Core.Option.{some}
 use native.Mathlib.Decide.{ℕ_discrete}
@@ -9,11 +10,11 @@ use Rattle.atomic_table.proofs.Lists.{at_set, set_here, set_else}
 use Rattle.px_turn.specs.declared.view.Record.{Record}
 use Rattle.px_turn.specs.declared.view.Stamped.{Stamped}
 use Rattle.px_turn.specs.declared.view.View.{View}
-use Rattle.px_turn.specs.Histories.{IsFront, is_number, AreMade, longer, shorter, HasPositions}
+use Rattle.px_turn.specs.Histories.{IsFront, AreMade, longer, HasPositions}
 use Rattle.px_turn.specs.Views.{records, numbers, record_of, spent, joined}
-use Rattle.px_turn.specs.Rule.{one_if, times, total, waiting, holders, bearers, AreTickets, AreNumbered, Fits, HaveNoTurn, IsRuled, words_of}
+use Rattle.px_turn.specs.Rule.{total, waiting, AreTickets, AreNumbered, Fits, HaveNoTurn, IsRuled, words_of}
 use Rattle.px_turn.proofs.Totals.{total_set, times-append}
-use Rattle.px_turn.proofs.Fronts.{front_self, front_none, front_length, front_whole}
+use Rattle.px_turn.proofs.Fronts.{front_none, front_length, front_whole}
 use Rattle.px_turn.proofs.Seating.{at_within, one_only, each_set, own_first, joined_rest, numbers_are}
 use mathlib.Core.List.{map-append}
 use Rattle.std.proofs.lemmas.Bool.{cases_lt}
@@ -28,44 +29,12 @@ either_is P false x y one other = other
 longer_whole : {A : Type 0} (xs ys whole : List A) → IsFront xs whole → IsFront ys whole → (xs ≡ whole) ⊎ (ys ≡ whole)
     → longer xs ys ≡ whole
 longer_whole {A = A} xs ys whole one other either =
-    let one_short = front_length xs whole one in
-    let other_short = front_length ys whole other in
-    ⊎_elim
-    (λ less. ap (λ b. if b then ys else xs) (lt-ltb (length xs) (length ys) less)
-    ∙ ⊎_elim (λ is. let long = ap (λ (l : List A). length l) is in absurd (omega arith)) (λ is. is) either)
-    (λ more. ap (λ b. if b then ys else xs) (le-ltb (length xs) (length ys) more)
-    ∙ ⊎_elim (λ is. is)
-    (λ is. let long = ap (λ (l : List A). length l) is in sym (front_whole xs whole one (omega arith)))
-    either)
-    (cases_lt (length xs) (length ys))
-
--- where the shorter is a front of the longer, both are
-pub fronts_of : {A : Type 0} (xs ys : List A)
-    → (length (shorter xs ys) ≤ length (longer xs ys) → IsFront (shorter xs ys) (longer xs ys))
-    → IsFront xs (longer xs ys) × IsFront ys (longer xs ys)
-fronts_of xs ys told =
-    both (ltb (length xs) (length ys)) (lt-ltb (length xs) (length ys)) (le-ltb (length xs) (length ys)) told
-  where
-    both : (b : Bool) → (length xs < length ys → b ≡ true) → (length ys ≤ length xs → b ≡ false)
-        → (length (if b then xs else ys) ≤ length (if b then ys else xs)
-        → IsFront (if b then xs else ys) (if b then ys else xs))
-        → IsFront xs (if b then ys else xs) × IsFront ys (if b then ys else xs)
-    both true less more told = (
-      told (⊎_elim (λ low. omega arith) (λ high. let not_so = more high in absurd (cc))
-          (cases_lt (length xs) (length ys))),
-      front_self ys,
-    )
-    both false less more told = (
-      front_self xs,
-      told (⊎_elim (λ low. let not_so = less low in absurd (cc)) (λ high. high) (cases_lt (length xs) (length ys))),
-    )
+    grind (arith, common_steps, front_length, lt-ltb, le-ltb, front_whole, cases_lt)
 
 module _ {T I : Type 0} where
   numbers_joined : (v w : View T I) → v.live ≡ true → w.live ≡ true → numbers (joined v w) ≡ numbers v ++ numbers w
   numbers_joined v w live live_too =
-      numbers_are (joined v w) live
-      ∙ ap (λ (l : List ℕ). v.number ∷ l) (map-append (λ (r : Record). r.number) v.joined (record_of w ∷ w.joined))
-      ∙ sym (λ i. numbers_are v live i ++ numbers_are w live_too i)
+      search (rules, numbers_are, map-append)
 
   records_joined : (P : Record → Type 0) (v w : View T I) → v.live ≡ true → w.live ≡ true → All P (records v)
       → All P (records w)
@@ -108,9 +77,7 @@ module _ {T I : Type 0} (views : List (View T I)) (id other : ℕ) (v w : View T
   total_joined : (f : View T I → ℕ) → f (joined v w) ≡ f v + f w → f spent ≡ 0
       → total f (with_joined views id other v w) ≡ total f views
   total_joined f sum none_left =
-      let one = total_set f views id v (joined v w) at in
-      let two = total_set f (set views id (joined v w)) other w spent there in
-      omega arith
+      search (rules, total_set)
 
   pub long_joined : length (with_joined views id other v w) ≡ length views
   long_joined = length-set (set views id (joined v w)) other spent ∙ length-set views id (joined v w)
@@ -120,54 +87,17 @@ module _ {T I : Type 0} (views : List (View T I)) (id other : ℕ) (v w : View T
 
   pub waiting_joined : w.ticket ≡ None → waiting (with_joined views id other v w) ≡ waiting views
   waiting_joined no_ticket =
-      let none_held : one_if (is_some w.ticket) ≡ 0 = ap (λ k. one_if (is_some k)) no_ticket in
-      total_joined (λ (u : View T I). one_if (is_some u.ticket)) (omega arith) refl
+      search (rules, total_joined)
 
   pub tickets_joined : (served : ℕ) → w.ticket ≡ None → AreTickets served views
       → AreTickets served (with_joined views id other v w)
   tickets_joined served no_ticket are =
-      let wait = waiting_joined no_ticket in
-      let hold : (ticket : ℕ) → holders ticket (with_joined views id other v w) ≡ holders ticket views =
-      λ ticket.
-      let none_held : one_if (is_number w.ticket ticket) ≡ 0 = ap (λ k. one_if (is_number k ticket)) no_ticket in
-      total_joined (λ (u : View T I). one_if (is_number u.ticket ticket)) (omega arith) refl in
-      record {
-        below = λ ticket low. hold ticket ∙ are.below ticket low;
-        between = λ ticket low high. hold ticket ∙ are.between ticket low (omega arith);
-        above = λ ticket high. hold ticket ∙ are.above ticket (omega arith);
-      }
+      search (rules, waiting_joined, total_joined)
 
   pub numbered_joined : v.live ≡ true → w.live ≡ true → w.number ≢ 0 → AreNumbered views
       → AreNumbered (with_joined views id other v w)
   numbered_joined live live_too later are =
-      let long = long_joined in
-      let numbers_sum = numbers_joined v w live live_too in
-      let bear : (number : ℕ) → bearers number (with_joined views id other v w) ≡ bearers number views =
-      λ number. total_joined (λ (u : View T I). times number (numbers u))
-      (ap (times number) numbers_sum ∙ times-append number (numbers v) (numbers w)) refl in
-      let before = are.few in
-      record {
-        few = omega arith;
-        once = λ number low. bear number ∙ are.once number (omega arith);
-        no_other = λ number high. bear number ∙ are.no_other number (omega arith);
-        recorded = total_joined (λ (u : View T I). length (numbers u))
-            (ap (λ (l : List ℕ). length l) numbers_sum ∙ length-append (numbers v) (numbers w)) refl
-            ∙ are.recorded ∙ sym long;
-        first = λ u head. ⊎_elim
-            (λ (t : (0 ≡ other) × (spent ≡ u)).
-            absurd (later (are.first w (ap (λ k. get_elem? views k) t.0 ∙ other_at)).1))
-            (λ (t : (0 ≢ other) × (get_elem? (set views id (joined v w)) 0 ≡ some u)). ⊎_elim
-            (λ (t : (0 ≡ id) × (joined v w ≡ u)).
-            let was = are.first v (ap (λ k. get_elem? views k) t.0 ∙ at) in (
-              ap (λ (x : View T I). x.live) (sym t.1) ∙ was.0,
-              ap (λ (x : View T I). x.number) (sym t.1) ∙ was.1,
-              ap (λ (x : View T I). x.splits + 1) (sym t.1) ∙ was.2 ∙ sym long,
-            ))
-            (λ (t : (0 ≢ id) × (get_elem? views 0 ≡ some u)).
-            let was = are.first u t.1 in (was.0, was.1, was.2 ∙ sym long))
-            (at_set views id 0 (joined v w) u t.1))
-            (at_set (set views id (joined v w)) other 0 spent u head);
-      }
+      search (rules, long_joined, numbers_joined, total_joined, times-append, length-append, other_at, at_set)
 
   pub longest_joined : (history : List (Stamped I)) → IsFront v.seen history → IsFront w.seen history
       → (j : ℕ) × ((u : View T I) × (get_elem? views j ≡ some u) × (u.seen ≡ history))

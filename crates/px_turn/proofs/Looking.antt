@@ -1,5 +1,5 @@
 -- A seat looks whether its ticket is served.
-use Rattle.std.proofs.Common.{◌≡◌, ◌≢◌, ℕ, ◌+◌, ◌%◌, ◌^◌, ◌<◌, ◌≤◌, true, false, is_some, List, [], ◌∷◌, length, set, get_or, Option, Some, refl, sym, ap, ◌∙◌, subst, ⊎_elim, arith, length-set}
+use Rattle.std.proofs.Common.{rules, ◌≡◌, ◌≢◌, ℕ, ◌+◌, ◌%◌, ◌^◌, ◌<◌, ◌≤◌, true, false, is_some, List, length, set, get_or, Option, Some, refl, sym, ap, ◌∙◌, subst, ⊎_elim, arith, length-set}
 use mathlib.Core.Logic.{dite}
 use mathlib.Core.Option.{some, none}
 use native.Mathlib.Decide.{ℕ_discrete}
@@ -10,7 +10,7 @@ use Rattle.px_turn.specs.declared.view.View.{View}
 use Rattle.px_turn.specs.Histories.{is_number, AreMade, HasPositions}
 use Rattle.px_turn.specs.Views.{with_turn}
 use Rattle.px_turn.specs.Rule.{one_if, waiting, holders, Fits, HaveNoTurn, IsHome, IsRuled, words_of}
-use Rattle.px_turn.specs.Steps.{Sat, IsShown, looked, compared}
+use Rattle.px_turn.specs.Steps.{Sat, looked, compared}
 use Rattle.px_turn.proofs.Totals.{one_if-le, one_of, two_of, total-le-length}
 use Rattle.px_turn.proofs.Fronts.{front_self, front_of_front}
 use Rattle.px_turn.proofs.Seating.{one_if_same, one_only, each_set, own_first, waiting_same, tickets_same, numbered_same, longest_set, one_has_turn, unmoved, same_opening, holds_own}
@@ -28,13 +28,7 @@ high_bound ticket next held some_held above =
 pub at_most_one : (ticket served next held : ℕ) → (ticket < served → held ≡ 0)
     → (served ≤ ticket → ticket < next → held ≡ 1)
     → (next ≤ ticket → held ≡ 0) → held ≤ 1
-at_most_one ticket served next held below between above = ⊎_elim
-    (λ low. let none_held = below low in omega arith)
-    (λ low. ⊎_elim
-    (λ high. let one_held = between low high in omega arith)
-    (λ high. let none_held = above high in omega arith)
-    (cases_lt ticket next))
-    (cases_lt ticket served)
+at_most_one ticket served next held below between above = search (rules, cases_lt)
 
 module _ {T I : Type 0} (list : T → List I) (goes_on : T → T → Type 0) (key : T) where
   -- a ticket that is held is not far ahead, so its last 64 bits tell whether it is served
@@ -61,17 +55,7 @@ module _ {T I : Type 0} (list : T → List I) (goes_on : T → T → Type 0) (ke
       (ticket : ℕ)
       → get_elem? s.views id ≡ some v → v.ticket ≡ Some ticket → v.turn ≡ false → ticket ≡ ruled.served
       → HaveNoTurn s.views
-  nobody_has s ruled id v ticket at holds off is j u there = false_from_ne_true u.turn (λ on. dite (ℕ_discrete id j)
-      (λ same. let one = ap (λ (x : View T I). x.turn) (one_only s.views id j v u at there same) in cc)
-      (λ apart.
-      let fits = ruled.each j u there in
-      let own = holds_own v ticket holds in
-      let other : one_if (is_number u.ticket ticket) ≡ 1 =
-      ap (λ k. one_if (is_number k ticket)) (fits.turn on).0 ∙ one_if_same ruled.served ticket (sym is) in
-      let both = two_of (λ (x : View T I). one_if (is_number x.ticket ticket)) s.views id j v u at there apart in
-      let one = at_most_one ticket ruled.served (ruled.served + waiting s.views) (holders ticket s.views)
-      (ruled.tickets.below ticket) (ruled.tickets.between ticket) (ruled.tickets.above ticket) in
-      omega arith))
+  nobody_has s ruled id v ticket at holds off is j u there = search (rules, false_from_ne_true, one_only, holds_own, one_if_same, two_of, at_most_one)
 
   -- the turn is had
   turn_ruled : (s : State (Option T) (View T I)) (ruled : IsRuled list goes_on key s) (id : ℕ) (me : Sat T I)
@@ -94,15 +78,7 @@ module _ {T I : Type 0} (list : T → List I) (goes_on : T → T → Type 0) (ke
         tickets = tickets_same ruled.served s.views id me.0 w at refl ruled.tickets;
         numbered = numbered_same s.views id me.0 w at refl refl refl refl ruled.numbered;
         each = each_set (Fits key ruled.history ruled.served) s.views id w
-            record {
-              turn = λ has. (holds ∙ ap Some is, refl);
-              spent = λ not_live. absurd (cc);
-              seen = front_self ruled.history;
-              told = fits.told;
-              known = fits.known;
-              made = fits.made;
-              opening = fits.opening;
-            }
+            (search (rules, front_self))
             (λ j u apart there. ruled.each j u there);
         longest = longest_set ruled.history s.views id me.0 w at (λ seen. refl) ruled.longest;
         at_home = λ none_has. absurd (one_has_turn s.views id me.0 w at refl none_has);
@@ -181,36 +157,4 @@ module _ {T I : Type 0} (list : T → List I) (goes_on : T → T → Type 0) (ke
       → was.0.ticket ≡ Some ticket
       → was.0.turn ≡ false
       → Allows (IsRuled list goes_on key) slots id me 1 (λ n. n) (looked list goes_on (step slots 1 0 0 none) me)
-  looks_from slots id me was ticket is live holds off = subst
-      (λ (m : Sat T I). Allows (IsRuled list goes_on key) slots id m 1 (λ n. n)
-      (looked list goes_on (step slots 1 0 0 none) m))
-      (sym is) (looks slots id was ticket live holds off)
-
-module _ {T I : Type 0} (list : T → List I) (goes_on : T → T → Type 0) where
-  -- what was waited for
-  pub has_got : (slots : ℕ) (me was m' : Sat T I) (ticket found : ℕ)
-      → looked list goes_on (step slots 1 0 0 none) me found m'
-      → me ≡ was → was.1 ≡ [] → was.0.ticket ≡ Some ticket → ticket % 2 ^ 64 ≡ found
-      → (m'.0 ≡ with_turn m'.0.seen was.0)
-      × ((value : T) × (m'.1 ≡ (0, Some value) ∷ []) × IsShown list goes_on was.0 m'.0.seen value)
-  has_got slots me was m' ticket found told is empty holds same =
-      let told_was : looked list goes_on (step slots 1 0 0 none) was found m' =
-      subst (λ (m : Sat T I). looked list goes_on (step slots 1 0 0 none) m found m') is told in
-      let got = (told_was ticket holds).0 same in
-      let seen : m'.0.seen ≡ got.0 = ap (λ (m : Sat T I). m.0.seen) got.2 in (
-        ap (λ (m : Sat T I). m.0) got.2 ∙ ap (λ h. with_turn h was.0) (sym seen),
-        (
-          got.1,
-          ap (λ (m : Sat T I). m.1) got.2 ∙ ap (λ slots. (0, Some got.1) ∷ slots) empty,
-          subst (λ h. IsShown list goes_on was.0 h got.1) (sym seen) got.3,
-        ),
-      )
-
-  -- what wasn't served yet
-  pub still_waits : (slots : ℕ) (me was m' : Sat T I) (ticket found : ℕ)
-      → looked list goes_on (step slots 1 0 0 none) me found m'
-      → me ≡ was → was.0.ticket ≡ Some ticket → ticket % 2 ^ 64 ≢ found → m' ≡ was
-  still_waits slots me was m' ticket found told is holds apart =
-      let told_was : looked list goes_on (step slots 1 0 0 none) was found m' =
-      subst (λ (m : Sat T I). looked list goes_on (step slots 1 0 0 none) m found m') is told in
-      (told_was ticket holds).1 apart
+  looks_from slots id me was ticket is live holds off = rw is (looks slots id was ticket live holds off)

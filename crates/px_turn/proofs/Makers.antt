@@ -1,5 +1,5 @@
 -- Who made which position.
-use Rattle.std.proofs.Common.{◌≡◌, ℕ, zero, suc, ◌+◌, ◌<◌, ◌≤◌, Bool, true, false, if◌then◌else◌, List, [], ◌∷◌, ◌++◌, map, length, Option, Some, None, refl, ap, ◌∙◌, arith, length-append, All}
+use Rattle.std.proofs.Common.{rules, ◌≡◌, ℕ, zero, suc, ◌+◌, ◌<◌, ◌≤◌, Bool, true, false, if◌then◌else◌, List, [], ◌∷◌, ◌++◌, map, length, Option, Some, None, refl, ap, ◌∙◌, arith, length-append, All}
 use Rattle.std.specs.Cmp.{nat_eq_equiv}
 use Rattle.std.proofs.lemmas.List.Elements.{All-head, All-tail}
 use Rattle.px_turn.specs.declared.view.Record.{Record}
@@ -50,13 +50,7 @@ module _ {I : Type 0} where
       → times (at + k) (positions_from number at history) ≡ one_if (is_number (maker_at history k) number)
   times-positions number at k [] = refl
   times-positions number at zero (e ∷ history) =
-      here (is_number e.maker number) (positions_from number (at + 1) history)
-      (none_before number (at + 1) (at + 0) history (omega arith))
-    where
-      here : (b : Bool) (places : List ℕ) → times (at + 0) places ≡ 0
-          → times (at + 0) (if b then at ∷ places else places) ≡ one_if b
-      here true places none_there = let same = one_if_same at (at + 0) (omega arith) in omega arith
-      here false places none_there = none_there
+      search (rules, none_before, one_if_same)
   times-positions number at (suc k) (e ∷ history) =
       here (is_number e.maker number) (positions_from number (at + 1) history)
       ∙ (ap (λ n. times n (positions_from number (at + 1) history)) (omega arith)

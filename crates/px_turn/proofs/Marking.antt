@@ -1,5 +1,5 @@
 -- A seat that has the turn counts one entry more.
-use Rattle.std.proofs.Common.{◌≡◌, ◌≢◌, ℕ, ◌+◌, ◌%◌, ◌^◌, ◌<◌, ◌≤◌, true, nat_eq, List, [], ◌∷◌, ◌++◌, map, length, set, get_or, Option, Some, refl, sym, ap, ◌∙◌, subst, append_assoc, ⊎_elim, arith, length-set, length-append, All}
+use Rattle.std.proofs.Common.{rules, ◌≡◌, ◌≢◌, ℕ, ◌+◌, ◌%◌, ◌^◌, ◌<◌, ◌≤◌, true, nat_eq, List, [], ◌∷◌, ◌++◌, map, length, set, get_or, Option, Some, refl, sym, ap, ◌∙◌, subst, append_assoc, ⊎_elim, arith, length-set, length-append, All}
 use mathlib.Core.Option.{some, none}
 use lib.ListN.{get_elem?}
 use Rattle.std.proofs.lemmas.Bool.{cases_lt}
@@ -35,10 +35,7 @@ records_kept number history item (r ∷ list) none_has all =
     (records_kept number history item list rest (All-tail (HasPositions history) r list all))
 
 at_most_once : (number below borne : ℕ) → (number < below → borne ≡ 1) → (below ≤ number → borne ≡ 0) → borne ≤ 1
-at_most_once number below borne once no_other = ⊎_elim
-    (λ low. let one = once low in omega arith)
-    (λ high. let none_has = no_other high in omega arith)
-    (cases_lt number below)
+at_most_once number below borne once no_other = search (rules, cases_lt)
 
 module _ {T I : Type 0} where
   -- a seat's number is one of those that the seats have, and no other record has it
@@ -171,7 +168,4 @@ module _ {T I : Type 0} (list : T → List I) (goes_on : T → T → Type 0) (ke
         length-append (items v.seen) (item ∷ []),
         length_items v.seen,
       ) in
-      subst
-      (λ (m : Sat T I). Allows (IsRuled list goes_on key) slots id m 2 (λ n. (n + 1) % 2 ^ 64)
-      (marked list (step slots 2 1 0 none) m))
-      (sym is) (marks slots id (v, (0, Some value) ∷ []) value item live has refl stands (omega arith))
+      rw is (marks slots id (v, (0, Some value) ∷ []) value item live has refl stands (omega arith))

@@ -1,5 +1,5 @@
 -- Where a number stands in a history.
-use Rattle.std.proofs.Common.{◌≡◌, ◌≢◌, ℕ, suc, ◌+◌, ◌≤◌, Bool, true, false, if◌then◌else◌, List, [], ◌∷◌, ◌++◌, length, Some, refl, sym, ap, ◌∙◌, arith, add-zero, append-nil, eq-eqb, ne_eqb}
+use Rattle.std.proofs.Common.{rules, ◌≡◌, ◌≢◌, ℕ, suc, ◌+◌, ◌≤◌, Bool, true, false, if◌then◌else◌, List, [], ◌∷◌, ◌++◌, length, Some, refl, ap, ◌∙◌, arith, add-zero, append-nil, eq-eqb, ne_eqb}
 use mathlib.Core.List.{map-append}
 use Rattle.std.proofs.lemmas.List.Elements.{All-head, All-tail}
 use Rattle.px_turn.specs.declared.view.Stamped.{Stamped}
@@ -23,8 +23,7 @@ module _ {I : Type 0} where
       → positions_from number at (history ++ e ∷ [])
       ≡ positions_from number at history ++ place_if (is_number e.maker number) (at + length history)
   positions_behind number at [] e =
-      of_test (is_number e.maker number) at [] ∙ append-nil (place_if (is_number e.maker number) at)
-      ∙ ap (place_if (is_number e.maker number)) (sym (add-zero at))
+      search (rules, of_test, append-nil, add-zero)
   positions_behind number at (x ∷ history) e =
       let rest = positions_behind number (at + 1) history e in
       let place : (at + 1) + length history ≡ at + length (x ∷ history) = omega arith in
@@ -37,17 +36,13 @@ module _ {I : Type 0} where
   pub positions_own : (number : ℕ) (history : List (Stamped I)) (item : I)
       → positions number (history ++ stamped (Some number) item ∷ []) ≡ positions number history ++ length history ∷ []
   positions_own number history item =
-      positions_behind number 0 history (stamped (Some number) item)
-      ∙ ap (λ b. positions number history ++ place_if b (0 + length history)) (eq-eqb number number refl)
-      ∙ ap (λ k. positions number history ++ k ∷ []) (omega arith)
+      search (rules, positions_behind, eq-eqb)
 
   -- an entry that carries another
   pub positions_other : (number other : ℕ) (history : List (Stamped I)) (item : I) → other ≢ number
       → positions number (history ++ stamped (Some other) item ∷ []) ≡ positions number history
   positions_other number other history item apart =
-      positions_behind number 0 history (stamped (Some other) item)
-      ∙ ap (λ b. positions number history ++ place_if b (0 + length history)) (ne_eqb other number apart)
-      ∙ append-nil (positions number history)
+      search (rules, positions_behind, append-nil)
 
   -- what was there at the opening carries none
   pub positions_opened : (number at : ℕ) (list : List I) → positions_from number at (opened list) ≡ []

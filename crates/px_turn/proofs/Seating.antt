@@ -1,5 +1,5 @@
 -- What a step keeps that changes the view of one seat.
-use Rattle.std.proofs.Common.{unwrap_or, ◌≡◌, ◌≢◌, ℕ, zero, suc, ◌+◌, ◌<◌, true, false, is_some, nat_eq, List, [], ◌∷◌, map, length, set, get_or, Option, Some, refl, sym, ap, ◌∙◌, subst, ⊎_elim, arith, length-set, eq-eqb, ne_eqb, All}
+use Rattle.std.proofs.Common.{rules, unwrap_or, ◌≡◌, ◌≢◌, ℕ, zero, suc, ◌+◌, ◌<◌, true, false, is_some, nat_eq, List, [], ◌∷◌, map, length, set, get_or, Option, Some, refl, sym, ap, ◌∙◌, subst, ⊎_elim, arith, length-set, eq-eqb, ne_eqb, All}
 use mathlib.Core.Logic.{dite}
 use mathlib.Core.Option.{some, some-injective, some-ne-none}
 use native.Mathlib.Decide.{ℕ_discrete}
@@ -13,7 +13,7 @@ use Rattle.px_turn.specs.declared.view.Stamped.{Stamped}
 use Rattle.px_turn.specs.declared.view.View.{View}
 use Rattle.px_turn.specs.Histories.{is_number}
 use Rattle.px_turn.specs.Views.{record_of, records, numbers}
-use Rattle.px_turn.specs.Rule.{one_if, times, waiting, holders, bearers, AreTickets, AreNumbered, HaveNoTurn, IsRuled}
+use Rattle.px_turn.specs.Rule.{one_if, times, waiting, AreTickets, AreNumbered, HaveNoTurn, IsRuled}
 use Rattle.px_turn.proofs.Totals.{total_same}
 
 pub one_if_same : (a b : ℕ) → a ≡ b → one_if (nat_eq a b) ≡ 1
@@ -65,8 +65,7 @@ module _ {T I : Type 0} where
   pub bears_own : (v : View T I) (number : ℕ) → v.live ≡ true → v.number ≡ number
       → times number (numbers v) ≡ 1 + times number (map (λ r. r.number) v.joined)
   bears_own v number live is =
-      ap (times number) (numbers_are v live)
-      ∙ ap (λ n. n + times number (map (λ (r : Record). r.number) v.joined)) (one_if_same v.number number is)
+      search (rules, numbers_are, one_if_same)
 
   pub holds_own : (v : View T I) (ticket : ℕ) → v.ticket ≡ Some ticket → one_if (is_number v.ticket ticket) ≡ 1
   holds_own v ticket holds = ap (λ k. one_if (is_number k ticket)) holds ∙ one_if_same ticket ticket refl
@@ -85,38 +84,13 @@ module _ {T I : Type 0} where
       → w.ticket ≡ v.ticket
       → AreTickets served views → AreTickets served (set views id w)
   tickets_same served views id v w at same are =
-      let wait = waiting_same views id v w at same in
-      let hold : (ticket : ℕ) → holders ticket (set views id w) ≡ holders ticket views =
-      λ ticket. total_same _ views id v w at (ap (λ k. one_if (is_number k ticket)) same) in
-      record {
-        below = λ ticket low. hold ticket ∙ are.below ticket low;
-        between = λ ticket low high. hold ticket ∙ are.between ticket low (omega arith);
-        above = λ ticket high. hold ticket ∙ are.above ticket (omega arith);
-      }
+      search (rules, waiting_same, total_same)
 
   pub numbered_same : (views : List (View T I)) (id : ℕ) (v w : View T I) → get_elem? views id ≡ some v
       → numbers w ≡ numbers v
       → w.live ≡ v.live → w.number ≡ v.number → w.splits ≡ v.splits → AreNumbered views → AreNumbered (set views id w)
   numbered_same views id v w at same live number splits are =
-      let long = length-set views id w in
-      let bear : (n : ℕ) → bearers n (set views id w) ≡ bearers n views =
-      λ n. total_same _ views id v w at (ap (times n) same) in
-      record {
-        few = omega (arith, are.few);
-        once = λ n low. bear n ∙ are.once n (omega arith);
-        no_other = λ n high. bear n ∙ are.no_other n (omega arith);
-        recorded = total_same _ views id v w at (ap (λ (l : List ℕ). length l) same) ∙ are.recorded ∙ sym long;
-        first = λ u there. ⊎_elim
-            (λ (t : (0 ≡ id) × (w ≡ u)).
-            let was = are.first v (ap (λ k. get_elem? views k) t.0 ∙ at) in (
-              ap (λ (x : View T I). x.live) (sym t.1) ∙ live ∙ was.0,
-              ap (λ (x : View T I). x.number) (sym t.1) ∙ number ∙ was.1,
-              ap (λ (x : View T I). x.splits + 1) (sym t.1) ∙ ap (λ n. n + 1) splits ∙ was.2 ∙ sym long,
-            ))
-            (λ (t : (0 ≢ id) × (get_elem? views 0 ≡ some u)).
-            let was = are.first u t.1 in (was.0, was.1, was.2 ∙ sym long))
-            (at_set views id 0 w u there);
-      }
+      search (rules, length-set, total_same, at_set)
 
   -- the longest list stays with a seat that keeps it
   pub longest_set : (history : List (Stamped I)) (views : List (View T I)) (id : ℕ) (v w : View T I)
@@ -154,10 +128,4 @@ module _ {T I : Type 0} where
       (cs : List (ℕ × Option T)) (v : View T I)
       → get_elem? s.views id ≡ some v → IsRuled list goes_on key s
       → IsRuled list goes_on key (stepped s i (get_or s.words i 0) id cs v keeps)
-  unmoved list goes_on key s i id cs v at ruled = subst
-      (λ (x : State (Option T) (View T I)). IsRuled list goes_on key x)
-      (λ k. record {
-        words = sym (set-get_or s.words i 0) k;
-        homes = s.homes;
-        views = sym (set_again s.views id v at) k;
-      }) ruled
+  unmoved list goes_on key s i id cs v at ruled = rw (set-get_or s.words i 0, set_again s.views id v at) ruled

@@ -1,5 +1,5 @@
 -- A seat is split from the first one.
-use Rattle.std.proofs.Common.{◌≡◌, ℕ, ◌+◌, ◌<◌, true, is_some, nat_eq, List, [], ◌∷◌, ◌++◌, length, set, refl, sym, ap, ◌∙◌, subst, ⊎_elim, arith, length-set, length-append}
+use Rattle.std.proofs.Common.{rules, ◌≡◌, ℕ, ◌+◌, ◌<◌, true, nat_eq, List, [], ◌∷◌, ◌++◌, length, set, refl, sym, ap, ◌∙◌, subst, ⊎_elim, arith, length-set, length-append}
 use mathlib.Core.Logic.{dite}
 use mathlib.Core.Option.{some}
 use native.Mathlib.Decide.{ℕ_discrete}
@@ -7,7 +7,7 @@ use lib.ListN.{get_elem?}
 use Rattle.atomic_table.specs.Table.{Splits}
 use Rattle.atomic_table.proofs.Lists.{set_here, at_snoc, at_longer}
 use Rattle.px_turn.specs.declared.view.View.{View}
-use Rattle.px_turn.specs.Histories.{is_number, positions, AreMade, HasPositions, IsMade}
+use Rattle.px_turn.specs.Histories.{positions, AreMade, HasPositions, IsMade}
 use Rattle.px_turn.specs.Views.{numbers, split_once_more, split_off}
 use Rattle.px_turn.specs.Rule.{one_if, times, waiting, holders, bearers, AreTickets, AreNumbered, Fits, IsRuled, words_of}
 use Rattle.px_turn.proofs.Totals.{total_same, total_more, two_of}
@@ -45,19 +45,12 @@ module _ {T I : Type 0} (views : List (View T I)) (id : ℕ) (v : View T I) (at 
 
   pub waiting_after : waiting (with_split views id v) ≡ waiting views
   waiting_after =
-      let more = total_more (λ (u : View T I). one_if (is_some u.ticket)) (set views id (split_once_more v))
-      (split_off v) in
-      let same = waiting_same views id v (split_once_more v) at refl in
-      omega arith
+      search (rules, total_more, waiting_same)
 
   holders_after : (ticket : ℕ)
       → holders ticket (with_split views id v) ≡ holders ticket views
   holders_after ticket =
-      let more = total_more (λ (u : View T I). one_if (is_number u.ticket ticket))
-      (set views id (split_once_more v)) (split_off v) in
-      let same = total_same (λ (u : View T I). one_if (is_number u.ticket ticket)) views id v (split_once_more v) at
-      refl in
-      omega arith
+      search (rules, total_more, total_same)
 
   pub tickets_after : (served : ℕ) → AreTickets served views
       → AreTickets served (with_split views id v)
@@ -70,10 +63,7 @@ module _ {T I : Type 0} (views : List (View T I)) (id : ℕ) (v : View T I) (at 
   bearers_after : (number : ℕ)
       → bearers number (with_split views id v) ≡ bearers number views + one_if (nat_eq (v.splits + 1) number)
   bearers_after number =
-      let more = total_more (λ (u : View T I). times number (numbers u)) (set views id (split_once_more v))
-      (split_off v) in
-      let same = total_same (λ (u : View T I). times number (numbers u)) views id v (split_once_more v) at refl in
-      omega arith
+      search (rules, total_more, total_same)
 
   pub numbered_after : AreNumbered views → 0 ≡ id → v.splits < 7
       → AreNumbered (with_split views id v)
@@ -142,15 +132,7 @@ module _ {T I : Type 0} (list : T → List I) (goes_on : T → T → Type 0) (ke
         numbered = numbered_after s.views id v at ruled.numbered first_is room;
         each = λ j x there. ⊎_elim
             (each_set (Fits key ruled.history ruled.served) s.views id w
-            record {
-              turn = fits.turn;
-              spent = fits.spent;
-              seen = fits.seen;
-              told = fits.told;
-              known = fits.known;
-              made = fits.made;
-              opening = fits.opening;
-            }
+            (assumption fits)
             (λ i y apart at_i. ruled.each i y at_i) j x)
             (λ is. subst (Fits key ruled.history ruled.served) is record {
               turn = λ has. absurd (cc);

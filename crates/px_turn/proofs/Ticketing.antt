@@ -1,12 +1,12 @@
 -- A seat takes a ticket.
-use Rattle.std.proofs.Common.{◌≡◌, ℕ, ◌+◌, ◌%◌, ◌^◌, false, is_some, nat_eq, List, [], ◌∷◌, length, set, get_or, None, refl, sym, ap, ◌∙◌, subst, arith, length-set}
+use Rattle.std.proofs.Common.{rules, ◌≡◌, ℕ, ◌+◌, ◌%◌, ◌^◌, false, nat_eq, List, [], ◌∷◌, length, set, get_or, None, refl, sym, ap, ◌∙◌, subst, arith, length-set}
 use mathlib.Core.Logic.{dite}
 use mathlib.Core.Option.{some, none}
 use native.Mathlib.Decide.{ℕ_discrete}
 use lib.ListN.{get_elem?}
 use Rattle.atomic_table.specs.Table.{step, keeps, Allows}
 use Rattle.px_turn.specs.declared.view.View.{View}
-use Rattle.px_turn.specs.Histories.{is_number, AreMade}
+use Rattle.px_turn.specs.Histories.{AreMade}
 use Rattle.px_turn.specs.Views.{with_ticket}
 use Rattle.px_turn.specs.Rule.{one_if, waiting, holders, AreTickets, Fits, IsRuled}
 use Rattle.px_turn.specs.Steps.{Sat, queued}
@@ -21,17 +21,12 @@ module _ {T I : Type 0} (served : ℕ) (views : List (View T I)) (id : ℕ) (v :
 
   pub waiting_more : (ticket : ℕ) → waiting (set views id (with_ticket ticket v)) ≡ waiting views + 1
   waiting_more ticket =
-      let changed = total_set (λ (u : View T I). one_if (is_some u.ticket)) views id v (with_ticket ticket v) at in
-      let none_held : one_if (is_some v.ticket) ≡ 0 = ap (λ k. one_if (is_some k)) no_ticket in
-      omega arith
+      search (rules, total_set)
 
   holders_more : (ticket other : ℕ)
       → holders other (set views id (with_ticket ticket v)) ≡ holders other views + one_if (nat_eq ticket other)
   holders_more ticket other =
-      let changed = total_set (λ (u : View T I). one_if (is_number u.ticket other)) views id v (with_ticket ticket v)
-      at in
-      let none_held : one_if (is_number v.ticket other) ≡ 0 = ap (λ k. one_if (is_number k other)) no_ticket in
-      omega arith
+      search (rules, total_set)
 
   pub tickets_more : (ticket : ℕ) → ticket ≡ served + waiting views
       → AreTickets served (set views id (with_ticket ticket v))
@@ -78,15 +73,7 @@ module _ {T I : Type 0} (list : T → List I) (goes_on : T → T → Type 0) (ke
           tickets = tickets_more ruled.served s.views id me.0 at no_ticket ruled.tickets ticket refl;
           numbered = numbered_same s.views id me.0 w at refl refl refl refl ruled.numbered;
           each = each_set (Fits key ruled.history ruled.served) s.views id w
-              record {
-                turn = λ has. absurd (cc);
-                spent = fits.spent;
-                seen = fits.seen;
-                told = fits.told;
-                known = fits.known;
-                made = fits.made;
-                opening = fits.opening;
-              }
+              (search rules)
               (λ j u apart there. ruled.each j u there);
           longest = longest_set ruled.history s.views id me.0 w at (λ is. is) ruled.longest;
           at_home = λ none_has.

@@ -1,5 +1,5 @@
 -- Sums over lists, of which one element changes.
-use Rattle.std.proofs.Common.{◌≡◌, ◌≢◌, ℕ, zero, suc, ◌+◌, ◌≤◌, Bool, true, false, nat_eq, List, [], ◌∷◌, ◌++◌, length, set, refl, sym, ap, arith, le_refl}
+use Rattle.std.proofs.Common.{rules, ◌≡◌, ◌≢◌, ℕ, zero, suc, ◌+◌, ◌≤◌, Bool, true, false, nat_eq, List, [], ◌∷◌, ◌++◌, length, set, refl, sym, ap, arith, le_refl}
 use mathlib.Core.Option.{some, some-injective, some-ne-none}
 use lib.ListN.{get_elem?}
 use Rattle.px_turn.specs.Rule.{one_if, times, total}
@@ -35,13 +35,9 @@ module _ {A : Type 0} (f : A → ℕ) where
   two_of [] i j v w at there apart = absurd (some-ne-none v (sym at))
   two_of (x ∷ xs) zero zero v w at there apart = absurd (apart refl)
   two_of (x ∷ xs) zero (suc j) v w at there apart =
-      let same : f x ≡ f v = ap f (some-injective x v at) in
-      let rest = one_of xs j w there in
-      omega arith
+      search (rules, some-injective, one_of)
   two_of (x ∷ xs) (suc i) zero v w at there apart =
-      let same : f x ≡ f w = ap f (some-injective x w there) in
-      let rest = one_of xs i v at in
-      omega arith
+      search (rules, some-injective, one_of)
   two_of (x ∷ xs) (suc i) (suc j) v w at there apart =
       let rest = two_of xs i j v w at there (λ e. apart (ap suc e)) in
       omega arith
