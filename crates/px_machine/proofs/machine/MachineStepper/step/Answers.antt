@@ -1,3 +1,4 @@
+use Rattle.std.proofs.Common.{true}
 use Rattle.std.proofs.lemmas.Result.{IfOk-weaker}
 use Rattle.px_sem.specs.Stepper.{Steps}
 use Rattle.px_machine.specs.Machine.{StepsOn, state_in}
