@@ -5,7 +5,7 @@ use px_syntax::ParseFault;
 use px_value::NoMemory;
 use std::alloc::{AllocError, Global};
 
-/// The tokens of a plan up to one that can't stand there.
+/// The tokens of a plan, or those up to one that can't stand there.
 #[derive(Drop)]
 pub struct Front {
     alloc: Global,
@@ -15,14 +15,23 @@ pub struct Front {
 }
 
 impl Front {
-    /// The tokens before this one.
-    pub fn of(alloc: Global, mut tokens: Vec<Token>, end: usize) -> Front {
-        tokens.truncate(end);
+    /// All of these tokens.
+    pub fn of(alloc: Global, tokens: Vec<Token>) -> Front {
         Front {
             alloc,
             tokens,
             has_failed: false,
         }
+    }
+
+    /// The tokens.
+    pub fn tokens(&self) -> &[Token] {
+        &self.tokens
+    }
+
+    /// Leaves this token away, and those behind it.
+    pub fn end_before(&mut self, token: usize) {
+        self.tokens.truncate(token);
     }
 
     /// `NoMemory` where memory has run out in a try.

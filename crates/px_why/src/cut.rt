@@ -2,8 +2,6 @@
 use crate::place::{Place, place_of};
 use crate::syntax::place_at;
 use px_lex::{Sign, Token, TokenKind};
-use px_value::NoMemory;
-use std::alloc::Global;
 
 /// The place of a token with which a plan can't go on, or of its end, and what stands round it.
 #[derive(Clone, Copy)]
@@ -17,48 +15,51 @@ pub struct Cut<'a> {
 
 impl<'a> Cut<'a> {
     /// The cut before a token; behind the last, at the end.
-    pub fn at(
-        alloc: Global,
-        text: &'a str,
-        tokens: &[Token],
-        token: usize,
-    ) -> Result<Cut<'a>, NoMemory> {
+    pub fn at(text: &'a str, tokens: &[Token], token: usize) -> Cut<'a> {
         let open = if token < tokens.len() {
             None
         } else {
-            open_bracket(alloc, text, tokens)?
+            open_bracket(text, tokens)
         };
         let before = match tokens.get(token.saturating_sub(1)) {
             Some(before) => place_of(text, before.at),
             None => place_of(text, 0),
         };
-        Ok(Cut {
+        Cut {
             place: place_at(text, tokens, token),
             before,
             open,
-        })
+        }
     }
 }
 
-fn open_bracket<'a>(
-    alloc: Global,
-    text: &'a str,
-    tokens: &[Token],
-) -> Result<Option<Place<'a>>, NoMemory> {
-    let mut open = Vec::new(alloc);
-    for token in tokens {
-        match token.kind {
-            TokenKind::Sign(
-                Sign::OpenBrace | Sign::OpenParen | Sign::OpenBracket | Sign::OpenList,
-            ) => open.push(token.at)?,
-            TokenKind::Sign(Sign::CloseBrace | Sign::CloseParen | Sign::CloseBracket) => {
-                open.truncate(open.len().saturating_sub(1));
+// The last bracket that isn't closed.
+fn open_bracket<'a>(text: &'a str, tokens: &[Token]) -> Option<Place<'a>> {
+    let mut closed: usize = 0;
+    for token in tokens.iter().rev() {
+        if is_closing(token) {
+            closed = closed.saturating_add(1);
+        } else if is_opening(token) {
+            if closed == 0 {
+                return Some(place_of(text, token.at));
             }
-            _ => {}
+            closed = closed.saturating_sub(1);
         }
     }
-    match open.last() {
-        Some(at) => Ok(Some(place_of(text, *at))),
-        None => Ok(None),
-    }
+    None
+}
+
+/// Whether a token opens a bracket.
+pub fn is_opening(token: &Token) -> bool {
+    matches!(
+        token.kind,
+        TokenKind::Sign(Sign::OpenBrace | Sign::OpenParen | Sign::OpenBracket | Sign::OpenList)
+    )
+}
+
+fn is_closing(token: &Token) -> bool {
+    matches!(
+        token.kind,
+        TokenKind::Sign(Sign::CloseBrace | Sign::CloseParen | Sign::CloseBracket)
+    )
 }

@@ -5,13 +5,19 @@ use px_syntax::{
 use px_value::NoMemory;
 use std::alloc::{AllocError, Global};
 
+/// What a name can be declared as.
+#[derive(Clone, Copy, PartialEq)]
+pub enum Sort {
+    Variable,
+    Node,
+    Command,
+    Lookup,
+}
+
 /// What a name is declared as.
 #[derive(Clone, Copy)]
 pub enum What {
-    Variable {
-        of_type: TypeName,
-        is_array: bool,
-    },
+    Variable,
     Node,
     Command {
         answer: Option<TypeName>,
@@ -22,38 +28,22 @@ pub enum What {
     },
 }
 
-/// A variable, of whatever type.
-pub const A_VARIABLE: What = What::Variable {
-    of_type: TypeName::Integer,
-    is_array: false,
-};
-
-/// A command, whatever it takes and answers.
-pub const A_COMMAND: What = What::Command {
-    answer: None,
-    parameters: 0,
-};
-
-/// A lookup, whatever it takes.
-pub const A_LOOKUP: What = What::Lookup { parameters: 0 };
-
 impl What {
-    /// Whether two names are of one sort, so that they may not be the same in one place.
-    pub fn is_like(self, other: What) -> bool {
-        matches!(
-            (self, other),
-            (What::Variable { .. }, What::Variable { .. })
-                | (What::Node, What::Node)
-                | (What::Command { .. }, What::Command { .. })
-                | (What::Lookup { .. }, What::Lookup { .. })
-        )
+    /// Its sort. No two names of one sort may be the same in one place.
+    pub fn sort(self) -> Sort {
+        match self {
+            What::Variable => Sort::Variable,
+            What::Node => Sort::Node,
+            What::Command { .. } => Sort::Command,
+            What::Lookup { .. } => Sort::Lookup,
+        }
     }
 
     /// How many arguments it takes.
     pub fn parameters(self) -> usize {
         match self {
             What::Command { parameters, .. } | What::Lookup { parameters } => parameters,
-            What::Variable { .. } | What::Node => 0,
+            What::Variable | What::Node => 0,
         }
     }
 }
@@ -164,13 +154,9 @@ impl<'a> Names<'a> {
 
     fn items(&mut self, items: &'a [Item], place: usize) {
         for item in items {
-            if let Item::Variables { of_type, variables } = item {
+            if let Item::Variables { variables, .. } = item {
                 for variable in variables {
-                    let what = What::Variable {
-                        of_type: *of_type,
-                        is_array: variable.size.is_some(),
-                    };
-                    self.add(&variable.name, what, place);
+                    self.add(&variable.name, What::Variable, place);
                 }
             }
         }
@@ -213,11 +199,7 @@ impl<'a> Names<'a> {
                 branch,
                 ..
             } => {
-                let what = What::Variable {
-                    of_type: TypeName::Integer,
-                    is_array: false,
-                };
-                self.add(variable, what, place);
+                self.add(variable, What::Variable, place);
                 self.branch(branch, place)
             }
             Body::Assign { .. } | Body::CallInto { .. } | Body::Call(_) | Body::Update { .. } => {}

@@ -1,5 +1,5 @@
 // The faults of a tree in words, by their kinds.
-use crate::declared::{A_COMMAND, A_LOOKUP, A_VARIABLE, Declared, What};
+use crate::declared::{Declared, Sort};
 use crate::report::Words;
 use crate::seen::Seen;
 use px_check::Spot;
@@ -73,9 +73,13 @@ impl<'a> Seen<'a> {
     fn arguments(&self, token: usize, words: &mut Words) {
         let name = self.name(token);
         let is_lookup = token > 1 && self.is_lookup(token.saturating_sub(2));
-        let like = if is_lookup { A_LOOKUP } else { A_COMMAND };
+        let sort = if is_lookup {
+            Sort::Lookup
+        } else {
+            Sort::Command
+        };
         words.message.fill("`{}` ", name);
-        match self.first_of(like, name) {
+        match self.first_of(sort, name) {
             Some(declared) => self.push_count(declared, &mut words.message),
             None => words
                 .message
@@ -132,7 +136,7 @@ impl<'a> Seen<'a> {
         }
         words.message.fill("`{}` ", name);
         match self.declared_at(token) {
-            Some(declared) if declared.what.is_like(A_VARIABLE) => words.say(
+            Some(declared) if declared.what.sort() == Sort::Variable => words.say(
                 "is too large",
                 "an array has 1 to 256 elements, at most as many initial values, and all variables of a plan together at most 65,536 elements",
             ),

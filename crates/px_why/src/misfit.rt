@@ -1,5 +1,5 @@
 // Faults of types: what stands at a place, and what is wanted there.
-use crate::declared::{A_COMMAND, What};
+use crate::declared::{Sort, What};
 use crate::naming::{a_declared, a_value, an_allowed};
 use crate::report::Words;
 use crate::seen::Seen;
@@ -92,7 +92,7 @@ impl<'a> Seen<'a> {
     // Of a command whose result is put into a variable.
     fn no_result(&self, name: &str, words: &mut Words) {
         words.message.fill("`{}` ", name);
-        match self.first_of(A_COMMAND, name) {
+        match self.first_of(Sort::Command, name) {
             Some(declared) => push_answer(declared.what, &mut words.message),
             None => words.message.push("has no result that fits the variable"),
         }

@@ -1,5 +1,5 @@
 // Names of variables and nodes that aren't there.
-use crate::declared::{A_LOOKUP, A_VARIABLE, What};
+use crate::declared::Sort;
 use crate::nearest::push_meant;
 use crate::report::Words;
 use crate::seen::Seen;
@@ -21,7 +21,7 @@ impl<'a> Seen<'a> {
         words
             .message
             .fill("no variable `{}` is declared here", name);
-        match self.first_of(A_VARIABLE, name) {
+        match self.first_of(Sort::Variable, name) {
             Some(other) => {
                 seen_elsewhere(name, self.line(other.token), &mut words.help);
                 Ok(())
@@ -31,11 +31,11 @@ impl<'a> Seen<'a> {
     }
 
     fn variable_meant(&self, alloc: Global, name: &'a str, help: &mut Pen) -> Result<(), NoMemory> {
-        if self.first_of(A_LOOKUP, name).is_some() {
+        if self.first_of(Sort::Lookup, name).is_some() {
             help.fill("`{}` is a state of the outside: write `Lookup({})`", name);
             return Ok(());
         }
-        match self.nearest(alloc, A_VARIABLE, name)? {
+        match self.nearest(alloc, Sort::Variable, name)? {
             Some(near) => {
                 push_meant(near, help);
                 Ok(())
@@ -54,7 +54,7 @@ impl<'a> Seen<'a> {
     }
 
     fn not_near(&self, name: &str, help: &mut Pen) {
-        match self.first_of(What::Node, name) {
+        match self.first_of(Sort::Node, name) {
             Some(_) => help.fill("`{}` is a node: write `{}.state` or `{}.outcome`", name),
             None => help.fill(
                 "declare it in this block or in one round it, as in `Integer {};`; a state of the outside is read by `Lookup({})`",
@@ -96,7 +96,7 @@ impl<'a> Seen<'a> {
         words: &mut Words,
     ) -> Result<(), NoMemory> {
         let name = self.name(token);
-        match self.first_of(What::Node, name) {
+        match self.first_of(Sort::Node, name) {
             Some(_) if self.asks_for_handle(token) => words.say_of(
                 name,
                 "`{}` is no command here, and has no `command_handle`",
@@ -110,7 +110,7 @@ impl<'a> Seen<'a> {
 
     fn node_meant(&self, alloc: Global, name: &'a str, words: &mut Words) -> Result<(), NoMemory> {
         not_seen(name, &mut words.message);
-        match self.nearest(alloc, What::Node, name)? {
+        match self.nearest(alloc, Sort::Node, name)? {
             Some(near) => push_meant(near, &mut words.help),
             None => words
                 .help

@@ -1,4 +1,6 @@
 // All faults of a plan, told one after another.
+use crate::candidates::Front;
+use crate::cut::Cut;
 use crate::declared::names_in;
 use crate::lexical::{byte_of, not_a_token};
 use crate::place::place_of;
@@ -52,7 +54,7 @@ fn line_at(bytes: &[u8], at: usize) -> usize {
 
 fn why_text(alloc: Global, name: &str, text: &str, out: &mut Pen) -> Result<u32, NoMemory> {
     match lex(alloc, text) {
-        Ok(tokens) => why_tokens(alloc, name, text, tokens, out),
+        Ok(tokens) => why_all(alloc, name, text, Front::of(alloc, tokens), out),
         Err(fault) => no_token(alloc, name, text, &fault, out),
     }
 }
@@ -72,24 +74,34 @@ fn no_token(
     Ok(1)
 }
 
+fn why_all(
+    alloc: Global,
+    name: &str,
+    text: &str,
+    mut tokens: Front,
+    out: &mut Pen,
+) -> Result<u32, NoMemory> {
+    let told = why_tokens(alloc, name, text, &mut tokens, out);
+    drop(tokens);
+    told
+}
+
 fn why_tokens(
     alloc: Global,
     name: &str,
     text: &str,
-    tokens: Vec<Token>,
+    front: &mut Front,
     out: &mut Pen,
 ) -> Result<u32, NoMemory> {
-    match parse(alloc, &tokens) {
+    match parse(alloc, front.tokens()) {
         Ok(tree) => {
-            let found = why_tree(alloc, name, text, &tokens, &tree, out);
+            let found = why_tree(alloc, name, text, front.tokens(), &tree, out);
             drop(tree);
             found
         }
-        Err(ParseFault::SyntaxFault { token }) => {
-            no_syntax(alloc, name, text, tokens, token, out)
-        }
+        Err(ParseFault::SyntaxFault { token }) => no_syntax(alloc, name, text, front, token, out),
         Err(ParseFault::Deep { token }) => {
-            deep(alloc, name, text, &tokens, token, out);
+            deep(alloc, name, text, front.tokens(), token, out);
             Ok(1)
         }
         Err(ParseFault::NoMemory) => Err(AllocError),
@@ -100,13 +112,15 @@ fn no_syntax(
     alloc: Global,
     name: &str,
     text: &str,
-    tokens: Vec<Token>,
+    front: &mut Front,
     token: usize,
     out: &mut Pen,
 ) -> Result<u32, NoMemory> {
+    let cut = Cut::at(text, front.tokens(), token);
+    front.end_before(token);
     let mut words = Words::new(alloc);
-    let place = cut_short(alloc, text, tokens, token, &mut words)?;
-    push_fault(out, name, &place, &words);
+    cut_short(alloc, &cut, front, &mut words)?;
+    push_fault(out, name, &cut.place, &words);
     Ok(1)
 }
 

@@ -1,5 +1,5 @@
 // What is known of a plan that is explained: its text, its tokens and the names that it declares.
-use crate::declared::{Declared, What};
+use crate::declared::{Declared, Sort};
 use crate::nearest::Nearest;
 use crate::place::{Place, place_of};
 use px_lex::{Keyword, Sign, Token, TokenKind};
@@ -66,9 +66,9 @@ impl<'a> Seen<'a> {
     }
 
     /// The first declaration of a name that is of this sort.
-    pub fn first_of(&self, like: What, name: &str) -> Option<Declared<'a>> {
+    pub fn first_of(&self, sort: Sort, name: &str) -> Option<Declared<'a>> {
         for one in self.names {
-            if one.what.is_like(like) && one.name == name {
+            if one.what.sort() == sort && one.name == name {
                 return Some(*one);
             }
         }
@@ -87,8 +87,9 @@ impl<'a> Seen<'a> {
 
     /// The first declaration of the same sort, name and place.
     pub fn first_like(&self, other: Declared<'a>) -> Option<Declared<'a>> {
+        let sort = other.what.sort();
         for one in self.names {
-            if one.place == other.place && one.what.is_like(other.what) && one.name == other.name {
+            if one.place == other.place && one.what.sort() == sort && one.name == other.name {
                 return Some(*one);
             }
         }
@@ -99,12 +100,12 @@ impl<'a> Seen<'a> {
     pub fn nearest(
         &self,
         alloc: Global,
-        like: What,
+        sort: Sort,
         name: &'a str,
     ) -> Result<Option<&'a str>, NoMemory> {
         let mut nearest = Nearest::to(name);
         for one in self.names {
-            if one.what.is_like(like) {
+            if one.what.sort() == sort {
                 nearest.look_at(alloc, one.name);
             }
         }

@@ -1,33 +1,24 @@
 // Tokens that are no plan, in words.
 use crate::candidates::Front;
-use crate::cut::Cut;
+use crate::cut::{Cut, is_opening};
 use crate::hints::push_hint;
 use crate::place::{Place, place_of};
 use crate::report::Words;
 use crate::wanted::Wanted;
-use px_lex::{Sign, Token, TokenKind};
+use px_lex::Token;
 use px_pen::Pen;
 use px_value::NoMemory;
 use std::alloc::Global;
 
-/// Says why a plan can't go on with a token, or that it ends too early, and answers the place: that of the token, or the
-/// end of the last one.
-pub fn cut_short<'a>(
+/// Says why a plan can't go on at a cut behind a front, or that it ends too early.
+pub fn cut_short(
     alloc: Global,
-    text: &'a str,
-    tokens: Vec<Token>,
-    token: usize,
+    cut: &Cut<'_>,
+    front: &mut Front,
     words: &mut Words,
-) -> Result<Place<'a>, NoMemory> {
-    let cut = Cut::at(alloc, text, &tokens, token)?;
-    push_message(&cut, &mut words.message);
-    let mut front = Front::of(alloc, tokens, token);
-    let pushed = push_hints(alloc, &cut, &mut front, &mut words.help);
-    drop(front);
-    match pushed {
-        Ok(()) => Ok(cut.place),
-        Err(fault) => Err(fault),
-    }
+) -> Result<(), NoMemory> {
+    push_message(cut, &mut words.message);
+    push_hints(alloc, cut, front, &mut words.help)
 }
 
 fn push_message(cut: &Cut<'_>, out: &mut Pen) {
@@ -69,10 +60,7 @@ fn push_wanted(cut: &Cut<'_>, wanted: &Wanted, out: &mut Pen) {
 /// Says of a bracket or an operator that it is too deep.
 pub fn too_deep(tokens: &[Token], token: usize, words: &mut Words) {
     let is_bracket = match tokens.get(token) {
-        Some(token) => matches!(
-            token.kind,
-            TokenKind::Sign(Sign::OpenBrace | Sign::OpenParen | Sign::OpenBracket | Sign::OpenList)
-        ),
+        Some(token) => is_opening(token),
         None => false,
     };
     if is_bracket {
