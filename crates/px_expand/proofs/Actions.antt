@@ -12,8 +12,9 @@ use Rattle.px_syntax.proofs.Trees.{action_is}
 use Rattle.px_core.specs.declared.node.CoreNode.{CoreNode}
 use Rattle.px_core.specs.declared.node.CoreNode.TheFolds.{fold-CoreNode}
 use Rattle.px_core.specs.Plan.{Tree, NoNode, branch, is_same, tree_of_node}
+use Rattle.px_expand.specs.Adding.{Added}
 use Rattle.px_expand.specs.Core.{actions_core, actions_seen, action_core, body_core, name_of, follows}
-use Rattle.px_expand.specs.Nodes.{Place, alone, before, child, paths_of}
+use Rattle.px_expand.specs.Nodes.{Place, alone, before, child, names_of, paths_of, seen}
 use Rattle.px_expand.specs.Placed.{trees_of}
 use Rattle.px_expand.specs.Scope.{Scope, Table, table}
 use Rattle.px_expand.specs.Size.{through, action_nodes, action_reach, actions_nodes, actions_reach, body_nodes, body_reach}
@@ -83,22 +84,31 @@ fewer_left actions place action within is =
 abbrev pub inserted : Table → Table → Table
 inserted = fold (λ known child. insert_entry is_same known child.0 child.1)
 
-pub record SeenLeft (path : List ℕ) (actions : List Action) (place : ℕ) (entries : Table) (listed : List (List ℕ)) : Type 0 where
+-- what is listed of them
+listed_more : (of_each : List ℕ × List ℕ → List ℕ) (known more : List (List ℕ)) (first : List ℕ × List ℕ) (rest : Table)
+    → more ≡ known ++ (of_each first ∷ []) → more ++ map of_each rest ≡ known ++ map of_each (first ∷ rest)
+listed_more of_each known more first rest is =
+    ap (λ known. known ++ map of_each rest) is ∙ append_assoc known (of_each first ∷ []) (map of_each rest)
+
+pub record SeenLeft (path : List ℕ) (actions : List Action) (place : ℕ) (entries : Table) (named listed : List (List ℕ)) : Type 0 where
   pub room : length path + actions_reach (place + 1) (in_turn (drop place actions)) ≤ 5000
   pub by_name : inserted entries (actions_seen path (place + 1) (in_turn (drop place actions)))
       ≡ table (actions_seen path 1 (in_turn actions))
+  pub names : named ++ names_of (actions_seen path (place + 1) (in_turn (drop place actions)))
+      ≡ names_of (actions_seen path 1 (in_turn actions))
   pub paths : listed ++ paths_of (actions_seen path (place + 1) (in_turn (drop place actions)))
       ≡ paths_of (actions_seen path 1 (in_turn actions))
 
 pub seen_more : (path : List ℕ) (actions : List Action) (place : ℕ) (action : Action) (entries more : Table)
-    (paths longer : List (List ℕ)) (name : List ℕ)
+    (names known paths longer : List (List ℕ)) (name : List ℕ)
     → place < length actions → action ≡ get_or actions place action
     → name ≡ name_of (place + 1) (action_of action)
     → more ≡ insert_entry is_same entries name (below path name)
+    → known ≡ names ++ (name ∷ [])
     → longer ≡ paths ++ (below path name ∷ [])
-    → SeenLeft path actions place entries paths
-    → SeenLeft path actions (place + 1) more longer
-seen_more path actions place action entries more paths longer name within is named more_is longer_is left =
+    → SeenLeft path actions place entries names paths
+    → SeenLeft path actions (place + 1) more known longer
+seen_more path actions place action entries more names known paths longer name within is named more_is known_is longer_is left =
     let own : List ℕ = name_of (place + 1) (action_of action) in
     let rest : Actions = in_turn (drop (place + 1) actions) in
     let seen : actions_seen path (place + 1) (in_turn (drop place actions))
@@ -112,13 +122,59 @@ seen_more path actions place action entries more paths longer name within is nam
           (more_is ∙ ap (λ n. insert_entry is_same entries n (below path n)) named)
           ∙ ap (inserted entries) (sym seen)
           ∙ left.by_name;
+      names =
+          listed_more (λ child. child.0) names known (own, below path own) (actions_seen path (place + 1 + 1) rest)
+          (known_is ∙ ap (λ n. names ++ (n ∷ [])) named)
+          ∙ ap (λ table. names ++ names_of table) (sym seen)
+          ∙ left.names;
       paths =
-          ap (λ known. known ++ paths_of (actions_seen path (place + 1 + 1) rest))
+          listed_more (λ child. child.1) paths longer (own, below path own) (actions_seen path (place + 1 + 1) rest)
           (longer_is ∙ ap (λ n. paths ++ (below path n ∷ [])) named)
-          ∙ append_assoc paths (below path own ∷ []) (paths_of (actions_seen path (place + 1 + 1) rest))
           ∙ ap (λ table. paths ++ paths_of table) (sym seen)
           ∙ left.paths;
     }
+
+-- as many as they are
+pub length_seen : (of_each : List ℕ × List ℕ → List ℕ) (path : List ℕ) (place : ℕ) (actions : List Action)
+    → length (map of_each (actions_seen path place (in_turn actions))) ≡ length actions
+length_seen of_each path place [] = refl
+length_seen of_each path place (first ∷ rest) = ap suc (length_seen of_each path (suc place) rest)
+
+-- and each in its place
+pub seen_at : (of_each : List ℕ × List ℕ → List ℕ) (path : List ℕ) (from : ℕ) (actions : List Action) (place : ℕ) (action : Action)
+    (listed : List (List ℕ)) (item : List ℕ)
+    → place < length actions → action ≡ get_or actions place action
+    → listed ≡ map of_each (actions_seen path from (in_turn actions)) → item ≡ get_or listed place item
+    → item ≡ of_each (seen path (name_of (place + from) (action_of action)))
+seen_at of_each path from [] place action listed item within is listed_is item_is = absurd (omega (arith, within))
+seen_at of_each path from (first ∷ rest) zero action listed item within is listed_is item_is =
+    item_is ∙ ap (λ listed. get_or listed 0 item) listed_is
+    ∙ ap (λ action. of_each (seen path (name_of from (action_of action)))) (sym is)
+    ∙ ap (λ n. of_each (seen path (name_of n (action_of action)))) (omega arith)
+seen_at of_each path from (first ∷ rest) (suc place) action listed item within is listed_is item_is =
+    seen_at of_each path (suc from) rest place action (map of_each (actions_seen path (suc from) (in_turn rest))) item
+    (omega (arith, within)) is refl (item_is ∙ ap (λ listed. get_or listed (suc place) item) listed_is)
+    ∙ ap (λ n. of_each (seen path (name_of n (action_of action)))) (omega arith)
+
+abbrev standing : List ℕ → List ℕ → Added → Place
+standing path name added = record { path = path; name = name; added = added }
+
+-- where an action stands
+pub stands_at : (path : List ℕ) (actions : List Action) (place : ℕ) (action : Action) (names paths : List (List ℕ))
+    (name own : List ℕ) (at : Place) (added : Added)
+    → place < length actions → action ≡ get_or actions place action
+    → names ≡ names_of (actions_seen path 1 (in_turn actions)) → paths ≡ paths_of (actions_seen path 1 (in_turn actions))
+    → name ≡ get_or names place name → own ≡ get_or paths place own
+    → at ≡ standing own name added
+    → at ≡ child path (name_of (place + 1) (action_of action)) added
+stands_at path actions place action names paths name own at added within is names_is paths_is name_is own_is at_is =
+    let named : name ≡ name_of (place + 1) (action_of action) =
+    seen_at (λ child. child.0) path 1 actions place action names name within is names_is name_is in
+    let stands : own ≡ below path (name_of (place + 1) (action_of action)) =
+    seen_at (λ child. child.1) path 1 actions place action paths own within is paths_is own_is in
+    at_is
+    ∙ ap (λ own. standing own name added) stands
+    ∙ ap (λ name. standing (below path (name_of (place + 1) (action_of action))) name added) named
 
 -- ---- their nodes
 

@@ -5,10 +5,10 @@ use Rattle.px_syntax.specs.declared.word.BlockForm.{BlockForm}
 use Rattle.px_syntax.specs.Block.{ItemData, BlockTree, Braces}
 use Rattle.px_core.specs.Plan.{Tree}
 use Rattle.px_expand.specs.Adding.{Added}
-use Rattle.px_expand.specs.Core.{actions_core, actions_in, block_core, block_scope, block_seen, form_of, shaped, shaped_as}
+use Rattle.px_expand.specs.Core.{actions_core, actions_in, actions_seen, block_core, block_scope, block_seen, children_seen, form_of, shaped, shaped_as}
 use Rattle.px_expand.specs.Kinds.{Shape, Rest, OneAction, Children, shape_of}
 use Rattle.px_expand.specs.Nodes.{Place, child, paths_of}
-use Rattle.px_expand.specs.Scope.{Scope}
+use Rattle.px_expand.specs.Scope.{Scope, here}
 use Rattle.px_expand.specs.Size.{actions_nodes, actions_reach, block_nodes, block_reach, shaped_nodes, shaped_reach, through}
 
 -- the room of a child is that of its parent
@@ -29,10 +29,20 @@ list_reach (Braces form items actions) is = ap (λ shape. shaped_reach shape (ac
 pub list_count : (block : BlockTree) → Children ≡ shape_of block → block_nodes block ≡ 1 + actions_nodes (actions_in block)
 list_count (Braces form items actions) is = ap (λ shape. shaped_nodes shape (actions_nodes actions)) (sym is)
 
+-- what is seen of it are its actions
+pub list_seen : (path : List ℕ) (block : BlockTree) → Children ≡ shape_of block
+    → block_seen path block ≡ actions_seen path 1 (actions_in block)
+list_seen path (Braces form items actions) is = ap (λ shape. children_seen shape path actions) (sym is)
+
 -- a block has a scope of its own
 pub block_inside : (scope inner : Scope) (place : Place) (block : BlockTree)
     → inner ≡ block_scope scope place block → (0 < length inner) × (drop 1 inner ≡ scope)
 block_inside scope inner place (Braces form items actions) is = (omega (arith, ap length is), ap (drop 1) is)
+
+-- in which it is the innermost node
+pub block_here : (scope inner : Scope) (place : Place) (block : BlockTree)
+    → inner ≡ block_scope scope place block → here inner ≡ place.path
+block_here scope inner place (Braces form items actions) is = ap here is
 
 same_shaped : (place : Place) (shape : Shape) (scope : Scope) (form : BlockForm) (items : List ItemData) (paths : List (List ℕ))
     (nodes others : Tree) → (Children ≡ shape → nodes ≡ others)

@@ -24,6 +24,9 @@ child parent name added = record { path = below parent name; name = name; added 
 abbrev pub seen : List ℕ → List ℕ → List ℕ × List ℕ
 seen parent name = (name, below parent name)
 
+abbrev pub names_of : Table → List (List ℕ)
+names_of = map (λ child. child.0)
+
 abbrev pub paths_of : Table → List (List ℕ)
 paths_of = map (λ child. child.1)
 

@@ -5,16 +5,17 @@ ghost use Rattle.px_core.specs.Plan.{Tree};
 ghost use Rattle.px_syntax.specs.Block.{action_of, actions_in_turn, For, While, block_of, body_of, branch_of, else_ifs_in_turn, else_of, guarded_of};
 ghost use Rattle.px_syntax.specs.Expr.{term_of as text_of};
 ghost use Rattle.px_expand.specs.Chain.{all_closed, closed, open_scope, stands};
-ghost use Rattle.px_expand.specs.Core.{actions_core, actions_in, block_core, body_core, branch_name, chain_core, else_core, follows, form_of, if_core, name_of};
+ghost use Rattle.px_expand.specs.Core.{actions_core, actions_in, block_core, body_core, branch_name, actions_seen, block_seen, chain_core, else_core, follows, form_of, if_core};
 ghost use Rattle.px_expand.specs.Forms.{where_not_found};
 ghost use Rattle.px_expand.specs.Kinds.{Children, shape_of};
 ghost use Rattle.px_expand.specs.Names.{body_name, else_name, then_name};
-ghost use Rattle.px_expand.specs.Nodes.{alone, child};
+ghost use Rattle.px_expand.specs.Nodes.{alone, child, names_of, paths_of};
 ghost use Rattle.px_expand.specs.Placed.{place_terms, tree_in, trees_of};
+ghost use Rattle.px_expand.specs.Scope.{here};
 ghost use Rattle.px_expand.specs.Size.{actions_reach, block_reach, body_reach, branch_reach, else_if_reach, else_reach, guarded_reach};
 
 use crate::branches::{Entered, EnteredFor, into_for, into_if, into_while};
-use crate::children::name_of;
+use crate::children::Listed;
 use crate::closing::close_all;
 use crate::entering::enter_block;
 use crate::forms::{counted, follows, repeated, where_not_found};
@@ -43,72 +44,82 @@ pub(crate) fn block(
         ≡ alone (block_core scope.old (place_terms place) (block_of block.now))) }
 {
     let inside = enter_block(alloc, scope, &place, block)?;
-    let nodes = nodes_in(alloc, scope, &place.path, block)?;
+    let nodes = nodes_in(alloc, scope, block, &inside.listed)?;
     let node = shaped(alloc, scope, place, block, inside, nodes)?;
     scope.leave();
     Ok(node)
 }
 
-/// The nodes in a block at a path, if it is a List.
+/// The nodes in a block that has these children, in the scope inside it, if it is a List.
 #[cycle(block)]
 fn nodes_in(
     alloc: Global,
     scope: &mut Scope,
-    path: &Path,
     block: &Block,
+    listed: &Listed,
 ) -> Result<Vec<CoreNode>, NoMemory>
-    requires { length path.now + block_reach (block_of block.now) ≤ PATH_LIMIT }
+    requires room { length (here scope.old) + block_reach (block_of block.now) ≤ PATH_LIMIT }
+    requires names { listed.now.names.items ≡ names_of (block_seen (here scope.old) (block_of block.now)) }
+    requires paths { listed.now.paths.items ≡ paths_of (block_seen (here scope.old) (block_of block.now)) }
     ensures scope { OnOk result (scope.new ≡ scope.old) }
     ensures nodes { IfOk result (λ nodes. Children ≡ shape_of (block_of block.now) → trees_of nodes.items
-        ≡ actions_core scope.old path.now (form_of (block_of block.now)) None 1 (actions_in (block_of block.now))) }
+        ≡ actions_core scope.old (here scope.old) (form_of (block_of block.now)) None 1 (actions_in (block_of block.now))) }
 {
     match shape_of(block) {
-        Shape::Children => actions(alloc, scope, path, block.form, &block.actions),
+        Shape::Children => actions(
+            alloc,
+            scope,
+            block.form,
+            &block.actions,
+            &listed.names,
+            &listed.paths,
+        ),
         Shape::Rest | Shape::OneAction(_) => Ok(Vec::new(alloc)),
     }
 }
 
-/// The actions of the block at a path.
+/// The actions of a block, of these names and paths, in the scope inside it.
 #[cycle(block)]
 fn actions(
     alloc: Global,
     scope: &mut Scope,
-    path: &Path,
     form: BlockForm,
     actions: &[Action],
+    names: &[Name],
+    paths: &[Path],
 ) -> Result<Vec<CoreNode>, NoMemory>
-    requires { length path.now + actions_reach 1 (actions_in_turn (map action_of actions.now)) ≤ PATH_LIMIT }
+    requires room { length (here scope.old) + actions_reach 1 (actions_in_turn (map action_of actions.now)) ≤ PATH_LIMIT }
+    requires names { names.now ≡ names_of (actions_seen (here scope.old) 1 (actions_in_turn (map action_of actions.now))) }
+    requires paths { paths.now ≡ paths_of (actions_seen (here scope.old) 1 (actions_in_turn (map action_of actions.now))) }
     ensures scope { OnOk result (scope.new ≡ scope.old) }
     ensures nodes { IfOk result (λ nodes. trees_of nodes.items
-        ≡ actions_core scope.old path.now form None 1 (actions_in_turn (map action_of actions.now))) }
+        ≡ actions_core scope.old (here scope.old) form None 1 (actions_in_turn (map action_of actions.now))) }
 {
-    let mut nodes = Vec::new(alloc);
-    let mut behind: Option<Path> = None;
+    let mut nodes = Vec::with_capacity(alloc, actions.len())?;
+    let mut behind: Option<&Path> = None;
     for (number, action) in actions.iter().enumerate() {
-        let place = action_place(alloc, path, form, behind.as_ref(), number + 1, action)?;
-        behind = Some(place.path.copy(alloc)?);
+        let path = &paths[number];
+        let place = action_place(alloc, form, behind, &names[number], path)?;
+        behind = Some(path);
         let node = body(alloc, scope, place, &action.body)?;
         push(&mut nodes, node)?;
     }
     Ok(nodes)
 }
 
-/// Where an action stands that has this place in its block, behind another or as the first.
+/// Where an action of this name and this path stands, behind another or as the first.
 fn action_place(
     alloc: Global,
-    path: &Path,
     form: BlockForm,
     behind: Option<&Path>,
-    place: usize,
-    action: &Action,
+    name: &Name,
+    path: &Path,
 ) -> Result<Place, NoMemory>
-    requires { length path.now + length (name_of place (action_of action.now)) < PATH_LIMIT }
     ensures { IfOk result (λ made. place_terms made
-        ≡ child path.now (name_of place (action_of action.now)) (follows form (option_copied behind.entry))) }
+        ≡ record { path = path.now; name = name.now; added = follows form (option_copied behind.entry) }) }
 {
-    let name = name_of(alloc, place, action)?;
     let added = follows(alloc, form, behind)?;
-    Place::child(alloc, path, name, added)
+    Place::of(alloc, name, path, added)
 }
 
 /// What an action does, in its place.
@@ -247,7 +258,7 @@ fn chain(
         (chain_core (else_core (else_of (option_map branch_of otherwise.now)))
         (else_ifs_in_turn (map guarded_of others.now))) (guarded_of first.now))) }
 {
-    let mut outer = Vec::new(alloc);
+    let mut outer = Vec::with_capacity(alloc, others.len())?;
     let mut place = place;
     let mut guarded = first;
     for other in others {

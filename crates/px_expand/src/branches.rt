@@ -14,6 +14,7 @@ ghost use Rattle.px_expand.specs.Resolving.{resolved};
 ghost use Rattle.px_expand.specs.Shown.{term_in};
 ghost use Rattle.px_expand.specs.Size.{branch_reach, guarded_reach, through};
 
+use crate::children::Listed;
 use crate::conditions::Added;
 use crate::entering::{enter_if, enter_loop};
 use crate::forms::{Turn, where_found};
@@ -53,7 +54,7 @@ pub(crate) fn into_if(
     ensures branch { IfOk result (λ made. place_terms made.branch ≡ child place.now.path
         (branch_name then_name (branch_in (guarded_of guarded.now))) (where_found place.now.path)) }
 {
-    let paths = enter_if(alloc, scope, place, &guarded.branch, behind)?;
+    let Listed { paths, .. } = enter_if(alloc, scope, place, &guarded.branch, behind)?;
     let test = resolved(alloc, scope, &guarded.test)?;
     let branch = branch_place(alloc, &place.path, Generated::Then, &guarded.branch)?;
     Ok(Entered {
@@ -81,7 +82,7 @@ pub(crate) fn into_while(
     ensures branch { IfOk result (λ made. place_terms made.branch ≡ child place.now.path
         (branch_name body_name (branch_in (guarded_of guarded.now))) (where_found place.now.path)) }
 {
-    let paths = enter_loop(alloc, scope, place, &place.path, &guarded.branch, None)?;
+    let Listed { paths, .. } = enter_loop(alloc, scope, place, &place.path, &guarded.branch, None)?;
     let test = resolved(alloc, scope, &guarded.test)?;
     let branch = branch_place(alloc, &place.path, Generated::Body, &guarded.branch)?;
     Ok(Entered {

@@ -6,7 +6,7 @@ ghost use Rattle.px_core.specs.Plan.{is_same};
 ghost use Rattle.px_syntax.specs.Block.{action_of, actions_in_turn, branch_of};
 ghost use Rattle.px_expand.specs.Core.{actions_seen, branch_name, name_of};
 ghost use Rattle.px_expand.specs.Names.{generated};
-ghost use Rattle.px_expand.specs.Nodes.{paths_of, seen};
+ghost use Rattle.px_expand.specs.Nodes.{names_of, paths_of, seen};
 ghost use Rattle.px_expand.specs.Scope.{table};
 ghost use Rattle.px_expand.specs.Size.{actions_reach};
 
@@ -16,32 +16,48 @@ use px_syntax::{Action, Branch};
 use px_value::{Name, NoMemory, PATH_LIMIT, Path};
 use std::alloc::{AllocError, Global};
 
-/// The paths of a node's children, by their names and in their order.
+/// The names of a node's children and their paths, in their order.
+#[derive(Drop)]
+pub(crate) struct Listed {
+    pub(crate) names: Vec<Name>,
+    pub(crate) paths: Vec<Path>,
+}
+
+/// The children of a node: their paths by their names, and both in their order.
 #[derive(Drop)]
 pub(crate) struct Children {
     pub(crate) by_name: IndexMap<Name, Path>,
-    pub(crate) paths: Vec<Path>,
+    pub(crate) listed: Listed,
 }
 
 impl Children {
     pub(crate) fn none(alloc: Global) -> Children
         ensures by_name { result.by_name.entries ≡ [] }
-        ensures paths { result.paths.items ≡ [] }
+        ensures names { result.listed.names.items ≡ [] }
+        ensures paths { result.listed.paths.items ≡ [] }
     {
         Children {
             by_name: IndexMap::new(alloc),
-            paths: Vec::new(alloc),
+            listed: Listed {
+                names: Vec::new(alloc),
+                paths: Vec::new(alloc),
+            },
         }
     }
 
     /// No children yet, and room for so many.
     fn with_room(alloc: Global, count: usize) -> Result<Children, NoMemory>
         ensures by_name { IfOk result (λ made. made.by_name.entries ≡ []) }
-        ensures paths { IfOk result (λ made. made.paths.items ≡ []) }
+        ensures names { IfOk result (λ made. made.listed.names.items ≡ []) }
+        ensures paths { IfOk result (λ made. made.listed.paths.items ≡ []) }
     {
+        let listed = Listed {
+            names: Vec::with_capacity(alloc, count)?,
+            paths: Vec::with_capacity(alloc, count)?,
+        };
         Ok(Children {
             by_name: IndexMap::with_capacity(alloc, count)?,
-            paths: Vec::with_capacity(alloc, count)?,
+            listed,
         })
     }
 
@@ -50,10 +66,13 @@ impl Children {
         requires { length parent.now + length name < PATH_LIMIT }
         ensures by_name { OnOk result (self.new.by_name.entries
             ≡ insert_entry is_same self.old.by_name.entries name (below parent.now name)) }
-        ensures paths { OnOk result (self.new.paths.items ≡ self.old.paths.items ++ (below parent.now name ∷ [])) }
+        ensures names { OnOk result (self.new.listed.names.items ≡ self.old.listed.names.items ++ (name ∷ [])) }
+        ensures paths { OnOk result
+            (self.new.listed.paths.items ≡ self.old.listed.paths.items ++ (below parent.now name ∷ [])) }
     {
         let path = parent.child(alloc, &name)?;
-        self.paths.push(path.copy(alloc)?)?;
+        self.listed.names.push(name.copy(alloc)?)?;
+        self.listed.paths.push(path.copy(alloc)?)?;
         self.by_name.insert(name, path)?;
         Ok(())
     }
@@ -67,7 +86,9 @@ impl Children {
         requires { length path.now + actions_reach 1 (actions_in_turn (map action_of actions.now)) ≤ PATH_LIMIT }
         ensures by_name { IfOk result (λ made. made.by_name.entries
             ≡ table (actions_seen path.now 1 (actions_in_turn (map action_of actions.now)))) }
-        ensures paths { IfOk result (λ made. made.paths.items
+        ensures names { IfOk result (λ made. made.listed.names.items
+            ≡ names_of (actions_seen path.now 1 (actions_in_turn (map action_of actions.now)))) }
+        ensures paths { IfOk result (λ made. made.listed.paths.items
             ≡ paths_of (actions_seen path.now 1 (actions_in_turn (map action_of actions.now)))) }
     {
         let mut children = Children::with_room(alloc, actions.len())?;
@@ -88,7 +109,9 @@ impl Children {
         requires { length path.now + length (branch_name (generated unlabelled) (branch_of branch.now)) < PATH_LIMIT }
         ensures by_name { IfOk result (λ made. made.by_name.entries
             ≡ table (seen path.now (branch_name (generated unlabelled) (branch_of branch.now)) ∷ [])) }
-        ensures paths { IfOk result (λ made. made.paths.items
+        ensures names { IfOk result (λ made. made.listed.names.items
+            ≡ branch_name (generated unlabelled) (branch_of branch.now) ∷ []) }
+        ensures paths { IfOk result (λ made. made.listed.paths.items
             ≡ below path.now (branch_name (generated unlabelled) (branch_of branch.now)) ∷ []) }
     {
         let mut children = Children::none(alloc);

@@ -7,12 +7,12 @@ ghost use Rattle.px_expand.specs.Chain.{stands};
 ghost use Rattle.px_expand.specs.Core.{block_scope, block_seen, branch_name, if_scope, if_seen, items_of, loop_seen};
 ghost use Rattle.px_expand.specs.Items.{variables_of};
 ghost use Rattle.px_expand.specs.Names.{body_name, then_name};
-ghost use Rattle.px_expand.specs.Nodes.{inside, paths_of};
+ghost use Rattle.px_expand.specs.Nodes.{inside, names_of, paths_of};
 ghost use Rattle.px_expand.specs.Placed.{entered, place_terms};
 ghost use Rattle.px_expand.specs.Scope.{each_once, table};
 ghost use Rattle.px_expand.specs.Size.{block_reach};
 
-use crate::children::Children;
+use crate::children::{Children, Listed};
 use crate::items::variables_of;
 use crate::names::Generated;
 use crate::place::Place;
@@ -24,21 +24,21 @@ use px_syntax::{Block, Branch};
 use px_value::{Name, NoMemory, PATH_LIMIT, Path};
 use std::alloc::Global;
 
-/// Goes into the node of a place, and gives the paths of its children. After an error the scope is of no use.
+/// Goes into the node of a place, and gives its children in their order. After an error the scope is of no use.
 fn enter(
     alloc: Global,
     scope: &mut Scope,
     place: &Place,
     children: Children,
     variables: IndexSet<Name>,
-) -> Result<Vec<Path>, NoMemory>
+) -> Result<Listed, NoMemory>
     ensures scope { OnOk result
         (scope.new ≡ entered scope.old (place_terms place.now) children.by_name.entries variables.keys) }
-    ensures paths { IfOk result (λ paths. paths ≡ children.paths) }
+    ensures listed { IfOk result (λ listed. listed ≡ children.listed) }
 {
     let name = place.name.copy(alloc)?;
     let path = place.path.copy(alloc)?;
-    let Children { by_name, paths } = children;
+    let Children { by_name, listed } = children;
     let frame = Frame {
         name,
         path,
@@ -46,13 +46,13 @@ fn enter(
         variables,
     };
     scope.enter(frame)?;
-    Ok(paths)
+    Ok(listed)
 }
 
-/// What is found on the way into a block: the paths of its children, and its variables.
+/// What is found on the way into a block: its children, and its variables.
 #[derive(Drop)]
 pub(crate) struct Inside {
-    pub(crate) paths: Vec<Path>,
+    pub(crate) listed: Listed,
     pub(crate) variables: Vec<Variable>,
 }
 
@@ -65,16 +65,18 @@ pub(crate) fn enter_block(
 ) -> Result<Inside, NoMemory>
     requires { length place.now.path + block_reach (block_of block.now) ≤ PATH_LIMIT }
     ensures scope { OnOk result (scope.new ≡ block_scope scope.old (place_terms place.now) (block_of block.now)) }
+    ensures names { IfOk result
+        (λ inside. inside.listed.names.items ≡ names_of (block_seen place.now.path (block_of block.now))) }
     ensures paths { IfOk result
-        (λ inside. inside.paths.items ≡ paths_of (block_seen place.now.path (block_of block.now))) }
+        (λ inside. inside.listed.paths.items ≡ paths_of (block_seen place.now.path (block_of block.now))) }
     ensures variables { IfOk result
         (λ inside. map variable_data inside.variables.items ≡ variables_of (items_of (block_of block.now))) }
 {
     let variables = variables_of(alloc, &block.items)?;
     let names = names_of(alloc, &variables)?;
     let children = block_children(alloc, &place.path, block)?;
-    let paths = enter(alloc, scope, place, children, names)?;
-    Ok(Inside { paths, variables })
+    let listed = enter(alloc, scope, place, children, names)?;
+    Ok(Inside { listed, variables })
 }
 
 /// The children that the text has of a block at a path.
@@ -82,7 +84,10 @@ fn block_children(alloc: Global, path: &Path, block: &Block) -> Result<Children,
     requires { length path.now + block_reach (block_of block.now) ≤ PATH_LIMIT }
     ensures by_name { IfOk result
         (λ made. made.by_name.entries ≡ table (block_seen path.now (block_of block.now))) }
-    ensures paths { IfOk result (λ made. made.paths.items ≡ paths_of (block_seen path.now (block_of block.now))) }
+    ensures names { IfOk result
+        (λ made. made.listed.names.items ≡ names_of (block_seen path.now (block_of block.now))) }
+    ensures paths { IfOk result
+        (λ made. made.listed.paths.items ≡ paths_of (block_seen path.now (block_of block.now))) }
 {
     match shape_of(block) {
         Shape::Children => Children::of_actions(alloc, path, &block.actions),
@@ -115,19 +120,21 @@ pub(crate) fn enter_simple(alloc: Global, scope: &mut Scope, place: &Place) -> R
     Ok(())
 }
 
-/// Goes into an `if` with this branch; `behind` is the name of what stands behind it. Gives their paths.
+/// Goes into an `if` with this branch; `behind` is the name of what stands behind it. Gives both in turn.
 pub(crate) fn enter_if(
     alloc: Global,
     scope: &mut Scope,
     place: &Place,
     branch: &Branch,
     behind: Option<Name>,
-) -> Result<Vec<Path>, NoMemory>
+) -> Result<Listed, NoMemory>
     requires branch { length place.now.path + length (branch_name then_name (branch_of branch.now)) < PATH_LIMIT }
     requires behind { IfSome behind (λ name. length place.now.path + length name < PATH_LIMIT) }
     ensures scope { OnOk result (scope.new
         ≡ if_scope scope.old (place_terms place.now) (branch_of branch.now) (stands behind NoNode)) }
-    ensures paths { IfOk result (λ paths. paths.items
+    ensures names { IfOk result (λ listed. listed.names.items
+        ≡ names_of (if_seen place.now.path (branch_of branch.now) (stands behind NoNode))) }
+    ensures paths { IfOk result (λ listed. listed.paths.items
         ≡ paths_of (if_seen place.now.path (branch_of branch.now) (stands behind NoNode))) }
 {
     let mut children = Children::of_branch(alloc, &place.path, Generated::Then, branch)?;
@@ -137,7 +144,7 @@ pub(crate) fn enter_if(
     enter(alloc, scope, place, children, IndexSet::new(alloc))
 }
 
-/// Goes into a `while` or a `for` with this variable, whose branch stands below a path. Gives the branch's path.
+/// Goes into a `while` or a `for` with this variable, whose branch stands below a path. Gives the branch.
 pub(crate) fn enter_loop(
     alloc: Global,
     scope: &mut Scope,
@@ -145,11 +152,12 @@ pub(crate) fn enter_loop(
     path: &Path,
     branch: &Branch,
     variable: Option<&Name>,
-) -> Result<Vec<Path>, NoMemory>
+) -> Result<Listed, NoMemory>
     requires { length path.now + length (branch_name body_name (branch_of branch.now)) < PATH_LIMIT }
     ensures scope { OnOk result (scope.new ≡ inside scope.old (place_terms place.now)
         (loop_seen path.now (branch_of branch.now)) (option_to_list (option_copied variable.entry))) }
-    ensures paths { IfOk result (λ paths. paths.items ≡ paths_of (loop_seen path.now (branch_of branch.now))) }
+    ensures names { IfOk result (λ listed. listed.names.items ≡ names_of (loop_seen path.now (branch_of branch.now))) }
+    ensures paths { IfOk result (λ listed. listed.paths.items ≡ paths_of (loop_seen path.now (branch_of branch.now))) }
 {
     let mut variables = IndexSet::new(alloc);
     if let Some(name) = variable {

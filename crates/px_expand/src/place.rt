@@ -22,6 +22,23 @@ pub(crate) struct Place {
 }
 
 impl Place {
+    /// Where a child of this name and this path stands.
+    pub(crate) fn of(
+        alloc: Global,
+        name: &Name,
+        path: &Path,
+        added: Box<Added>,
+    ) -> Result<Place, NoMemory>
+        ensures { IfOk result (λ made. place_terms made
+            ≡ record { path = path.now; name = name.now; added = added_terms added.value }) }
+    {
+        Ok(Place {
+            path: path.copy(alloc)?,
+            name: name.copy(alloc)?,
+            added,
+        })
+    }
+
     /// A child of the node at a path.
     pub(crate) fn child(
         alloc: Global,

@@ -33,9 +33,9 @@ pub(crate) fn shaped(
     requires scope { 0 < length scope.now }
     requires variables { map variable_data inside.variables.items ≡ variables_of (items_of (block_of block.now)) }
     ensures { IfOk result (λ node. tree_in node ≡ alone (shaped_as (place_terms place) scope.now
-        (block_of block.now) inside.paths.items (trees_of nodes.items))) }
+        (block_of block.now) inside.listed.paths.items (trees_of nodes.items))) }
 {
-    let Inside { paths, variables } = inside;
+    let Inside { listed, variables } = inside;
     match shape_of(block) {
         Shape::Rest => single(
             alloc,
@@ -50,7 +50,7 @@ pub(crate) fn shaped(
             let made = body_of(alloc, scope, body)?;
             single(alloc, scope, place, block, variables, kind_of(body), made)
         }
-        Shape::Children => list(alloc, scope, place, block, &paths, variables, nodes),
+        Shape::Children => list(alloc, scope, place, block, &listed.paths, variables, nodes),
     }
 }
 

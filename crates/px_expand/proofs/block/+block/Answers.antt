@@ -3,6 +3,7 @@ use Rattle.std.specs.Result.{IfOk}
 use Rattle.std.proofs.lemmas.Int.{to_z-of_z}
 use mir.Syntax.{w32}
 use mir.Val.{SFits}
+use Rattle.std.specs.Option.{option_copied}
 use Rattle.std.proofs.lemmas.Result.{IfOk-weaker, on_ok_weaker}
 use Rattle.px_value.proofs.General.{on_ok}
 use Rattle.px_syntax.specs.declared.block.Action.{out-Action}
@@ -13,28 +14,32 @@ use Rattle.px_syntax.specs.Block.{action_of, block_of, body_of, branch_of, else_
 use Rattle.px_syntax.specs.Expr.{term_of as text_of}
 use Rattle.px_syntax.proofs.Trees as trees
 use Rattle.px_expand.specs.Chain.{all_closed, branch_in}
-use Rattle.px_expand.specs.Core.{actions_core, actions_in, body_core, branch_core, branch_name, follows, form_of, name_of}
+use Rattle.px_expand.specs.Core.{actions_core, actions_in, actions_seen, block_seen, body_core, branch_core, branch_name, follows, form_of, name_of}
 use Rattle.px_expand.specs.Forms.{counted, loop_path, repeated, where_found, where_not_found}
 use Rattle.px_expand.specs.Kinds.{Children, shape_of}
 use Rattle.px_expand.specs.Names.{body_name, else_name, loop_name, then_name}
-use Rattle.px_expand.specs.Nodes.{Place, alone, child}
+use Rattle.px_expand.specs.Nodes.{Place, alone, child, names_of, paths_of}
 use Rattle.px_expand.specs.Placed.{node_of, place_terms, tree_in, trees_of}
+use Rattle.px_expand.specs.Scope.{here}
 use Rattle.px_expand.specs.Shown.{term_in}
 use Rattle.px_expand.specs.Size.{actions_nodes, actions_reach, block_nodes, block_reach, body_nodes, body_reach}
-use Rattle.px_expand.proofs.Actions.{fewer_left, in_turn, nodes_done, nodes_more, nodes_none, room}
-use Rattle.px_expand.proofs.Blocks.{block_inside, block_made, child_room, list_count, list_reach}
+use Rattle.px_expand.proofs.Actions.{fewer_left, in_turn, length_seen, nodes_done, nodes_more, nodes_none, room, stands_at}
+use Rattle.px_expand.proofs.Blocks.{block_here, block_inside, block_made, child_room, list_count, list_reach, list_seen}
 use Rattle.px_expand.proofs.Chains.{chain_more, chain_opened, count_else, else_room, guarded_made, is_opened, room_before, room_for_set}
 use Rattle.px_expand.proofs.Loops.{branch_count, branch_made, branch_room, for_made, guarded_branch, guarded_count, guarded_room, while_made}
 use Rattle.px_expand.proofs.block.+block.Goals as goal
 
-pub actions-action_place-requires : goal.actions-action_place-requires
-actions-action_place-requires t c =
-    (room c.args.path.now c.args.actions.now c.loop-number.number c.index-actions-number.result c.loop-number-test.true
-    c.index-actions-number.is c.loop-number.invariant.left.room).name
+pub actions-bounds-paths-number : goal.actions-bounds-paths-number
+actions-bounds-paths-number t c =
+    omega (arith, c.loop-number-test.true, ap length c.requires.paths, length_seen (λ child. child.1) (here c.args.scope.now) 1 c.args.actions.now)
+
+pub actions-bounds-names-number : goal.actions-bounds-names-number
+actions-bounds-names-number t c =
+    omega (arith, c.loop-number-test.true, ap length c.requires.names, length_seen (λ child. child.0) (here c.args.scope.now) 1 c.args.actions.now)
 
 pub actions-loop-number-preserved : goal.actions-loop-number-preserved
 actions-loop-number-preserved t c =
-    let path = c.args.path.now in
+    let path = here c.args.scope.now in
     let form = c.args.form in
     let n = c.loop-number.number in
     let action = c.index-actions-number.result in
@@ -42,53 +47,74 @@ actions-loop-number-preserved t c =
     record {
       scope = c.in_ok-node.ensures.scope ∙ c.loop-number.invariant.scope;
       left =
-          nodes_more c.args.scope.now path form c.args.actions.now n action c.loop-number.behind _ c.loop-number.nodes.items _
+          nodes_more c.args.scope.now path form c.args.actions.now n action (option_copied c.loop-number.behind) _ c.loop-number.nodes.items _
           c.in_ok-node.node.value (place_terms place) c.loop-number-test.true c.index-actions-number.is
-          (c.in_ok-place.ensures ∙ ap (λ behind. child path (name_of (n + 1) (action_of action)) (follows form behind)) c.as_ref.ensures.value)
+          (stands_at path c.args.actions.now n action c.args.names.now c.args.paths.now c.index-names-number.result
+          c.index-paths-number.result (place_terms place) (follows form (option_copied c.loop-number.behind)) c.loop-number-test.true
+          c.index-actions-number.is c.requires.names c.requires.paths c.index-names-number.is c.index-paths-number.is c.in_ok-place.ensures)
           (c.in_ok-node.ensures.node
           ∙ ap (λ scope. alone (body_core scope (place_terms place) (body_of (out-Action action).body))) c.loop-number.invariant.scope)
-          (ap Some c.in_ok-copy.ensures) c.in_ok-push.ensures c.loop-number.invariant.left;
+          (ap (λ (at : Place). Some at.path) (sym c.in_ok-place.ensures)) c.in_ok-push.ensures c.loop-number.invariant.left;
     }
 
 pub actions-returns-clause-nodes : goal.actions-returns-clause-nodes
 actions-returns-clause-nodes t c =
-    nodes_done c.args.scope.now c.args.path.now c.args.form c.args.actions.now c.loop-number.number c.loop-number.behind
-    c.loop-number.nodes.items c.loop-number-test.false c.loop-number.invariant.left
+    nodes_done c.args.scope.now (here c.args.scope.now) c.args.form c.args.actions.now c.loop-number.number
+    (option_copied c.loop-number.behind) c.loop-number.nodes.items c.loop-number-test.false c.loop-number.invariant.left
 
 pub actions-loop-number-init : goal.actions-loop-number-init
 actions-loop-number-init t c = record {
   scope = refl;
   left =
-      nodes_none c.args.scope.now c.args.path.now c.args.form c.args.actions.now c.new-nodes.result.items c.new-nodes.ensures.items
-      c.requires;
+      nodes_none c.args.scope.now (here c.args.scope.now) c.args.form c.args.actions.now c.in_ok-nodes.nodes.items
+      c.in_ok-nodes.ensures.items c.requires.room;
 }
 
 pub actions-body-requires : goal.actions-body-requires
 actions-body-requires t c =
+    let path = here c.args.scope.now in
+    let n = c.loop-number.number in
     let action = c.index-actions-number.result in (
-      omega (arith, c.decreases, fewer_left c.args.actions.now c.loop-number.number action c.loop-number-test.true c.index-actions-number.is),
-      child_room (place_terms c.in_ok-place.place) c.args.path.now (name_of (c.loop-number.number + 1) (action_of action)) _
-          (body_reach (body_of (out-Action action).body)) c.in_ok-place.ensures
-          (room c.args.path.now c.args.actions.now c.loop-number.number action c.loop-number-test.true c.index-actions-number.is
+      omega (arith, c.decreases, fewer_left c.args.actions.now n action c.loop-number-test.true c.index-actions-number.is),
+      child_room (place_terms c.in_ok-place.place) path (name_of (n + 1) (action_of action)) _
+          (body_reach (body_of (out-Action action).body))
+          (stands_at path c.args.actions.now n action c.args.names.now c.args.paths.now c.index-names-number.result
+          c.index-paths-number.result (place_terms c.in_ok-place.place) (follows c.args.form (option_copied c.loop-number.behind))
+          c.loop-number-test.true c.index-actions-number.is c.requires.names c.requires.paths c.index-names-number.is
+          c.index-paths-number.is c.in_ok-place.ensures)
+          (room path c.args.actions.now n action c.loop-number-test.true c.index-actions-number.is
           c.loop-number.invariant.left.room).body,
     )
 
 pub nodes_in-actions-requires : goal.nodes_in-actions-requires
 nodes_in-actions-requires t c =
     let block = c.args.block.now in
-    let reach : block_reach (block_of block) ≡ actions_reach 1 (in_turn c.deref.result.now) =
+    let path = here c.args.scope.now in
+    let actions = c.deref.result.now in
+    let reach : block_reach (block_of block) ≡ actions_reach 1 (in_turn actions) =
     list_reach (block_of block) c.in-Children.ensures ∙ ap (λ tree. actions_reach 1 (actions_in tree)) (trees.block_is block)
     ∙ ap (λ actions. actions_reach 1 (in_turn actions)) (sym c.deref.ensures.value) in
-    let count : block_nodes (block_of block) ≡ 1 + actions_nodes (in_turn c.deref.result.now) =
+    let count : block_nodes (block_of block) ≡ 1 + actions_nodes (in_turn actions) =
     list_count (block_of block) c.in-Children.ensures ∙ ap (λ tree. 1 + actions_nodes (actions_in tree)) (trees.block_is block)
     ∙ ap (λ actions. 1 + actions_nodes (in_turn actions)) (sym c.deref.ensures.value) in
-    (omega (arith, c.decreases, count), subst (λ n. length c.args.path.now + n ≤ 5000) reach c.requires)
+    let seen : block_seen path (block_of block) ≡ actions_seen path 1 (in_turn actions) =
+    list_seen path (block_of block) c.in-Children.ensures ∙ ap (λ tree. actions_seen path 1 (actions_in tree)) (trees.block_is block)
+    ∙ ap (λ actions. actions_seen path 1 (in_turn actions)) (sym c.deref.ensures.value) in (
+      omega (arith, c.decreases, count),
+      (
+        subst (λ n. length path + n ≤ 5000) reach c.requires.room,
+        (
+          c.deref-in-Children.ensures.value ∙ c.requires.names ∙ ap names_of seen,
+          c.deref-in-Children-2.ensures.value ∙ c.requires.paths ∙ ap paths_of seen,
+        ),
+      ),
+    )
 
 pub nodes_in-returns-in-Children-clause-nodes : goal.nodes_in-returns-in-Children-clause-nodes
 nodes_in-returns-in-Children-clause-nodes t c =
     let block = c.args.block.now in
     let scope = c.args.scope.now in
-    let path = c.args.path.now in
+    let path = here c.args.scope.now in
     let is : text.Braces (out-Block block).form (map item_data (out-Block block).items.items) (in_turn c.deref.result.now) ≡ block_of block =
     ap (λ actions. text.Braces (out-Block block).form (map item_data (out-Block block).items.items) (in_turn actions)) c.deref.ensures.value
     ∙ sym (trees.block_is block) in
@@ -100,7 +126,18 @@ nodes_in-returns-in-Children-clause-nodes t c =
     c.actions.ensures.nodes
 
 pub block-nodes_in-requires : goal.block-nodes_in-requires
-block-nodes_in-requires t c = (omega (arith, c.decreases), c.requires)
+block-nodes_in-requires t c =
+    let tree = block_of c.args.block.now in
+    let at = block_here c.args.scope.now c.enter_block.new.scope (place_terms c.args.place) tree c.in_ok-inside.ensures.scope in (
+      omega (arith, c.decreases),
+      (
+        omega (arith, ap length at, c.requires),
+        (
+          c.in_ok-inside.ensures.names ∙ ap (λ path. names_of (block_seen path tree)) (sym at),
+          c.in_ok-inside.ensures.paths ∙ ap (λ path. paths_of (block_seen path tree)) (sym at),
+        ),
+      ),
+    )
 
 pub block-shaped-requires-clause-scope : goal.block-shaped-requires-clause-scope
 block-shaped-requires-clause-scope t c =
@@ -117,10 +154,13 @@ pub block-returns-clause-node : goal.block-returns-clause-node
 block-returns-clause-node t c =
     let tree = block_of c.args.block.now in
     let path = c.args.place.path in
+    let inner = c.enter_block.new.scope in
+    let at = block_here c.args.scope.now inner (place_terms c.args.place) tree c.in_ok-inside.ensures.scope in
     c.in_ok-node.ensures
-    ∙ ap alone (block_made c.args.scope.now c.nodes_in.new.scope (place_terms c.args.place) tree c.in_ok-inside.inside.paths.items
+    ∙ ap alone (block_made c.args.scope.now c.nodes_in.new.scope (place_terms c.args.place) tree c.in_ok-inside.inside.listed.paths.items
     (trees_of c.in_ok-nodes.nodes.items) (c.in_ok-nodes.ensures.scope ∙ c.in_ok-inside.ensures.scope) c.in_ok-inside.ensures.paths
     (λ list. c.in_ok-nodes.ensures.nodes list
+    ∙ ap (λ path. actions_core inner path (form_of tree) None 1 (actions_in tree)) at
     ∙ ap (λ scope. actions_core scope path (form_of tree) None 1 (actions_in tree)) (sym c.in_ok-nodes.ensures.scope)))
 
 pub body-block-requires : goal.body-block-requires

@@ -10,6 +10,7 @@ push-requires c =
 
 pub loop-number-preserved : goal.loop-number-preserved
 loop-number-preserved c =
-    seen_more c.args.path.now c.args.actions.now c.loop-number.number c.index-actions-number.result _ _ _ _ c.in_ok-name.name
-    c.loop-number-test.true c.index-actions-number.is c.in_ok-name.ensures c.in_ok-push.ensures.by_name c.in_ok-push.ensures.paths
+    seen_more c.args.path.now c.args.actions.now c.loop-number.number c.index-actions-number.result _ _ _ _ _ _ c.in_ok-name.name
+    c.loop-number-test.true c.index-actions-number.is c.in_ok-name.ensures c.in_ok-push.ensures.by_name c.in_ok-push.ensures.names
+    c.in_ok-push.ensures.paths
     c.loop-number.invariant
