@@ -156,7 +156,7 @@ seen_at of_each path from (first ∷ rest) (suc place) action listed item within
     (omega (arith, within)) is refl (item_is ∙ ap (λ listed. get_or listed (suc place) item) listed_is)
     ∙ ap (λ n. of_each (seen path (name_of n (action_of action)))) (omega arith)
 
-abbrev standing : List ℕ → List ℕ → Added → Place
+abbrev pub standing : List ℕ → List ℕ → Added → Place
 standing path name added = record { path = path; name = name; added = added }
 
 -- where an action stands
@@ -175,6 +175,16 @@ stands_at path actions place action names paths name own at added within is name
     at_is
     ∙ ap (λ own. standing own name added) stands
     ∙ ap (λ name. standing (below path (name_of (place + 1) (action_of action))) name added) named
+
+-- and the branch of a test, the first of its children
+pub stands_first : (path name : List ℕ) (rest : Table) (names paths : List (List ℕ)) (own at : List ℕ) (stood added : Added)
+    → names ≡ names_of (seen path name ∷ rest) → paths ≡ paths_of (seen path name ∷ rest)
+    → own ≡ get_or names 0 own → at ≡ get_or paths 0 at → stood ≡ added
+    → standing at own stood ≡ child path name added
+stands_first path name rest names paths own at stood added names_is paths_is own_is at_is stood_is =
+    ap (λ at. standing at own stood) (at_is ∙ ap (λ paths. get_or paths 0 at) paths_is)
+    ∙ ap (λ own. standing (below path name) own stood) (own_is ∙ ap (λ names. get_or names 0 own) names_is)
+    ∙ ap (standing (below path name) name) stood_is
 
 -- ---- their nodes
 

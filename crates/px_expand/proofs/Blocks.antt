@@ -42,7 +42,7 @@ block_inside scope inner place (Braces form items actions) is = (omega (arith, a
 -- in which it is the innermost node
 pub block_here : (scope inner : Scope) (place : Place) (block : BlockTree)
     → inner ≡ block_scope scope place block → here inner ≡ place.path
-block_here scope inner place (Braces form items actions) is = ap here is
+block_here scope inner place (Braces _ _ _) is = ap here is
 
 same_shaped : (place : Place) (shape : Shape) (scope : Scope) (form : BlockForm) (items : List ItemData) (paths : List (List ℕ))
     (nodes others : Tree) → (Children ≡ shape → nodes ≡ others)

@@ -1,5 +1,5 @@
 // Going into nodes that have branches: what is made on the way to a branch.
-ghost use Rattle.std.specs.Prelude.{◌≡◌, ◌+◌, ◌<◌, ◌≤◌, max, length, IfOk, IfSome, OnOk};
+ghost use Rattle.std.specs.Prelude.{◌≡◌, ◌+◌, ◌<◌, ◌≤◌, get_or, max, length, IfOk, IfSome, OnOk};
 ghost use Rattle.px_core.specs.Plan.{NoNode};
 ghost use Rattle.px_syntax.specs.Block.{branch_of, guarded_of};
 ghost use Rattle.px_syntax.specs.Expr.{term_of as text_of};
@@ -7,18 +7,18 @@ ghost use Rattle.px_expand.specs.Adding.{nothing};
 ghost use Rattle.px_expand.specs.Chain.{branch_in, open_scope, stands, test_in};
 ghost use Rattle.px_expand.specs.Core.{branch_name, for_scope, if_seen, loop_seen, while_scope};
 ghost use Rattle.px_expand.specs.Forms.{loop_path, where_found};
-ghost use Rattle.px_expand.specs.Names.{body_name, generated, loop_name, then_name};
-ghost use Rattle.px_expand.specs.Nodes.{child, paths_of};
+ghost use Rattle.px_expand.specs.Names.{body_name, loop_name, then_name};
+ghost use Rattle.px_expand.specs.Nodes.{child, names_of, paths_of};
 ghost use Rattle.px_expand.specs.Placed.{place_terms};
 ghost use Rattle.px_expand.specs.Resolving.{resolved};
-ghost use Rattle.px_expand.specs.Shown.{term_in};
+ghost use Rattle.px_expand.specs.Shown.{added_terms, term_in};
 ghost use Rattle.px_expand.specs.Size.{branch_reach, guarded_reach, through};
 
 use crate::children::Listed;
 use crate::conditions::Added;
 use crate::entering::{enter_if, enter_loop};
 use crate::forms::{Turn, where_found};
-use crate::names::{Generated, named};
+use crate::names::Generated;
 use crate::place::Place;
 use crate::resolve::resolved;
 use crate::scope::Scope;
@@ -54,12 +54,12 @@ pub(crate) fn into_if(
     ensures branch { IfOk result (λ made. place_terms made.branch ≡ child place.now.path
         (branch_name then_name (branch_in (guarded_of guarded.now))) (where_found place.now.path)) }
 {
-    let Listed { paths, .. } = enter_if(alloc, scope, place, &guarded.branch, behind)?;
+    let listed = enter_if(alloc, scope, place, &guarded.branch, behind)?;
     let test = resolved(alloc, scope, &guarded.test)?;
-    let branch = branch_place(alloc, &place.path, Generated::Then, &guarded.branch)?;
+    let branch = branch_place(alloc, &place.path, &listed)?;
     Ok(Entered {
         test,
-        paths,
+        paths: listed.paths,
         branch,
     })
 }
@@ -82,12 +82,12 @@ pub(crate) fn into_while(
     ensures branch { IfOk result (λ made. place_terms made.branch ≡ child place.now.path
         (branch_name body_name (branch_in (guarded_of guarded.now))) (where_found place.now.path)) }
 {
-    let Listed { paths, .. } = enter_loop(alloc, scope, place, &place.path, &guarded.branch, None)?;
+    let listed = enter_loop(alloc, scope, place, &place.path, &guarded.branch, None)?;
     let test = resolved(alloc, scope, &guarded.test)?;
-    let branch = branch_place(alloc, &place.path, Generated::Body, &guarded.branch)?;
+    let branch = branch_place(alloc, &place.path, &listed)?;
     Ok(Entered {
         test,
-        paths,
+        paths: listed.paths,
         branch,
     })
 }
@@ -122,17 +122,9 @@ pub(crate) fn into_for(
         (branch_name body_name (branch_of branch.now)) (where_found (loop_path place.now.path))) }
 {
     let inner = Place::generated(alloc, &place.path, Generated::Loop, Added::nothing(alloc)?)?;
-    let turn = enter_turn(
-        alloc,
-        scope,
-        place,
-        &inner.path,
-        variable,
-        test,
-        step,
-        branch,
-    )?;
-    let branch = branch_place(alloc, &inner.path, Generated::Body, branch)?;
+    let listed = enter_turn(alloc, scope, place, &inner.path, variable, branch)?;
+    let turn = turn_of(alloc, scope, test, step)?;
+    let branch = branch_place(alloc, &inner.path, &listed)?;
     Ok(EnteredFor {
         inner,
         turn,
@@ -147,21 +139,16 @@ fn enter_turn(
     place: &Place,
     path: &Path,
     variable: &Identifier,
-    test: &SurfaceExpr,
-    step: &SurfaceExpr,
     branch: &Branch,
-) -> Result<Turn, NoMemory>
+) -> Result<Listed, NoMemory>
     requires path { path.now ≡ loop_path place.now.path }
     requires room { length path.now + length (branch_name body_name (branch_of branch.now)) < PATH_LIMIT }
     ensures scope { OnOk result (scope.new
         ≡ for_scope scope.old (place_terms place.now) variable.now.name (branch_of branch.now)) }
-    ensures test { IfOk result (λ turn. term_in turn.test ≡ resolved
-        (for_scope scope.old (place_terms place.now) variable.now.name (branch_of branch.now)) (text_of test.now)) }
-    ensures next { IfOk result (λ turn. term_in turn.next ≡ resolved
-        (for_scope scope.old (place_terms place.now) variable.now.name (branch_of branch.now)) (text_of step.now)) }
+    ensures names { IfOk result (λ listed. listed.names.items ≡ names_of (loop_seen path.now (branch_of branch.now))) }
+    ensures paths { IfOk result (λ listed. listed.paths.items ≡ paths_of (loop_seen path.now (branch_of branch.now))) }
 {
-    enter_loop(alloc, scope, place, path, branch, Some(&variable.name))?;
-    turn_of(alloc, scope, test, step)
+    enter_loop(alloc, scope, place, path, branch, Some(&variable.name))
 }
 
 /// The test and the step of a `for`, in the scope inside it.
@@ -181,19 +168,15 @@ fn turn_of(
     })
 }
 
-/// Where the branch of a test stands in the node at a path.
-fn branch_place(
-    alloc: Global,
-    path: &Path,
-    unlabelled: Generated,
-    branch: &Branch,
-) -> Result<Place, NoMemory>
-    requires name { length path.now + length (branch_name (generated unlabelled) (branch_of branch.now)) < PATH_LIMIT }
+/// Where the branch of a test stands, the first child of the node at a path.
+fn branch_place(alloc: Global, path: &Path, children: &Listed) -> Result<Place, NoMemory>
+    requires names { 0 < length children.now.names.items }
+    requires paths { 0 < length children.now.paths.items }
     requires set { length path.now + 5 ≤ PATH_LIMIT }
-    ensures { IfOk result (λ made. place_terms made
-        ≡ child path.now (branch_name (generated unlabelled) (branch_of branch.now)) (where_found path.now)) }
+    ensures name { IfOk result (λ made. made.name ≡ get_or children.now.names.items 0 made.name) }
+    ensures path { IfOk result (λ made. made.path ≡ get_or children.now.paths.items 0 made.path) }
+    ensures added { IfOk result (λ made. added_terms made.added.value ≡ where_found path.now) }
 {
-    let name = named(alloc, &branch.label, unlabelled)?;
     let added = where_found(alloc, path)?;
-    Place::child(alloc, path, name, added)
+    Place::of(alloc, &children.names[0], &children.paths[0], added)
 }
