@@ -84,33 +84,32 @@ impl Given {
             ≡ conditions kind path.now children.now (with_added (added_terms added.value) (given_terms given.value))) }
     {
         given.add(alloc, added)?;
-        let defaults = Conditions::defaults(alloc, kind, path, children)?;
-        Ok(Box::into_inner(given).filled(defaults))
+        let mut conditions = Conditions::defaults(alloc, kind, path, children)?;
+        Box::into_inner(given).replace(&mut conditions);
+        Ok(conditions)
     }
 
-    /// A default where nothing is given.
-    fn filled(self, defaults: Conditions) -> Conditions
-        ensures { condition_terms result ≡ filled (given_terms self) (condition_terms defaults) }
+    /// What is given in place of the defaults.
+    fn replace(self, defaults: &mut Conditions)
+        ensures { condition_terms defaults.new ≡ filled (given_terms self) (condition_terms defaults.old) }
     {
-        Conditions {
-            start: or_default(self.start, defaults.start),
-            end: or_default(self.end, defaults.end),
-            exit: or_default(self.exit, defaults.exit),
-            skip: or_default(self.skip, defaults.skip),
-            repeat: or_default(self.repeat, defaults.repeat),
-            pre: or_default(self.pre, defaults.pre),
-            post: or_default(self.post, defaults.post),
-            invariant: or_default(self.invariant, defaults.invariant),
-        }
+        replace(&mut defaults.start, self.start);
+        replace(&mut defaults.end, self.end);
+        replace(&mut defaults.exit, self.exit);
+        replace(&mut defaults.skip, self.skip);
+        replace(&mut defaults.repeat, self.repeat);
+        replace(&mut defaults.pre, self.pre);
+        replace(&mut defaults.post, self.post);
+        replace(&mut defaults.invariant, self.invariant);
     }
 }
 
-fn or_default(given: Option<Box<Expr>>, default: Expr) -> Expr
-    ensures { term_of result ≡ unwrap_or (option_map term_in given) (term_of default) }
+/// What is given in place of a default. The default stays where it is, so that the many that stay aren't moved.
+fn replace(default: &mut Expr, given: Option<Box<Expr>>)
+    ensures { term_of default.new ≡ unwrap_or (option_map term_in given) (term_of default.old) }
 {
-    match given {
-        Some(given) => Box::into_inner(given),
-        None => default,
+    if let Some(given) = given {
+        *default = Box::into_inner(given);
     }
 }
 
