@@ -13,7 +13,7 @@ use Rattle.px_syntax.specs.Expr.{Term}
 use Rattle.px_syntax.specs.Form.{Form, identifier, maybe, each}
 use Rattle.px_expr_parse.specs.Tail.{closed}
 use Rattle.px_expr_parse.specs.Verdict.{Agree, AgreeBefore, IsFound}
-use Rattle.px_expr_parse.proofs.Completions.{before as before_late, begun_as, moved}
+use Rattle.px_expr_parse.proofs.Completions.{before as before_late, moved}
 use Rattle.px_expr_parse.proofs.Spans.{local_identifier}
 use Rattle.px_expr_parse.proofs.Parts.{agree_before}
 use Rattle.px_plan_parse.specs.declared.start.Start.{Start}
@@ -21,12 +21,12 @@ use Rattle.px_plan_parse.specs.declared.start.Start.TheVariants as starts
 use Rattle.px_plan_parse.specs.Named.{NamedData, Calls, Writes, Value, Answer, named, named_body}
 use Rattle.px_plan_parse.specs.Part.{Anything, IsLacking, IsPart}
 use Rattle.px_plan_parse.specs.Start.{NoBranch, NoElse as NotElse, NoElseIf as NotElseIf, NoName, is_branch, keyword_start, start_at}
-use Rattle.px_plan_parse.specs.Tail.{counter, end_if, update_pairs}
+use Rattle.px_plan_parse.specs.Tail.{counter, end_if, update_pairs, test}
 use Rattle.px_plan_parse.proofs.Blocks.{block_sort, body_sort}
-use Rattle.px_plan_parse.proofs.Parts.{Begins, HasKind, Makes, behind, both}
+use Rattle.px_plan_parse.proofs.Parts.{Begins, HasKind, Joins, Makes, Splits, behind, both, makes_by}
 use Rattle.px_plan_parse.proofs.Sorts as sorts
 use Rattle.px_plan_parse.proofs.Sorts.{Sort, sort_of, tree_sort}
-use Rattle.px_plan_parse.proofs.Starts.{start_keyword, start_name, start_too}
+use Rattle.px_plan_parse.proofs.Starts.{makes_by_start, start_keyword, start_name}
 
 -- ---- branches
 
@@ -37,11 +37,9 @@ block_no_name tokens tree from end o next is =
 pub makes_branch :
     (tokens : List Token) (from : ℕ)
     → Makes branch (both label block) (λ (parts : Option Identifier × BlockTree). Branch parts.0 parts.1) tokens from
-makes_branch tokens from = record { builds = λ others part end o. o; splits = λ others agree. split others }
+makes_branch tokens from = makes_by (λ others part end o. o) (λ others same. split others)
   where
-    split :
-        (others : List Token) (tree : BranchTree) (end : ℕ) → branch tree others from end
-        → (parts : Option Identifier × BlockTree) × (tree ≡ Branch parts.0 parts.1) × both label block parts others from end
+    split : (others : List Token) → Splits branch (both label block) (λ (parts : Option Identifier × BlockTree). Branch parts.0 parts.1) others from
     split others (Branch name parts) end o = ((name, parts), refl, o)
 
 abbrev pub test_and_branch : Term × BranchTree → Form
@@ -51,30 +49,13 @@ pub makes_guarded :
     (tokens : List Token) (from : ℕ)
     → Makes guarded test_and_branch (λ (parts : Term × BranchTree). Guarded parts.0 parts.1) tokens from
 makes_guarded tokens from =
-    record {
-      builds = λ others part end o. (o.0, o.1, (o.2.1.0, o.2.1.1, (o.2.0, o.2.1.2, o.2.2)));
-      splits = λ others agree. split others;
-    }
+    makes_by (λ others part end o. (o.0, o.1, (o.2.1.0, o.2.1.1, (o.2.0, o.2.1.2, o.2.2)))) (λ others same. split others)
   where
-    split :
-        (others : List Token) (tree : GuardedTree) (end : ℕ) → guarded tree others from end
-        → (parts : Term × BranchTree) × (tree ≡ Guarded parts.0 parts.1) × test_and_branch parts others from end
+    split : (others : List Token) → Splits guarded test_and_branch (λ (parts : Term × BranchTree). Guarded parts.0 parts.1) others from
     split others (Guarded test parts) end o =
         ((test, parts), refl, (o.0, o.1, (o.2.2.0, (o.2.0, o.2.1, o.2.2.1), o.2.2.2)))
 
 -- ---- the branches of an if
-
-pub else_if_starts : (tokens : List Token) (place : ℕ) → HasKind tokens place (kinds.Keyword words.ElseIf) → start_at tokens place ≡ starts.ElseIf
-unfolding keyword_start
-else_if_starts tokens place has = start_keyword tokens place words.ElseIf has
-
-pub else_starts : (tokens : List Token) (place : ℕ) → HasKind tokens place (kinds.Keyword words.Else) → start_at tokens place ≡ starts.Else
-unfolding keyword_start
-else_starts tokens place has = start_keyword tokens place words.Else has
-
-pub end_if_starts : (tokens : List Token) (place : ℕ) → HasKind tokens place (kinds.Keyword words.EndIf) → start_at tokens place ≡ starts.EndIf
-unfolding keyword_start
-end_if_starts tokens place has = start_keyword tokens place words.EndIf has
 
 abbrev pub one_else_if : GuardedTree → Form
 one_else_if = behind (kinds.Keyword words.ElseIf) guarded
@@ -93,14 +74,11 @@ from_turn (ElseIf first rest) tokens from to o =
 
 pub makes_else_ifs : (tokens : List Token) (from : ℕ) → Makes else_ifs (each one_else_if) else_ifs_in_turn tokens from
 makes_else_ifs tokens from =
-    record {
-      builds = λ others part end o. to_turn part others from end o;
-      splits = λ others agree tree end o. from_turn tree others from end o;
-    }
+    makes_by (λ others part end o. to_turn part others from end o) (λ others same tree end o. from_turn tree others from end o)
 
 pub makes_otherwise :
     (tokens : List Token) (from : ℕ) → Makes otherwise (maybe (behind (kinds.Keyword words.Else) branch)) else_of tokens from
-makes_otherwise tokens from = record { builds = build; splits = λ others agree. split others }
+makes_otherwise tokens from = makes_by build (λ others same. split others)
   where
     build :
         (others : List Token) (part : Option BranchTree) (end : ℕ) → maybe (behind (kinds.Keyword words.Else) branch) part others from end
@@ -108,111 +86,58 @@ makes_otherwise tokens from = record { builds = build; splits = λ others agree.
     build others None end o = o
     build others (Some part) end o = o
 
-    split :
-        (others : List Token) (tree : ElseTree) (end : ℕ) → otherwise tree others from end
-        → (part : Option BranchTree) × (tree ≡ else_of part) × maybe (behind (kinds.Keyword words.Else) branch) part others from end
+    split : (others : List Token) → Splits otherwise (maybe (behind (kinds.Keyword words.Else) branch)) else_of others from
     split others NoElse end o = (None, refl, o)
     split others (Else parts) end o = (Some parts, refl, o)
 
 pub end_follows : Begins end_if NoBranch NotElse
+unfolding keyword_start
 end_follows tokens part from end (inl none) next is =
     let s : start_at tokens end ≡ starts.Else = ap (λ (p : ℕ). start_at tokens p) none ∙ is in
     let f : true ≡ false = sym (ap is_branch s) ∙ next in cc
-end_follows tokens part from end (inr given) next is = let s = end_if_starts tokens from given.0 in cc
+end_follows tokens part from end (inr given) next is = let s = start_keyword tokens from words.EndIf given.0 in cc
 
 pub else_follows : Begins (both otherwise end_if) NoBranch NotElseIf
+unfolding keyword_start
 else_follows tokens (NoElse, none) from end (middle, nothing_is, inl last) next is =
     let s : start_at tokens end ≡ starts.ElseIf = ap (λ (p : ℕ). start_at tokens p) (last ∙ nothing_is) ∙ is in
     let f : true ≡ false = sym (ap is_branch s) ∙ next in cc
 else_follows tokens (NoElse, none) from end (middle, nothing_is, inr given) next is =
-    let s = end_if_starts tokens middle given.0 in
+    let s = start_keyword tokens middle words.EndIf given.0 in
     let t : start_at tokens middle ≡ starts.ElseIf = ap (λ (p : ℕ). start_at tokens p) nothing_is ∙ is in cc
-else_follows tokens (Else parts, none) from end (middle, given, last) next is = let s = else_starts tokens from given.1.0 in cc
+else_follows tokens (Else parts, none) from end (middle, given, last) next is = let s = start_keyword tokens from words.Else given.1.0 in cc
 
-module _ (tokens : List Token) (at : ℕ) where
-  pub no_else_if :
-      (start_at tokens at ≡ starts.ElseIf → ⊥) → (others : List Token) → Agree tokens others at → (part : GuardedTree) (end : ℕ)
-      → one_else_if part others at end → ⊥
-  no_else_if none others agree part end o =
-      none (sym (start_too tokens others at at (omega arith) agree) ∙ else_if_starts others at o.1.0)
-
-  pub else_if_goes_on :
-      start_at tokens at ≡ starts.ElseIf → (others : List Token) → Agree tokens others at → NotElseIf others at → ⊥
-  else_if_goes_on is others agree none = none (start_too tokens others at at (omega arith) agree ∙ is)
-
-  pub no_else :
-      (start_at tokens at ≡ starts.Else → ⊥) → (others : List Token) → Agree tokens others at → (part : BranchTree) (end : ℕ)
-      → behind (kinds.Keyword words.Else) branch part others at end → ⊥
-  no_else none others agree part end o =
-      none (sym (start_too tokens others at at (omega arith) agree) ∙ else_starts others at o.1.0)
-
-  pub else_goes_on :
-      start_at tokens at ≡ starts.Else → (others : List Token) → Agree tokens others at → NotElse others at → ⊥
-  else_goes_on is others agree none = none (start_too tokens others at at (omega arith) agree ∙ is)
-
-  -- the word that ends an if, or none
-  pub part_end_if :
-      (end : ℕ) → at ≤ length tokens
-      → ((start_at tokens at ≡ starts.EndIf) × HasKind tokens at (kinds.Keyword words.EndIf) × (at < length tokens) × (end ≡ at + 1))
-      ⊎ ((start_at tokens at ≡ starts.EndIf → ⊥) × (end ≡ at))
-      → IsPart end_if NoBranch tokens at tt end
-  part_end_if end within (inl given) =
-      record {
-        advances = omega (arith, given.3);
-        within = omega (arith, given.2, given.3);
-        sole = λ others agree.
-            record {
-              spelled = inr (agree at (omega (arith, given.3)) ∙ given.1, given.3);
-              only = λ other last o next. only others (start_too tokens others at end (omega (arith, given.3)) agree) other last o next;
-            };
-      }
-    where
-      only :
-          (others : List Token) → start_at others at ≡ start_at tokens at → (other : Unit {0}) (last : ℕ) → end_if other others at last
-          → NoBranch others last → (other ≡ tt) × (last ≡ end)
-      only others same other last (inl none) next =
-          let s : start_at others last ≡ starts.EndIf = ap (λ (p : ℕ). start_at others p) none ∙ same ∙ given.0 in
-          absurd (let f : true ≡ false = sym (ap is_branch s) ∙ next in cc)
-      only others same other last (inr there) next = (refl, omega (arith, there.1, given.3))
-  part_end_if end within (inr absent) =
-      record {
-        advances = omega (arith, absent.1);
-        within = omega (arith, within, absent.1);
-        sole = λ others agree.
-            record {
-              spelled = inl absent.1;
-              only = λ other last o next. only others (start_too tokens others at end (omega (arith, absent.1)) agree) other last o;
-            };
-      }
-    where
-      only :
-          (others : List Token) → start_at others at ≡ start_at tokens at → (other : Unit {0}) (last : ℕ) → end_if other others at last
-          → (other ≡ tt) × (last ≡ end)
-      only others same other last (inl none) = (refl, omega (arith, none, absent.1))
-      only others same other last (inr there) = absurd (absent.0 (sym same ∙ end_if_starts others at there.0))
+pub end_no_branch : (others : List Token) (place : ℕ) → HasKind others place (kinds.Keyword words.EndIf) → NoBranch others place → ⊥
+unfolding keyword_start
+end_no_branch others place has none = let f : true ≡ false = sym (ap is_branch (start_keyword others place words.EndIf has)) ∙ none in cc
 
 -- ---- actions by their sorts
 
 abbrev pub if_parts : GuardedTree × (ElseIfs × (ElseTree × Unit {0})) → Form
 if_parts = behind (kinds.Keyword words.If) (both guarded (both else_ifs (both otherwise end_if)))
 
+abbrev pub if_made : GuardedTree × (ElseIfs × (ElseTree × Unit {0})) → BodyTree
+if_made parts = If parts.0 parts.1.0 parts.1.1.0
+
 abbrev pub for_parts : (Identifier × ℤ) × (Term × (Term × BranchTree)) → Form
 for_parts = behind (kinds.Keyword words.For) (both counter (both (closed signs.Semicolon) (both (closed signs.CloseParen) branch)))
+
+abbrev pub for_made : (Identifier × ℤ) × (Term × (Term × BranchTree)) → BodyTree
+for_made parts = For parts.0.0 parts.0.1 parts.1.0 parts.1.1.0 parts.1.1.1
+
+-- each tree of a sort is made of parts of it
+abbrev SplitsSort : {X : Type 0} → Sort → (X → Form) → (X → BodyTree) → List Token → ℕ → Type 0
+SplitsSort sort parts made tokens from =
+    (tree : BodyTree) (end : ℕ) → tree_sort tree ≡ sort → body tree tokens from end → (part : _) × (tree ≡ made part) × parts part tokens from end
 
 module _ (tokens : List Token) (from : ℕ) where
   -- a body is made of the parts of its sort where each tree of that sort is
   makes_sort : {X : Type 0} (sort : Sort) (parts : X → Form) (made : X → BodyTree) → sort_of (start_at tokens from) ≡ Some sort
       → ((others : List Token) (part : X) (end : ℕ) → parts part others from end → body (made part) others from end)
-      → ((others : List Token) (tree : BodyTree) (end : ℕ) → tree_sort tree ≡ sort → body tree others from end
-      → (part : X) × (tree ≡ made part) × parts part others from end)
-      → Makes body parts made tokens from
+      → ((others : List Token) → SplitsSort sort parts made others from) → Makes body parts made tokens from
   makes_sort sort parts made begins build split =
-      record {
-        builds = λ others part end o. build others part end o;
-        splits = λ others agree tree end o.
-            split others tree end
-            (same_Some (tree_sort tree) sort (sym (body_sort tree others from end o) ∙ ap sort_of (start_too tokens others from from (omega arith) agree) ∙ begins)) o;
-      }
+      makes_by_start build (λ others same tree end o.
+      split others tree end (same_Some (tree_sort tree) sort (sym (body_sort tree others from end o) ∙ ap sort_of same ∙ begins)) o)
 
   pub makes_named :
       sort_of (start_at tokens from) ≡ Some sorts.Named
@@ -227,9 +152,7 @@ module _ (tokens : List Token) (from : ℕ) where
       build others (name, Writes index (Value value)) end o = (o.2.0, (o.0, o.1, o.2.1), o.2.2)
       build others (name, Writes index (Answer parts)) end o = (o.2.0, (o.0, o.1, o.2.1), o.2.2)
 
-      split :
-          (others : List Token) (tree : BodyTree) (end : ℕ) → tree_sort tree ≡ sorts.Named → body tree others from end
-          → (parts : Identifier × NamedData) × (tree ≡ named_body parts.0 parts.1) × both identifier named parts others from end
+      split : (others : List Token) → SplitsSort sorts.Named (both identifier named) (λ (parts : Identifier × NamedData). named_body parts.0 parts.1) others from
       split others (Assign written value) end is o =
           ((written.name, Writes written.index (Value value)), refl, (o.1.0, o.1.1, (o.0, o.1.2, o.2)))
       split others (CallInto written parts) end is o =
@@ -240,9 +163,7 @@ module _ (tokens : List Token) (from : ℕ) where
   pub makes_inner : sort_of (start_at tokens from) ≡ Some sorts.Inner → Makes body block Inner tokens from
   makes_inner begins = makes_sort sorts.Inner block Inner begins (λ others part end o. o) split
     where
-      split :
-          (others : List Token) (tree : BodyTree) (end : ℕ) → tree_sort tree ≡ sorts.Inner → body tree others from end
-          → (part : BlockTree) × (tree ≡ Inner part) × block part others from end
+      split : (others : List Token) → SplitsSort sorts.Inner block Inner others from
       split others (Inner tree) end is o = (tree, refl, o)
       split others tree end is o = absurd (cc)
 
@@ -254,21 +175,14 @@ module _ (tokens : List Token) (from : ℕ) where
       (λ others part end o. (o.0, (refl, o.1), o.2)) split
     where
       split :
-          (others : List Token) (tree : BodyTree) (end : ℕ) → tree_sort tree ≡ sorts.Update → body tree others from end
-          → (part : List PairData) × (tree ≡ Update from part) × behind (kinds.Keyword words.Update) update_pairs part others from end
+          (others : List Token) → SplitsSort sorts.Update (behind (kinds.Keyword words.Update) update_pairs) (λ (pairs : List PairData). Update from pairs) others from
       split others (Update token pairs) end is o = (pairs, ap (λ (t : ℕ). Update t pairs) o.1.0, (o.0, o.1.1, o.2))
       split others tree end is o = absurd (cc)
 
-  pub makes_if :
-      sort_of (start_at tokens from) ≡ Some sorts.If
-      → Makes body if_parts (λ (parts : GuardedTree × (ElseIfs × (ElseTree × Unit {0}))). If parts.0 parts.1.0 parts.1.1.0) tokens from
-  makes_if begins =
-      makes_sort sorts.If if_parts (λ (parts : GuardedTree × (ElseIfs × (ElseTree × Unit {0}))). If parts.0 parts.1.0 parts.1.1.0) begins
-      (λ others part end o. o) split
+  pub makes_if : sort_of (start_at tokens from) ≡ Some sorts.If → Makes body if_parts if_made tokens from
+  makes_if begins = makes_sort sorts.If if_parts if_made begins (λ others part end o. o) split
     where
-      split :
-          (others : List Token) (tree : BodyTree) (end : ℕ) → tree_sort tree ≡ sorts.If → body tree others from end
-          → (part : GuardedTree × (ElseIfs × (ElseTree × Unit {0}))) × (tree ≡ If part.0 part.1.0 part.1.1.0) × if_parts part others from end
+      split : (others : List Token) → SplitsSort sorts.If if_parts if_made others from
       split others (If first others_of last) end is o = ((first, (others_of, (last, tt))), refl, o)
       split others tree end is o = absurd (cc)
 
@@ -278,28 +192,17 @@ module _ (tokens : List Token) (from : ℕ) where
   makes_while begins =
       makes_sort sorts.While (behind (kinds.Keyword words.While) guarded) While begins (λ others part end o. o) split
     where
-      split :
-          (others : List Token) (tree : BodyTree) (end : ℕ) → tree_sort tree ≡ sorts.While → body tree others from end
-          → (part : GuardedTree) × (tree ≡ While part) × behind (kinds.Keyword words.While) guarded part others from end
+      split : (others : List Token) → SplitsSort sorts.While (behind (kinds.Keyword words.While) guarded) While others from
       split others (While parts) end is o = (parts, refl, o)
       split others tree end is o = absurd (cc)
 
-  pub makes_for :
-      sort_of (start_at tokens from) ≡ Some sorts.For
-      → Makes body for_parts
-      (λ (parts : (Identifier × ℤ) × (Term × (Term × BranchTree))). For parts.0.0 parts.0.1 parts.1.0 parts.1.1.0 parts.1.1.1)
-      tokens from
+  pub makes_for : sort_of (start_at tokens from) ≡ Some sorts.For → Makes body for_parts for_made tokens from
   makes_for begins =
-      makes_sort sorts.For for_parts
-      (λ (parts : (Identifier × ℤ) × (Term × (Term × BranchTree))). For parts.0.0 parts.0.1 parts.1.0 parts.1.1.0 parts.1.1.1)
-      begins
+      makes_sort sorts.For for_parts for_made begins
       (λ others part end i. (i.0, i.1, (i.2.1.0, i.2.1.1, (i.2.1.2.0, i.2.1.2.1, (i.2.1.2.2.0, i.2.1.2.2.1, (i.2.1.2.2.2.0, i.2.1.2.2.2.1, (i.2.1.2.2.2.2.0, i.2.1.2.2.2.2.1, (i.2.0, i.2.1.2.2.2.2.2, (i.2.2.1.0, i.2.2.1.1, (i.2.2.0, i.2.2.1.2, (i.2.2.2.1.0, i.2.2.2.1.1, (i.2.2.2.0, i.2.2.2.1.2, i.2.2.2.2))))))))))))
       split
     where
-      split :
-          (others : List Token) (tree : BodyTree) (end : ℕ) → tree_sort tree ≡ sorts.For → body tree others from end
-          → (part : (Identifier × ℤ) × (Term × (Term × BranchTree)))
-          × (tree ≡ For part.0.0 part.0.1 part.1.0 part.1.1.0 part.1.1.1) × for_parts part others from end
+      split : (others : List Token) → SplitsSort sorts.For for_parts for_made others from
       split others (For variable first test step parts) end is o =
           (((variable, first), (test, (step, parts))), refl, (o.0, o.1, (o.2.2.2.2.2.2.0, (o.2.0, o.2.1, (o.2.2.0, o.2.2.1, (o.2.2.2.0, o.2.2.2.1, (o.2.2.2.2.0, o.2.2.2.2.1, (o.2.2.2.2.2.0, o.2.2.2.2.2.1, o.2.2.2.2.2.2.1))))), (o.2.2.2.2.2.2.2.2.0, (o.2.2.2.2.2.2.2.0, o.2.2.2.2.2.2.2.1, o.2.2.2.2.2.2.2.2.1), (o.2.2.2.2.2.2.2.2.2.2.0, (o.2.2.2.2.2.2.2.2.2.0, o.2.2.2.2.2.2.2.2.2.1, o.2.2.2.2.2.2.2.2.2.2.1), o.2.2.2.2.2.2.2.2.2.2.2)))))
       split others tree end is o = absurd (cc)
@@ -327,15 +230,10 @@ no_sort start n f b u i w r = refl
 module _ (tokens : List Token) (from : ℕ) where
   pub makes_unlabelled :
       (start_at tokens from ≡ starts.Name → ⊥) → Makes action body (λ (tree : BodyTree). Labelled None tree) tokens from
-  makes_unlabelled no_name =
-      record {
-        builds = λ others part end o. (from, refl, o);
-        splits = λ others agree. split others (start_too tokens others from from (omega arith) agree);
-      }
+  makes_unlabelled no_name = makes_by_start (λ others part end o. (from, refl, o)) split
     where
       split :
-          (others : List Token) → start_at others from ≡ start_at tokens from → (tree : ActionTree) (end : ℕ) → action tree others from end
-          → (part : BodyTree) × (tree ≡ Labelled None part) × body part others from end
+          (others : List Token) → start_at others from ≡ start_at tokens from → Splits action body (λ (tree : BodyTree). Labelled None tree) others from
       split others same (Labelled None parts) end o = (parts, refl, subst (λ (p : ℕ). body parts others p end) o.1 o.2)
       split others same (Labelled (Some name) parts) end o =
           absurd (no_name (sym same ∙ start_name others from name.name o.1.1.1.0))
@@ -384,55 +282,21 @@ module _ (tokens : List Token) (from : ℕ) where
             subst (λ (p : ℕ). body parts others p end) behind_colon o,
           )
 
-      pub part_labelled :
-          (parts : BodyTree) (to : ℕ) → IsPart body NoBranch tokens (from + 2) parts to
-          → IsPart action NoBranch tokens from (Labelled (Some name) parts) to
-      part_labelled parts to f =
+      pub joins_labelled : Joins action body (λ (parts : BodyTree). Labelled (Some name) parts) NoBranch NoBranch tokens from (from + 2)
+      joins_labelled =
           record {
-            advances = omega (arith, f.advances);
-            within = f.within;
-            sole = λ others agree.
-                let agree_next = agree_before tokens others (from + 1) to (omega (arith, f.advances)) agree in
-                let one = f.sole others agree in
-                record {
-                  spelled = (
-                    from + 2,
-                    (from + 1, (found.only others agree_next).spelled, (agree_next (from + 1) (omega arith) ∙ colon, omega arith)),
-                    one.spelled,
-                  );
-                  only = λ other end o next.
-                      let l = labelled others agree_next other end o in
-                      let is = one.only l.0 end l.2 next in
-                      (l.1 ∙ ap (λ (b : BodyTree). Labelled (Some name) b) is.0, is.1);
-                };
-          }
-
-      pub lack_labelled :
-          (fault : ParseFault) → IsLacking body NoBranch tokens (from + 2) fault → IsLacking action NoBranch tokens from fault
-      lack_labelled fault f =
-          record {
-            named = λ token is.
-                let l = f.named token is in
-                record {
-                  reached = omega (arith, l.reached);
-                  within = l.within;
-                  begun = begun_as l.begun (λ others agree end parts o. (
-                    Labelled (Some name) parts,
-                    (
-                      from + 2,
-                      (
-                        from + 1,
-                        name_there others (before_late tokens others (from + 1) token (omega (arith, l.reached)) agree),
-                        (agree (from + 1) (omega (arith, l.reached)) ∙ colon, omega arith),
-                      ),
-                      o,
-                    ),
-                  ));
-                  none = λ others agree other end o next.
-                      let p = labelled others (agree_before tokens others (from + 1) token (omega (arith, l.reached)) agree) other end o in
-                      l.none others agree p.0 end p.2 next;
-                };
-            shallow = f.shallow;
+            begins = omega arith;
+            builds = λ others agree parts end o. (
+              from + 2,
+              (
+                from + 1,
+                name_there others (before_late tokens others (from + 1) (from + 2) (omega arith) agree),
+                (agree (from + 1) (omega arith) ∙ colon, omega arith),
+              ),
+              o,
+            );
+            splits = λ others agree other end o last.
+                let l = labelled others (agree_before tokens others (from + 1) (from + 2) (omega arith) agree) other end o in (l.0, l.1, l.2, last);
           }
 
     module _ (no_colon : HasKind tokens (from + 1) (kinds.Sign signs.Colon) → ⊥) where
@@ -446,52 +310,16 @@ module _ (tokens : List Token) (from : ℕ) where
           let same = (found.only others agree).only other place named_is in
           absurd (no_colon (sym (agree (from + 1) (omega arith)) ∙ subst (λ (p : ℕ). HasKind others p (kinds.Sign signs.Colon)) same.1 colon_is.0))
 
-      pub part_plain :
-          (inner : NamedData) (to : ℕ) → IsPart named Anything tokens (from + 1) inner to
-          → IsPart action NoBranch tokens from (Labelled None (named_body name inner)) to
-      part_plain inner to f =
+      pub joins_plain : Joins action named (λ (inner : NamedData). Labelled None (named_body name inner)) NoBranch Anything tokens from (from + 1)
+      joins_plain =
           record {
-            advances = omega (arith, f.advances);
-            within = f.within;
-            sole = λ others agree.
-                let agree_next = agree_before tokens others (from + 1) to f.advances agree in
-                let one = f.sole others agree in
-                record {
-                  spelled = (
-                    from,
-                    refl,
-                    (makes_named others from (ap sort_of (name_is others agree_next))).builds others (name, inner) to
-                        (from + 1, (found.only others agree_next).spelled, one.spelled),
-                  );
-                  only = λ other end o next.
-                      let p = plain others agree_next other end o in
-                      let is = one.only p.0 end p.2 tt in
-                      (p.1 ∙ ap (λ (i : NamedData). Labelled None (named_body name i)) is.0, is.1);
-                };
-          }
-
-      pub lack_plain :
-          (fault : ParseFault) → IsLacking named Anything tokens (from + 1) fault → IsLacking action NoBranch tokens from fault
-      lack_plain fault f =
-          record {
-            named = λ token is.
-                let l = f.named token is in
-                record {
-                  reached = omega (arith, l.reached);
-                  within = l.within;
-                  begun = begun_as l.begun (λ others agree end inner o.
-                      let named_is = name_there others (before_late tokens others (from + 1) token l.reached agree) in (
-                        Labelled None (named_body name inner),
-                        (
-                          from,
-                          refl,
-                          (makes_named others from (ap sort_of (start_name others from name.name named_is.1.0))).builds others (name, inner) end
-                              (from + 1, named_is, o),
-                        ),
-                      ));
-                  none = λ others agree other end o next.
-                      let p = plain others (agree_before tokens others (from + 1) token l.reached agree) other end o in
-                      l.none others agree p.0 end p.2 tt;
-                };
-            shallow = f.shallow;
+            begins = omega arith;
+            builds = λ others agree inner end o.
+                let named_is = name_there others agree in (
+                  from,
+                  refl,
+                  (makes_named others from (ap sort_of (start_name others from name.name named_is.1.0))).builds others (name, inner) end
+                      (from + 1, named_is, o),
+                );
+            splits = λ others agree other end o last. let p = plain others agree other end o in (p.0, p.1, p.2, tt);
           }

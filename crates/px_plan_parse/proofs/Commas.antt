@@ -11,7 +11,7 @@ use Rattle.px_plan_parse.specs.Part.{Follow, Anything, IsPart, IsLacking}
 use Rattle.px_plan_parse.specs.Tail.{Only}
 use Rattle.px_expr_parse.proofs.Completions.{short_nothing}
 use Rattle.px_expr_parse.proofs.Spans.{IsLocal, local_sign, local_then, local_never}
-use Rattle.px_plan_parse.proofs.Parts.{IsFront, Begins, HasKind, LacksKind, Makes, behind, before, both, front_begins, front_ends, front_lacks, front_more, lack_before, lack_behind, local_each, lack_first, lack_made, lack_second, lack_token, part_before, part_behind, part_both, part_made}
+use Rattle.px_plan_parse.proofs.Parts.{IsFront, Begins, HasKind, Joins, LacksKind, Makes, Splits, behind, before, both, front_begins, front_ends, front_lacks, front_more, joins_both, lack_before, lack_behind, lack_first, lack_joined, lack_made, lack_token, local_each, makes_by, part_before, part_behind, part_joined, part_made}
 
 abbrev pub further : {A : Type 0} → (A → Form) → A → Form
 further form = behind (kinds.Sign signs.Comma) form
@@ -35,74 +35,79 @@ pub record HasCommas {A : Type 0} (form : A → Form) (Next Last : Follow) (toke
 abbrev pub closed_commas : {A : Type 0} → (A → Form) → Sign → List A → Form
 closed_commas form close = before (with_commas form) (kinds.Sign close)
 
-module _ {A : Type 0} (form : A → Form) (Next : Follow) (close : Sign) (tokens : List Token) (from : ℕ)
-    (no_comma : close ≡ signs.Comma → ⊥)
-    (comma_follows : (others : List Token) (place : ℕ) → HasKind others place (kinds.Sign signs.Comma) → Next others place)
-    (close_follows : (others : List Token) (place : ℕ) → HasKind others place (kinds.Sign close) → Next others place)
-  where
-    as_pair : Makes (with_commas form) (both form (each (further form))) (λ (parts : A × List A). parts.0 ∷ parts.1) tokens from
-    as_pair = record { builds = λ others part end o. o; splits = λ others agree. split others }
-      where
-        split :
-            (others : List Token) (all : List A) (end : ℕ) → with_commas form all others from end
-            → (parts : A × List A) × (all ≡ parts.0 ∷ parts.1) × both form (each (further form)) parts others from end
-        split others [] end o = absurd o
-        split others (first ∷ rest) end o = ((first, rest), refl, o)
+-- parts that commas separate and a sign closes
+pub record Separates {A : Type 0} (form : A → Form) (Next : Follow) (close : Sign) : Type 0 where
+  pub no_comma : close ≡ signs.Comma → ⊥
+  pub comma_follows : (others : List Token) (place : ℕ) → HasKind others place (kinds.Sign signs.Comma) → Next others place
+  pub close_follows : (others : List Token) (place : ℕ) → HasKind others place (kinds.Sign close) → Next others place
+  pub local : (part : A) → IsLocal (form part)
 
-    rest_begins : Begins (each (further form)) (Only close) Next
-    rest_begins others [] place end o closes = close_follows others place (subst (λ (p : ℕ). Only close others p) o closes)
-    rest_begins others (part ∷ rest) place end o closes = comma_follows others place o.1.1.0
+module _ {A : Type 0} {form : A → Form} {Next : Follow} {close : Sign} (separates : Separates form Next close) where
+  rest_begins : Begins (each (further form)) (Only close) Next
+  rest_begins others [] place end o closes = separates.close_follows others place (subst (λ (p : ℕ). Only close others p) o closes)
+  rest_begins others (part ∷ rest) place end o closes = separates.comma_follows others place o.1.1.0
 
-    pub commas_lack_first : {fault : ParseFault} → IsLacking form Next tokens from fault → IsLacking (closed_commas form close) Anything tokens from fault
-    commas_lack_first f = lack_before (λ others place has. has) (lack_made as_pair (lack_first rest_begins (short_nothing (λ others place. ([], refl))) f))
+module _ {A : Type 0} {form : A → Form} {Next : Follow} {close : Sign} (separates : Separates form Next close) {tokens : List Token} {from : ℕ} where
+  as_pair : Makes (with_commas form) (both form (each (further form))) (λ (parts : A × List A). parts.0 ∷ parts.1) tokens from
+  as_pair = makes_by (λ others part end o. o) (λ others same. split others)
+    where
+      split : (others : List Token) → Splits (with_commas form) (both form (each (further form))) (λ (parts : A × List A). parts.0 ∷ parts.1) others from
+      split others [] end o = absurd o
+      split others (first ∷ rest) end o = ((first, rest), refl, o)
 
-    pub commas_begin :
-        {part : A} {to : ℕ} → IsPart form Next tokens from part to → HasCommas form Next (Only close) tokens from (part ∷ []) to
-    commas_begin {part = part} {to = to} f =
-        record { first = part; others = []; middle = to; are = refl; begun = f; front = front_begins f.within }
+  pub commas_lack_first : {fault : ParseFault} → IsLacking form Next tokens from fault → IsLacking (closed_commas form close) Anything tokens from fault
+  commas_lack_first f = lack_before (λ others place has. has) (lack_made as_pair (lack_first (rest_begins separates) (short_nothing (λ others place. ([], refl))) f))
 
-    module _ {done : List A} {at : ℕ} (so_far : HasCommas form Next (Only close) tokens from done at) where
-      goes_on : HasKind tokens at (kinds.Sign signs.Comma) → (others : List Token) → Agree tokens others at → Only close others at → ⊥
-      goes_on comma others agree closes =
-          let there : HasKind others at (kinds.Sign signs.Comma) = agree at (omega arith) ∙ comma in
-          no_comma (let e : close ≡ signs.Comma = cc in e)
+  pub commas_begin :
+      {part : A} {to : ℕ} → IsPart form Next tokens from part to → HasCommas form Next (Only close) tokens from (part ∷ []) to
+  commas_begin {part = part} {to = to} f =
+      record { first = part; others = []; middle = to; are = refl; begun = f; front = front_begins f.within }
 
-      pub commas_more :
-          {part : A} {to : ℕ} → HasKind tokens at (kinds.Sign signs.Comma) → IsPart form Next tokens (at + 1) part to
-          → HasCommas form Next (Only close) tokens from (done ++ part ∷ []) to
-      commas_more {part = part} {to = to} comma f =
-          record {
-            first = so_far.first;
-            others = so_far.others ++ part ∷ [];
-            middle = so_far.middle;
-            are = ap (λ (all : List A). all ++ part ∷ []) so_far.are;
-            begun = so_far.begun;
-            front =
-                front_more so_far.front (λ others other place end o. comma_follows others place o.1.0) close_follows (goes_on comma)
-                (part_behind comma f);
-          }
+  module _ {done : List A} {at : ℕ} (so_far : HasCommas form Next (Only close) tokens from done at) where
+    -- the first, and those behind it
+    joins_first : Joins (both form (each (further form))) (each (further form)) (λ (rest : List A). (so_far.first, rest)) (Only close) (Only close) tokens from so_far.middle
+    joins_first = joins_both (rest_begins separates) (separates.local so_far.first) so_far.begun
 
-      pub commas_lack :
-          {fault : ParseFault} → ((part : A) → IsLocal (form part)) → HasKind tokens at (kinds.Sign signs.Comma)
-          → IsLacking form Next tokens (at + 1) fault → IsLacking (closed_commas form close) Anything tokens from fault
-      commas_lack local comma f =
-          lack_before (λ others place has. has)
-          (lack_made as_pair (lack_second rest_begins (local so_far.first) so_far.begun
-          (front_lacks so_far.front (λ others other place end o. comma_follows others place o.1.0) close_follows (goes_on comma)
-          (local_further local) (lack_behind comma f))))
+    goes_on : HasKind tokens at (kinds.Sign signs.Comma) → (others : List Token) → Agree tokens others at → Only close others at → ⊥
+    goes_on comma others agree closes =
+        let there : HasKind others at (kinds.Sign signs.Comma) = agree at (omega arith) ∙ comma in
+        separates.no_comma (let e : close ≡ signs.Comma = cc in e)
 
-      all_read : (HasKind tokens at (kinds.Sign signs.Comma) → ⊥) → IsPart (with_commas form) (Only close) tokens from done at
-      all_read none =
+    pub commas_more :
+        {part : A} {to : ℕ} → HasKind tokens at (kinds.Sign signs.Comma) → IsPart form Next tokens (at + 1) part to
+        → HasCommas form Next (Only close) tokens from (done ++ part ∷ []) to
+    commas_more {part = part} {to = to} comma f =
+        record {
+          first = so_far.first;
+          others = so_far.others ++ part ∷ [];
+          middle = so_far.middle;
+          are = ap (λ (all : List A). all ++ part ∷ []) so_far.are;
+          begun = so_far.begun;
+          front =
+              front_more so_far.front (λ others other place end o. separates.comma_follows others place o.1.0) separates.close_follows (goes_on comma)
+              (part_behind comma f);
+        }
+
+    pub commas_lack :
+        {fault : ParseFault} → HasKind tokens at (kinds.Sign signs.Comma)
+        → IsLacking form Next tokens (at + 1) fault → IsLacking (closed_commas form close) Anything tokens from fault
+    commas_lack comma f =
+        lack_before (λ others place has. has)
+        (lack_made as_pair (lack_joined joins_first
+        (front_lacks so_far.front (λ others other place end o. separates.comma_follows others place o.1.0) separates.close_follows (goes_on comma)
+        (local_further separates.local) (lack_behind comma f))))
+
+    module _ (none : HasKind tokens at (kinds.Sign signs.Comma) → ⊥) where
+      all_read : IsPart (with_commas form) (Only close) tokens from done at
+      all_read =
           subst (λ (all : List A). IsPart (with_commas form) (Only close) tokens from all at) (sym so_far.are)
-          (part_made as_pair (part_both rest_begins so_far.begun
+          (part_made as_pair (part_joined joins_first
           (front_ends so_far.front (λ others agree part end o. none (sym (agree at (omega arith)) ∙ o.1.0)))))
 
       pub commas_end :
-          (HasKind tokens at (kinds.Sign signs.Comma) → ⊥) → at < length tokens → HasKind tokens at (kinds.Sign close)
-          → IsPart (closed_commas form close) Anything tokens from done (at + 1)
-      commas_end none inside has = part_before (λ others place is. is) inside (all_read none) has
+          at < length tokens → HasKind tokens at (kinds.Sign close) → IsPart (closed_commas form close) Anything tokens from done (at + 1)
+      commas_end inside has = part_before (λ others place is. is) (local_commas separates.local done) inside all_read has
 
       pub commas_lack_close :
-          {fault : ParseFault} → ((part : A) → IsLocal (form part)) → (HasKind tokens at (kinds.Sign signs.Comma) → ⊥)
-          → LacksKind tokens at (kinds.Sign close) fault → IsLacking (closed_commas form close) Anything tokens from fault
-      commas_lack_close local none lacks = lack_token (λ others place is. is) (local_commas local done) (all_read none) lacks
+          {fault : ParseFault} → LacksKind tokens at (kinds.Sign close) fault → IsLacking (closed_commas form close) Anything tokens from fault
+      commas_lack_close lacks = lack_token (λ others place is. is) (local_commas separates.local done) all_read lacks

@@ -1,5 +1,5 @@
 -- What declarations consist of.
-use Rattle.std.proofs.Common.{◌≡◌, ℕ, ◌+◌, ◌≤◌, ◌<◌, inl, inr, refl, sym, ap, subst, ◌∙◌, List, [], ◌∷◌, length, Option, Some, None, Bool, true, false, arith}
+use Rattle.std.proofs.Common.{◌≡◌, ℕ, ◌+◌, ◌≤◌, ◌<◌, inl, inr, refl, sym, ap, subst, ◌∙◌, List, [], ◌∷◌, length, Option, Some, None, Bool, true, false, cond, arith}
 use Rattle.px_lex.specs.declared.keyword.Keyword.TheVariants as words
 use Rattle.px_lex.specs.declared.sign.Sign.TheVariants as signs
 use Rattle.px_lex.specs.declared.token.Token.{Token}
@@ -14,15 +14,16 @@ use Rattle.px_syntax.specs.Form.{Form, identifier, keyword, kind_at, sign, ◌th
 use Rattle.px_syntax.specs.Plan.{DeclarationData, Command, Lookup}
 use Rattle.px_syntax.specs.PlanGrammar.{declaration, parameter}
 use Rattle.px_expr_parse.specs.Verdict.{Agree, IsBegun}
-use Rattle.px_expr_parse.proofs.Completions.{Shortest, begun_here}
+use Rattle.px_expr_parse.proofs.Completions.{Shortest}
 use Rattle.px_plan_parse.specs.declared.start.Start.{Start}
 use Rattle.px_plan_parse.specs.declared.start.Start.TheVariants as starts
 use Rattle.px_plan_parse.specs.Part.{Follow, Anything, IsLacking, IsPart}
 use Rattle.px_plan_parse.specs.Start.{NoDeclaration, NoName, is_declaration, keyword_start, start_at}
 use Rattle.px_plan_parse.specs.Tail.{closed_parameters, declared_parameters, signature}
-use Rattle.px_plan_parse.proofs.Commas.{closed_commas}
-use Rattle.px_plan_parse.proofs.Parts.{HasKind, Makes, before, behind}
-use Rattle.px_plan_parse.proofs.Starts.{start_keyword, start_name, start_nothing, start_too, type_starts}
+use Rattle.px_plan_parse.proofs.Commas.{Separates, closed_commas}
+use Rattle.px_plan_parse.proofs.Parts.{HasKind, Makes, Splits, alone, before, behind, lack_here, makes_by}
+use Rattle.px_plan_parse.proofs.Spans.{local_parameter}
+use Rattle.px_plan_parse.proofs.Starts.{makes_by_start, start_keyword, start_nothing, start_same, type_starts}
 
 -- ---- a fault where no part begins
 
@@ -32,18 +33,7 @@ pub lacks_here :
     → from ≤ length tokens → Shortest form
     → ((others : List Token) → start_at others from ≡ start_at tokens from → (part : A) (end : ℕ) → form part others from end → ⊥)
     → IsLacking form Last tokens from fault
-lacks_here {form = form} tokens from fault e within short none =
-    record {
-      named = λ token is.
-          let same : token ≡ from = cc in
-          record {
-            reached = omega (arith, same);
-            within = omega (arith, same, within);
-            begun = subst (λ (t : ℕ). IsBegun form tokens from t) (sym same) (begun_here short);
-            none = λ others agree tree end o next. none others (start_too tokens others from token (omega (arith, same)) agree) tree end o;
-          };
-      shallow = λ token is. cc;
-    }
+lacks_here tokens from fault e within short none = lack_here e within short (λ others same. none others (start_same tokens others from same))
 
 -- ---- parameters
 
@@ -58,42 +48,27 @@ module _ (tokens : List Token) (from : ℕ) where
       (of_type : TypeName) → start_at tokens from ≡ starts.Type of_type
       → Makes parameter (named_type of_type) (λ (name : Option Identifier). record { of_type = of_type; name = name }) tokens from
   makes_parameter of_type is =
-      record {
-        builds = λ others part end o. o;
-        splits = λ others agree tree end o.
-            let s = (type_starts tree.of_type others from o.0 o.1).0 in
-            let t = start_too tokens others from from (omega arith) agree in
-            let same : tree.of_type ≡ of_type = cc in (
-              tree.name,
-              ap (λ (t : TypeName). as_parameter t tree.name) same,
-              subst (λ (t : TypeName). named_type t tree.name others from end) same o,
-            );
-      }
+      makes_by_start (λ others part end o. o) (λ others same tree end o.
+      let s = (type_starts tree.of_type others from o.0 o.1).0 in
+      let same_type : tree.of_type ≡ of_type = cc in (
+        tree.name,
+        ap (λ (t : TypeName). as_parameter t tree.name) same_type,
+        subst (λ (t : TypeName). named_type t tree.name others from end) same_type o,
+      ))
 
   pub no_parameter :
       ((of_type : TypeName) → start_at tokens from ≡ starts.Type of_type → ⊥) → (others : List Token)
       → start_at others from ≡ start_at tokens from → (part : Parameter) (end : ℕ) → parameter part others from end → ⊥
   no_parameter none others same part end o = none part.of_type (sym same ∙ (type_starts part.of_type others from o.0 o.1).0)
 
-  -- a name, or none
-  pub no_name :
-      (start_at tokens from ≡ starts.Name → ⊥) → (others : List Token) → Agree tokens others from → (part : Identifier) (end : ℕ)
-      → identifier part others from end → ⊥
-  no_name none others agree part end o =
-      none (sym (start_too tokens others from from (omega arith) agree) ∙ start_name others from part.name o.1.0)
-
-  pub name_goes_on :
-      start_at tokens from ≡ starts.Name → (others : List Token) → Agree tokens others from → NoName others from → ⊥
-  name_goes_on is others agree none = none (start_too tokens others from from (omega arith) agree ∙ is)
-
-pub comma_is_no_name : (others : List Token) (place : ℕ) → HasKind others place (kinds.Sign signs.Comma) → NoName others place
-comma_is_no_name others place has is = let e = start_nothing signs.Comma (λ f. cc) others place has in cc
-
-pub paren_is_no_name : (others : List Token) (place : ℕ) → HasKind others place (kinds.Sign signs.CloseParen) → NoName others place
-paren_is_no_name others place has is = let e = start_nothing signs.CloseParen (λ f. cc) others place has in cc
-
-pub paren_is_no_comma : signs.CloseParen ≡ signs.Comma → ⊥
-paren_is_no_comma e = cc
+pub parameters_separate : Separates parameter NoName signs.CloseParen
+parameters_separate =
+    record {
+      no_comma = λ e. cc;
+      comma_follows = λ others place has is. let e = start_nothing signs.Comma (λ f. cc) others place has in cc;
+      close_follows = λ others place has is. let e = start_nothing signs.CloseParen (λ f. cc) others place has in cc;
+      local = local_parameter;
+    }
 
 module _ (tokens : List Token) (from : ℕ) where
   pub no_parameters :
@@ -119,8 +94,7 @@ module _ (tokens : List Token) (from : ℕ) where
   pub makes_parameters :
       (HasKind tokens from (kinds.Sign signs.CloseParen) → ⊥)
       → Makes closed_parameters (closed_commas parameter signs.CloseParen) (λ (parts : List Parameter). parts) tokens from
-  makes_parameters no_paren =
-      record { builds = build; splits = λ others agree. split others (sym (agree from (omega arith))) }
+  makes_parameters no_paren = makes_by build (λ others same. split others (sym same))
     where
       build :
           (others : List Token) (parts : List Parameter) (end : ℕ) → closed_commas parameter signs.CloseParen parts others from end
@@ -129,21 +103,19 @@ module _ (tokens : List Token) (from : ℕ) where
       build others (first ∷ rest) end o = o
 
       split :
-          (others : List Token) → kind_at tokens from ≡ kind_at others from → (parts : List Parameter) (end : ℕ)
-          → closed_parameters parts others from end
-          → (same : List Parameter) × (parts ≡ same) × closed_commas parameter signs.CloseParen same others from end
+          (others : List Token) → kind_at tokens from ≡ kind_at others from
+          → Splits closed_parameters (closed_commas parameter signs.CloseParen) (λ (parts : List Parameter). parts) others from
       split others same [] end o = absurd (no_paren (same ∙ o.0))
       split others same (first ∷ rest) end o = (first ∷ rest, refl, o)
 
   pub makes_no_parameters :
       (HasKind tokens from (kinds.Sign signs.OpenParen) → ⊥)
-      → Makes declared_parameters (λ (none : Unit {0}). sign signs.Semicolon) (λ (none : Unit {0}). []) tokens from
-  makes_no_parameters no_paren =
-      record { builds = λ others part end o. (from, inl refl, o); splits = λ others agree. split others (sym (agree from (omega arith))) }
+      → Makes declared_parameters (alone (kinds.Sign signs.Semicolon)) (λ (none : Unit {0}). []) tokens from
+  makes_no_parameters no_paren = makes_by (λ others part end o. (from, inl refl, o)) (λ others same. split others (sym same))
     where
       split :
-          (others : List Token) → kind_at tokens from ≡ kind_at others from → (parts : List Parameter) (end : ℕ)
-          → declared_parameters parts others from end → (none : Unit {0}) × (parts ≡ []) × sign signs.Semicolon others from end
+          (others : List Token) → kind_at tokens from ≡ kind_at others from
+          → Splits declared_parameters (alone (kinds.Sign signs.Semicolon)) (λ (none : Unit {0}). []) others from
       split others same [] end (middle, inl none, o) = (tt, refl, subst (λ (p : ℕ). sign signs.Semicolon others p end) none o)
       split others same [] end (middle, inr given, o) = absurd (no_paren (same ∙ given.1.0))
       split others same (first ∷ rest) end (middle, given, o) = absurd (no_paren (same ∙ given.1.0))
@@ -153,23 +125,18 @@ module _ (tokens : List Token) (from : ℕ) where
 
   pub makes_given_parameters :
       HasKind tokens from (kinds.Sign signs.OpenParen)
-      → Makes declared_parameters (behind (kinds.Sign signs.OpenParen) (before closed_parameters (kinds.Sign signs.Semicolon)))
-      (λ (parts : List Parameter). parts) tokens from
-  makes_given_parameters has =
-      record { builds = build; splits = λ others agree. split others (agree from (omega arith) ∙ has) }
+      → Makes declared_parameters given_parameters (λ (parts : List Parameter). parts) tokens from
+  makes_given_parameters has = makes_by build (λ others same. split others (same ∙ has))
     where
       build :
-          (others : List Token) (parts : List Parameter) (end : ℕ)
-          → behind (kinds.Sign signs.OpenParen) (before closed_parameters (kinds.Sign signs.Semicolon)) parts others from end
+          (others : List Token) (parts : List Parameter) (end : ℕ) → given_parameters parts others from end
           → declared_parameters parts others from end
       build others [] end o = (o.2.0, inr (o.0, o.1, o.2.1), o.2.2)
       build others (first ∷ rest) end o = (o.2.0, (o.0, o.1, o.2.1), o.2.2)
 
       split :
-          (others : List Token) → HasKind others from (kinds.Sign signs.OpenParen) → (parts : List Parameter) (end : ℕ)
-          → declared_parameters parts others from end
-          → (same : List Parameter) × (parts ≡ same)
-          × behind (kinds.Sign signs.OpenParen) (before closed_parameters (kinds.Sign signs.Semicolon)) same others from end
+          (others : List Token) → HasKind others from (kinds.Sign signs.OpenParen)
+          → Splits declared_parameters given_parameters (λ (parts : List Parameter). parts) others from
       split others there [] end (middle, inl none, o) =
           let semicolon : HasKind others from (kinds.Sign signs.Semicolon) = subst (λ (p : ℕ). HasKind others p (kinds.Sign signs.Semicolon)) none o.0 in
           absurd cc
@@ -190,22 +157,11 @@ abbrev pub typed_build : TypeName → Bool × (Identifier × List Parameter) →
 typed_build answer (true, parts) = Command (Some answer) parts.0 parts.1
 typed_build answer (false, parts) = Lookup answer parts.0 parts.1
 
-pub command_starts : (tokens : List Token) (place : ℕ) → HasKind tokens place (kinds.Keyword words.Command) → start_at tokens place ≡ starts.Command
-unfolding keyword_start
-command_starts tokens place has = start_keyword tokens place words.Command has
-
-pub lookup_starts : (tokens : List Token) (place : ℕ) → HasKind tokens place (kinds.Keyword words.Lookup) → start_at tokens place ≡ starts.Lookup
-unfolding keyword_start
-lookup_starts tokens place has = start_keyword tokens place words.Lookup has
-
 module _ (tokens : List Token) (from : ℕ) where
   pub makes_typed :
       (answer : TypeName) → start_at tokens from ≡ starts.Type answer → Makes declaration (typed_word answer) (typed_build answer) tokens from
-  makes_typed answer is =
-      record {
-        builds = build;
-        splits = λ others agree. split others (start_too tokens others from from (omega arith) agree ∙ is);
-      }
+  unfolding keyword_start
+  makes_typed answer is = makes_by_start build (λ others same. split others (same ∙ is))
     where
       build :
           (others : List Token) (parts : Bool × (Identifier × List Parameter)) (end : ℕ) → typed_word answer parts others from end
@@ -213,13 +169,11 @@ module _ (tokens : List Token) (from : ℕ) where
       build others (true, parts) end o = o
       build others (false, parts) end o = o
 
-      split :
-          (others : List Token) → start_at others from ≡ starts.Type answer → (tree : DeclarationData) (end : ℕ) → declaration tree others from end
-          → (parts : Bool × (Identifier × List Parameter)) × (tree ≡ typed_build answer parts) × typed_word answer parts others from end
+      split : (others : List Token) → start_at others from ≡ starts.Type answer → Splits declaration (typed_word answer) (typed_build answer) others from
       split others begins (Command None name parts) end o =
           let there : HasKind others from (kinds.Keyword words.Command) =
           subst (λ (p : ℕ). HasKind others p (kinds.Keyword words.Command)) o.1 o.2.1.0 in
-          let s = command_starts others from there in absurd cc
+          let s = start_keyword others from words.Command there in absurd cc
       split others begins (Command (Some other) name parts) end o =
           let s = (type_starts other others from o.0 o.1).0 in
           let same : other ≡ answer = cc in (
@@ -235,58 +189,37 @@ module _ (tokens : List Token) (from : ℕ) where
             subst (λ (t : TypeName). typed_word t (false, (name, parts)) others from end) same o,
           )
 
-  pub makes_command_word :
-      start_at tokens from ≡ starts.Command
-      → Makes worded (behind (kinds.Keyword words.Command) signature) (λ (parts : Identifier × List Parameter). (true, parts)) tokens from
-  makes_command_word is =
-      record {
-        builds = λ others part end o. o;
-        splits = λ others agree. split others (start_too tokens others from from (omega arith) agree ∙ is);
-      }
+  -- by the word behind the type
+  pub makes_worded :
+      (command : Bool) → start_at tokens from ≡ cond command starts.Command starts.Lookup
+      → Makes worded (λ (parts : Identifier × List Parameter). worded (command, parts)) (λ (parts : Identifier × List Parameter). (command, parts)) tokens from
+  unfolding keyword_start
+  makes_worded command is = makes_by_start (λ others part end o. o) (λ others same. split command others (same ∙ is))
     where
       split :
-          (others : List Token) → start_at others from ≡ starts.Command → (tree : Bool × (Identifier × List Parameter)) (end : ℕ)
-          → worded tree others from end
-          → (parts : Identifier × List Parameter) × (tree ≡ (true, parts)) × behind (kinds.Keyword words.Command) signature parts others from end
-      split others begins (true, parts) end o = (parts, refl, o)
-      split others begins (false, parts) end o = let s = lookup_starts others from o.1.0 in absurd cc
-
-  pub makes_lookup_word :
-      start_at tokens from ≡ starts.Lookup
-      → Makes worded (behind (kinds.Keyword words.Lookup) signature) (λ (parts : Identifier × List Parameter). (false, parts)) tokens from
-  makes_lookup_word is =
-      record {
-        builds = λ others part end o. o;
-        splits = λ others agree. split others (start_too tokens others from from (omega arith) agree ∙ is);
-      }
-    where
-      split :
-          (others : List Token) → start_at others from ≡ starts.Lookup → (tree : Bool × (Identifier × List Parameter)) (end : ℕ)
-          → worded tree others from end
-          → (parts : Identifier × List Parameter) × (tree ≡ (false, parts)) × behind (kinds.Keyword words.Lookup) signature parts others from end
-      split others begins (true, parts) end o = let s = command_starts others from o.1.0 in absurd cc
-      split others begins (false, parts) end o = (parts, refl, o)
+          (which : Bool) (others : List Token) → start_at others from ≡ cond which starts.Command starts.Lookup
+          → Splits worded (λ (parts : Identifier × List Parameter). worded (which, parts)) (λ (parts : Identifier × List Parameter). (which, parts)) others from
+      split true others begins (true, parts) end o = (parts, refl, o)
+      split false others begins (false, parts) end o = (parts, refl, o)
+      split true others begins (false, parts) end o = let s = start_keyword others from words.Lookup o.1.0 in absurd cc
+      split false others begins (true, parts) end o = let s = start_keyword others from words.Command o.1.0 in absurd cc
 
   pub no_word :
       (start_at tokens from ≡ starts.Command → ⊥) → (start_at tokens from ≡ starts.Lookup → ⊥) → (others : List Token)
       → start_at others from ≡ start_at tokens from → (tree : Bool × (Identifier × List Parameter)) (end : ℕ) → worded tree others from end → ⊥
-  no_word no_command no_lookup others same (true, parts) end o = no_command (sym same ∙ command_starts others from o.1.0)
-  no_word no_command no_lookup others same (false, parts) end o = no_lookup (sym same ∙ lookup_starts others from o.1.0)
+  unfolding keyword_start
+  no_word no_command no_lookup others same (true, parts) end o = no_command (sym same ∙ start_keyword others from words.Command o.1.0)
+  no_word no_command no_lookup others same (false, parts) end o = no_lookup (sym same ∙ start_keyword others from words.Lookup o.1.0)
 
   pub makes_command :
       start_at tokens from ≡ starts.Command
       → Makes declaration (behind (kinds.Keyword words.Command) signature)
       (λ (parts : Identifier × List Parameter). Command None parts.0 parts.1) tokens from
-  makes_command is =
-      record {
-        builds = λ others part end o. (from, refl, o);
-        splits = λ others agree. split others (start_too tokens others from from (omega arith) agree ∙ is);
-      }
+  makes_command is = makes_by_start (λ others part end o. (from, refl, o)) (λ others same. split others (same ∙ is))
     where
       split :
-          (others : List Token) → start_at others from ≡ starts.Command → (tree : DeclarationData) (end : ℕ) → declaration tree others from end
-          → (parts : Identifier × List Parameter) × (tree ≡ Command None parts.0 parts.1)
-          × behind (kinds.Keyword words.Command) signature parts others from end
+          (others : List Token) → start_at others from ≡ starts.Command
+          → Splits declaration (behind (kinds.Keyword words.Command) signature) (λ (parts : Identifier × List Parameter). Command None parts.0 parts.1) others from
       split others begins (Command None name parts) end o =
           ((name, parts), refl, subst (λ (p : ℕ). behind (kinds.Keyword words.Command) signature (name, parts) others p end) o.1 o.2)
       split others begins (Command (Some other) name parts) end o = let s = (type_starts other others from o.0 o.1).0 in absurd cc
@@ -294,8 +227,9 @@ module _ (tokens : List Token) (from : ℕ) where
 
 pub declaration_starts :
     (tree : DeclarationData) (tokens : List Token) (from end : ℕ) → declaration tree tokens from end → is_declaration (start_at tokens from) ≡ true
+unfolding keyword_start
 declaration_starts (Command None name parts) tokens from end o =
-    ap is_declaration (command_starts tokens from (subst (λ (p : ℕ). HasKind tokens p (kinds.Keyword words.Command)) o.1 o.2.1.0))
+    ap is_declaration (start_keyword tokens from words.Command (subst (λ (p : ℕ). HasKind tokens p (kinds.Keyword words.Command)) o.1 o.2.1.0))
 declaration_starts (Command (Some answer) name parts) tokens from end o = ap is_declaration (type_starts answer tokens from o.0 o.1).0
 declaration_starts (Lookup answer name parts) tokens from end o = ap is_declaration (type_starts answer tokens from o.0 o.1).0
 
@@ -304,16 +238,3 @@ pub not_declaration :
 not_declaration starts.Command no_command no_type = absurd (no_command refl)
 not_declaration (starts.Type of_type) no_command no_type = absurd (no_type of_type refl)
 not_declaration start no_command no_type = refl
-
-module _ (tokens : List Token) (at : ℕ) where
-  pub declaration_goes_on :
-      is_declaration (start_at tokens at) ≡ true → (others : List Token) → Agree tokens others at → NoDeclaration others at → ⊥
-  declaration_goes_on begins others agree none =
-      let same = start_too tokens others at at (omega arith) agree in
-      let f : false ≡ true = sym none ∙ ap is_declaration same ∙ begins in cc
-
-  pub no_declaration :
-      is_declaration (start_at tokens at) ≡ false → (others : List Token) → start_at others at ≡ start_at tokens at
-      → (part : DeclarationData) (end : ℕ) → declaration part others at end → ⊥
-  no_declaration none others same part end o =
-      let f : false ≡ true = sym none ∙ ap is_declaration (sym same) ∙ declaration_starts part others at end o in cc

@@ -13,14 +13,16 @@ use Rattle.px_syntax.specs.Expr.{Term, Terms, Variable}
 use Rattle.px_syntax.specs.ExprGrammar.{expression}
 use Rattle.px_syntax.specs.Form.{Form, identifier, kind_at, optional, sign, ◌then◌}
 use Rattle.px_expr_parse.specs.Verdict.{Agree, IsFound, IsMissing, IsRefused}
-use Rattle.px_expr_parse.proofs.Closed.{closer_ends, semicolon_closes, comma_closes}
+use Rattle.px_expr_parse.proofs.Closed.{closer_ends}
 use Rattle.px_expr_parse.proofs.Calls.{inside_of, no_value}
-use Rattle.px_expr_parse.proofs.Completions.{before as before_late, begun_as, moved}
+use Rattle.px_expr_parse.proofs.Completions.{begun_as, moved}
 use Rattle.px_expr_parse.proofs.Spans.{local_identifier}
 use Rattle.px_plan_parse.specs.Named.{NamedData, Calls, Writes, WrittenData, Value, Answer, called, named, optional_index, written}
 use Rattle.px_plan_parse.specs.Part.{Follow, Anything, Ended, IsLacking, IsPart, IsSole, Lacks}
 use Rattle.px_plan_parse.specs.Tail.{closed_pairs, Unless}
-use Rattle.px_plan_parse.proofs.Parts.{Begins, HasKind, Makes, before, behind, both}
+use Rattle.px_plan_parse.proofs.Commas.{Separates}
+use Rattle.px_plan_parse.proofs.Parts.{Begins, HasKind, Joins, Makes, Splits, before, behind, both, lack_memory, makes_by}
+use Rattle.px_plan_parse.proofs.Spans.{local_pair}
 use Rattle.px_expr_parse.proofs.Parts.{agree_before}
 
 -- ---- signs that follow
@@ -31,10 +33,16 @@ pub not_unless :
 not_unless tokens from which has others agree none = none (agree from (omega arith) ∙ has)
 
 pub semicolon_ends : (others : List Token) (place : ℕ) → HasKind others place (kinds.Sign signs.Semicolon) → Ended others place
-semicolon_ends others place has goes_on = closer_ends others place signs.Semicolon semicolon_closes has goes_on
+semicolon_ends others place has goes_on = closer_ends others place signs.Semicolon refl has goes_on
 
-pub comma_ends : (others : List Token) (place : ℕ) → HasKind others place (kinds.Sign signs.Comma) → Ended others place
-comma_ends others place has goes_on = closer_ends others place signs.Comma comma_closes has goes_on
+pub pairs_separate : Separates pair Ended signs.Semicolon
+pairs_separate =
+    record {
+      no_comma = λ e. cc;
+      comma_follows = λ others place has goes_on. closer_ends others place signs.Comma refl has goes_on;
+      close_follows = semicolon_ends;
+      local = local_pair;
+    }
 
 -- ---- a command, or a value
 
@@ -54,84 +62,36 @@ module _ (tokens : List Token) (from : ℕ) where
   name_missing name has (faults.SyntaxFault token) missing form Last =
       absurd (missing.2 tokens (λ place le. refl) (record { name = name; token = from }) (from + 1) (refl, (has, refl)))
   name_missing name has (faults.Deep token) missing form Last = absurd missing
-  name_missing name has faults.NoMemory missing form Last = record { named = λ token is. cc; shallow = λ token is. cc }
-
-  -- the arguments of what returns something are missing
-  pub lack_answer :
-      (name : Identifier) → IsFound identifier tokens from name (from + 1) → HasKind tokens (from + 1) (kinds.Sign signs.OpenParen)
-      → (fault : ParseFault) → IsLacking called Anything tokens (from + 1) fault → IsLacking written Anything tokens from fault
-  lack_answer name found paren fault f =
-      record {
-        named = λ token is.
-            let l = f.named token is in
-            record {
-              reached = omega (arith, l.reached);
-              within = l.within;
-              begun = begun_as l.begun (λ others agree end args o. (
-                Answer (record { name = name; args = args }),
-                (
-                  o.0,
-                  (
-                    from + 1,
-                    moved tokens (local_identifier name) (λ others agree. (found.only others agree).spelled) others (before_late tokens others (from + 1) token l.reached agree),
-                    o.1,
-                  ),
-                  o.2,
-                ),
-              ));
-              none = λ others agree. none others token l agree (agree_before tokens others (from + 1) token l.reached agree);
-            };
-        shallow = f.shallow;
-      }
-    where
-      none :
-          (others : List Token) (token : ℕ) → Lacks called Anything tokens (from + 1) token → Agree tokens others token
-          → Agree tokens others (from + 1) → (other : WrittenData) (end : ℕ) → written other others from end → Anything others end → ⊥
-      none others token l agree agree_next (Value tree) end o next =
-          let name_there = (found.only others agree_next).spelled in
-          let there : HasKind others (from + 1) (kinds.Sign signs.OpenParen) = agree_next (from + 1) (omega arith) ∙ paren in
-          no_value others from name.name name_there.1.0 (omega (arith, inside_of others (from + 1) (kinds.Sign signs.OpenParen) there)) there
-          tree o.0 o.1 o.2.0
-      none others token l agree agree_next (Answer parts) end (middle, (place, named_is, rest), semicolon) next =
-          let is_name = (found.only others agree_next).only parts.name place named_is in
-          l.none others agree parts.args end
-          (subst (λ (p : ℕ). called parts.args others p end) is_name.1 (middle, rest, semicolon)) tt
+  name_missing name has faults.NoMemory missing form Last = lack_memory
 
   -- what a command returns
-  pub part_answer :
-      (name : Identifier) (args : Terms) (to : ℕ) → IsFound identifier tokens from name (from + 1)
-      → HasKind tokens (from + 1) (kinds.Sign signs.OpenParen) → IsPart called Anything tokens (from + 1) args to
-      → IsPart written Anything tokens from (Answer (record { name = name; args = args })) to
-  part_answer name args to found paren f =
+  pub joins_answer :
+      (name : Identifier) → IsFound identifier tokens from name (from + 1) → HasKind tokens (from + 1) (kinds.Sign signs.OpenParen)
+      → Joins written called (λ (args : Terms). Answer (record { name = name; args = args })) Anything Anything tokens from (from + 1)
+  joins_answer name found paren =
       record {
-        advances = omega (arith, f.advances);
-        within = f.within;
-        sole = λ others agree.
-            let agree_next = agree_before tokens others (from + 1) to f.advances agree in
-            let name_there = (found.only others agree_next).spelled in
-            let one = f.sole others agree in
-            record {
-              spelled = (one.spelled.0, (from + 1, name_there, one.spelled.1), one.spelled.2);
-              only = λ other end o next.
-                  only others agree_next (agree (from + 1) f.advances ∙ paren) one other end o;
-            };
+        begins = omega arith;
+        builds = λ others agree args end o. (
+          o.0,
+          (from + 1, moved tokens (local_identifier name) (λ others agree. (found.only others agree).spelled) others agree, o.1),
+          o.2,
+        );
+        splits = λ others agree other end o last. splits others agree other end o;
       }
     where
-      only :
-          (others : List Token) → Agree tokens others (from + 1) → HasKind others (from + 1) (kinds.Sign signs.OpenParen)
-          → IsSole called Anything others (from + 1) args to → (other : WrittenData) (end : ℕ) → written other others from end
-          → (other ≡ Answer (record { name = name; args = args })) × (end ≡ to)
-      only others agree there one (Value tree) end o =
+      splits :
+          (others : List Token) → Agree tokens others (from + 1) → (other : WrittenData) (end : ℕ) → written other others from end
+          → (args : Terms) × (other ≡ Answer (record { name = name; args = args })) × called args others (from + 1) end × Anything others end
+      splits others agree (Value tree) end o =
           let name_there = (found.only others agree).spelled in
+          let there : HasKind others (from + 1) (kinds.Sign signs.OpenParen) = agree (from + 1) (omega arith) ∙ paren in
           absurd (no_value others from name.name name_there.1.0 (omega (arith, inside_of others (from + 1) (kinds.Sign signs.OpenParen) there)) there tree o.0 o.1 o.2.0)
-      only others agree there one (Answer parts) end (middle, (place, named_is, rest), semicolon) =
-          let is_name = (found.only others agree).only parts.name place named_is in
-          let moved : called parts.args others (from + 1) end =
-          subst (λ (p : ℕ). called parts.args others p end) is_name.1 (middle, rest, semicolon) in
-          let is = one.only parts.args end moved tt in (
-            ap (λ (n : Identifier). Answer (record { name = n; args = parts.args })) is_name.0
-                ∙ ap (λ (a : Terms). Answer (record { name = name; args = a })) is.0,
-            is.1,
+      splits others agree (Answer parts) end (middle, (place, named_is, rest), semicolon) =
+          let is = (found.only others agree).only parts.name place named_is in (
+            parts.args,
+            ap (λ (n : Identifier). Answer (record { name = n; args = parts.args })) is.0,
+            subst (λ (p : ℕ). called parts.args others p end) is.1 (middle, rest, semicolon),
+            tt,
           )
 
   -- what has no parenthesis behind its name
@@ -199,12 +159,9 @@ module _ (tokens : List Token) (from : ℕ) where
 module _ (tokens : List Token) (from : ℕ) where
   pub makes_call :
       HasKind tokens from (kinds.Sign signs.OpenParen) → Makes named called (λ (args : Terms). Calls args) tokens from
-  makes_call paren =
-      record { builds = λ others part end o. o; splits = λ others agree. split others (agree from (omega arith) ∙ paren) }
+  makes_call paren = makes_by (λ others part end o. o) (λ others same. split others (same ∙ paren))
     where
-      split :
-          (others : List Token) → HasKind others from (kinds.Sign signs.OpenParen) → (tree : NamedData) (end : ℕ) → named tree others from end
-          → (args : Terms) × (tree ≡ Calls args) × called args others from end
+      split : (others : List Token) → HasKind others from (kinds.Sign signs.OpenParen) → Splits named called (λ (args : Terms). Calls args) others from
       split others there (Calls args) end o = (args, refl, o)
       split others there (Writes None value) end o =
           let assign : HasKind others from (kinds.Sign signs.Assign) = subst (λ (p : ℕ). HasKind others p (kinds.Sign signs.Assign)) o.1 o.2.1.0 in
@@ -215,13 +172,11 @@ module _ (tokens : List Token) (from : ℕ) where
       (HasKind tokens from (kinds.Sign signs.OpenParen) → ⊥)
       → Makes named (both optional_index (behind (kinds.Sign signs.Assign) written))
       (λ (parts : Option Term × WrittenData). Writes parts.0 parts.1) tokens from
-  makes_assignment no_paren =
-      record { builds = λ others part end o. o; splits = λ others agree. split others (sym (agree from (omega arith))) }
+  makes_assignment no_paren = makes_by (λ others part end o. o) (λ others same. split others (sym same))
     where
       split :
-          (others : List Token) → kind_at tokens from ≡ kind_at others from → (tree : NamedData) (end : ℕ) → named tree others from end
-          → (parts : Option Term × WrittenData) × (tree ≡ Writes parts.0 parts.1)
-          × both optional_index (behind (kinds.Sign signs.Assign) written) parts others from end
+          (others : List Token) → kind_at tokens from ≡ kind_at others from
+          → Splits named (both optional_index (behind (kinds.Sign signs.Assign) written)) (λ (parts : Option Term × WrittenData). Writes parts.0 parts.1) others from
       split others same (Calls args) end o = absurd (no_paren (same ∙ o.1.1.0))
       split others same (Writes index value) end o = ((index, value), refl, o)
 
@@ -237,11 +192,7 @@ pub makes_pair :
     (tokens : List Token) (from : ℕ)
     → Makes pair (both identifier (behind (kinds.Sign signs.Assign) expression))
     (λ (parts : Identifier × Term). record { name = parts.0; value = parts.1 }) tokens from
-makes_pair tokens from =
-    record {
-      builds = λ others part end o. o;
-      splits = λ others agree tree end o. ((tree.name, tree.value), refl, o);
-    }
+makes_pair tokens from = makes_by (λ others part end o. o) (λ others same tree end o. ((tree.name, tree.value), refl, o))
 
 pub no_colon_pairs : (others : List Token) (from : ℕ) → HasKind others from (kinds.Sign signs.Colon) → (pairs : List PairData) (end : ℕ)
     → closed_pairs pairs others from end → ⊥
@@ -249,38 +200,27 @@ no_colon_pairs others from colon [] end o = o.1
 no_colon_pairs others from colon (first ∷ rest) end o = let h = o.1.1.1.1.0 in cc
 
 -- an optional colon before what never begins with one
+abbrev pub with_colon : {A : Type 0} → (A → Form) → A → Form
+with_colon form part = optional (sign signs.Colon) then form part
+
 module _ {A : Type 0} (form : A → Form)
     (no_colon : (others : List Token) (from : ℕ) → HasKind others from (kinds.Sign signs.Colon) → (part : A) (end : ℕ) → form part others from end → ⊥)
     (tokens : List Token) (from : ℕ)
   where
-    pub makes_without_colon :
-        (HasKind tokens from (kinds.Sign signs.Colon) → ⊥)
-        → Makes (λ (part : A). optional (sign signs.Colon) then form part) form (λ (part : A). part) tokens from
-    makes_without_colon none =
-        record {
-          builds = λ others part end o. (from, inl refl, o);
-          splits = λ others agree tree end o. split others (sym (agree from (omega arith))) tree end o;
-        }
+    pub makes_without_colon : (HasKind tokens from (kinds.Sign signs.Colon) → ⊥) → Makes (with_colon form) form (λ (part : A). part) tokens from
+    makes_without_colon none = makes_by (λ others part end o. (from, inl refl, o)) (λ others same. split others (sym same))
       where
-        split :
-            (others : List Token) → kind_at tokens from ≡ kind_at others from → (tree : A) (end : ℕ)
-            → (optional (sign signs.Colon) then form tree) others from end → (part : A) × (tree ≡ part) × form part others from end
+        split : (others : List Token) → kind_at tokens from ≡ kind_at others from → Splits (with_colon form) form (λ (part : A). part) others from
         split others same tree end (place, inl nothing_is, o) = (tree, refl, subst (λ (p : ℕ). form tree others p end) nothing_is o)
         split others same tree end (place, inr colon, o) = absurd (none (same ∙ colon.0))
 
     pub makes_with_colon :
-        HasKind tokens from (kinds.Sign signs.Colon)
-        → Makes (λ (part : A). optional (sign signs.Colon) then form part) (behind (kinds.Sign signs.Colon) form) (λ (part : A). part) tokens from
-    makes_with_colon colon =
-        record {
-          builds = λ others part end o. (o.0, inr o.1, o.2);
-          splits = λ others agree tree end o. split others (agree from (omega arith) ∙ colon) tree end o;
-        }
+        HasKind tokens from (kinds.Sign signs.Colon) → Makes (with_colon form) (behind (kinds.Sign signs.Colon) form) (λ (part : A). part) tokens from
+    makes_with_colon colon = makes_by (λ others part end o. (o.0, inr o.1, o.2)) (λ others same. split others (same ∙ colon))
       where
         split :
-            (others : List Token) → HasKind others from (kinds.Sign signs.Colon) → (tree : A) (end : ℕ)
-            → (optional (sign signs.Colon) then form tree) others from end
-            → (part : A) × (tree ≡ part) × behind (kinds.Sign signs.Colon) form part others from end
+            (others : List Token) → HasKind others from (kinds.Sign signs.Colon)
+            → Splits (with_colon form) (behind (kinds.Sign signs.Colon) form) (λ (part : A). part) others from
         split others there tree end (place, inl nothing_is, o) =
             absurd (no_colon others from there tree end (subst (λ (p : ℕ). form tree others p end) nothing_is o))
         split others there tree end (place, inr given, o) = (tree, refl, (place, given, o))

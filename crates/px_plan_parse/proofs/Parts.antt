@@ -6,16 +6,157 @@ use Rattle.px_syntax.specs.declared.fault.ParseFault.{ParseFault}
 use Rattle.px_syntax.specs.declared.fault.ParseFault.TheVariants as faults
 use Rattle.px_syntax.specs.Expr.{Term}
 use Rattle.px_syntax.specs.ExprGrammar.{expression}
-use Rattle.px_syntax.specs.Form.{Form, kind_at, one, ◌then◌, maybe, each}
-use Rattle.px_expr_parse.specs.Verdict.{Agree, IsBegun, IsRead, IsRefused, IsFound, IsMissing}
+use Rattle.px_syntax.specs.Form.{Form, kind_at, one, optional, ◌then◌, maybe, each}
+use Rattle.px_expr_parse.specs.Verdict.{Agree, AgreeBefore, IsBegun, IsRead, IsRefused, IsFound, IsMissing}
 use Rattle.px_expr_parse.proofs.Completions.{Shortest, before as before_late, begun_as, begun_before, begun_here, moved, short_behind, short_token}
+pub use Rattle.px_expr_parse.proofs.Parts.{both, two}
 use Rattle.px_expr_parse.proofs.Parts.{agree_before}
 use Rattle.px_expr_parse.proofs.Spans.{IsLocal, local_nothing, local_then}
 use Rattle.px_plan_parse.specs.Part.{Follow, Ended, IsPart, Lacks, IsLacking}
 
--- two tokens on, one by one
-pub two : (n : ℕ) → n + 2 ≡ n + 1 + 1
-two n = omega arith
+-- ---- what a fault says
+
+pub lack_memory : {A : Type 0} {form : A → Form} {Last : Follow} {tokens : List Token} {from : ℕ} → IsLacking form Last tokens from faults.NoMemory
+lack_memory = record { named = λ token is. cc; shallow = λ token is. cc }
+
+pub lack_at :
+    {A : Type 0} {form : A → Form} {Last : Follow} {tokens : List Token} {from at : ℕ} {fault : ParseFault} → fault ≡ faults.SyntaxFault at
+    → Lacks form Last tokens from at → IsLacking form Last tokens from fault
+lack_at {form = form} {Last = Last} {tokens = tokens} {from = from} {at = at} e l =
+    record {
+      named = λ token is.
+          let same : at ≡ token = cc in
+          subst (λ (t : ℕ). Lacks form Last tokens from t) same l;
+      shallow = λ token is. cc;
+    }
+
+-- a part is missing where none begins with the token there
+pub lack_here :
+    {A : Type 0} {form : A → Form} {Last : Follow} {tokens : List Token} {from : ℕ} {fault : ParseFault} → fault ≡ faults.SyntaxFault from
+    → from ≤ length tokens → Shortest form
+    → ((others : List Token) → kind_at others from ≡ kind_at tokens from → (part : A) (end : ℕ) → form part others from end → ⊥)
+    → IsLacking form Last tokens from fault
+lack_here {from = from} e within short none =
+    lack_at e (record {
+      reached = omega arith;
+      within = within;
+      begun = begun_here short;
+      none = λ others agree part end o last. none others (agree from (omega arith)) part end o;
+    })
+
+-- where a part is missing, so is each that begins before it and holds one there
+pub lack_holding :
+    {A B : Type 0} {whole : A → Form} {inner : B → Form} {Next Last : Follow} {tokens : List Token} {from early : ℕ} {fault : ParseFault}
+    → from ≤ early
+    → ((token : ℕ) → early ≤ token → IsBegun inner tokens early token → IsBegun whole tokens from token)
+    → ((others : List Token) → Agree tokens others early → (a : A) (end : ℕ) → whole a others from end → Last others end
+    → (b : B) × (stop : ℕ) × inner b others early stop × Next others stop)
+    → IsLacking inner Next tokens early fault → IsLacking whole Last tokens from fault
+lack_holding {tokens = tokens} {early = early} le begun holds f =
+    record {
+      named = λ token is.
+          let l = f.named token is in
+          record {
+            reached = omega (arith, le, l.reached);
+            within = l.within;
+            begun = begun token l.reached l.begun;
+            none = λ others agree a end o last.
+                let h = holds others (agree_before tokens others early token l.reached agree) a end o last in
+                l.none others agree h.0 h.1 h.2 h.3;
+          };
+      shallow = f.shallow;
+    }
+
+-- ---- a part that ends with another, of which it is built
+
+pub record Joins {A B : Type 0} (whole : A → Form) (inner : B → Form) (build : B → A) (Last Next : Follow) (tokens : List Token) (from early : ℕ) : Type 0 where
+  pub begins : from ≤ early
+  pub builds :
+      (others : List Token) → AgreeBefore tokens others early → (b : B) (end : ℕ) → inner b others early end
+      → whole (build b) others from end
+  pub splits :
+      (others : List Token) → Agree tokens others early → (a : A) (end : ℕ) → whole a others from end → Last others end
+      → (b : B) × (a ≡ build b) × inner b others early end × Next others end
+
+module _ {A B : Type 0} {whole : A → Form} {inner : B → Form} {build : B → A} {Last Next : Follow} {tokens : List Token} {from early : ℕ}
+    (j : Joins whole inner build Last Next tokens from early)
+  where
+    pub part_joined : {b : B} {to : ℕ} → IsPart inner Next tokens early b to → IsPart whole Last tokens from (build b) to
+    part_joined {b = b} {to = to} f =
+        record {
+          advances = omega (arith, j.begins, f.advances);
+          within = f.within;
+          sole = λ others agree.
+              let agree_early = agree_before tokens others early to f.advances agree in
+              let sole = f.sole others agree in
+              record {
+                spelled = j.builds others (λ place inside. agree_early place (omega (arith, inside))) b to sole.spelled;
+                only = λ other end o last.
+                    let s = j.splits others agree_early other end o last in
+                    let is = sole.only s.0 end s.2 s.3 in
+                    (s.1 ∙ ap build is.0, is.1);
+              };
+        }
+
+    pub lack_joined : {fault : ParseFault} → IsLacking inner Next tokens early fault → IsLacking whole Last tokens from fault
+    lack_joined =
+        lack_holding j.begins
+        (λ token le begun. begun_as begun (λ others agree end b o. (build b, j.builds others (before_late tokens others early token le agree) b end o)))
+        (λ others agree a end o last. let s = j.splits others agree a end o last in (s.0, end, s.2, s.3))
+
+-- each part of a form is built of one of another, which stands there
+abbrev pub Splits : {A B : Type 0} → (A → Form) → (B → Form) → (B → A) → List Token → ℕ → Type 0
+Splits whole inner build tokens from =
+    (tree : _) (end : ℕ) → whole tree tokens from end → (part : _) × (tree ≡ build part) × inner part tokens from end
+
+-- the same of all tokens that agree
+pub record Makes {A B : Type 0} (whole : A → Form) (inner : B → Form) (build : B → A) (tokens : List Token) (from : ℕ) : Type 0 where
+  pub builds :
+      (others : List Token) (part : B) (end : ℕ) → inner part others from end → whole (build part) others from end
+  pub splits : (others : List Token) → Agree tokens others from → Splits whole inner build others from
+
+-- by what stands there
+pub makes_by :
+    {A B : Type 0} {whole : A → Form} {inner : B → Form} {build : B → A} {tokens : List Token} {from : ℕ}
+    → ((others : List Token) (part : B) (end : ℕ) → inner part others from end → whole (build part) others from end)
+    → ((others : List Token) → kind_at others from ≡ kind_at tokens from → Splits whole inner build others from)
+    → Makes whole inner build tokens from
+makes_by {from = from} builds splits = record { builds = builds; splits = λ others agree. splits others (agree from (omega arith)) }
+
+module _ {A B : Type 0} {whole : A → Form} {inner : B → Form} {build : B → A} {Last : Follow} {tokens : List Token} {from : ℕ}
+    (makes : Makes whole inner build tokens from)
+  where
+    joins_made : Joins whole inner build Last Last tokens from from
+    joins_made =
+        record {
+          begins = omega arith;
+          builds = λ others agree. makes.builds others;
+          splits = λ others agree tree end o last. let s = makes.splits others agree tree end o in (s.0, s.1, s.2, last);
+        }
+
+    pub part_made : {part : B} {to : ℕ} → IsPart inner Last tokens from part to → IsPart whole Last tokens from (build part) to
+    part_made = part_joined joins_made
+
+    pub lack_made : {fault : ParseFault} → IsLacking inner Last tokens from fault → IsLacking whole Last tokens from fault
+    lack_made = lack_joined joins_made
+
+-- the same part where fewer may follow
+module _ {A : Type 0} {form : A → Form} {Next Last : Follow} {tokens : List Token} {from : ℕ}
+    (narrows : (others : List Token) (place : ℕ) → Last others place → Next others place)
+  where
+    joins_narrowed : Joins form form (λ (part : A). part) Last Next tokens from from
+    joins_narrowed =
+        record {
+          begins = omega arith;
+          builds = λ others agree part end o. o;
+          splits = λ others agree part end o last. (part, refl, o, narrows others end last);
+        }
+
+    pub part_narrowed : {part : A} {to : ℕ} → IsPart form Next tokens from part to → IsPart form Last tokens from part to
+    part_narrowed = part_joined joins_narrowed
+
+    pub lack_narrowed : {fault : ParseFault} → IsLacking form Next tokens from fault → IsLacking form Last tokens from fault
+    lack_narrowed = lack_joined joins_narrowed
 
 -- ---- what the reader of expressions found
 
@@ -35,21 +176,9 @@ pub of_missing :
     {A : Type 0} (form : A → Form) (tokens : List Token) (from : ℕ) (fault : ParseFault) (Next : Follow)
     → IsMissing form tokens from fault → IsLacking form Next tokens from fault
 of_missing form tokens from (faults.SyntaxFault token) Next f =
-    record {
-      named = λ other is.
-          let e : other ≡ token = cc in
-          subst (λ (t : ℕ). Lacks form Next tokens from t) (sym e) (
-          record {
-            reached = f.0;
-            within = f.1;
-            begun = f.3;
-            none = λ others agree part end o next. f.2 others agree part end o;
-          }
-          );
-      shallow = λ other is. cc;
-    }
+    lack_at refl (record { reached = f.0; within = f.1; begun = f.3; none = λ others agree part end o next. f.2 others agree part end o })
 of_missing form tokens from (faults.Deep token) Next f = absurd f
-of_missing form tokens from faults.NoMemory Next f = record { named = λ other is. cc; shallow = λ other is. cc }
+of_missing form tokens from faults.NoMemory Next f = lack_memory
 
 pub of_read :
     {tokens : List Token} {from to : ℕ} {tree : Term}
@@ -73,21 +202,14 @@ pub of_refused :
     (tokens : List Token) (from : ℕ) (fault : ParseFault)
     → IsRefused 0 tokens from fault → IsLacking expression Ended tokens from fault
 of_refused tokens from (faults.SyntaxFault token) f =
-    record {
-      named = λ other is.
-          let e : other ≡ token = cc in
-          subst (λ (t : ℕ). Lacks expression Ended tokens from t) (sym e) (
-          record {
-            reached = f.0;
-            within = f.1;
-            begun = f.3;
-            none = λ others agree part end o ended. ended (f.2 others agree part end o).1;
-          }
-          );
-      shallow = λ other is. cc;
-    }
+    lack_at refl (record {
+      reached = f.0;
+      within = f.1;
+      begun = f.3;
+      none = λ others agree part end o ended. ended (f.2 others agree part end o).1;
+    })
 of_refused tokens from (faults.Deep token) f = absurd f
-of_refused tokens from faults.NoMemory f = record { named = λ other is. cc; shallow = λ other is. cc }
+of_refused tokens from faults.NoMemory f = lack_memory
 
 -- ---- one part and then another
 
@@ -96,104 +218,7 @@ abbrev pub Begins : {B : Type 0} → (B → Form) → Follow → Follow → Type
 Begins second Last Next =
     (tokens : List Token) (part : _) (from end : ℕ) → second part tokens from end → Last tokens end → Next tokens from
 
-abbrev pub both : {A B : Type 0} → (A → Form) → (B → Form) → A × B → Form
-both first second parts = first parts.0 then second parts.1
-
-module _ {A B : Type 0} {first : A → Form} {second : B → Form} {Next Last : Follow} {tokens : List Token} {from : ℕ} where
-  pub part_both :
-      {middle to : ℕ} {a : A} {b : B} → Begins second Last Next
-      → IsPart first Next tokens from a middle → IsPart second Last tokens middle b to
-      → IsPart (both first second) Last tokens from (a, b) to
-  part_both {middle = middle} {to = to} {a = a} {b = b} begins f g =
-      record {
-        advances = omega (arith, f.advances, g.advances);
-        within = g.within;
-        sole = λ others agree.
-            let one_first = f.sole others (agree_before tokens others middle to g.advances agree) in
-            let one_second = g.sole others agree in
-            record {
-              spelled = (middle, one_first.spelled, one_second.spelled);
-              only = λ other end o next.
-                  let is_first = one_first.only other.0 o.0 o.1 (begins others other.1 o.0 end o.2 next) in
-                  let moved : second other.1 others middle end =
-                  subst (λ (place : ℕ). second other.1 others place end) is_first.1 o.2 in
-                  let is_second = one_second.only other.1 end moved next in (
-                    let e : other.0 ≡ a = is_first.0 in let h : other.1 ≡ b = is_second.0 in
-                        ap (λ (x : A). (x, other.1)) e ∙ ap (λ (y : B). (a, y)) h,
-                    is_second.1,
-                  );
-            };
-      }
-
-  pub lack_second :
-      {middle : ℕ} {a : A} {fault : ParseFault} → Begins second Last Next → IsLocal (first a)
-      → IsPart first Next tokens from a middle → IsLacking second Last tokens middle fault
-      → IsLacking (both first second) Last tokens from fault
-  lack_second {middle = middle} {a = a} begins local f g =
-      record {
-        named = λ token is.
-            let l = g.named token is in
-            record {
-              reached = omega (arith, f.advances, l.reached);
-              within = l.within;
-              begun = begun_as l.begun (λ others agree end b o. (
-                (a, b),
-                (middle, moved tokens local (λ others agree. (f.sole others agree).spelled) others (before_late tokens others middle token l.reached agree), o),
-              ));
-              none = λ others agree other end o next.
-                  let is_first =
-                  (f.sole others (agree_before tokens others middle token l.reached agree)).only other.0 o.0 o.1
-                  (begins others other.1 o.0 end o.2 next) in
-                  l.none others agree other.1 end (subst (λ (place : ℕ). second other.1 others place end) is_first.1 o.2) next;
-            };
-        shallow = g.shallow;
-      }
-
-  pub lack_first :
-      {fault : ParseFault} → Begins second Last Next → Shortest second
-      → IsLacking first Next tokens from fault → IsLacking (both first second) Last tokens from fault
-  lack_first begins short f =
-      record {
-        named = λ token is.
-            let l = f.named token is in
-            record {
-              reached = l.reached;
-              within = l.within;
-              begun = begun_before short l.begun (λ others agree middle end a b o r. ((a, b), (middle, o, r)));
-              none = λ others agree other end o next. l.none others agree other.0 o.0 o.1 (begins others other.1 o.0 end o.2 next);
-            };
-        shallow = f.shallow;
-      }
-
--- the same where fewer may follow
-module _ {A : Type 0} {form : A → Form} {Next Last : Follow} {tokens : List Token} {from : ℕ}
-    (narrows : (others : List Token) (place : ℕ) → Last others place → Next others place)
-  where
-    pub part_narrowed : {part : A} {to : ℕ} → IsPart form Next tokens from part to → IsPart form Last tokens from part to
-    part_narrowed f =
-        record {
-          advances = f.advances;
-          within = f.within;
-          sole = λ others agree.
-              let sole = f.sole others agree in
-              record { spelled = sole.spelled; only = λ other end o last. sole.only other end o (narrows others end last) };
-        }
-
-    pub lack_narrowed : {fault : ParseFault} → IsLacking form Next tokens from fault → IsLacking form Last tokens from fault
-    lack_narrowed f =
-        record {
-          named = λ token is.
-              let l = f.named token is in
-              record {
-                reached = l.reached;
-                within = l.within;
-                begun = l.begun;
-                none = λ others agree part end o last. l.none others agree part end o (narrows others end last);
-              };
-          shallow = f.shallow;
-        }
-
--- the same where the second part depends on the first
+-- where the second part depends on the first
 abbrev pub both_of : {A B : Type 0} → (A → Form) → (A → B → Form) → A × B → Form
 both_of first second parts = first parts.0 then second parts.0 parts.1
 
@@ -204,74 +229,41 @@ each_of {A = A} second part tokens from to = (a : A) → second a (part a) token
 module _ {A B : Type 0} {first : A → Form} (second : A → B → Form) {Next Last : Follow} {tokens : List Token} {from : ℕ}
     (begins : (a : A) → Begins (second a) Last Next)
   where
-    pub part_both_of :
-        {middle to : ℕ} {a : A} {b : B} → IsPart first Next tokens from a middle → IsPart (second a) Last tokens middle b to
-        → IsPart (both_of first second) Last tokens from (a, b) to
-    part_both_of {middle = middle} {to = to} {a = a} {b = b} f g =
+    pub joins_both_of :
+        {middle : ℕ} {a : A} → IsLocal (first a) → IsPart first Next tokens from a middle
+        → Joins (both_of first second) (second a) (λ (b : B). (a, b)) Last Last tokens from middle
+    joins_both_of {middle = middle} {a = a} local f =
         record {
-          advances = omega (arith, f.advances, g.advances);
-          within = g.within;
-          sole = λ others agree.
-              let one_first = f.sole others (agree_before tokens others middle to g.advances agree) in
-              let one_second = g.sole others agree in
-              record {
-                spelled = (middle, one_first.spelled, one_second.spelled);
-                only = λ other end o next.
-                    let is_first = one_first.only other.0 o.0 o.1 (begins other.0 others other.1 o.0 end o.2 next) in
-                    let e : other.0 ≡ a = is_first.0 in
-                    let moved : second a other.1 others middle end =
-                    subst (λ (place : ℕ). second a other.1 others place end) is_first.1
-                    (subst (λ (x : A). second x other.1 others o.0 end) e o.2) in
-                    let is_second = one_second.only other.1 end moved next in (
-                      let h : other.1 ≡ b = is_second.0 in
-                          ap (λ (x : A). (x, other.1)) e ∙ ap (λ (y : B). (a, y)) h,
-                      is_second.1,
-                    );
-              };
-        }
-
-    pub lack_second_of :
-        {middle : ℕ} {a : A} {fault : ParseFault} → IsLocal (first a) → IsPart first Next tokens from a middle
-        → IsLacking (second a) Last tokens middle fault → IsLacking (both_of first second) Last tokens from fault
-    lack_second_of {middle = middle} {a = a} local f g =
-        record {
-          named = λ token is.
-              let l = g.named token is in
-              record {
-                reached = omega (arith, f.advances, l.reached);
-                within = l.within;
-                begun = begun_as l.begun (λ others agree end b o. (
-                  (a, b),
-                  (middle, moved tokens local (λ others agree. (f.sole others agree).spelled) others (before_late tokens others middle token l.reached agree), o),
-                ));
-                none = λ others agree other end o next.
-                    let is_first =
-                    (f.sole others (agree_before tokens others middle token l.reached agree)).only other.0 o.0 o.1
-                    (begins other.0 others other.1 o.0 end o.2 next) in
-                    let e : other.0 ≡ a = is_first.0 in
-                    l.none others agree other.1 end
-                    (subst (λ (place : ℕ). second a other.1 others place end) is_first.1
-                    (subst (λ (x : A). second x other.1 others o.0 end) e o.2)) next;
-              };
-          shallow = g.shallow;
+          begins = f.advances;
+          builds = λ others agree b end o. (middle, moved tokens local (λ others agree. (f.sole others agree).spelled) others agree, o);
+          splits = λ others agree other end o last.
+              let is = (f.sole others agree).only other.0 o.0 o.1 (begins other.0 others other.1 o.0 end o.2 last) in (
+                other.1,
+                ap (λ (x : A). (x, other.1)) is.0,
+                subst (λ (place : ℕ). second a other.1 others place end) is.1 (subst (λ (x : A). second x other.1 others o.0 end) is.0 o.2),
+                last,
+              );
         }
 
     pub lack_first_of :
         {fault : ParseFault} → Shortest (each_of second) → IsLacking first Next tokens from fault
         → IsLacking (both_of first second) Last tokens from fault
-    lack_first_of short f =
-        record {
-          named = λ token is.
-              let l = f.named token is in
-              record {
-                reached = l.reached;
-                within = l.within;
-                begun = begun_before short l.begun (λ others agree middle end a b o r. ((a, b a), (middle, o, r a)));
-                none = λ others agree other end o next.
-                    l.none others agree other.0 o.0 o.1 (begins other.0 others other.1 o.0 end o.2 next);
-              };
-          shallow = f.shallow;
-        }
+    lack_first_of short =
+        lack_holding (omega arith)
+        (λ token le begun. begun_before short begun (λ others agree middle end a b o r. ((a, b a), (middle, o, r a))))
+        (λ others agree other end o last. (other.0, o.0, o.1, begins other.0 others other.1 o.0 end o.2 last))
+
+module _ {A B : Type 0} {first : A → Form} {second : B → Form} {Next Last : Follow} {tokens : List Token} {from : ℕ} (begins : Begins second Last Next) where
+  pub joins_both :
+      {middle : ℕ} {a : A} → IsLocal (first a) → IsPart first Next tokens from a middle
+      → Joins (both first second) second (λ (b : B). (a, b)) Last Last tokens from middle
+  joins_both = joins_both_of (λ (a : A). second) (λ a. begins)
+
+  pub lack_first : {fault : ParseFault} → Shortest second → IsLacking first Next tokens from fault → IsLacking (both first second) Last tokens from fault
+  lack_first short =
+      lack_holding (omega arith)
+      (λ token le begun. begun_before short begun (λ others agree middle end a b o r. ((a, b), (middle, o, r))))
+      (λ others agree other end o last. (other.0, o.0, o.1, begins others other.1 o.0 end o.2 last))
 
 -- ---- a token before a part
 
@@ -285,123 +277,84 @@ LacksKind tokens place kind fault = (fault ≡ faults.SyntaxFault place) × (Has
 abbrev pub behind : {B : Type 0} → TokenKind → (B → Form) → B → Form
 behind kind second part = one kind then second part
 
-module _ {B : Type 0} {kind : TokenKind} {second : B → Form} {Last : Follow} {tokens : List Token} {from : ℕ} where
-  pub part_behind :
-      {to : ℕ} {b : B} → HasKind tokens from kind → IsPart second Last tokens (from + 1) b to
-      → IsPart (behind kind second) Last tokens from b to
-  part_behind has g =
-      record {
-        advances = omega (arith, g.advances);
-        within = g.within;
-        sole = λ others agree.
-            let one_second = g.sole others agree in
-            record {
-              spelled = (from + 1, (agree from (omega (arith, g.advances)) ∙ has, refl), one_second.spelled);
-              only = λ other end o next.
-                  one_second.only other end (subst (λ (place : ℕ). second other others place end) o.1.1 o.2) next;
-            };
-      }
+-- a word, which may have more than one spelling, before a part
+module _ {B : Type 0} (word : Form) (second : B → Form) {Last : Follow} {tokens : List Token} {from : ℕ}
+    (stands : (others : List Token) → kind_at others from ≡ kind_at tokens from → word others from (from + 1))
+    (ends : (others : List Token) (end : ℕ) → word others from end → end ≡ from + 1)
+  where
+    pub joins_word : Joins (λ (part : B). word then second part) second (λ (part : B). part) Last Last tokens from (from + 1)
+    joins_word =
+        record {
+          begins = omega arith;
+          builds = λ others agree part end o. (from + 1, stands others (agree from (omega arith)), o);
+          splits = λ others agree part end o last.
+              (part, refl, subst (λ (place : ℕ). second part others place end) (ends others o.0 o.1) o.2, last);
+        }
 
-  pub lack_behind :
-      {fault : ParseFault} → HasKind tokens from kind → IsLacking second Last tokens (from + 1) fault
-      → IsLacking (behind kind second) Last tokens from fault
-  lack_behind has g =
-      record {
-        named = λ token is.
-            let l = g.named token is in
-            record {
-              reached = omega (arith, l.reached);
-              within = l.within;
-              begun = begun_as l.begun (λ others agree end b o.
-                  (b, (from + 1, (agree from (omega (arith, l.reached)) ∙ has, refl), o)));
-              none = λ others agree other end o next.
-                  l.none others agree other end (subst (λ (place : ℕ). second other others place end) o.1.1 o.2) next;
-            };
-        shallow = g.shallow;
-      }
+module _ {B : Type 0} {kind : TokenKind} {second : B → Form} {Last : Follow} {tokens : List Token} {from : ℕ} where
+  module _ (has : HasKind tokens from kind) where
+    joins_behind : Joins (behind kind second) second (λ (part : B). part) Last Last tokens from (from + 1)
+    joins_behind = joins_word (one kind) second (λ others same. (same ∙ has, refl)) (λ others end o. o.1)
+
+    pub part_behind : {to : ℕ} {b : B} → IsPart second Last tokens (from + 1) b to → IsPart (behind kind second) Last tokens from b to
+    part_behind = part_joined joins_behind
+
+    pub lack_behind : {fault : ParseFault} → IsLacking second Last tokens (from + 1) fault → IsLacking (behind kind second) Last tokens from fault
+    lack_behind = lack_joined joins_behind
 
   pub lack_kind :
       {fault : ParseFault} → from ≤ length tokens → Shortest second → LacksKind tokens from kind fault
       → IsLacking (behind kind second) Last tokens from fault
-  lack_kind within short lacks =
-      record {
-        named = λ token is.
-            let e : token ≡ from = let f = lacks.0 in cc in
-            record {
-              reached = omega (arith, e);
-              within = omega (arith, e, within);
-              begun = subst (λ (t : ℕ). IsBegun (behind kind second) tokens from t) (sym e) (begun_here (short_behind kind short));
-              none = λ others agree other end o next.
-                  lacks.1 (sym (agree from (omega (arith, e))) ∙ o.1.0);
-            };
-        shallow = λ token is. let f = lacks.0 in cc;
-      }
+  lack_kind within short lacks = lack_here lacks.0 within (short_behind kind short) (λ others same part end o. lacks.1 (sym same ∙ o.1.0))
 
 -- a token alone
+abbrev pub alone : TokenKind → Unit {0} → Form
+alone kind none = one kind
+
 module _ {kind : TokenKind} {Last : Follow} {tokens : List Token} {from : ℕ} where
-  pub part_alone : from < length tokens → HasKind tokens from kind → IsPart (λ (none : Unit {0}). one kind) Last tokens from tt (from + 1)
+  pub part_alone : from < length tokens → HasKind tokens from kind → IsPart (alone kind) Last tokens from tt (from + 1)
   part_alone inside has =
       record {
         advances = omega arith;
         within = omega (arith, inside);
+        sole = λ others agree. record { spelled = (agree from (omega arith) ∙ has, refl); only = λ other end o next. (refl, o.1) };
+      }
+
+  pub lack_alone : {fault : ParseFault} → from ≤ length tokens → LacksKind tokens from kind fault → IsLacking (alone kind) Last tokens from fault
+  lack_alone within lacks = lack_here lacks.0 within (short_token kind) (λ others same none end o. lacks.1 (sym same ∙ o.0))
+
+-- a token that may be left out, where what follows is none
+abbrev pub optional_alone : TokenKind → Unit {0} → Form
+optional_alone kind none = optional (one kind)
+
+module _ {kind : TokenKind} {Last : Follow} {tokens : List Token} {from : ℕ} where
+  pub optional_present :
+      ((others : List Token) (place : ℕ) → HasKind others place kind → Last others place → ⊥) → from < length tokens → HasKind tokens from kind
+      → IsPart (optional_alone kind) Last tokens from tt (from + 1)
+  optional_present ends inside has =
+      record {
+        advances = omega arith;
+        within = omega (arith, inside);
         sole = λ others agree.
+            let there : HasKind others from kind = agree from (omega arith) ∙ has in
             record {
-              spelled = (agree from (omega arith) ∙ has, refl);
-              only = λ other end o next. (refl, o.1);
+              spelled = inr (there, refl);
+              only = λ other end o last. elim o [
+                | inl none ↦ absurd (ends others from there (subst (λ (place : ℕ). Last others place) none last))
+                | inr given ↦ (refl, given.1)
+              ];
             };
       }
 
-  pub lack_alone :
-      {fault : ParseFault} → from ≤ length tokens → LacksKind tokens from kind fault → IsLacking (λ (none : Unit {0}). one kind) Last tokens from fault
-  lack_alone within lacks =
+  pub optional_absent : from ≤ length tokens → (HasKind tokens from kind → ⊥) → IsPart (optional_alone kind) Last tokens from tt from
+  optional_absent within lacks =
       record {
-        named = λ token is.
-            let e : token ≡ from = let f = lacks.0 in cc in
-            record {
-              reached = omega (arith, e);
-              within = omega (arith, e, within);
-              begun = subst (λ (t : ℕ). IsBegun (λ (none : Unit {0}). one kind) tokens from t) (sym e) (begun_here (short_token kind));
-              none = λ others agree other end o next. lacks.1 (sym (agree from (omega (arith, e))) ∙ o.0);
-            };
-        shallow = λ token is. let f = lacks.0 in cc;
-      }
-
--- a word with more than one spelling before a part
-module _ {B : Type 0} (word : Form) (second : B → Form) {Last : Follow} {tokens : List Token} {from : ℕ} where
-  pub part_word :
-      {to : ℕ} {b : B} → ((others : List Token) → kind_at others from ≡ kind_at tokens from → word others from (from + 1))
-      → ((others : List Token) (end : ℕ) → word others from end → end ≡ from + 1) → IsPart second Last tokens (from + 1) b to
-      → IsPart (λ (part : B). word then second part) Last tokens from b to
-  part_word {to = to} {b = b} stands ends g =
-      record {
-        advances = omega (arith, g.advances);
-        within = g.within;
-        sole = λ others agree.
-            let one_second = g.sole others agree in
-            record {
-              spelled = (from + 1, stands others (agree from (omega (arith, g.advances))), one_second.spelled);
-              only = λ other end o next.
-                  one_second.only other end (subst (λ (place : ℕ). second other others place end) (ends others o.0 o.1) o.2) next;
-            };
-      }
-
-  pub lack_word :
-      {fault : ParseFault} → ((others : List Token) → kind_at others from ≡ kind_at tokens from → word others from (from + 1))
-      → ((others : List Token) (end : ℕ) → word others from end → end ≡ from + 1)
-      → IsLacking second Last tokens (from + 1) fault → IsLacking (λ (part : B). word then second part) Last tokens from fault
-  lack_word stands ends g =
-      record {
-        named = λ token is.
-            let l = g.named token is in
-            record {
-              reached = omega (arith, l.reached);
-              within = l.within;
-              begun = begun_as l.begun (λ others agree end b o.
-                  (b, (from + 1, stands others (agree from (omega (arith, l.reached))), o)));
-              none = λ others agree other end o next.
-                  l.none others agree other end (subst (λ (place : ℕ). second other others place end) (ends others o.0 o.1) o.2) next;
-            };
-        shallow = g.shallow;
+        advances = omega arith;
+        within = within;
+        sole = λ others agree. record {
+          spelled = inl refl;
+          only = λ other end o last. elim o [ inl none ↦ (refl, none) | inr given ↦ absurd (lacks (sym (agree from (omega arith)) ∙ given.0)) ];
+        };
       }
 
 -- ---- a token behind a part
@@ -412,106 +365,34 @@ before first kind part = first part then one kind
 module _ {A : Type 0} {first : A → Form} {kind : TokenKind} {Next Last : Follow} {tokens : List Token} {from : ℕ}
     (follows : (others : List Token) (place : ℕ) → HasKind others place kind → Next others place)
   where
-    pub part_before :
-        {middle : ℕ} {a : A} → middle < length tokens → IsPart first Next tokens from a middle → HasKind tokens middle kind
-        → IsPart (before first kind) Last tokens from a (middle + 1)
-    part_before {middle = middle} inside f has =
+    joins_before :
+        {middle : ℕ} {a : A} → IsLocal (first a) → IsPart first Next tokens from a middle
+        → Joins (before first kind) (alone kind) (λ (none : Unit {0}). a) Last Last tokens from middle
+    joins_before {middle = middle} {a = a} local f =
         record {
-          advances = omega (arith, f.advances);
-          within = omega (arith, inside);
-          sole = λ others agree.
-              let one_first = f.sole others (agree_before tokens others middle (middle + 1) (omega arith) agree) in
-              record {
-                spelled = (middle, one_first.spelled, (agree middle (omega arith) ∙ has, refl));
-                only = λ other end o next.
-                    let is_first = one_first.only other o.0 o.1 (follows others o.0 o.2.0) in
-                    (is_first.0, omega (arith, is_first.1, o.2.1));
-              };
+          begins = f.advances;
+          builds = λ others agree none end o. (middle, moved tokens local (λ others agree. (f.sole others agree).spelled) others agree, o);
+          splits = λ others agree other end o last.
+              let is = (f.sole others agree).only other o.0 o.1 (follows others o.0 o.2.0) in
+              (tt, is.0, subst (λ (place : ℕ). one kind others place end) is.1 o.2, last);
         }
+
+    pub part_before :
+        {middle : ℕ} {a : A} → IsLocal (first a) → middle < length tokens → IsPart first Next tokens from a middle → HasKind tokens middle kind
+        → IsPart (before first kind) Last tokens from a (middle + 1)
+    part_before local inside f has = part_joined (joins_before local f) (part_alone inside has)
 
     pub lack_token :
         {middle : ℕ} {a : A} {fault : ParseFault} → IsLocal (first a) → IsPart first Next tokens from a middle
         → LacksKind tokens middle kind fault → IsLacking (before first kind) Last tokens from fault
-    lack_token {middle = middle} {a = a} local f lacks =
-        record {
-          named = λ token is.
-              let e : token ≡ middle = let g = lacks.0 in cc in
-              record {
-                reached = omega (arith, e, f.advances);
-                within = omega (arith, e, f.within);
-                begun =
-                    subst (λ (t : ℕ). IsBegun (before first kind) tokens from t) (sym e)
-                    (begun_as (begun_here (short_token kind)) (λ others agree end none o.
-                    (a, (middle, moved tokens local (λ others agree. (f.sole others agree).spelled) others agree, o))));
-                none = λ others agree other end o next.
-                    let agree_middle = agree_before tokens others middle token (omega (arith, e)) agree in
-                    let is_first = (f.sole others agree_middle).only other o.0 o.1 (follows others o.0 o.2.0) in
-                    lacks.1 (sym (agree_middle middle (omega arith)) ∙ (subst (λ (place : ℕ). HasKind others place kind) is_first.1 o.2.0));
-              };
-          shallow = λ token is. let g = lacks.0 in cc;
-        }
+    lack_token local f lacks = lack_joined (joins_before local f) (lack_alone f.within lacks)
 
     pub lack_before :
         {fault : ParseFault} → IsLacking first Next tokens from fault → IsLacking (before first kind) Last tokens from fault
-    lack_before f =
-        record {
-          named = λ token is.
-              let l = f.named token is in
-              record {
-                reached = l.reached;
-                within = l.within;
-                begun = begun_before (short_token kind) l.begun (λ others agree middle end a none o r. (a, (middle, o, r)));
-                none = λ others agree other end o next. l.none others agree other o.0 o.1 (follows others o.0 o.2.0);
-              };
-          shallow = f.shallow;
-        }
-
--- ---- a part that is made of another
-
-pub record Makes {A B : Type 0} (whole : A → Form) (inner : B → Form) (build : B → A) (tokens : List Token) (from : ℕ) : Type 0 where
-  pub builds :
-      (others : List Token) (part : B) (end : ℕ) → inner part others from end → whole (build part) others from end
-  pub splits :
-      (others : List Token) → Agree tokens others from → (tree : A) (end : ℕ) → whole tree others from end
-      → (part : B) × (tree ≡ build part) × inner part others from end
-
-module _ {A B : Type 0} {whole : A → Form} {inner : B → Form} {build : B → A} {Last : Follow} {tokens : List Token} {from : ℕ} where
-  pub part_made :
-      {part : B} {to : ℕ} → Makes whole inner build tokens from → IsPart inner Last tokens from part to
-      → IsPart whole Last tokens from (build part) to
-  part_made {to = to} makes f =
-      record {
-        advances = f.advances;
-        within = f.within;
-        sole = λ others agree.
-            let agree_from = agree_before tokens others from to f.advances agree in
-            let sole = f.sole others agree in
-            record {
-              spelled = makes.builds others _ to sole.spelled;
-              only = λ other end o next.
-                  let s = makes.splits others agree_from other end o in
-                  let is = sole.only s.0 end s.2 next in
-                  (s.1 ∙ ap build is.0, is.1);
-            };
-      }
-
-  pub lack_made :
-      {fault : ParseFault} → Makes whole inner build tokens from → IsLacking inner Last tokens from fault
-      → IsLacking whole Last tokens from fault
-  lack_made makes f =
-      record {
-        named = λ token is.
-            let l = f.named token is in
-            record {
-              reached = l.reached;
-              within = l.within;
-              begun = begun_as l.begun (λ others agree end part o. (build part, makes.builds others part end o));
-              none = λ others agree other end o next.
-                  let s = makes.splits others (agree_before tokens others from token l.reached agree) other end o in
-                  l.none others agree s.0 end s.2 next;
-            };
-        shallow = f.shallow;
-      }
+    lack_before =
+        lack_holding (omega arith)
+        (λ token le begun. begun_before (short_token kind) begun (λ others agree middle end a none o r. (a, (middle, o, r))))
+        (λ others agree other end o last. (other, o.0, o.1, follows others o.0 o.2.0))
 
 -- ---- parts in turn
 
@@ -527,6 +408,10 @@ each_push form tokens [] part from middle to all o = (to, subst (λ (p : ℕ). f
 each_push form tokens (first ∷ parts) part from middle to all o =
     (all.0, all.1, each_push form tokens parts part all.0 middle to all.2 o)
 
+-- all parts in turn are those that are done and the rest, which stand from a place on
+abbrev pub HasRest : {A : Type 0} → (A → Form) → List A → ℕ → List Token → List A → ℕ → Type 0
+HasRest {A = A} form done at tokens all end = (rest : List A) × (all ≡ done ++ rest) × each form rest tokens at end
+
 -- parts in turn up to a place, where more may stand
 pub record IsFront {A : Type 0} (form : A → Form) (Last : Follow) (tokens : List Token) (from : ℕ) (done : List A) (at : ℕ) : Type 0 where
   pub advances : from ≤ at
@@ -536,7 +421,7 @@ pub record IsFront {A : Type 0} (form : A → Form) (Last : Follow) (tokens : Li
       → each form (done ++ rest) others from end
   pub splits :
       (others : List Token) → Agree tokens others at → (all : List A) (end : ℕ) → each form all others from end → Last others end
-      → (rest : List A) × (all ≡ done ++ rest) × each form rest others at end
+      → HasRest form done at others all end
 
 module _ {A : Type 0} {form : A → Form} {Last : Follow} {tokens : List Token} {from : ℕ} where
   pub front_begins : from ≤ length tokens → IsFront form Last tokens from [] from
@@ -568,8 +453,8 @@ module _ {A : Type 0} {form : A → Form} {Last : Follow} {tokens : List Token} 
         }
       where
         ends :
-            (others : List Token) → Agree tokens others at → (all : List A) (end : ℕ)
-            → (rest : List A) × (all ≡ done ++ rest) × each form rest others at end → (all ≡ done) × (end ≡ at)
+            (others : List Token) → Agree tokens others at → (all : List A) (end : ℕ) → HasRest form done at others all end
+            → (all ≡ done) × (end ≡ at)
         ends others agree all end ([], is, o) = (is ∙ append-nil done, o)
         ends others agree all end (part ∷ rest, is, o) = absurd (none others agree part o.0 o.1)
 
@@ -583,6 +468,20 @@ module _ {A : Type 0} {form : A → Form} {Last : Follow} {tokens : List Token} 
         followed others [] place end o last = last_follows others place (subst (λ (p : ℕ). Last others p) o last)
         followed others (part ∷ rest) place end o last = next_begins others part place o.0 o.1
 
+        -- the next element of all, and those behind it
+        next_of :
+            (others : List Token) → Agree tokens others at → (all : List A) (end : ℕ) → each form all others from end → Last others end
+            → (part : A) × (stop : ℕ) × form part others at stop × Next others stop
+            × (rest : List A) × (all ≡ done ++ part ∷ rest) × each form rest others stop end
+        next_of others agree all end o last = go (front.splits others agree all end o last)
+          where
+            go :
+                HasRest form done at others all end
+                → (part : A) × (stop : ℕ) × form part others at stop × Next others stop
+                × (rest : List A) × (all ≡ done ++ part ∷ rest) × each form rest others stop end
+            go ([], is, o) = absurd (starts others agree (subst (λ (p : ℕ). Last others p) o last))
+            go (part ∷ rest, is, o) = (part, o.0, o.1, followed others rest o.0 end o.2 last, rest, is, o.2)
+
         pub front_more :
             {part : A} {to : ℕ} → IsPart form Next tokens at part to → IsFront form Last tokens from (done ++ part ∷ []) to
         front_more {part = part} {to = to} f =
@@ -594,53 +493,25 @@ module _ {A : Type 0} {form : A → Form} {Last : Follow} {tokens : List Token} 
                   subst (λ (all : List A). each form all others from end) (sym (append_assoc done (part ∷ []) rest))
                   (front.builds others agree_at (part ∷ rest) end (to, (f.sole others agree).spelled, o));
               splits = λ others agree all end o last.
-                  let agree_at = agree_before tokens others at to f.advances agree in
-                  more others agree agree_at all end last (front.splits others agree_at all end o last);
+                  let n = next_of others (agree_before tokens others at to f.advances agree) all end o last in
+                  let same = (f.sole others agree).only n.0 n.1 n.2 n.3 in (
+                    n.4,
+                    n.5 ∙ ap (λ (x : A). done ++ x ∷ n.4) same.0 ∙ sym (append_assoc done (part ∷ []) n.4),
+                    subst (λ (p : ℕ). each form n.4 others p end) same.1 n.6,
+                  );
             }
-          where
-            more :
-                (others : List Token) → Agree tokens others to → Agree tokens others at → (all : List A) (end : ℕ) → Last others end
-                → (rest : List A) × (all ≡ done ++ rest) × each form rest others at end
-                → (rest : List A) × (all ≡ (done ++ part ∷ []) ++ rest) × each form rest others to end
-            more others agree agree_at all end last ([], is, o) =
-                absurd (starts others agree_at (subst (λ (p : ℕ). Last others p) o last))
-            more others agree agree_at all end last (first ∷ rest, is, o) =
-                let same = (f.sole others agree).only first o.0 o.1 (followed others rest o.0 end o.2 last) in (
-                  rest,
-                  is ∙ ap (λ (x : A). done ++ x ∷ rest) same.0 ∙ sym (append_assoc done (part ∷ []) rest),
-                  subst (λ (p : ℕ). each form rest others p end) same.1 o.2,
-                )
 
         pub front_lacks :
             {fault : ParseFault} → ((part : A) → IsLocal (form part)) → IsLacking form Next tokens at fault
             → IsLacking (each form) Last tokens from fault
-        front_lacks local f =
-            record {
-              named = λ token is.
-                  let l = f.named token is in
-                  record {
-                    reached = omega (arith, front.advances, l.reached);
-                    within = l.within;
-                    begun = begun_as l.begun (λ others agree end part o. (
-                      done ++ part ∷ [],
-                      each_push form others done part from at end
-                          (moved tokens (local_each local done) all_done others (before_late tokens others at token l.reached agree)) o,
-                    ));
-                    none = λ others agree all end o last.
-                        let agree_at = agree_before tokens others at token l.reached agree in
-                        none others agree_at token l agree all end last (front.splits others agree_at all end o last);
-                  };
-              shallow = f.shallow;
-            }
-          where
-            none :
-                (others : List Token) → Agree tokens others at → (token : ℕ) → Lacks form Next tokens at token → Agree tokens others token
-                → (all : List A) (end : ℕ) → Last others end
-                → (rest : List A) × (all ≡ done ++ rest) × each form rest others at end → ⊥
-            none others agree_at token l agree all end last ([], is, o) =
-                starts others agree_at (subst (λ (p : ℕ). Last others p) o last)
-            none others agree_at token l agree all end last (first ∷ rest, is, o) =
-                l.none others agree first o.0 o.1 (followed others rest o.0 end o.2 last)
+        front_lacks local =
+            lack_holding front.advances
+            (λ token le begun. begun_as begun (λ others agree end part o. (
+              done ++ part ∷ [],
+              each_push form others done part from at end
+                  (moved tokens (local_each local done) all_done others (before_late tokens others at token le agree)) o,
+            )))
+            (λ others agree all end o last. let n = next_of others agree all end o last in (n.0, n.1, n.2, n.3))
 
 -- ---- a part that may be left out
 
@@ -663,39 +534,17 @@ module _ {A : Type 0} {form : A → Form} {Last : Follow} {tokens : List Token} 
       only others agree (Some part) end o last = absurd (none others agree part end o)
 
   module _ (starts : (others : List Token) → Agree tokens others from → Last others from → ⊥) where
-    pub part_present : {part : A} {to : ℕ} → IsPart form Last tokens from part to → IsPart (maybe form) Last tokens from (Some part) to
-    part_present {part = part} {to = to} f =
-        record {
-          advances = f.advances;
-          within = f.within;
-          sole = λ others agree. record { spelled = (f.sole others agree).spelled; only = only others agree };
-        }
+    joins_present : Joins (maybe form) form (λ (part : A). Some part) Last Last tokens from from
+    joins_present = record { begins = omega arith; builds = λ others agree part end o. o; splits = splits }
       where
-        only :
-            (others : List Token) → Agree tokens others to → (other : Option A) (end : ℕ) → maybe form other others from end
-            → Last others end → (other ≡ Some part) × (end ≡ to)
-        only others agree None end o last =
-            absurd (starts others (agree_before tokens others from to f.advances agree) (subst (λ (p : ℕ). Last others p) o last))
-        only others agree (Some other) end o last =
-            let is = (f.sole others agree).only other end o last in (ap (λ (x : A). Some x) is.0, is.1)
+        splits :
+            (others : List Token) → Agree tokens others from → (other : Option A) (end : ℕ) → maybe form other others from end
+            → Last others end → (part : A) × (other ≡ Some part) × form part others from end × Last others end
+        splits others agree None end o last = absurd (starts others agree (subst (λ (p : ℕ). Last others p) o last))
+        splits others agree (Some part) end o last = (part, refl, o, last)
+
+    pub part_present : {part : A} {to : ℕ} → IsPart form Last tokens from part to → IsPart (maybe form) Last tokens from (Some part) to
+    part_present = part_joined joins_present
 
     pub lack_present : {fault : ParseFault} → IsLacking form Last tokens from fault → IsLacking (maybe form) Last tokens from fault
-    lack_present f =
-        record {
-          named = λ token is.
-              let l = f.named token is in
-              record {
-                reached = l.reached;
-                within = l.within;
-                begun = begun_as l.begun (λ others agree end part o. (Some part, o));
-                none = λ others agree. none others token l agree;
-              };
-          shallow = f.shallow;
-        }
-      where
-        none :
-            (others : List Token) (token : ℕ) → Lacks form Last tokens from token → Agree tokens others token
-            → (other : Option A) (end : ℕ) → maybe form other others from end → Last others end → ⊥
-        none others token l agree None end o last =
-            starts others (agree_before tokens others from token l.reached agree) (subst (λ (p : ℕ). Last others p) o last)
-        none others token l agree (Some other) end o last = l.none others agree other end o last
+    lack_present = lack_joined joins_present

@@ -24,7 +24,7 @@ use Rattle.px_plan_parse.specs.Start.{NoDeclaration, is_declaration, start_at}
 use Rattle.px_plan_parse.specs.Tail.{every_declaration}
 use Rattle.px_plan_parse.specs.Verdict.{BeginsPlan, IsFaultAt, IsNoPlan, IsPlan}
 use Rattle.px_plan_parse.proofs.Blocks.{block_sort}
-use Rattle.px_plan_parse.proofs.Parts.{Begins, Makes, both}
+use Rattle.px_plan_parse.proofs.Parts.{Begins, Makes, both, makes_by}
 use Rattle.px_plan_parse.proofs.Sorts as sorts
 use Rattle.px_plan_parse.proofs.Sorts.{sort_of}
 use Rattle.px_plan_parse.proofs.Starts.{start_name}
@@ -38,10 +38,7 @@ pub makes_plan :
     (λ (parts : List DeclarationData × (Option Identifier × BlockTree)).
     record { declarations = parts.0; label = parts.1.0; root = parts.1.1 }) tokens from
 makes_plan tokens from =
-    record {
-      builds = λ others part end o. o;
-      splits = λ others agree tree end o. ((tree.declarations, (tree.label, tree.root)), refl, o);
-    }
+    makes_by (λ others part end o. o) (λ others same tree end o. ((tree.declarations, (tree.label, tree.root)), refl, o))
 
 inner_declares_none : (start : Start) → sort_of start ≡ Some sorts.Inner → is_declaration start ≡ false
 inner_declares_none (starts.Type of_type) inner = absurd (cc)

@@ -11,7 +11,7 @@ use Rattle.px_syntax.specs.declared.word.TypeName.TheVariants as types
 use Rattle.px_syntax.specs.Block.{Priority, Braces, NoActions, Branch, NoElseIfs, NoElse, Inner}
 use Rattle.px_syntax.specs.BlockGrammar.{block, body, branch, else_ifs, item, label, literal, otherwise, signed}
 use Rattle.px_syntax.specs.ExprGrammar.{expression}
-use Rattle.px_syntax.specs.Form.{Form, identifier, number}
+use Rattle.px_syntax.specs.Form.{Form, identifier, number, optional}
 use Rattle.px_syntax.specs.Plan.{Command}
 use Rattle.px_syntax.specs.PlanGrammar.{declaration, parameter}
 use Rattle.px_expr_parse.specs.Tail.{closed}
@@ -72,8 +72,8 @@ short_tested = short_pair (short_closed signs.CloseParen) short_branch
 pub short_loop : Shortest (both (closed signs.Semicolon) (both (closed signs.CloseParen) branch))
 short_loop = short_pair (short_closed signs.Semicolon) short_tested
 
-pub short_end_if : Shortest end_if
-short_end_if = short_nothing (λ others place. (tt, inl refl))
+pub short_optional : {form : Form} → Shortest (λ (none : Unit {0}). optional form)
+short_optional = short_nothing (λ others place. (tt, inl refl))
 
 pub short_otherwise : Shortest (both otherwise end_if)
 short_otherwise = short_nothing (λ others place. ((NoElse, tt), (place, refl, inl refl)))

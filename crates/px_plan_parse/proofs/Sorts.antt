@@ -4,6 +4,7 @@ use Rattle.px_syntax.specs.Block as trees
 use Rattle.px_syntax.specs.Block.{BodyTree}
 use Rattle.px_plan_parse.specs.declared.start.Start.{Start}
 use Rattle.px_plan_parse.specs.declared.start.Start.TheVariants as starts
+use Rattle.px_plan_parse.specs.Tail.{test}
 
 -- Named: what begins with a name, which is an assignment or a call
 pub data Sort : Type 0 where

@@ -24,7 +24,7 @@ use Rattle.px_syntax.specs.Plan.{DeclarationData, Command, Lookup, PlanTree}
 use Rattle.px_syntax.specs.PlanGrammar.{declaration, parameter, parameters, plan}
 use Rattle.px_expr_parse.proofs.Spans.{IsLocal, local_arguments, local_between, local_either, local_expression, local_identifier, local_never, local_nothing, local_numbered, local_one, local_sign, local_then}
 use Rattle.px_plan_parse.specs.Named.{called, optional_index}
-use Rattle.px_plan_parse.specs.Tail.{array_size, closed_parameters, counter, head, list_word}
+use Rattle.px_plan_parse.specs.Tail.{array_size, closed_parameters, counter, head, list_word, test}
 use Rattle.px_plan_parse.proofs.Commas.{local_commas}
 use Rattle.px_plan_parse.proofs.Parts.{local_each}
 

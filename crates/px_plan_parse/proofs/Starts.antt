@@ -1,5 +1,5 @@
 -- What begins with a token, and which token that is.
-use Rattle.std.proofs.Common.{◌≡◌, ℕ, ◌+◌, ◌≤◌, ◌⊎◌, inl, inr, refl, sym, ap, subst, ◌∙◌, List, Option, Some, None, true, false}
+use Rattle.std.proofs.Common.{◌≡◌, ℕ, ◌+◌, ◌≤◌, ◌⊎◌, inl, inr, refl, sym, ap, subst, ◌∙◌, List, Option, Some, None, Bool, true, false, arith}
 use Rattle.std.specs.Option.{option_map_or}
 use Rattle.px_lex.specs.declared.keyword.Keyword.{Keyword}
 use Rattle.px_lex.specs.declared.keyword.Keyword.TheVariants as words
@@ -15,12 +15,14 @@ use Rattle.px_syntax.specs.declared.word.TypeName.{TypeName}
 use Rattle.px_syntax.specs.declared.word.TypeName.TheVariants as types
 use Rattle.px_syntax.specs.Block.{ItemData, Variables, Conditions, Priority}
 use Rattle.px_syntax.specs.BlockGrammar.{condition_word, item, type_word}
-use Rattle.px_syntax.specs.Form.{kind_at}
+use Rattle.px_syntax.specs.Form.{Form, kind_at, ◌then◌}
 use Rattle.px_expr_parse.specs.Verdict.{Agree}
 use Rattle.px_plan_parse.specs.declared.start.Start.{Start}
 use Rattle.px_plan_parse.specs.declared.start.Start.TheVariants as starts
 use Rattle.px_plan_parse.specs.Start.{is_item, keyword_start, start_at, start_of}
-use Rattle.px_plan_parse.proofs.Parts.{HasKind}
+use Rattle.px_plan_parse.specs.Part.{Follow}
+use Rattle.px_plan_parse.proofs.Parts.{HasKind, Joins, Makes, Splits, joins_word, makes_by}
+use Rattle.px_plan_parse.specs.Tail.{test}
 
 -- the start at a place in other tokens that agree
 pub start_too : (tokens others : List Token) (place last : ℕ) → place ≤ last → Agree tokens others last → start_at others place ≡ start_at tokens place
@@ -31,6 +33,15 @@ start_same tokens others place same = ap (λ (kind : Option TokenKind). option_m
 
 pub start_here : (tokens : List Token) (place : ℕ) (kind : TokenKind) → HasKind tokens place kind → start_at tokens place ≡ start_of kind
 start_here tokens place kind has = ap (λ (k : Option TokenKind). option_map_or start_of k starts.Nothing) has
+
+-- a part is made of another by what begins there
+pub makes_by_start :
+    {A B : Type 0} {whole : A → Form} {inner : B → Form} {build : B → A} {tokens : List Token} {from : ℕ}
+    → ((others : List Token) (part : B) (end : ℕ) → inner part others from end → whole (build part) others from end)
+    → ((others : List Token) → start_at others from ≡ start_at tokens from → Splits whole inner build others from)
+    → Makes whole inner build tokens from
+makes_by_start {tokens = tokens} {from = from} builds splits =
+    makes_by builds (λ others same. splits others (start_same tokens others from same))
 
 -- what begins with a keyword
 pub start_keyword : (tokens : List Token) (place : ℕ) (word : Keyword) → HasKind tokens place (kinds.Keyword word) → start_at tokens place ≡ keyword_start word
@@ -141,15 +152,13 @@ token_of tokens place start is something = go (kind_at tokens place) refl
 pub type_starts : (of_type : TypeName) (tokens : List Token) (from to : ℕ) → type_word of_type tokens from to
     → (start_at tokens from ≡ starts.Type of_type) × (to ≡ from + 1)
 unfolding keyword_start
-type_starts types.Integer tokens from to o = (start_keyword tokens from words.Integer o.0, o.1)
-type_starts types.Boolean tokens from to o = (start_keyword tokens from words.Boolean o.0, o.1)
-type_starts types.String tokens from to o = (start_keyword tokens from words.String o.0, o.1)
+type_starts types.Integer tokens from to o = (start_keyword tokens from _ o.0, o.1)
+type_starts of_type tokens from to o = (start_keyword tokens from _ o.0, o.1)
 
 pub type_stands : (of_type : TypeName) (tokens : List Token) (from : ℕ) → HasStart tokens from (starts.Type of_type)
     → type_word of_type tokens from (from + 1)
 type_stands types.Integer tokens from (found kind has is) = (has ∙ ap (λ (k : TokenKind). Some k) is, refl)
-type_stands types.Boolean tokens from (found kind has is) = (has ∙ ap (λ (k : TokenKind). Some k) is, refl)
-type_stands types.String tokens from (found kind has is) = (has ∙ ap (λ (k : TokenKind). Some k) is, refl)
+type_stands of_type tokens from (found kind has is) = (has ∙ ap (λ (k : TokenKind). Some k) is, refl)
 
 -- one of the two spellings
 either_starts :
@@ -162,14 +171,8 @@ either_starts tokens from to short long start is_short is_long (inr o) = (start_
 pub condition_starts : (condition : Condition) (tokens : List Token) (from to : ℕ) → condition_word condition tokens from to
     → (start_at tokens from ≡ starts.Condition condition) × (to ≡ from + 1)
 unfolding keyword_start
-condition_starts conditions.Start tokens from to o = either_starts tokens from to words.Start words.StartCondition _ refl refl o
-condition_starts conditions.End tokens from to o = either_starts tokens from to words.End words.EndCondition _ refl refl o
-condition_starts conditions.Exit tokens from to o = either_starts tokens from to words.Exit words.ExitCondition _ refl refl o
-condition_starts conditions.Skip tokens from to o = either_starts tokens from to words.Skip words.SkipCondition _ refl refl o
-condition_starts conditions.Repeat tokens from to o = either_starts tokens from to words.Repeat words.RepeatCondition _ refl refl o
-condition_starts conditions.Pre tokens from to o = either_starts tokens from to words.Pre words.PreCondition _ refl refl o
-condition_starts conditions.Post tokens from to o = either_starts tokens from to words.Post words.PostCondition _ refl refl o
-condition_starts conditions.Invariant tokens from to o = either_starts tokens from to words.Invariant words.InvariantCondition _ refl refl o
+condition_starts conditions.Start tokens from to o = either_starts tokens from to _ _ _ refl refl o
+condition_starts condition tokens from to o = either_starts tokens from to _ _ _ refl refl o
 
 -- a condition's word from either spelling
 either_stands :
@@ -181,25 +184,14 @@ either_stands tokens from short long kind has (inr is) = inr (has ∙ ap (λ (k 
 
 pub condition_stands : (condition : Condition) (tokens : List Token) (from : ℕ) → HasStart tokens from (starts.Condition condition)
     → condition_word condition tokens from (from + 1)
-condition_stands conditions.Start tokens from (found kind has is) = either_stands tokens from words.Start words.StartCondition kind has is
-condition_stands conditions.End tokens from (found kind has is) = either_stands tokens from words.End words.EndCondition kind has is
-condition_stands conditions.Exit tokens from (found kind has is) = either_stands tokens from words.Exit words.ExitCondition kind has is
-condition_stands conditions.Skip tokens from (found kind has is) = either_stands tokens from words.Skip words.SkipCondition kind has is
-condition_stands conditions.Repeat tokens from (found kind has is) = either_stands tokens from words.Repeat words.RepeatCondition kind has is
-condition_stands conditions.Pre tokens from (found kind has is) = either_stands tokens from words.Pre words.PreCondition kind has is
-condition_stands conditions.Post tokens from (found kind has is) = either_stands tokens from words.Post words.PostCondition kind has is
-condition_stands conditions.Invariant tokens from (found kind has is) =
-    either_stands tokens from words.Invariant words.InvariantCondition kind has is
-
-pub priority_starts : (tokens : List Token) (place : ℕ) → HasKind tokens place (kinds.Keyword words.Priority) → start_at tokens place ≡ starts.Priority
-unfolding keyword_start
-priority_starts tokens place has = start_keyword tokens place words.Priority has
+condition_stands conditions.Start tokens from (found kind has is) = either_stands tokens from _ _ kind has is
+condition_stands condition tokens from (found kind has is) = either_stands tokens from _ _ kind has is
 
 pub item_starts : (tree : ItemData) (tokens : List Token) (from end : ℕ) → item tree tokens from end → is_item (start_at tokens from) ≡ true
 unfolding keyword_start
 item_starts (Variables of_type variables) tokens from end o = ap is_item (type_starts of_type tokens from o.0 o.1).0
 item_starts (Conditions condition token test) tokens from end o = ap is_item (condition_starts condition tokens from o.0 o.1.1).0
-item_starts (Priority token priority) tokens from end o = ap is_item (priority_starts tokens from o.1.1.0)
+item_starts (Priority token priority) tokens from end o = ap is_item (start_keyword tokens from words.Priority o.1.1.0)
 
 -- ---- what begins somewhere is this token
 
@@ -229,15 +221,50 @@ start_nothing which no_brace tokens place has = start_here tokens place (kinds.S
     nothing_of signs.OpenBrace none = absurd (none refl)
     nothing_of other none = refl
 
-module _ (tokens : List Token) (from : ℕ) (of_type : TypeName) where
-  pub typed_stands :
-      start_at tokens from ≡ starts.Type of_type → (others : List Token) → kind_at others from ≡ kind_at tokens from
-      → type_word of_type others from (from + 1)
-  typed_stands is others same =
-      type_stands of_type others from (token_of others from (starts.Type of_type) (start_same tokens others from same ∙ is) (λ e. cc))
+-- ---- what begins in all tokens that agree
 
-  pub typed_ends : (others : List Token) (end : ℕ) → type_word of_type others from end → end ≡ from + 1
-  typed_ends others end o = (type_starts of_type others from end o).1
+module _ (tokens : List Token) (at : ℕ) where
+  pub starts_so : (start : Start) → start_at tokens at ≡ start → (others : List Token) → Agree tokens others at → (start_at others at ≡ start → ⊥) → ⊥
+  starts_so start is others agree none = none (start_too tokens others at at (omega arith) agree ∙ is)
+
+  -- a test of what begins there, which all parts of a form pass
+  pub starts_there :
+      (test : Start → Bool) → test (start_at tokens at) ≡ true → (others : List Token) → Agree tokens others at → test (start_at others at) ≡ false → ⊥
+  starts_there test passes others agree fails =
+      let f : false ≡ true = sym fails ∙ ap test (start_too tokens others at at (omega arith) agree) ∙ passes in cc
+
+  module _ {A : Type 0} (form : A → Form) where
+    pub not_so :
+        (start : Start) → ((others : List Token) (part : A) (from end : ℕ) → form part others from end → start_at others from ≡ start)
+        → (start_at tokens at ≡ start → ⊥)
+        → (others : List Token) → Agree tokens others at → (part : A) (end : ℕ) → form part others at end → ⊥
+    not_so start starts none others agree part end o =
+        none (sym (start_too tokens others at at (omega arith) agree) ∙ starts others part at end o)
+
+    pub not_there :
+        (test : Start → Bool) → ((part : A) (others : List Token) (from end : ℕ) → form part others from end → test (start_at others from) ≡ true)
+        → test (start_at tokens at) ≡ false
+        → (others : List Token) → start_at others at ≡ start_at tokens at → (part : A) (end : ℕ) → form part others at end → ⊥
+    not_there test starts fails others same part end o =
+        let f : false ≡ true = sym fails ∙ ap test (sym same) ∙ starts part others at end o in cc
+
+-- a type or a condition is one token before a part
+module _ {A : Type 0} (second : A → Form) {Last : Follow} (tokens : List Token) (from : ℕ) where
+  pub joins_type :
+      (of_type : TypeName) → start_at tokens from ≡ starts.Type of_type
+      → Joins (λ (part : A). type_word of_type then second part) second (λ (part : A). part) Last Last tokens from (from + 1)
+  joins_type of_type is =
+      joins_word (type_word of_type) second
+      (λ others same. type_stands of_type others from (token_of others from (starts.Type of_type) (start_same tokens others from same ∙ is) (λ e. cc)))
+      (λ others end o. (type_starts of_type others from end o).1)
+
+  pub joins_condition :
+      (condition : Condition) → start_at tokens from ≡ starts.Condition condition
+      → Joins (λ (part : A). condition_word condition then second part) second (λ (part : A). part) Last Last tokens from (from + 1)
+  joins_condition condition is =
+      joins_word (condition_word condition) second
+      (λ others same. condition_stands condition others from (token_of others from (starts.Condition condition) (start_same tokens others from same ∙ is) (λ e. cc)))
+      (λ others end o. (condition_starts condition others from end o).1)
 
 pub not_item :
     (start : Start) → ((of_type : TypeName) → start ≡ starts.Type of_type → ⊥)
@@ -246,7 +273,3 @@ not_item (starts.Type of_type) no_type no_condition no_priority = absurd (no_typ
 not_item (starts.Condition condition) no_type no_condition no_priority = absurd (no_condition condition refl)
 not_item starts.Priority no_type no_condition no_priority = absurd (no_priority refl)
 not_item start no_type no_condition no_priority = refl
-
-pub start_integer : (tokens : List Token) (place : ℕ) → HasKind tokens place (kinds.Keyword words.Integer) → start_at tokens place ≡ starts.Type types.Integer
-unfolding keyword_start
-start_integer tokens place has = start_keyword tokens place words.Integer has

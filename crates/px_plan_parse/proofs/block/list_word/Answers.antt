@@ -1,5 +1,5 @@
 use Rattle.std.proofs.Common.{◌+◌, refl, sym, subst, arith}
-use Rattle.std.proofs.lemmas.Result.{err_from_is_err_and}
+use Rattle.px_value.proofs.General.{handed_on}
 use Rattle.std.proofs.lemmas.Bool.{false≢true}
 use Rattle.px_lex.specs.declared.keyword.Keyword.TheVariants as words
 use Rattle.px_lex.specs.declared.token.TokenKind.TheVariants as kinds
@@ -27,13 +27,10 @@ returns-then-not-begins-clause-ok c =
 
 pub returns-in_err-expect-clause-fault : goal.returns-in_err-expect-clause-fault
 returns-in_err-expect-clause-fault c =
-    let p = err_from_is_err_and c.from_residual.result c.from_residual.ensures.1 in
     let is = c.if-not-begins.ensures.answer.0 refl in
-    rw (p.1, p.2) (subst (λ (word : Option BlockForm). IsLacking (list_word word) NoListWord c.args.tokens.now c.args.from c.in_err-expect.field-0.0)
+    handed_on _ _ _ c.from_residual.ensures.1 (subst (λ (word : Option BlockForm). IsLacking (list_word word) NoListWord c.args.tokens.now c.args.from c.in_err-expect.field-0.0)
     (sym c.in_default.is)
-    (list_lacks c.args.tokens.now c.args.from is
-    (here starts.NodeList (kinds.Keyword words.NodeList) (λ kind is_of. is_of) (λ e. cc) c.args.tokens.now c.args.from is)
-    c.in_err-expect.field-0.0 (omega (arith, c.if-not-begins.ensures.inside refl (λ e. cc))) c.in_err-expect.ensures.fault))
+    (list_lacks c.args.tokens.now c.args.from is (here starts.NodeList (kinds.Keyword words.NodeList) (λ kind is_of. is_of) (λ e. cc) c.args.tokens.now c.args.from is) (omega (arith, c.if-not-begins.ensures.inside refl (λ e. cc))) c.in_err-expect.ensures.fault))
 
 pub returns-clause-ok : goal.returns-clause-ok
 returns-clause-ok c =

@@ -1,5 +1,5 @@
 use Rattle.std.proofs.Common.{inl, inr, refl}
-use Rattle.std.proofs.lemmas.Result.{err_from_is_err_and}
+use Rattle.px_value.proofs.General.{handed_on}
 use Rattle.std.proofs.lemmas.Bool.{false≢true}
 use Rattle.px_plan_parse.specs.Part.{Anything}
 use Rattle.px_plan_parse.proofs.Numbers.{lack_priority}
@@ -10,8 +10,7 @@ use Rattle.px_plan_parse.proofs.item.priority.Goals as goal
 
 pub returns-in_err-priority-clause-fault : goal.returns-in_err-priority-clause-fault
 returns-in_err-priority-clause-fault c =
-    let p = err_from_is_err_and c.from_residual.result c.from_residual.ensures.1 in
-    rw (p.1, p.2) (lack_priority c.args.tokens.now c.args.from c.if-is_sign.at (elim c.if-is_sign.branch [
+    handed_on _ _ _ c.from_residual.ensures.1 (lack_priority c.args.tokens.now c.args.from c.if-is_sign.at (elim c.if-is_sign.branch [
       | then-is_sign w ↦ inl (w.if-is_sign.ensures.answer.0 refl, w.at-is)
       | else-is_sign w ↦ inr (λ has. false≢true (w.if-is_sign.ensures.answer.1 has), w.at-is)
     ])
@@ -19,8 +18,7 @@ returns-in_err-priority-clause-fault c =
 
 pub returns-in_err-expect-clause-fault : goal.returns-in_err-expect-clause-fault
 returns-in_err-expect-clause-fault c =
-    let p = err_from_is_err_and c.from_residual-in_err-expect.result c.from_residual-in_err-expect.ensures.1 in
-    rw (p.1, p.2) (lack_priority c.args.tokens.now c.args.from c.if-is_sign.at (elim c.if-is_sign.branch [
+    handed_on _ _ _ c.from_residual-in_err-expect.ensures.1 (lack_priority c.args.tokens.now c.args.from c.if-is_sign.at (elim c.if-is_sign.branch [
       | then-is_sign w ↦ inl (w.if-is_sign.ensures.answer.0 refl, w.at-is)
       | else-is_sign w ↦ inr (λ has. false≢true (w.if-is_sign.ensures.answer.1 has), w.at-is)
     ])

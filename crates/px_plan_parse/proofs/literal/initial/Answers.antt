@@ -1,5 +1,5 @@
 use Rattle.std.proofs.Common.{refl, sym, subst}
-use Rattle.std.proofs.lemmas.Result.{err_from_is_err_and}
+use Rattle.px_value.proofs.General.{handed_on}
 use Rattle.std.proofs.lemmas.Bool.{false≢true}
 use Rattle.px_syntax.specs.Block.{InitialData}
 use Rattle.px_syntax.specs.BlockGrammar.{initial}
@@ -10,21 +10,17 @@ use Rattle.px_plan_parse.proofs.literal.initial.Goals as goal
 
 pub returns-in_err-values-clause-fault : goal.returns-in_err-values-clause-fault
 returns-in_err-values-clause-fault c =
-    let p = err_from_is_err_and c.from_residual.result c.from_residual.ensures.1 in
-    rw (p.1, p.2) (lack_made (makes_list c.args.tokens.now c.args.from (c.if-is_sign.ensures.answer.0 refl)) (lack_behind (c.if-is_sign.ensures.answer.0 refl) c.in_err-values.ensures.fault))
+    handed_on _ _ _ c.from_residual.ensures.1 (lack_made (makes_list c.args.tokens.now c.args.from (c.if-is_sign.ensures.answer.0 refl)) (lack_behind (c.if-is_sign.ensures.answer.0 refl) c.in_err-values.ensures.fault))
 
 pub returns-then-is_sign-clause-ok : goal.returns-then-is_sign-clause-ok
 returns-then-is_sign-clause-ok c =
-    subst (λ (tree : InitialData). IsPart initial Anything c.args.tokens.now c.args.from tree c.in_ok-values.end) (sym c.first_list.ensures)
-    (part_made (makes_list c.args.tokens.now c.args.from (c.if-is_sign.ensures.answer.0 refl))
+    rw c.first_list.ensures (part_made (makes_list c.args.tokens.now c.args.from (c.if-is_sign.ensures.answer.0 refl))
     (part_behind (c.if-is_sign.ensures.answer.0 refl) c.in_ok-values.ensures.ok))
 
 pub returns-clause-ok : goal.returns-clause-ok
 returns-clause-ok c =
-    subst (λ (tree : InitialData). IsPart initial Anything c.args.tokens.now c.args.from tree c.in_ok-value.end) (sym c.first_literal.ensures)
-    (part_made (makes_value c.args.tokens.now c.args.from (λ has. false≢true (c.if-is_sign.ensures.answer.1 has))) c.in_ok-value.ensures.ok)
+    rw c.first_literal.ensures (part_made (makes_value c.args.tokens.now c.args.from (λ has. false≢true (c.if-is_sign.ensures.answer.1 has))) c.in_ok-value.ensures.ok)
 
 pub returns-in_err-value-clause-fault : goal.returns-in_err-value-clause-fault
 returns-in_err-value-clause-fault c =
-    let p = err_from_is_err_and c.from_residual-in_err-value.result c.from_residual-in_err-value.ensures.1 in
-    rw (p.1, p.2) (lack_made (makes_value c.args.tokens.now c.args.from (λ has. false≢true (c.if-is_sign.ensures.answer.1 has))) c.in_err-value.ensures.fault)
+    handed_on _ _ _ c.from_residual-in_err-value.ensures.1 (lack_made (makes_value c.args.tokens.now c.args.from (λ has. false≢true (c.if-is_sign.ensures.answer.1 has))) c.in_err-value.ensures.fault)

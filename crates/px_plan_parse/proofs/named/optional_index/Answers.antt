@@ -1,5 +1,5 @@
 use Rattle.std.proofs.Common.{◌+◌, refl}
-use Rattle.std.proofs.lemmas.Result.{err_from_is_err_and}
+use Rattle.px_value.proofs.General.{handed_on}
 use Rattle.px_lex.specs.declared.sign.Sign.TheVariants as signs
 use Rattle.px_expr_parse.specs.Tail.{closed}
 use Rattle.px_plan_parse.specs.Tail.{Unless}
@@ -9,9 +9,8 @@ use Rattle.px_plan_parse.proofs.named.optional_index.Goals as goal
 
 pub returns-in_err-index-clause-fault : goal.returns-in_err-index-clause-fault
 returns-in_err-index-clause-fault c =
-    let p = err_from_is_err_and c.from_residual.result c.from_residual.ensures.1 in
     let bracket = c.if-not-is_sign.ensures.answer.0 refl in
-    rw (p.1, p.2) (lack_present (not_unless c.args.tokens.now c.args.from signs.OpenBracket bracket)
+    handed_on _ _ _ c.from_residual.ensures.1 (lack_present (not_unless c.args.tokens.now c.args.from signs.OpenBracket bracket)
     (lack_behind bracket (of_missing (closed signs.CloseBracket) c.args.tokens.now (c.args.from + 1) c.in_err-index.field-0.0 (Unless signs.OpenBracket)
     c.in_err-index.ensures.fault)))
 

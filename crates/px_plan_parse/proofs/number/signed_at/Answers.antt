@@ -1,5 +1,5 @@
 use Rattle.std.proofs.Common.{refl, arith}
-use Rattle.std.proofs.lemmas.Result.{err_from_is_err_and}
+use Rattle.px_value.proofs.General.{handed_on}
 use Rattle.std.proofs.lemmas.Bool.{false≢true}
 use Rattle.std.proofs.lemmas.Grind.{common_steps}
 use Rattle.px_plan_parse.proofs.Numbers.{lack_signed, no_signed}
@@ -7,8 +7,7 @@ use Rattle.px_plan_parse.proofs.number.signed_at.Goals as goal
 
 pub returns-in_err-size-clause-fault : goal.returns-in_err-size-clause-fault
 returns-in_err-size-clause-fault c =
-    let p = err_from_is_err_and c.from_residual.result c.from_residual.ensures.1 in
-    rw (p.1, p.2) (lack_signed c.args.tokens.now c.args.from (c.if-is_sign.ensures.answer.0 refl) c.in_err-size.ensures.fault)
+    handed_on _ _ _ c.from_residual.ensures.1 (lack_signed c.args.tokens.now c.args.from (c.if-is_sign.ensures.answer.0 refl) c.in_err-size.ensures.fault)
 
 pub returns-in_default : goal.returns-in_default
 returns-in_default c =
