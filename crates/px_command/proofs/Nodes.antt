@@ -1,6 +1,7 @@
 -- Parts that stand for a world of a plan still do where cells and acts are written. (This could as well stand in px_flat.)
-use Rattle.std.proofs.Common.{◌≡◌, ◌≢◌, ℕ, ◌+◌, ◌<◌, List, set, ap, ◌∙◌, sym, subst, arith, inl, inr}
+use Rattle.std.proofs.Common.{◌≡◌, ◌≢◌, ℕ, ◌+◌, ◌<◌, List, set, ◌∙◌, sym, subst, arith, inl, inr}
 use Rattle.std.proofs.lemmas.Bool.Decides.{eqb_tells}
+use Rattle.std.proofs.lemmas.Grind.{common_steps}
 use Rattle.std.proofs.lemmas.List.{length-set, get_or-set_other}
 use Rattle.px_value.specs.declared.value.Value.{Value}
 use Rattle.px_value.specs.declared.value.Value.TheVariants as values
@@ -9,8 +10,7 @@ use Rattle.px_flat.specs.declared.act.Act.{Act}
 use Rattle.px_flat.specs.declared.act.Act.TheVariants as under_way
 use Rattle.px_flat.specs.Layout.{node_cell, state_cell, variable_cells}
 use Rattle.px_flat.specs.Numbered.{held}
-use Rattle.px_flat.specs.Parts.{IsParts, IsNode, act_of, is_state, is_outcome, is_failure, is_handle_of, is_acknowledgement_of, fits}
-use Rattle.px_flat.specs.Row.{site_in}
+use Rattle.px_flat.specs.Parts.{IsParts, IsNode, act_of}
 
 -- what a write of another cell leaves
 pub elsewhere : (cells : List Value) (cell at : ℕ) (value : Value) → at ≢ cell → held (set cells cell value) at ≡ held cells at
@@ -22,26 +22,12 @@ node_same : (plan : List Site) (cells new_cells : List Value) (acts new_acts : L
     → ((part : ℕ) → 0 < part → part < 5
     → held new_cells (node_cell plan node + part) ≡ held cells (node_cell plan node + part))
     → act_of new_acts node ≡ act_of acts node → IsNode plan cells acts node → IsNode plan new_cells new_acts node
-node_same plan cells new_cells acts new_acts node state part act is = record {
-  state = ap is_state state ∙ is.state;
-  outcome = ap is_outcome (part 1 (omega arith) (omega arith)) ∙ is.outcome;
-  failure = ap is_failure (part 2 (omega arith) (omega arith)) ∙ is.failure;
-  handle = (λ i. is_handle_of (act i) (part 3 (omega arith) (omega arith) i)) ∙ is.handle;
-  acknowledgement = (λ i. is_acknowledgement_of (act i) (part 4 (omega arith) (omega arith) i)) ∙ is.acknowledgement;
-  act = ap (fits plan (site_in plan node).head.body) act ∙ is.act;
-}
+node_same plan cells new_cells acts new_acts node state part act is = grind (arith, common_steps)
 
 -- a cell of a variable is written
 pub variable_kept : (plan : List Site) (cells : List Value) (acts : List Act) (cell : ℕ) (value : Value)
     → cell < variable_cells plan → IsParts plan cells acts → IsParts plan (set cells cell value) acts
-variable_kept plan cells acts cell value variable is = record {
-  all_cells = length-set cells cell value ∙ is.all_cells;
-  all_acts = is.all_acts;
-  nodes = λ node within. node_same plan cells (set cells cell value) acts acts node
-      (elsewhere cells cell (state_cell plan node) value (λ same. absurd (omega (arith, variable, same))))
-      (λ part some few. elsewhere cells cell (node_cell plan node + part) value (λ same. absurd (omega (arith, variable, same))))
-      (λ i. act_of acts node) (is.nodes node within);
-}
+variable_kept plan cells acts cell value variable is = grind (arith, common_steps, length-set, node_same, elsewhere)
 
 -- a cell of a node is written
 pub cell_kept : (plan : List Site) (cells : List Value) (acts : List Act) (node part : ℕ) (value : Value) → 0 < part → part < 5

@@ -1,8 +1,10 @@
 -- The rows of the table of events, each over the parts of one node.
 use Rattle.std.proofs.Common.{◌≡◌, ℕ, ◌+◌, ◌<◌, Bool, true, false, ◌&&◌, ◌||◌, List, [], ◌∷◌, length, map, set, refl, ap, sym, ◌∙◌, arith, Some, None, if◌then◌else◌}
 use Rattle.std.proofs.lemmas.Bool.{and_parts, and_from, false≢true}
+use Rattle.std.proofs.lemmas.Grind.{common_steps}
 use Rattle.std.proofs.lemmas.List.{get_or-set_same}
 use Rattle.px_value.specs.declared.enums.Handle.{Handle}
+use Rattle.px_value.specs.declared.enums.NodeState.{NodeState}
 use Rattle.px_value.specs.declared.value.Value.{Value}
 use Rattle.px_value.specs.declared.value.Value.TheVariants as values
 use Rattle.px_core.specs.Plan.{Site, BodyData, Nothing, Assign, Command, Update, is_same}
@@ -11,7 +13,7 @@ use Rattle.px_event.specs.declared.event.Event.TheVariants as events
 use Rattle.px_sem.specs.Events.{with_record, with_action, with_handle, with_abort_done, body_at, action_at, is_command, is_update, counts, changed, take}
 use Rattle.px_sem.specs.Guards.{is_active, is_executing, is_failing}
 use Rattle.px_sem.specs.World as world
-use Rattle.px_sem.specs.World.{World, NodeRecord, Action, LookState, Report, record_at, state_at}
+use Rattle.px_sem.specs.World.{World, NodeRecord, Action, LookState, Report, state_at}
 use Rattle.px_flat.specs.declared.act.Act.{Act}
 use Rattle.px_flat.specs.declared.act.Act.TheVariants as under_way
 use Rattle.px_flat.specs.Layout.{node_cell, state_cell, handle_cell, acknowledgement_cell}
@@ -66,11 +68,7 @@ uncounted plan before event fails = ap (λ b. if b then changed plan before even
 -- an event that changes nothing where it counts never does
 pub nothing_changes : (plan : List Site) (before : World) (event : Event)
     → (counts plan before event ≡ true → changed plan before event ≡ before) → take plan before event ≡ before
-nothing_changes plan before event same = by (counts plan before event) refl
-  where
-    by : (b : Bool) → counts plan before event ≡ b → take plan before event ≡ before
-    by true holds = counted plan before event holds ∙ same holds
-    by false fails = uncounted plan before event fails
+nothing_changes plan before event same = grind (arith, common_steps, counted, uncounted)
 
 -- ---- a command's handle, and its abort
 
@@ -149,121 +147,131 @@ acknowledgement_of_aborted (under_way.Scalar old) a is = is
 acknowledgement_of_aborted (under_way.Element index old) a is = is
 acknowledgement_of_aborted under_way.Updated a is = is
 
--- a handle counts where a command is under way and the node is at work
-pub handle_ignored : (plan : List Site) (cells : List Value) (reports : List (LookState × Report)) (acts : List Act) (node : ℕ)
-    (handle : Handle) → IsSound plan → node < length plan
-    → (is_active (state_in (held cells (state_cell plan node))) && is_sent (act_of acts node)) ≡ false
-    → take plan (world_of plan cells reports acts) (events.Handle (site_in plan node).path handle)
-    ≡ world_of plan cells reports acts
-handle_ignored plan cells reports acts node handle sound within fails =
-    nothing_changes plan (world_of plan cells reports acts) (events.Handle own handle) (λ holds.
-    let active : is_active (state_in (held cells (state_cell plan node))) ≡ true =
-    ap is_active (sym has.state_is) ∙ (and_parts (is_command (body_at plan own)) _ holds).1 in
-    let unsent : is_sent (act_of acts node) ≡ false = sym (ap (λ b. b && is_sent (act_of acts node)) active) ∙ fails in
-    ap (with_action (world_of plan cells reports acts) own)
-    (ap (with_handle handle) has.action_is ∙ handle_unsent handle (act_of acts node) _ _ unsent ∙ sym has.action_is)
-    ∙ has.same_action)
+-- of two records that a node gets the later one counts
+with_record-twice : (before : World) (path : List ℕ) (first second : NodeRecord)
+    → with_record (with_record before path first) path second ≡ with_record before path second
+with_record-twice before path first second =
+    ap (λ nodes. record before { nodes = nodes }) (over before.nodes)
   where
-    own : List ℕ
-    own = (site_in plan node).path
+    one : (own : List ℕ) (old : NodeRecord) (b : Bool)
+        → (if b then second else if b then first else old) ≡ (if b then second else old)
+    one own old true = refl
+    one own old false = refl
 
-    has : HasNode plan cells reports acts node
-    has = has_node plan cells reports acts node sound within
+    put : NodeRecord → List ℕ × NodeRecord → List ℕ × NodeRecord
+    put r entry = (entry.0, if is_same entry.0 path then r else entry.1)
 
-pub handle_taken : (plan : List Site) (cells : List Value) (reports : List (LookState × Report)) (acts : List Act) (node : ℕ)
-    (handle : Handle) → IsSound plan → node < length plan → IsParts plan cells acts
-    → (is_active (state_in (held cells (state_cell plan node))) && is_sent (act_of acts node)) ≡ true
-    → world_of plan (set cells (handle_cell plan node) (values.Handle handle)) reports acts
-    ≡ take plan (world_of plan cells reports acts) (events.Handle (site_in plan node).path handle)
-handle_taken plan cells reports acts node handle sound within parts holds =
-    handle_written plan cells reports acts node (values.Handle handle) sound.distinct within parts.all_cells
-    ∙ ap (with_action (world_of plan cells reports acts) own)
-    (handle_sent handle (act_of acts node) (held cells (handle_cell plan node)) _ both.1
-    ∙ ap (with_handle handle) (sym has.action_is))
-    ∙ sym (counted plan (world_of plan cells reports acts) (events.Handle own handle)
-    (and_from (is_command (body_at plan own)) _
-    (ap is_command has.body_is
-    ∙ sent_command plan (site_in plan node).head.body (act_of acts node) (parts.nodes node within).act both.1)
-    (ap is_active has.state_is ∙ both.0)))
-  where
-    own : List ℕ
-    own = (site_in plan node).path
+    over : (nodes : List (List ℕ × NodeRecord)) → map (put second) (map (put first) nodes) ≡ map (put second) nodes
+    over [] = refl
+    over (entry ∷ nodes) = λ i. (entry.0, one entry.0 entry.1 (is_same entry.0 path) i) ∷ over nodes i
 
-    has : HasNode plan cells reports acts node
-    has = has_node plan cells reports acts node sound within
+-- ---- whether the rows of a node count
 
-    both : (is_active (state_in (held cells (state_cell plan node))) ≡ true) × (is_sent (act_of acts node) ≡ true)
-    both = and_parts (is_active (state_in (held cells (state_cell plan node)))) (is_sent (act_of acts node)) holds
+module _ (plan : List Site) (cells : List Value) (reports : List (LookState × Report)) (acts : List Act) (node : ℕ)
+    (sound : IsSound plan) (within : node < length plan) where
+  abbrev own : List ℕ
+  own = (site_in plan node).path
+
+  abbrev before : World
+  before = world_of plan cells reports acts
+
+  abbrev act : Act
+  act = act_of acts node
+
+  abbrev state : NodeState
+  state = state_in (held cells (state_cell plan node))
+
+  has : HasNode plan cells reports acts node
+  has = has_node plan cells reports acts node sound within
+
+  -- a change of the action that counts at such states changes nothing where no command is under way
+  ignored : (event : Event) (at_work : NodeState → Bool) (change : Action → Action)
+      → counts plan before event ≡ (is_command (body_at plan own) && at_work (state_at before own))
+      → changed plan before event ≡ with_action before own (change (action_at before own))
+      → (is_sent act ≡ false → (h a : Value) → change (action_in act h a) ≡ action_in act h a)
+      → (at_work state && is_sent act) ≡ false → take plan before event ≡ before
+  ignored event at_work change counts_is changes unsent fails = nothing_changes plan before event (λ holds.
+      let working : at_work state ≡ true =
+      ap at_work (sym has.state_is) ∙ (and_parts (is_command (body_at plan own)) _ (sym counts_is ∙ holds)).1 in
+      let none : is_sent act ≡ false = sym (ap (λ b. b && is_sent act) working) ∙ fails in
+      changes ∙ ap (with_action before own) (ap change has.action_is ∙ unsent none _ _ ∙ sym has.action_is) ∙ has.same_action)
+
+  -- and it counts where one is
+  counts_here : (at_work : NodeState → Bool) → IsParts plan cells acts → is_sent act ≡ true → at_work state ≡ true
+      → (is_command (body_at plan own) && at_work (state_at before own)) ≡ true
+  counts_here at_work parts sent working = and_from (is_command (body_at plan own)) _
+      (ap is_command has.body_is ∙ sent_command plan (site_in plan node).head.body act (parts.nodes node within).act sent)
+      (ap at_work has.state_is ∙ working)
+
+  -- a handle counts where a command is under way and the node is at work
+  pub handle_ignored : (handle : Handle) → (is_active state && is_sent act) ≡ false
+      → take plan before (events.Handle own handle) ≡ before
+  handle_ignored handle fails =
+      ignored (events.Handle own handle) is_active (with_handle handle) refl refl (λ none h a. handle_unsent handle act h a none) fails
+
+  pub handle_taken : (handle : Handle) → IsParts plan cells acts → (is_active state && is_sent act) ≡ true
+      → world_of plan (set cells (handle_cell plan node) (values.Handle handle)) reports acts
+      ≡ take plan before (events.Handle own handle)
+  handle_taken handle parts holds =
+      let both = and_parts (is_active state) (is_sent act) holds in
+      handle_written plan cells reports acts node (values.Handle handle) sound.distinct within parts.all_cells
+      ∙ ap (with_action before own) (handle_sent handle act (held cells (handle_cell plan node)) _ both.1
+      ∙ ap (with_handle handle) (sym has.action_is))
+      ∙ sym (counted plan before (events.Handle own handle) (counts_here is_active parts both.1 both.0))
+
+  -- the abort of a command is done where one is under way and the node fails
+  pub abort_ignored : (is_failing state && is_sent act) ≡ false → take plan before (events.AbortDone own) ≡ before
+  abort_ignored fails =
+      ignored (events.AbortDone own) is_failing with_abort_done refl refl (λ none h a. abort_unsent act h a none) fails
+
+  pub abort_taken : IsParts plan cells acts → (is_failing state && is_sent act) ≡ true
+      → world_of plan cells reports (set acts node (aborted act)) ≡ take plan before (events.AbortDone own)
+  abort_taken parts holds =
+      let both = and_parts (is_failing state) (is_sent act) holds in
+      act_put plan cells reports acts node (aborted act) sound.distinct within parts.all_acts
+      ∙ ap (with_action before own) (abort_sent act _ _ both.1 ∙ ap with_abort_done (sym has.action_is))
+      ∙ sym (counted plan before (events.AbortDone own) (counts_here is_failing parts both.1 both.0))
+
+  -- an acknowledgement counts where the node is an update that is at work or fails
+  pub acknowledged_ignored : (is_update (site_in plan node).head.body && (is_executing state || is_failing state)) ≡ false
+      → take plan before (events.Acknowledged own) ≡ before
+  acknowledged_ignored fails = uncounted plan before (events.Acknowledged own)
+      ((λ i. is_update (has.body_is i) && (is_executing (has.state_is i) || is_failing (has.state_is i))) ∙ fails)
+
+  pub acknowledged_taken : IsParts plan cells acts
+      → (is_update (site_in plan node).head.body && (is_executing state || is_failing state)) ≡ true
+      → world_of plan (set cells (acknowledgement_cell plan node) (values.Boolean true)) reports (set acts node under_way.Updated)
+      ≡ take plan before (events.Acknowledged own)
+  acknowledged_taken parts holds =
+      acknowledgement_written plan cells reports new_acts node (values.Boolean true) sound.distinct within parts.all_cells
+      ∙ ap (λ (r : NodeRecord). with_record (world_of plan cells reports new_acts) own (record r { action = done }))
+      (record_at-world_of plan cells reports new_acts node sound.distinct within)
+      ∙ ap (λ act. with_record (world_of plan cells reports new_acts) own (record (record_in plan cells acts node)
+      { action = action_in act (held cells (handle_cell plan node)) (values.Boolean true) })) put
+      ∙ ap (λ before. with_record before own (record (record_in plan cells acts node) { action = world.Updated true }))
+      (act_put plan cells reports acts node under_way.Updated sound.distinct within parts.all_acts)
+      ∙ with_record-twice before own _ (record (record_in plan cells acts node) { action = world.Updated true })
+      ∙ ap (λ (r : NodeRecord). with_record before own (record r { action = world.Updated true }))
+      (sym (record_at-world_of plan cells reports acts node sound.distinct within))
+      ∙ sym (counted plan before (events.Acknowledged own)
+      ((λ i. is_update (has.body_is i) && (is_executing (has.state_is i) || is_failing (has.state_is i))) ∙ holds))
+    where
+      new_acts : List Act
+      new_acts = set acts node under_way.Updated
+
+      done : Action
+      done = action_in (act_of new_acts node) (held cells (handle_cell plan node)) (values.Boolean true)
+
+      put : act_of new_acts node ≡ under_way.Updated
+      put = get_or-set_same acts node under_way.Updated under_way.Idle (omega (arith, within, parts.all_acts))
+
+-- ---- the parts behind a row
 
 pub handle_parts : (plan : List Site) (cells : List Value) (acts : List Act) (node : ℕ) (handle : Handle)
     → node < length plan → IsParts plan cells acts → is_sent (act_of acts node) ≡ true
     → IsParts plan (set cells (handle_cell plan node) (values.Handle handle)) acts
 handle_parts plan cells acts node handle within parts sent =
-    cell_kept plan cells acts node 3 value (omega arith) (omega arith) parts (record {
-      state = ap is_state (elsewhere cells cell (state_cell plan node) value (λ same. absurd (omega (arith, same)))) ∙ old.state;
-      outcome = ap is_outcome (elsewhere cells cell (node_cell plan node + 1) value (λ same. absurd (omega (arith, same)))) ∙ old.outcome;
-      failure = ap is_failure (elsewhere cells cell (node_cell plan node + 2) value (λ same. absurd (omega (arith, same)))) ∙ old.failure;
-      handle = ap (is_handle_of (act_of acts node))
-          (get_or-set_same cells cell value values.Unknown (omega (arith, within, parts.all_cells)))
-          ∙ handle_of_sent (act_of acts node) handle sent;
-      acknowledgement = ap (is_acknowledgement_of (act_of acts node))
-          (elsewhere cells cell (node_cell plan node + 4) value (λ same. absurd (omega (arith, same)))) ∙ old.acknowledgement;
-      act = old.act;
-    })
-  where
-    cell : ℕ
-    cell = node_cell plan node + 3
-
-    value : Value
-    value = values.Handle handle
-
-    old : IsNode plan cells acts node
-    old = parts.nodes node within
-
--- the abort of a command is done where one is under way and the node fails
-pub abort_ignored : (plan : List Site) (cells : List Value) (reports : List (LookState × Report)) (acts : List Act) (node : ℕ)
-    → IsSound plan → node < length plan
-    → (is_failing (state_in (held cells (state_cell plan node))) && is_sent (act_of acts node)) ≡ false
-    → take plan (world_of plan cells reports acts) (events.AbortDone (site_in plan node).path)
-    ≡ world_of plan cells reports acts
-abort_ignored plan cells reports acts node sound within fails =
-    nothing_changes plan (world_of plan cells reports acts) (events.AbortDone own) (λ holds.
-    let failing : is_failing (state_in (held cells (state_cell plan node))) ≡ true =
-    ap is_failing (sym has.state_is) ∙ (and_parts (is_command (body_at plan own)) _ holds).1 in
-    let unsent : is_sent (act_of acts node) ≡ false = sym (ap (λ b. b && is_sent (act_of acts node)) failing) ∙ fails in
-    ap (with_action (world_of plan cells reports acts) own)
-    (ap with_abort_done has.action_is ∙ abort_unsent (act_of acts node) _ _ unsent ∙ sym has.action_is)
-    ∙ has.same_action)
-  where
-    own : List ℕ
-    own = (site_in plan node).path
-
-    has : HasNode plan cells reports acts node
-    has = has_node plan cells reports acts node sound within
-
-pub abort_taken : (plan : List Site) (cells : List Value) (reports : List (LookState × Report)) (acts : List Act) (node : ℕ)
-    → IsSound plan → node < length plan → IsParts plan cells acts
-    → (is_failing (state_in (held cells (state_cell plan node))) && is_sent (act_of acts node)) ≡ true
-    → world_of plan cells reports (set acts node (aborted (act_of acts node)))
-    ≡ take plan (world_of plan cells reports acts) (events.AbortDone (site_in plan node).path)
-abort_taken plan cells reports acts node sound within parts holds =
-    act_put plan cells reports acts node (aborted (act_of acts node)) sound.distinct within parts.all_acts
-    ∙ ap (with_action (world_of plan cells reports acts) own)
-    (abort_sent (act_of acts node) _ _ both.1 ∙ ap with_abort_done (sym has.action_is))
-    ∙ sym (counted plan (world_of plan cells reports acts) (events.AbortDone own)
-    (and_from (is_command (body_at plan own)) _
-    (ap is_command has.body_is
-    ∙ sent_command plan (site_in plan node).head.body (act_of acts node) (parts.nodes node within).act both.1)
-    (ap is_failing has.state_is ∙ both.0)))
-  where
-    own : List ℕ
-    own = (site_in plan node).path
-
-    has : HasNode plan cells reports acts node
-    has = has_node plan cells reports acts node sound within
-
-    both : (is_failing (state_in (held cells (state_cell plan node))) ≡ true) × (is_sent (act_of acts node) ≡ true)
-    both = and_parts (is_failing (state_in (held cells (state_cell plan node)))) (is_sent (act_of acts node)) holds
+    grind (arith, common_steps, cell_kept, elsewhere, get_or-set_same, handle_of_sent)
 
 pub abort_parts : (plan : List Site) (cells : List Value) (acts : List Act) (node : ℕ) → node < length plan
     → IsParts plan cells acts → IsParts plan cells (set acts node (aborted (act_of acts node)))
@@ -288,75 +296,6 @@ abort_parts plan cells acts node within parts =
     put = get_or-set_same acts node (aborted act) under_way.Idle (omega (arith, within, parts.all_acts))
 
 -- ---- an update's acknowledgement
-
--- of two records that a node gets the later one counts
-with_record-twice : (before : World) (path : List ℕ) (first second : NodeRecord)
-    → with_record (with_record before path first) path second ≡ with_record before path second
-with_record-twice before path first second =
-    ap (λ nodes. record before { nodes = nodes }) (over before.nodes)
-  where
-    one : (own : List ℕ) (old : NodeRecord) (b : Bool)
-        → (if b then second else if b then first else old) ≡ (if b then second else old)
-    one own old true = refl
-    one own old false = refl
-
-    put : NodeRecord → List ℕ × NodeRecord → List ℕ × NodeRecord
-    put r entry = (entry.0, if is_same entry.0 path then r else entry.1)
-
-    over : (nodes : List (List ℕ × NodeRecord)) → map (put second) (map (put first) nodes) ≡ map (put second) nodes
-    over [] = refl
-    over (entry ∷ nodes) = λ i. (entry.0, one entry.0 entry.1 (is_same entry.0 path) i) ∷ over nodes i
-
--- an acknowledgement counts where the node is an update that is at work or fails
-pub acknowledged_ignored : (plan : List Site) (cells : List Value) (reports : List (LookState × Report)) (acts : List Act)
-    (node : ℕ) → IsSound plan → node < length plan
-    → (is_update (site_in plan node).head.body
-    && (is_executing (state_in (held cells (state_cell plan node))) || is_failing (state_in (held cells (state_cell plan node)))))
-    ≡ false
-    → take plan (world_of plan cells reports acts) (events.Acknowledged (site_in plan node).path)
-    ≡ world_of plan cells reports acts
-acknowledged_ignored plan cells reports acts node sound within fails =
-    uncounted plan (world_of plan cells reports acts) (events.Acknowledged (site_in plan node).path)
-    ((λ i. is_update (has.body_is i) && (is_executing (has.state_is i) || is_failing (has.state_is i))) ∙ fails)
-  where
-    has : HasNode plan cells reports acts node
-    has = has_node plan cells reports acts node sound within
-
-pub acknowledged_taken : (plan : List Site) (cells : List Value) (reports : List (LookState × Report)) (acts : List Act)
-    (node : ℕ) → IsSound plan → node < length plan → IsParts plan cells acts
-    → (is_update (site_in plan node).head.body
-    && (is_executing (state_in (held cells (state_cell plan node))) || is_failing (state_in (held cells (state_cell plan node)))))
-    ≡ true
-    → world_of plan (set cells (acknowledgement_cell plan node) (values.Boolean true)) reports (set acts node under_way.Updated)
-    ≡ take plan (world_of plan cells reports acts) (events.Acknowledged (site_in plan node).path)
-acknowledged_taken plan cells reports acts node sound within parts holds =
-    acknowledgement_written plan cells reports new_acts node (values.Boolean true) sound.distinct within parts.all_cells
-    ∙ ap (λ (r : NodeRecord). with_record (world_of plan cells reports new_acts) own (record r { action = done }))
-    (record_at-world_of plan cells reports new_acts node sound.distinct within)
-    ∙ ap (λ act. with_record (world_of plan cells reports new_acts) own (record (record_in plan cells acts node)
-    { action = action_in act (held cells (handle_cell plan node)) (values.Boolean true) })) put
-    ∙ ap (λ before. with_record before own (record (record_in plan cells acts node) { action = world.Updated true }))
-    (act_put plan cells reports acts node under_way.Updated sound.distinct within parts.all_acts)
-    ∙ with_record-twice (world_of plan cells reports acts) own _ (record (record_in plan cells acts node) { action = world.Updated true })
-    ∙ ap (λ (r : NodeRecord). with_record (world_of plan cells reports acts) own (record r { action = world.Updated true }))
-    (sym (record_at-world_of plan cells reports acts node sound.distinct within))
-    ∙ sym (counted plan (world_of plan cells reports acts) (events.Acknowledged own)
-    ((λ i. is_update (has.body_is i) && (is_executing (has.state_is i) || is_failing (has.state_is i))) ∙ holds))
-  where
-    own : List ℕ
-    own = (site_in plan node).path
-
-    new_acts : List Act
-    new_acts = set acts node under_way.Updated
-
-    done : Action
-    done = action_in (act_of new_acts node) (held cells (handle_cell plan node)) (values.Boolean true)
-
-    put : act_of new_acts node ≡ under_way.Updated
-    put = get_or-set_same acts node under_way.Updated under_way.Idle (omega (arith, within, parts.all_acts))
-
-    has : HasNode plan cells reports acts node
-    has = has_node plan cells reports acts node sound within
 
 update_fits : (plan : List Site) (body : BodyData) → is_update body ≡ true → fits plan body under_way.Updated ≡ true
 update_fits plan (Update pairs) is = refl

@@ -1,6 +1,7 @@
 -- What taking an event comes to, for each row of the table and where it does not count.
-use Rattle.std.proofs.Common.{◌≡◌, ℕ, ◌<◌, true, false, ◌||◌, ◌&&◌, List, length, set, refl, ap, sym, ◌∙◌, subst, Some, None}
+use Rattle.std.proofs.Common.{◌≡◌, ℕ, ◌<◌, true, false, ◌||◌, ◌&&◌, List, length, set, refl, ap, ◌∙◌, Some, None, arith}
 use Rattle.std.proofs.lemmas.Bool.{and_parts}
+use Rattle.std.proofs.lemmas.Grind.{common_steps}
 use Rattle.px_value.specs.declared.enums.Handle.{Handle}
 use Rattle.px_value.specs.declared.enums.NodeState.{NodeState}
 use Rattle.px_value.specs.declared.value.Value.{Value}
@@ -14,7 +15,7 @@ use Rattle.px_sem.specs.Effects.{as_kind}
 use Rattle.px_sem.specs.Events as semantics
 use Rattle.px_sem.specs.Events.{take}
 use Rattle.px_sem.specs.Guards.{is_executing, is_failing}
-use Rattle.px_sem.specs.World.{World, LookState, Report}
+use Rattle.px_sem.specs.World.{LookState, Report}
 use Rattle.px_cells.specs.Marked.{Contents, written}
 use Rattle.px_flat.specs.declared.act.Act.{Act}
 use Rattle.px_flat.specs.declared.act.Act.TheVariants as under_way
@@ -40,12 +41,7 @@ pub unchanged : (plan : List Site) (event : Event) (cells : Contents Value) (act
     → ((reports : List (LookState × Report)) → take plan (world_of plan cells.values reports acts.values) event
     ≡ world_of plan cells.values reports acts.values)
     → IsTaken plan event cells acts cells acts
-unchanged plan event cells acts parts same = record {
-  nodes = λ reports. ap (λ (w : World). w.nodes) (sym (same reports));
-  parts = parts;
-  cells_marked = refl;
-  acts_marked = refl;
-}
+unchanged plan event cells acts parts same = grind (arith, common_steps)
 
 -- a cell, an act, or both are written
 both_written : (plan : List Site) (event : Event) (cells new_cells : Contents Value) (acts new_acts : Contents Act)
@@ -57,14 +53,7 @@ both_written : (plan : List Site) (event : Event) (cells new_cells : Contents Va
     ≡ take plan (world_of plan cells.values reports acts.values) event)
     → IsTaken plan event cells acts new_cells new_acts
 both_written plan event cells new_cells acts new_acts new_values new_under_way values_are acts_are cells_marked acts_marked parts taken =
-    record {
-      nodes = λ reports. ap (λ (w : World). w.nodes)
-          ((λ i. world_of plan (values_are i) reports (acts_are i)) ∙ taken reports);
-      parts = subst (λ values. IsParts plan values new_acts.values) (sym values_are)
-          (subst (IsParts plan new_values) (sym acts_are) parts);
-      cells_marked = cells_marked;
-      acts_marked = acts_marked;
-    }
+    grind (arith, common_steps)
 
 -- ---- the rows
 
@@ -83,7 +72,7 @@ handle_row flat cells new_cells acts node handle within parts counts is =
     (set cells.values (handle_cell plan node) (values.Handle handle)) acts.values
     (ap (λ (c : Contents Value). c.values) is) refl (ap (λ (c : Contents Value). c.marked) is) refl
     (handle_parts plan cells.values acts.values node handle within parts (and_parts _ _ counts).1)
-    (λ reports. handle_taken plan cells.values reports acts.values node handle (flat_sound flat) within parts counts)
+    (λ reports. handle_taken plan cells.values reports acts.values node (flat_sound flat) within handle parts counts)
 
 pub no_handle : (flat : Flat) (cells : Contents Value) (acts : Contents Act) (node : ℕ) (handle : Handle)
     → node < length (plan_of flat) → IsParts (plan_of flat) cells.values acts.values
@@ -91,7 +80,7 @@ pub no_handle : (flat : Flat) (cells : Contents Value) (acts : Contents Act) (no
     → IsTaken (plan_of flat) (events.Handle (site_in (plan_of flat) node).path handle) cells acts cells acts
 no_handle flat cells acts node handle within parts counts =
     unchanged (plan_of flat) (events.Handle (site_in (plan_of flat) node).path handle) cells acts parts
-    (λ reports. handle_ignored (plan_of flat) cells.values reports acts.values node handle (flat_sound flat) within counts)
+    (λ reports. handle_ignored (plan_of flat) cells.values reports acts.values node (flat_sound flat) within handle counts)
 
 pub abort_row : (flat : Flat) (cells : Contents Value) (acts new_acts : Contents Act) (node : ℕ)
     → node < length (plan_of flat) → IsParts (plan_of flat) cells.values acts.values
@@ -148,11 +137,7 @@ pub no_acknowledgement : (flat : Flat) (cells : Contents Value) (acts : Contents
     (numbered_body (plan_of flat) (site_in (plan_of flat) node).head.body) ≡ false
     → IsTaken (plan_of flat) (events.Acknowledged (site_in (plan_of flat) node).path) cells acts cells acts
 no_acknowledgement flat cells acts node within parts counts =
-    let plan = plan_of flat in
-    unchanged plan (events.Acknowledged (site_in plan node).path) cells acts parts
-    (λ reports. acknowledged_ignored plan cells.values reports acts.values node (flat_sound flat) within
-    (ap (λ b. b && (is_executing (state_at flat cells node) || is_failing (state_at flat cells node)))
-    (update_alike plan (site_in plan node).head.body) ∙ counts))
+    grind (arith, common_steps, unchanged, acknowledged_ignored, flat_sound, update_alike)
 
 pub return_row : (flat : Flat) (cells new_cells : Contents Value) (acts : Contents Act) (node : ℕ) (given : Value)
     (slot : ℕ × VarKind)

@@ -1,9 +1,10 @@
 -- Of which node an event tells, and what one comes to that tells of none that the plan has.
-use Rattle.std.proofs.Common.{◌≡◌, ℕ, zero, suc, ◌&&◌, ◌||◌, ◌+◌, Bool, true, false, cond, List, [], ◌∷◌, get_or, refl, ap, sym, ◌∙◌, Option, Some, None, slice_get}
+use Rattle.std.proofs.Common.{◌≡◌, ℕ, zero, suc, ◌&&◌, ◌+◌, Bool, true, false, cond, List, [], ◌∷◌, get_or, refl, ap, sym, ◌∙◌, Option, Some, None, slice_get, arith}
 use Rattle.std.specs.List.{find, position_from}
 use Rattle.std.specs.Option.{option_and_then, unwrap_or}
 use Rattle.std.specs.Cmp.Lexicographic.{same_text}
 use Rattle.std.proofs.lemmas.Cmp.{nat_list_eq_equiv}
+use Rattle.std.proofs.lemmas.Grind.{common_steps}
 use Rattle.std.proofs.lemmas.Iterator.Adapters.{position_from-zero}
 use Rattle.std.proofs.lemmas.List.Quantifiers.{position-Some}
 use Rattle.std.proofs.lemmas.Option.{get_or_from_slice_get}
@@ -11,15 +12,15 @@ use Rattle.px_value.specs.declared.value.Value.{Value}
 use Rattle.px_core.specs.Plan.{Site, no_site, site_at, is_same}
 use Rattle.px_event.specs.declared.event.Event.{Event}
 use Rattle.px_event.specs.declared.event.Event.TheVariants as events
-use Rattle.px_sem.specs.Events.{take, is_command, is_update, has_result}
-use Rattle.px_sem.specs.Guards.{is_active, is_executing, is_failing, is_finishing}
+use Rattle.px_sem.specs.Events.{take, is_command}
+use Rattle.px_sem.specs.Guards.{is_active, is_failing}
 use Rattle.px_sem.specs.World.{World, state_at}
 use Rattle.px_cells.specs.Marked.{Contents}
 use Rattle.px_flat.specs.declared.act.Act.{Act}
 use Rattle.px_flat.specs.declared.act.Act.TheVariants as under_way
 use Rattle.px_flat.specs.declared.flat.Flat.{Flat}
 use Rattle.px_flat.specs.Flat.{plan_of}
-use Rattle.px_flat.specs.Parts.{IsParts, world_of, act_of}
+use Rattle.px_flat.specs.Parts.{IsParts, act_of}
 use Rattle.px_flat.specs.Row.{site_in, number_at, paths_of}
 use Rattle.px_command.specs.Taking.{IsTaken, path_of}
 use Rattle.px_command.proofs.Rows.{uncounted}
@@ -74,26 +75,15 @@ untold_nodes plan before (events.Report name args value) none = refl
 untold_nodes plan before (events.Handle node handle) none =
     sym (ap (λ (w : World). w.nodes) (uncounted plan before (events.Handle node handle)
     (ap (λ body. is_command body && is_active (state_at before node)) (ap (λ site. site.head.body) (no_site_at plan node none)))))
-untold_nodes plan before (events.Return node given) none =
-    sym (ap (λ (w : World). w.nodes) (uncounted plan before (events.Return node given)
-    (ap (λ body. has_result body && (is_executing (state_at before node) || is_finishing (state_at before node)))
-    (ap (λ site. site.head.body) (no_site_at plan node none)))))
+untold_nodes plan before (events.Return node given) none = grind (arith, common_steps, uncounted, no_site_at)
 untold_nodes plan before (events.AbortDone node) none =
     sym (ap (λ (w : World). w.nodes) (uncounted plan before (events.AbortDone node)
     (ap (λ body. is_command body && is_failing (state_at before node)) (ap (λ site. site.head.body) (no_site_at plan node none)))))
-untold_nodes plan before (events.Acknowledged node) none =
-    sym (ap (λ (w : World). w.nodes) (uncounted plan before (events.Acknowledged node)
-    (ap (λ body. is_update body && (is_executing (state_at before node) || is_failing (state_at before node)))
-    (ap (λ site. site.head.body) (no_site_at plan node none)))))
+untold_nodes plan before (events.Acknowledged node) none = grind (arith, common_steps, uncounted, no_site_at)
 
 -- an event that tells of no node that the plan has
 pub untold : (flat : Flat) (event : Event) (cells : Contents Value) (acts : Contents Act)
     → IsParts (plan_of flat) cells.values acts.values
     → option_and_then (number_at (plan_of flat)) (path_of event) ≡ None
     → IsTaken (plan_of flat) event cells acts cells acts
-untold flat event cells acts parts none = record {
-  nodes = λ reports. untold_nodes (plan_of flat) (world_of (plan_of flat) cells.values reports acts.values) event none;
-  parts = parts;
-  cells_marked = refl;
-  acts_marked = refl;
-}
+untold flat event cells acts parts none = grind (arith, common_steps, untold_nodes)

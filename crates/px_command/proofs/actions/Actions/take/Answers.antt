@@ -16,8 +16,7 @@ returns-in-Handle-clause-ok c =
     subst (λ (event : Event). OnOk c.take_handle.result (IsTaken (plan_of c.args.flat.now) event c.args.cells.now.contents
     c.args.self.now.contents c.take_handle.new.cells.contents c.args.self.now.contents))
     (ap (λ path. events.Handle path c.in-Handle.handle)
-    (told_event (plan_of c.args.flat.now) c.args.event.now c.in-Handle.node c.told_of.result c.in-Some.node
-    c.told_of.ensures.node c.in-Some.is (ap path_of c.in-Handle.is))
+    (told_event _ c.args.event.now c.in-Handle.node _ _ c.told_of.ensures.node c.in-Some.is (ap path_of c.in-Handle.is))
     ∙ sym c.in-Handle.is)
     c.take_handle.ensures.ok
 
@@ -26,8 +25,7 @@ returns-in-Return-clause-ok c =
     subst (λ (event : Event). OnOk c.take_return.result (IsTaken (plan_of c.args.flat.now) event c.args.cells.now.contents
     c.args.self.now.contents c.take_return.new.cells.contents c.args.self.now.contents))
     (ap (λ path. events.Return path c.in-Return.value)
-    (told_event (plan_of c.args.flat.now) c.args.event.now c.in-Return.node c.told_of.result c.in-Some.node
-    c.told_of.ensures.node c.in-Some.is (ap path_of c.in-Return.is))
+    (told_event _ c.args.event.now c.in-Return.node _ _ c.told_of.ensures.node c.in-Some.is (ap path_of c.in-Return.is))
     ∙ sym c.in-Return.is)
     c.take_return.ensures.ok
 
@@ -36,8 +34,7 @@ returns-in-AbortDone-clause-ok c =
     subst (λ (event : Event). OnOk c.take_abort_done.result (IsTaken (plan_of c.args.flat.now) event
     c.args.cells.now.contents c.args.self.now.contents c.args.cells.now.contents c.take_abort_done.new.self.contents))
     (ap events.AbortDone
-    (told_event (plan_of c.args.flat.now) c.args.event.now c.in-AbortDone.node c.told_of.result c.in-Some.node
-    c.told_of.ensures.node c.in-Some.is (ap path_of c.in-AbortDone.is))
+    (told_event _ c.args.event.now c.in-AbortDone.node _ _ c.told_of.ensures.node c.in-Some.is (ap path_of c.in-AbortDone.is))
     ∙ sym c.in-AbortDone.is)
     c.take_abort_done.ensures.ok
 
@@ -47,7 +44,6 @@ returns-in-Acknowledged-clause-ok c =
     c.args.cells.now.contents c.args.self.now.contents c.take_acknowledgement.new.cells.contents
     c.take_acknowledgement.new.self.contents))
     (ap events.Acknowledged
-    (told_event (plan_of c.args.flat.now) c.args.event.now c.in-Acknowledged.node c.told_of.result c.in-Some.node
-    c.told_of.ensures.node c.in-Some.is (ap path_of c.in-Acknowledged.is))
+    (told_event _ c.args.event.now c.in-Acknowledged.node _ _ c.told_of.ensures.node c.in-Some.is (ap path_of c.in-Acknowledged.is))
     ∙ sym c.in-Acknowledged.is)
     c.take_acknowledgement.ensures.ok
