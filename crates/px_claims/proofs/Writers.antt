@@ -16,12 +16,6 @@ pub record AreSoFar (plan : List Site) (writers : List Writer) (count : ℕ) : T
   pub all : (node variable : ℕ) → node < count → variable_of plan node ≡ Some variable
       → list_any (λ (writer : Writer). nat_eq node writer.node) writers ≡ true
 
-pub none_so_far : (plan : List Site) → AreSoFar plan [] 0
-none_so_far plan = record {
-  each = λ k d inside. absurd (omega (arith, inside));
-  all = λ node variable below. absurd (omega (arith, below));
-}
-
 pub no_more : (plan : List Site) (writers : List Writer) (count : ℕ) → AreSoFar plan writers count
     → variable_of plan count ≡ None → AreSoFar plan writers (count + 1)
 no_more plan writers count are none = record {

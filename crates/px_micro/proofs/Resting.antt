@@ -1,5 +1,5 @@
 -- Whether each child is at rest, by a walk over them.
-use Rattle.std.proofs.Common.{◌≡◌, ℕ, ◌+◌, ◌<◌, ◌≤◌, Bool, true, false, not, ◌||◌, List, length, get_or, refl, ap, sym, ◌∙◌, subst, arith, inl, inr}
+use Rattle.std.proofs.Common.{◌≡◌, ℕ, ◌<◌, ◌≤◌, Bool, true, false, not, ◌||◌, List, length, get_or, refl, ap, sym, ◌∙◌, subst, arith, inl, inr}
 use Rattle.std.proofs.lemmas.List.Sums.{list_all-from_AllPass}
 use Rattle.std.proofs.lemmas.List.{get_or_default}
 use Rattle.std.proofs.lemmas.List.Folds.{list_all_at}
@@ -11,7 +11,7 @@ use Rattle.px_flat.proofs.Tables.{flat_sound}
 use Rattle.px_parts.specs.declared.parts.Parts.{Parts}
 use Rattle.px_parts.specs.Parts.{plan_in, world_in, record_of}
 use Rattle.px_micro.proofs.Families.{IsBelow, behind, among, child_below, next_child}
-use Rattle.px_micro.proofs.Passing.{HavePassed, passed_child, passed_first, passed_more}
+use Rattle.px_micro.proofs.Passing.{HavePassed, passed_child, passed_more}
 use Rattle.px_micro.proofs.Seeing.{record_is}
 
 -- So far: these children were passed, and are at rest.
@@ -20,12 +20,6 @@ pub record IsSeen (parts : Parts) (node next : ℕ) : Type 0 where
   pub rest : (k : ℕ) → node < k → k < next → k < length (plan_in parts)
       → is_child_of (site_in (plan_in parts) node).path (site_in (plan_in parts) k) ≡ true
       → is_at_rest (record_of parts k).state ≡ true
-
-pub seen_first : (parts : Parts) (node : ℕ) → IsSeen parts node (node + 1)
-seen_first parts node = record {
-  passed = passed_first (plan_in parts) node;
-  rest = λ k after before inside child. absurd (omega (arith, after, before));
-}
 
 pub seen_more : (parts : Parts) (node next end : ℕ) → node < length (plan_in parts) → next < length (plan_in parts)
     → end ≡ after_last (plan_in parts) next → IsSeen parts node next → is_at_rest (record_of parts next).state ≡ true
