@@ -6,17 +6,8 @@ use Rattle.px_cached.specs.declared.part.Above.{Above}
 use Rattle.px_cached.specs.declared.part.Above.TheVariants as aboves
 use Rattle.px_cached.specs.declared.part.Part.{Part}
 use Rattle.px_cached.specs.declared.part.Part.TheVariants as parts
-use Rattle.px_cached.specs.Carrying.{AreWholesKept, IsInside, IsKept, IsOnlyChanged, IsWayUp, LooksUp, truth_by}
+use Rattle.px_cached.specs.Carrying.{AreWholesKept, IsKept, IsOnlyChanged, IsWayUp, LooksUp, truth_by}
 use Rattle.px_cached.specs.Network.{Agree, IsNetwork, IsOver, IsSettled, IsUnder, above_at, kleene, part_at, truth_at}
-
--- the parts in a joined one are there
-pub is_inside : (network : List Part) (above : List Above) → IsNetwork network above → (part : ℕ) → part < length network
-    → IsInside (length network) (part_at network part)
-is_inside network above is part there = by (part_at network part) (is.over part there)
-  where
-    by : (p : Part) → IsOver above part p → IsInside (length network) p
-    by (parts.Whole expr) over = tt
-    by (parts.Joined joint left right) over = (omega (arith, over.0, there), omega (arith, over.1.0, there))
 
 -- where a truth is set, each part agrees but for the one above
 set_settled : (network : List Part) (above : List Above) → IsNetwork network above → (truths : List (Option Bool))

@@ -91,22 +91,6 @@ node_below nodes number inside = omega arith
 
 -- ---- one condition more
 
-pub none_laid : (plan : List Site) → HasLaid plan [] [] [] 0
-none_laid plan = record {
-  shape = record {
-    few = omega arith;
-    sized = refl;
-    over = λ part inside. absurd (omega (arith, inside));
-    under = λ part inside. absurd (omega (arith, inside));
-  };
-  count = refl;
-  rooted = λ other below. absurd (omega (arith, below));
-  named = λ part node inside top. absurd (omega (arith, inside));
-  read = λ part inside. absurd (omega (arith, inside));
-  stands = λ other below. absurd (omega (arith, below));
-  end = refl;
-}
-
 module _ (plan : List Site) (number : ℕ) (inside : number < 8 * length plan) (old new : List Part)
     (old_above new_above : List Above) (roots : List Root) (before : HasLaid plan old old_above roots number)
     (longer : length old ≤ length new) (same : (part : ℕ) → part < length old → part_at new part ≡ part_at old part)

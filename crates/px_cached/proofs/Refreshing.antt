@@ -61,11 +61,6 @@ begins plan kept laid truths cells lists all seen = record {
 
 -- ---- one look
 
-pub settled_now : (plan : List Site) (present : Present) (truths : List (Option Bool)) (truth : Option Bool) (p : Part)
-    → truth ≡ truth_now plan present truths p → IsSettled truths truth p
-settled_now plan present truths truth (parts.Whole expr) is = tt
-settled_now plan present truths truth (parts.Joined joint left right) is = is
-
 right_now : (plan : List Site) (present : Present) (truths : List (Option Bool)) (truth : Option Bool) (p : Part)
     → truth ≡ truth_now plan present truths p → IsRight plan present truth p
 right_now plan present truths truth (parts.Whole expr) is = is
@@ -119,14 +114,6 @@ looked plan present kept later part truth sound same now sized agree set wholes 
 }
 
 -- ---- what is told
-
-pub tells_nothing : (above : List Above) (truths : List (Option Bool)) (links : LinksData) (list : ℕ)
-    → Tells above truths truths links links list
-tells_nothing above truths links list = record {
-  changed = λ part node top. inl refl;
-  holders = λ node. inl refl;
-  counts = (refl, refl);
-}
 
 module _ (above : List Above) (first old new : List (Option Bool)) (before between : LinksData) (list : ℕ)
     (tells : Tells above first old before between list) where
