@@ -99,6 +99,11 @@ impl<'a> Place<'a> {
     pub fn shown(&self) -> &'a str {
         front(skipped(self.content, self.shown_from()), SHOWN)
     }
+
+    /// What is shown of the line before the place.
+    pub fn shown_before(&self) -> &'a str {
+        front(self.shown(), self.before.saturating_sub(self.shown_from()))
+    }
 }
 
 // So many characters of a text, or all where there are fewer.

@@ -73,11 +73,12 @@ fn push_excerpt(out: &mut Pen, place: &Place<'_>) {
 }
 
 fn push_marks(out: &mut Pen, place: &Place<'_>) {
-    let before = place.before.saturating_sub(place.shown_from());
-    for c in place.shown().chars().take(before) {
+    let before = place.shown_before();
+    for c in before.chars() {
         out.push_char(if c == '\t' { '\t' } else { ' ' });
     }
-    let left = place.shown().chars().skip(before).count();
+    let shown = place.shown().chars().count();
+    let left = shown.saturating_sub(before.chars().count());
     for _ in 0..place.width.min(left.max(1)) {
         out.push_char('^');
     }
