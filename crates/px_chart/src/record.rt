@@ -2,7 +2,6 @@
 ghost use Rattle.std.specs.Prelude.{◌≡◌, false, IsTrue, IfOk, OnOk};
 ghost use Rattle.px_core.specs.Fit.{IsFit};
 ghost use Rattle.px_core.specs.Plan.{tree_of};
-ghost use Rattle.px_event.specs.Fit.{is_fit_event};
 ghost use Rattle.px_sem.specs.Conflicts.{is_quiet};
 ghost use Rattle.px_sem.specs.Stepper.{Pending, is_pending};
 
@@ -116,7 +115,7 @@ fn post_each<S: Stepper>(
     recording.whole()
 }
 
-// Posts an event, and answers what becomes of it.
+// Posts an event, and answers what becomes of it. One that settles is taken once more, step by step.
 fn post<S: Stepper>(
     alloc: Global,
     stepper: &mut S,
@@ -134,7 +133,11 @@ fn post<S: Stepper>(
         Offered::Refused(reply) => Ok(fate_by(reply)),
         Offered::Pending { .. } => {
             stepper.give_up();
-            take(alloc, stepper, event, recording)
+            stepper.begin(alloc, event)?;
+            if !settles(alloc, stepper, recording)? {
+                stepper.give_up();
+            }
+            Ok(Fate::Accepted)
         }
     }
 }
@@ -146,22 +149,4 @@ fn fate_by(reply: Reply) -> Fate {
         Reply::Full => Fate::Refused("the history is full"),
         Reply::Runaway => Fate::Refused("it doesn't settle"),
     }
-}
-
-// Takes an event, which settles.
-fn take<S: Stepper>(
-    alloc: Global,
-    stepper: &mut S,
-    event: &Event,
-    recording: &mut Recording,
-) -> Result<Fate, NoMemory>
-    requires nothing { (S.state stepper.old).pending ≡ Pending.Nothing }
-    requires fit { IsTrue (is_fit_event event.now) }
-    ensures rest { OnOk result ((S.state stepper.new).pending ≡ Pending.Nothing) }
-{
-    stepper.begin(alloc, event)?;
-    if !settles(alloc, stepper, recording)? {
-        stepper.give_up();
-    }
-    Ok(Fate::Accepted)
 }
