@@ -2,6 +2,7 @@
 use Rattle.std.proofs.Common.{◌≡◌, ◌≢◌, ℕ, ◌+◌, ◌<◌, true, false, List, length, set, fold, nat_eq, refl, sym, ◌∙◌, subst, arith, All, AllPairs}
 use Rattle.std.specs.List.{find}
 use Rattle.std.proofs.lemmas.Bool.{eqb-true, eqb-false, false_from_ne_true}
+use Rattle.std.proofs.lemmas.Grind.{common_steps}
 use Rattle.std.proofs.lemmas.List.{get_or-set_same, get_or-set_other, length-set}
 use Rattle.px_value.specs.declared.value.Value.{Value}
 use Rattle.px_value.specs.declared.value.Value.TheVariants as values
@@ -17,7 +18,7 @@ use Rattle.px_command.proofs.Nodes.{elsewhere}
 use Rattle.px_micro.specs.declared.effects.UnderWay.{UnderWay}
 use Rattle.px_micro.specs.declared.effects.UnderWay.TheVariants as under_way
 use Rattle.px_micro.specs.declared.turns.Turn.{Turn}
-use Rattle.px_micro.specs.Moving.{with_said, with_turn, with_act, with_turn_act}
+use Rattle.px_micro.specs.Moving.{with_said, with_turn, with_turn_act}
 use Rattle.px_micro.proofs.Hits.{hit_by, fold_keeps, none_hit, one_hit}
 
 -- ---- one turn
@@ -68,26 +69,7 @@ arrived plan cells turn =
     (failure_cell plan turn.going.node) (failure_value turn.going.arrival.failure)
 
 arrived_length : (plan : List Site) (cells : List Value) (turn : Turn) → length (arrived plan cells turn) ≡ length cells
-arrived_length plan cells turn =
-    length-set (set (set cells s to) o outcome) f failure ∙ length-set (set cells s to) o outcome ∙ length-set cells s to
-  where
-    s : ℕ
-    s = state_cell plan turn.going.node
-
-    o : ℕ
-    o = outcome_cell plan turn.going.node
-
-    f : ℕ
-    f = failure_cell plan turn.going.node
-
-    to : Value
-    to = values.State turn.going.arrival.to
-
-    outcome : Value
-    outcome = outcome_value turn.going.arrival.outcome
-
-    failure : Value
-    failure = failure_value turn.going.arrival.failure
+arrived_length plan cells turn = grind (arith, common_steps, length-set)
 
 said_length : (plan : List Site) (node : ℕ) (way : UnderWay) (cells : List Value)
     → length (with_said plan node way cells) ≡ length cells
@@ -102,12 +84,7 @@ turn_length plan cells turn =
     said_length plan turn.going.node turn.under_way (arrived plan cells turn) ∙ arrived_length plan cells turn
 
 pub turn_acts_length : (under : List Act) (turn : Turn) → length (with_turn_act under turn) ≡ length under
-turn_acts_length under turn = by turn.under_way
-  where
-    by : (way : UnderWay) → length (with_act turn.going.node way under) ≡ length under
-    by under_way.Kept = refl
-    by (under_way.Begun act) = length-set under turn.going.node act
-    by (under_way.Aborting index) = length-set under turn.going.node (acts.Sent index aborts.Sent)
+turn_acts_length under turn = grind (arith, common_steps, length-set)
 
 -- a cell that is none of the node's
 pub turn_off : (plan : List Site) (cells : List Value) (turn : Turn) (cell : ℕ)
@@ -318,24 +295,11 @@ said_then plan turns cells node within rise all =
 
 act_kept : (under : List Act) (turn : Turn) (node : ℕ) → node ≢ turn.going.node
     → act_of (with_turn_act under turn) node ≡ act_of under node
-act_kept under turn node apart = by turn.under_way
-  where
-    by : (way : UnderWay) → act_of (with_act turn.going.node way under) node ≡ act_of under node
-    by under_way.Kept = refl
-    by (under_way.Begun act) = get_or-set_other under turn.going.node node act acts.Idle apart
-    by (under_way.Aborting index) =
-        get_or-set_other under turn.going.node node (acts.Sent index aborts.Sent) acts.Idle apart
+act_kept under turn node apart = grind (arith, common_steps, get_or-set_other)
 
 act_now : (under : List Act) (turn : Turn) → turn.going.node < length under
     → act_of (with_turn_act under turn) turn.going.node ≡ act_then turn.under_way (act_of under turn.going.node)
-act_now under turn within = by turn.under_way
-  where
-    by : (way : UnderWay)
-        → act_of (with_act turn.going.node way under) turn.going.node ≡ act_then way (act_of under turn.going.node)
-    by under_way.Kept = refl
-    by (under_way.Begun act) = get_or-set_same under turn.going.node act acts.Idle within
-    by (under_way.Aborting index) =
-        get_or-set_same under turn.going.node (acts.Sent index aborts.Sent) acts.Idle within
+act_now under turn within = grind (arith, common_steps, get_or-set_same)
 
 pub acts_then : (plan : List Site) (turns : List Turn) (under : List Act) (node : ℕ) → AreWithin plan turns → Rise turns
     → length under ≡ length plan

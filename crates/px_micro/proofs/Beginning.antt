@@ -2,6 +2,7 @@
 use Rattle.std.proofs.Common.{◌≡◌, ◌≢◌, ℕ, ◌+◌, ◌<◌, ◌≤◌, Bool, true, false, List, [], ◌∷◌, length, get_or, drop, fold, map, nat_eq, refl, ap, sym, ◌∙◌, subst, arith, inl, inr, Option, Some, None, All, AllPairs, if◌then◌else◌}
 use Rattle.std.specs.List.{flat_map, find, list_all}
 use Rattle.std.proofs.lemmas.Bool.{cases_lt, eqb-true, eqb-false}
+use Rattle.std.proofs.lemmas.Grind.{common_steps}
 use Rattle.std.proofs.lemmas.List.Elements.{All-append, All-cons, All-head, All-nil, All-tail}
 use Rattle.std.proofs.lemmas.List.Sums.{AllPass-from_list_all}
 use Rattle.px_value.specs.declared.value.Value.{Value}
@@ -84,21 +85,7 @@ hit : (parts : Parts) (cells : List Value) (one : Going) (i : ℕ) → one.node 
     → i < cells_of_site (site_in (plan_in parts) one.node) → length cells ≡ all_cells (plan_in parts)
     → held (step parts cells one) (first_cell (plan_in parts) one.node + i)
     ≡ begun parts i one (held cells (first_cell (plan_in parts) one.node + i))
-hit parts cells one i one_in few all = by (begins parts one)
-  where
-    plan : List Site
-    plan = plan_in parts
-
-    by : (b : Bool)
-        → held (fold put_value cells (if b then from_cell (first_cell plan one.node) (initial_of plan one.node) else []))
-        (first_cell plan one.node + i)
-        ≡ (if b then get_or (initial_of plan one.node) i values.Unknown else held cells (first_cell plan one.node + i))
-    by true =
-        let sized : length (initial_of plan one.node) ≡ cells_of_site (site_in plan one.node) =
-        initial_cells plan one.node (flat_sound parts.flat) one_in in
-        begun_at (initial_of plan one.node) (first_cell plan one.node) cells i (omega (arith, few, sized))
-        (omega (arith, all, sized, cells_within plan one.node one_in))
-    by false = refl
+hit parts cells one i one_in few all = grind (arith, common_steps, initial_cells, flat_sound, begun_at, cells_within)
 
 -- the values of a node's variables, by the move that it takes
 abbrev pub begun_as : Parts → Option Going → List (List Value) → List (List Value) → List (List Value)

@@ -2,6 +2,7 @@
 use Rattle.std.proofs.Common.{◌≡◌, ◌≢◌, ℕ, suc, zero, ◌+◌, ◌<◌, ◌≤◌, true, List, [], ◌∷◌, ◌++◌, length, get_or, set, take, drop, fold, map, sum, refl, ap, sym, ◌∙◌, arith, length-drop}
 use Rattle.std.specs.List.{flat_map, list_all}
 use Rattle.std.proofs.lemmas.Bool.{and_parts}
+use Rattle.std.proofs.lemmas.Grind.{common_steps}
 use Rattle.std.proofs.lemmas.List.{ext_get_or, get_or-take, get_or-drop, get_or-set_same, get_or-set_other, get_or_append_left, get_or-append-add, length-set, length-take-le, drop-drop}
 use Rattle.std.proofs.lemmas.List.Sums.{fold-append, sum_by-cons}
 use Rattle.px_value.specs.declared.value.Value.{Value}
@@ -93,11 +94,7 @@ pub begun_at : (given : List Value) (from : ℕ) (cells : List Value) (i : ℕ) 
     → from + length given ≤ length cells
     → held (fold put_value cells (from_cell from given)) (from + i) ≡ get_or given i values.Unknown
 begun_at [] from cells i within room = absurd (omega arith)
-begun_at (value ∷ given) from cells zero within room =
-    let here : from + 0 ≡ from = omega arith in
-    ap (held (fold put_value (set cells from value) (from_cell (from + 1) given))) here
-    ∙ begun_off given (from + 1) (set cells from value) from (λ i inside same. absurd (omega (arith, same)))
-    ∙ get_or-set_same cells from value values.Unknown (omega (arith, room))
+begun_at (value ∷ given) from cells zero within room = grind (arith, common_steps, begun_off, get_or-set_same)
 begun_at (value ∷ given) from cells (suc i) within room =
     let there : from + suc i ≡ from + 1 + i = omega arith in
     ap (held (fold put_value (set cells from value) (from_cell (from + 1) given))) there

@@ -1,5 +1,6 @@
 -- Ways up from a node.
-use Rattle.std.proofs.Common.{◌≡◌, ℕ, ◌<◌, Bool, true, false, cond, List, [], ◌∷◌, ◌++◌, length, refl, ap, sym, ◌∙◌, arith, inl, inr, Option, Some, Ordering, Less, Equal, Greater}
+use Rattle.std.proofs.Common.{◌≡◌, ℕ, ◌<◌, Bool, true, false, cond, List, [], ◌∷◌, ◌++◌, length, refl, ap, sym, ◌∙◌, arith, inl, inr, Option, Some}
+use Rattle.std.proofs.lemmas.Grind.{common_steps}
 use Rattle.std.specs.Ordering.{is_eq, nat_cmp}
 use Rattle.std.proofs.lemmas.Map.Lookups.{exact_unsigned}
 use Rattle.px_core.specs.Plan.{Site}
@@ -80,9 +81,4 @@ still_right plan now old new key asked test right is updates same node x found =
 
 -- the key that a map finds
 pub same_key : (key node : ℕ) → is_eq (nat_cmp key node) ≡ true → key ≡ node
-same_key key node is = exact_unsigned key node (by (nat_cmp key node) is)
-  where
-    by : (o : Ordering) → is_eq o ≡ true → o ≡ Equal
-    by Less is = absurd (cc is)
-    by Equal is = refl
-    by Greater is = absurd (cc is)
+same_key key node is = grind (arith, common_steps, exact_unsigned)

@@ -9,9 +9,10 @@ use Rattle.std.proofs.lemmas.List.FromFn.{length-range_with_len, get_or-range_wi
 use Rattle.std.proofs.lemmas.List.Kept.{AllPairs-filter}
 use Rattle.std.proofs.lemmas.Map.Views.{any-filter_same, list_any-from_Contains, Contains-from_any}
 use Rattle.std.proofs.Math.Bool.{and-false, and-true}
-use Rattle.px_core.specs.Plan.{Site, TargetData}
+use Rattle.std.proofs.lemmas.Grind.{common_steps}
+use Rattle.px_core.specs.Plan.{Site}
 use Rattle.px_sem.specs.declared.guards.Arrival.{Arrival}
-use Rattle.px_sem.specs.Conflicts.{destination, transition, would_start, holds_variable, target_of, keeps_back, is_loser}
+use Rattle.px_sem.specs.Conflicts.{destination, transition, would_start, holds_variable, is_loser}
 use Rattle.px_sem.specs.Guards.{is_waiting, is_executing, is_active}
 use Rattle.px_sem.specs.World.{World, state_at}
 use Rattle.px_flat.specs.Row.{site_in}
@@ -147,13 +148,7 @@ losers_rise plan now nodes are =
 -- a loser would start
 loser_starts : (plan : List Site) (now : World) (site : Site) → is_loser plan now site ≡ true
     → would_start plan now site ≡ true
-loser_starts plan now site = by (target_of site.head.body) refl
-  where
-    by : (target : Option TargetData) → target_of site.head.body ≡ target → is_loser plan now site ≡ true
-        → would_start plan now site ≡ true
-    by None is loses = absurd (cc (rw is at loses))
-    by (Some variable) is loses =
-        (and_parts (would_start plan now site) (list_any (keeps_back plan now variable site) plan) (rw is at loses)).0
+loser_starts plan now site = grind (arith, common_steps, and_parts)
 
 lost : (plan : List Site) (now : World) (nodes : List ℕ) (node : ℕ) → AreCandidates plan now nodes → node < length plan
     → list_any (nat_eq node) (losing plan now nodes) ≡ is_loser_in plan now node
@@ -281,11 +276,7 @@ pub wanted_more : (plan : List Site) (now : World) (nodes : List ℕ) (i : ℕ) 
     → to ≡ destination plan now (site_in plan (get_or nodes i 0))
     → wanted plan now (take i nodes) ++ cons_option (with_node (get_or nodes i 0) to) []
     ≡ wanted plan now (take (i + 1) nodes)
-wanted_more plan now nodes i to within is =
-    ap (λ to. wanted plan now (take i nodes) ++ cons_option (with_node (get_or nodes i 0) to) []) is
-    ∙ sym (filter_map-append (λ node. with_node node (destination plan now (site_in plan node))) (take i nodes)
-    (get_or nodes i 0 ∷ []))
-    ∙ ap (wanted plan now) (sym (take_more nodes i 0 within))
+wanted_more plan now nodes i to within is = grind (arith, common_steps, filter_map-append, take_more)
 
 pub wanted_within : (plan : List Site) (now : World) (nodes : List ℕ) → All (λ node. node < length plan) nodes
     → All (λ (one : Going). one.node < length plan) (wanted plan now nodes)

@@ -1,8 +1,9 @@
 -- Descendants and children, by number.
-use Rattle.std.proofs.Common.{◌≡◌, ℕ, zero, suc, ◌<◌, ◌≤◌, Bool, true, false, ◌||◌, ◌⊎◌, nat_lt, cond, List, [], ◌∷◌, length, drop, take_while, refl, ap, sym, ◌∙◌, subst, arith, inl, inr, length-drop, Some}
+use Rattle.std.proofs.Common.{◌≡◌, ℕ, zero, suc, ◌<◌, ◌≤◌, Bool, true, false, ◌||◌, ◌⊎◌, nat_lt, List, [], ◌∷◌, length, take_while, ap, sym, ◌∙◌, subst, arith, inl, inr, length-drop, Some}
 use Rattle.std.specs.List.{list_any}
 use Rattle.std.specs.Cmp.Lexicographic.{same_text}
 use Rattle.std.proofs.lemmas.Bool.{and_parts, and_from, or_cases, or_left, or_right, ltb-true, lt-ltb}
+use Rattle.std.proofs.lemmas.Grind.{common_steps}
 use Rattle.std.proofs.lemmas.List.Sums.{take_while-cons}
 use Rattle.px_core.specs.Plan.{Site, is_same, is_child_of}
 use Rattle.px_core.proofs.Paths.{same-self}
@@ -34,27 +35,10 @@ among plan node other sound here there after before =
 
 short_run : (p : Site → Bool) (sites : List Site) → length (take_while p sites) ≤ length sites
 short_run p [] = omega arith
-short_run p (site ∷ sites) = by (p site) refl (short_run p sites)
-  where
-    by : (b : Bool) → p site ≡ b → length (take_while p sites) ≤ length sites
-        → length (take_while p (site ∷ sites)) ≤ length (site ∷ sites)
-    by true is rest = omega (
-      arith,
-      ap length (take_while-cons p site sites) ∙ ap (λ b. length (cond b (site ∷ take_while p sites) [])) is,
-      rest,
-    )
-    by false is rest = omega (
-      arith,
-      ap length (take_while-cons p site sites) ∙ ap (λ b. length (cond b (site ∷ take_while p sites) [])) is,
-    )
+short_run p (site ∷ sites) = grind (arith, common_steps, take_while, take_while-cons, short_run p sites)
 
 pub end_within : (plan : List Site) (node : ℕ) → node < length plan → after_last plan node ≤ length plan
-end_within plan node here =
-    omega (
-      arith,
-      short_run (is_below (site_in plan node).path) (drop (suc node) plan),
-      length-drop (suc node) plan,
-    )
+end_within plan node here = grind (arith, common_steps, short_run, length-drop)
 
 -- ---- parents
 
@@ -73,11 +57,7 @@ above_parent plan node other under below =
     (list_any (is_same (site_in plan node).path) (site_in plan under.parent).above) below
 
 pub parent_above : (plan : List Site) (node : ℕ) (under : IsUnder plan node) → IsBelow plan under.parent node
-parent_above plan node under =
-    ap (list_any (is_same (site_in plan under.parent).path)) under.above
-    ∙ or_left (is_same (site_in plan under.parent).path (site_in plan under.parent).path)
-    (list_any (is_same (site_in plan under.parent).path) (site_in plan under.parent).above)
-    (same-self (site_in plan under.parent).path)
+parent_above plan node under = grind (arith, common_steps, or_left, same-self)
 
 -- what is above a node is its parent, or above its parent
 pub record IsParentOr (plan : List Site) (node other : ℕ) : Type 0 where
@@ -140,15 +120,7 @@ child_is flat node child here there is = elim (placed flat child there) [
 pub is_child : (flat : Flat) (node child : ℕ) → child < length (plan_of flat)
     → parent_number (plan_of flat) child ≡ Some node
     → is_child_of (site_in (plan_of flat) node).path (site_in (plan_of flat) child) ≡ true
-is_child flat node child there is = elim (placed flat child there) [
-  | inl top ↦ absurd (cc (sym top.number ∙ is))
-  | inr under ↦
-      let plan : List Site = plan_of flat in
-      let same : Some under.parent ≡ Some node = sym under.number ∙ is in
-      let parent : under.parent ≡ node = cc same in
-      rw under.above (ap (λ n. is_same (site_in plan n).path (site_in plan node).path) parent
-      ∙ same-self (site_in plan node).path)
-]
+is_child flat node child there is = grind (arith, common_steps, placed, same-self)
 
 -- a child is below its parent
 pub child_below : (flat : Flat) (node other : ℕ) → node < length (plan_of flat) → other < length (plan_of flat)

@@ -4,6 +4,7 @@ use Rattle.std.specs.Cmp.{nat_eq_equiv}
 use Rattle.std.specs.List.{find, list_any}
 use Rattle.std.specs.Option.{option_or}
 use Rattle.std.proofs.lemmas.Bool.{eqb-true, false_from_ne_true, or_parts}
+use Rattle.std.proofs.lemmas.Grind.{common_steps}
 use Rattle.std.proofs.lemmas.List.Elements.{All-cons, All-head, All-nil, All-push, All-tail}
 use Rattle.std.proofs.lemmas.List.Folds.{find-append, list_any_none}
 use Rattle.std.proofs.lemmas.List.Quantifiers.{all_pairs_push}
@@ -66,11 +67,7 @@ firsts_apart variable writes = apart_from variable writes [] (λ i j d before wi
 find_from : (variable : ℕ) (writes before : List CellWrite)
     → find (writes_to variable) (fold with_write before writes)
     ≡ option_or (find (writes_to variable) before) (find (writes_to variable) writes)
-find_from variable [] before = by (find (writes_to variable) before)
-  where
-    by : (found : Option CellWrite) → found ≡ option_or found None
-    by None = refl
-    by (Some write) = refl
+find_from variable [] before = grind (arith, common_steps)
 find_from variable (write ∷ writes) before =
     find_from variable writes (with_write before write) ∙ by (is_written before write) refl
   where

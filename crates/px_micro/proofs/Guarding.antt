@@ -1,7 +1,7 @@
 -- The guards of a node by what is seen of it are those that the semantics asks.
-use Rattle.std.proofs.Common.{◌≡◌, ℕ, ◌<◌, Bool, List, length, refl, ap, sym, ◌∙◌}
+use Rattle.std.proofs.Common.{◌≡◌, ℕ, ◌<◌, List, length, ap, ◌∙◌, arith}
+use Rattle.std.proofs.lemmas.Grind.{common_steps}
 use Rattle.px_value.specs.declared.enums.NodeState.{NodeState}
-use Rattle.px_core.specs.declared.node.Kind.{Kind}
 use Rattle.px_core.specs.declared.node.Kind.TheVariants as kinds
 use Rattle.px_core.specs.Plan.{Site}
 use Rattle.px_sem.specs.declared.guards.Guards.{Guards}
@@ -23,15 +23,7 @@ use Rattle.px_micro.proofs.Seeing.{record_is, truths_by, truths_are}
 ready_is : (plan : List Site) (now : World) (site : Site)
     → is_ready plan now site
     ≡ ready_in site.head.kind (record_at now site.path).action (each_child is_at_rest plan now site.path)
-ready_is plan now site = by site.head.kind refl
-  where
-    by : (kind : Kind) → site.head.kind ≡ kind
-        → is_ready plan now site ≡ ready_in kind (record_at now site.path).action (each_child is_at_rest plan now site.path)
-    by kinds.List is = rw is refl
-    by kinds.Empty is = rw is refl
-    by kinds.Assignment is = rw is refl
-    by kinds.Command is = rw is refl
-    by kinds.Update is = rw is refl
+ready_is plan now site = grind (arith, common_steps)
 
 -- what is seen of a node whose record is this
 abbrev seen : List Site → World → Site → NodeRecord → ℕ → Guards
@@ -42,13 +34,7 @@ seen plan now site r node =
 pub guards_are : (parts : Parts) (node : ℕ) → node < length (plan_in parts)
     → seen (plan_in parts) (world_in parts) (site_in (plan_in parts) node) (record_of parts node) node
     ≡ guards_at parts node
-guards_are parts node here =
-    let plan : List Site = plan_in parts in
-    let now : World = world_in parts in
-    let site : Site = site_in plan node in
-    ap (λ (r : NodeRecord). seen plan now site r node) (sym (record_is parts node here))
-    ∙ ap (λ (ready : Bool). record (seen plan now site (record_at now site.path) node) { ready = ready })
-    (sym (ready_is plan now site))
+guards_are parts node here = grind (arith, common_steps, record_is, ready_is)
 
 -- what is read of a node, by what is asked of it and by its numbered conditions
 abbrev looked : Parts → ℕ → Asks → Truths → Guards

@@ -1,5 +1,6 @@
 -- A fold of which at most one item has to do with what is looked at.
-use Rattle.std.proofs.Common.{◌≡◌, suc, Bool, true, false, cond, List, [], ◌∷◌, fold, map, refl, ap, ◌∙◌, subst, arith, Option, Some, None, All, AllPairs}
+use Rattle.std.proofs.Common.{◌≡◌, suc, Bool, true, false, cond, List, [], ◌∷◌, fold, refl, ap, ◌∙◌, arith, Option, Some, None, All, AllPairs}
+use Rattle.std.proofs.lemmas.Grind.{common_steps}
 use Rattle.std.specs.List.{find}
 use Rattle.std.proofs.lemmas.List.Elements.{All-cons, All-head, All-nil, All-tail}
 
@@ -59,9 +60,4 @@ one_hit step see hits Ok Fits f keeps missed hit (item ∷ items) s fit ok apart
 -- where none is found none passes
 pub none_found : {A : Type 0} (p : A → Bool) (items : List A) → find p items ≡ None → All (λ item. p item ≡ false) items
 none_found p [] is = All-nil (λ item. p item ≡ false)
-none_found p (first ∷ items) is = by (p first) refl is (none_found p items)
-  where
-    by : (b : Bool) → p first ≡ b → cond b (Some first) (find p items) ≡ None
-        → (find p items ≡ None → All (λ item. p item ≡ false) items) → All (λ item. p item ≡ false) (first ∷ items)
-    by true passes is rest = absurd (cc is)
-    by false fails is rest = All-cons (λ item. p item ≡ false) first items fails (rest is)
+none_found p (first ∷ items) is = grind (arith, common_steps, All-cons, none_found p items)

@@ -1,15 +1,15 @@
 -- The initial values of variables, cell by cell.
-use Rattle.std.proofs.Common.{◌≡◌, ℕ, zero, suc, ◌+◌, ◌-◌, ◌<◌, ◌≤◌, true, nat_le, List, [], ◌∷◌, ◌++◌, length, map, sum, replicate, get_or, take, append-nil, refl, ap, sym, ◌∙◌, subst, arith, length-append, inl, inr}
+use Rattle.std.proofs.Common.{◌≡◌, ℕ, zero, suc, ◌+◌, ◌-◌, ◌<◌, ◌≤◌, true, List, [], ◌∷◌, ◌++◌, length, map, sum, get_or, take, append-nil, refl, ap, sym, ◌∙◌, arith, length-append}
 use Rattle.std.specs.List.{flat_map, list_all}
-use Rattle.std.proofs.lemmas.Bool.{and_parts, and_from, leb-true, cases_lt}
-use Rattle.std.proofs.lemmas.Grind.{flat_map-append}
+use Rattle.std.proofs.lemmas.Bool.{and_parts, and_from, cases_lt}
+use Rattle.std.proofs.lemmas.Grind.{flat_map-append, common_steps}
 use Rattle.std.proofs.lemmas.List.Sums.{AllPass-from_list_all, sum_by-cons}
 use Rattle.std.proofs.lemmas.List.{take_more, get_or-map, length-map, get_or_past, length-take-le, get_or_append_left, get_or-append_right, get_or-replicate, length-replicate}
 use Rattle.px_value.specs.declared.value.Value.{Value}
 use Rattle.px_value.specs.declared.value.Value.TheVariants as values
 use Rattle.px_core.proofs.Cells.{few_initials}
 use Rattle.px_core.specs.declared.variable.Variable.{Variable}
-use Rattle.px_core.specs.Fit.{cells_of, has_right_cells, has_right_size, has_right_variables}
+use Rattle.px_core.specs.Fit.{cells_of, has_right_cells, has_right_variables}
 use Rattle.px_core.specs.Plan.{Site, Head, VariableData, no_site, variable_data}
 use Rattle.px_sem.specs.Effects.{initial_values}
 use Rattle.px_flat.specs.declared.row.Row.{Row}
@@ -19,62 +19,31 @@ use Rattle.px_flat.specs.Row.{site_in, IsRowOf}
 use Rattle.px_flat.proofs.Known.{IsSound}
 use Rattle.px_flat.proofs.Sums.{sum_more, sum_front}
 use Rattle.px_command.proofs.Writes.{cells_within}
-use Rattle.px_micro.specs.declared.turns.CellValue.{CellValue}
 use Rattle.px_micro.specs.Turns.{from_cell}
 
 -- values behind others go to the cells behind theirs
 pub from_cell-append : (cell : ℕ) (some more : List Value)
     → from_cell cell (some ++ more) ≡ from_cell cell some ++ from_cell (cell + length some) more
 from_cell-append cell [] more = ap (λ cell. from_cell cell more) (omega arith)
-from_cell-append cell (value ∷ some) more =
-    let here : CellValue = record { cell = cell; value = value } in
-    let behind : cell + 1 + length some ≡ cell + suc (length some) = omega arith in
-    ap (λ rest. here ∷ rest) (from_cell-append (cell + 1) some more
-    ∙ ap (λ next. from_cell (cell + 1) some ++ from_cell next more) behind)
+from_cell-append cell (value ∷ some) more = grind (arith, common_steps, from_cell-append (cell + 1) some more)
 
 -- a value for each cell
 pub as_many : (variable : VariableData) → has_right_cells variable ≡ true
     → length (initial_values variable) ≡ cells_of variable
-as_many variable right =
-    omega (
-      arith,
-      few_initials variable right,
-      length-append variable.init (replicate (cells_of variable - length variable.init) values.Unknown),
-      length-replicate (cells_of variable - length variable.init) values.Unknown,
-    )
+as_many variable right = grind (arith, common_steps, few_initials, length-append, length-replicate)
 
 -- the value of one cell
 initial_at : (variable : VariableData) (k : ℕ) → has_right_cells variable ≡ true → k < cells_of variable
     → get_or (initial_values variable) k values.Unknown ≡ held variable.init k
-initial_at variable k right within = elim (cases_lt k (length variable.init)) [
-  | inl given ↦ get_or_append_left variable.init unknown values.Unknown k given
-  | inr past ↦
-      get_or-append_right variable.init unknown (length variable.init) k values.Unknown refl past
-      ∙ get_or-replicate (cells_of variable - length variable.init) (k - length variable.init) values.Unknown values.Unknown
-      (omega (arith, past, within))
-      ∙ sym (get_or_past variable.init k values.Unknown past)
-]
-  where
-    unknown : List Value
-    unknown = replicate (cells_of variable - length variable.init) values.Unknown
+initial_at variable k right within =
+    grind (arith, common_steps, cases_lt, get_or_append_left, get_or-append_right, get_or-replicate, get_or_past)
 
 -- one more cell
 pub initial_more : (variable : VariableData) (first k : ℕ) → has_right_cells variable ≡ true → k < cells_of variable
     → from_cell first (take (k + 1) (initial_values variable))
     ≡ from_cell first (take k (initial_values variable)) ++ record { cell = first + k; value = held variable.init k } ∷ []
 initial_more variable first k right within =
-    ap (from_cell first) (take_more all k values.Unknown inside)
-    ∙ from_cell-append first (take k all) (get_or all k values.Unknown ∷ [])
-    ∙ (λ i. from_cell first (take k all) ++ record { cell = first + long i; value = initial_at variable k right within i } ∷ [])
-  where
-    all : List Value
-    all = initial_values variable
-
-    inside : k < length all
-    inside = subst (λ n. k < n) (sym (as_many variable right)) within
-
-    long : length (take k all) ≡ k
-    long = length-take-le k all (omega (arith, inside))
+    grind (arith, common_steps, take_more, from_cell-append, initial_at, as_many, length-take-le)
 
 -- of each variable as many values as cells
 pub as_many_of_each : (variables : List VariableData) → list_all has_right_cells variables ≡ true
@@ -143,13 +112,7 @@ pub next_cell : (plan : List Site) (node i cell : ℕ) (variable : VariableData)
     → cell ≡ first_cell plan node + sum (map cells_of (take i (site_in plan node).head.variables))
     → cell + cells_of variable
     ≡ first_cell plan node + sum (map cells_of (take (i + 1) (site_in plan node).head.variables))
-next_cell plan node i cell variable next is =
-    omega (
-      arith,
-      is,
-      sum_more cells_of (site_in plan node).head.variables i variable next.within,
-      ap cells_of next.is,
-    )
+next_cell plan node i cell variable next is = grind (arith, common_steps, sum_more)
 
 -- and so are its values
 pub values_more : (plan : List Site) (node i cell : ℕ) (variable : VariableData) → IsSound plan → node < length plan

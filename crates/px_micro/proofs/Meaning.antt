@@ -1,8 +1,9 @@
 -- What a move does in numbers is what the semantics has it do.
-use Rattle.std.proofs.Common.{◌≡◌, ℕ, suc, ◌+◌, ◌^◌, ◌<◌, ◌≤◌, Bool, true, false, nat_lt, pos, negsuc, List, [], ◌∷◌, length, map, refl, ap, sym, ◌∙◌, subst, arith, Option, Some, None, is_some, IsTrue, if◌then◌else◌}
+use Rattle.std.proofs.Common.{◌≡◌, ℕ, suc, ◌+◌, ◌^◌, ◌<◌, ◌≤◌, true, nat_lt, pos, negsuc, List, [], ◌∷◌, length, map, refl, ap, sym, ◌∙◌, subst, arith, Option, Some, None, is_some, IsTrue}
 use Rattle.std.specs.List.{All}
 use Rattle.std.specs.Option.{ForSome, option_map, option_and_then}
 use Rattle.std.proofs.lemmas.Bool.{and_parts, ltb-true}
+use Rattle.std.proofs.lemmas.Grind.{common_steps}
 use Rattle.px_value.specs.declared.value.Value.{Value}
 use Rattle.px_value.specs.declared.value.Value.TheVariants as values
 use Rattle.px_value.specs.Value.{value_index}
@@ -13,7 +14,7 @@ use Rattle.px_sem.specs.declared.guards.Arrival.{Arrival}
 use Rattle.px_sem.specs.declared.moves.Effect.TheVariants as effects
 use Rattle.px_sem.specs.Conflicts.{target_of}
 use Rattle.px_sem.specs.Effects as sem
-use Rattle.px_sem.specs.Effects.{as_kind, cell_of, index_of, move_kind, told_write, taken_as, write_at, value_at}
+use Rattle.px_sem.specs.Effects.{as_kind, cell_of, index_of, move_kind, told_write, taken_as}
 use Rattle.px_sem.specs.Expressions.{value}
 use Rattle.px_sem.specs.World as world
 use Rattle.px_sem.specs.World.{World, NodeRecord, Action, NoAction, record_at, cells_at}
@@ -134,13 +135,7 @@ fresh parts node body = record { write = refl; action = refl; fits = refl; told 
 -- ---- an assignment starts
 
 pub place_inside : (size : ℕ) (at : Value) (place : ℕ) → place_in size at ≡ Some place → nat_lt place size ≡ true
-place_inside size (values.Integer (pos number)) place is = by (nat_lt number size) refl is
-  where
-    by : (b : Bool) → nat_lt number size ≡ b → (if b then Some number else None) ≡ Some place → nat_lt place size ≡ true
-    by true inside is =
-        let same : number ≡ place = cc is in
-        ap (λ n. nat_lt n size) (sym same) ∙ inside
-    by false outside is = absurd (cc is)
+place_inside size (values.Integer (pos number)) place is = grind (arith, common_steps, nat_lt)
 place_inside size (values.Integer (negsuc number)) place is = absurd (cc is)
 place_inside size values.Unknown place is = absurd (cc is)
 place_inside size (values.Boolean truth) place is = absurd (cc is)
@@ -232,14 +227,7 @@ index_taken : (parts : Parts) (owner name : List ℕ) (index : Option Term) → 
     → option_and_then (λ place. index_of (place_data place))
     (place_now parts (numbered_target (plan_in parts) (record { owner = owner; name = name; index = index })))
     ≡ option_and_then index_of (sem.place_of (plan_in parts) (world_in parts) (record { owner = owner; name = name; index = index }))
-index_taken parts owner name index has at =
-    through (place_now parts (numbered_target (plan_in parts) (record { owner = owner; name = name; index = index })))
-    ∙ ap (option_and_then index_of) (place_is parts owner name index has at)
-  where
-    through : (place : Option Place) → option_and_then (λ place. index_of (place_data place)) place
-        ≡ option_and_then index_of (option_map place_data place)
-    through None = refl
-    through (Some place) = refl
+index_taken parts owner name index has at = grind (arith, common_steps, place_is)
 
 -- it lies within the array
 taken_fits : (parts : Parts) (command owner name : List ℕ) (args : List Term) (index : Option Term)
@@ -248,22 +236,7 @@ taken_fits : (parts : Parts) (command owner name : List ℕ) (args : List Term) 
     (place_now parts (numbered_target (plan_in parts) (record { owner = owner; name = name; index = index })))) aborts.NotAsked)
     ≡ true
 taken_fits parts command owner name args None = refl
-taken_fits parts command owner name args (Some term) =
-    by (place_in (place_of plan owner name).size (value_in parts (numbered plan term))) refl
-  where
-    plan : List Site
-    plan = plan_in parts
-
-    target : TargetData
-    target = record { owner = owner; name = name; index = Some term }
-
-    by : (place : Option ℕ) → place_in (place_of plan owner name).size (value_in parts (numbered plan term)) ≡ place
-        → fits plan (Command command args (Some target))
-        (acts.Sent (option_and_then (λ place. index_of (place_data place)) (place_now parts (numbered_target plan target)))
-        aborts.NotAsked) ≡ true
-    by None is = rw is refl
-    by (Some index) is =
-        rw is (place_inside (place_of plan owner name).size (value_in parts (numbered plan term)) index is)
+taken_fits parts command owner name args (Some term) = grind (arith, common_steps, place_inside)
 
 abbrev HasWorth : Parts → Term → Type 0
 HasWorth parts term = value_in parts (numbered (plan_in parts) term) ≡ value (plan_in parts) (world_in parts) term

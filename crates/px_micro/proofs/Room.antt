@@ -1,6 +1,7 @@
 -- How many cells a step puts.
-use Rattle.std.proofs.Common.{◌≡◌, ℕ, zero, suc, ◌+◌, ◌*◌, ◌^◌, ◌<◌, ◌≤◌, Bool, true, false, List, [], ◌∷◌, ◌++◌, length, fold, get_or, refl, ap, sym, ◌∙◌, arith, length-append, if◌then◌else◌, Option, Some, None, All, AllPairs, nat_eq}
-use Rattle.std.specs.List.{flat_map, filter_map, cons_option, list_any}
+use Rattle.std.proofs.Common.{◌≡◌, ℕ, zero, suc, ◌+◌, ◌*◌, ◌^◌, ◌<◌, ◌≤◌, Bool, true, false, List, [], ◌∷◌, length, fold, get_or, refl, ap, sym, ◌∙◌, arith, length-append, if◌then◌else◌, Option, All, AllPairs}
+use Rattle.std.proofs.lemmas.Grind.{common_steps}
+use Rattle.std.specs.List.{flat_map, filter_map}
 use Rattle.std.specs.Option.{option_map}
 use Rattle.std.proofs.lemmas.List.{length-map}
 use Rattle.std.proofs.lemmas.List.Elements.{All-head, All-tail}
@@ -45,19 +46,10 @@ few_go n (one ∷ ones) rise within =
 
 length-filter_map : {A B : Type 0} (f : A → Option B) (xs : List A) → length (filter_map f xs) ≤ length xs
 length-filter_map f [] = omega arith
-length-filter_map {A} {B} f (x ∷ xs) = by (f x) (length-filter_map f xs)
-  where
-    by : (y : Option B) → length (filter_map f xs) ≤ length xs
-        → length (cons_option y (filter_map f xs)) ≤ suc (length xs)
-    by None rest = omega arith
-    by (Some y) rest = omega arith
+length-filter_map {A} {B} f (x ∷ xs) = grind (arith, common_steps, length-filter_map f xs)
 
 with_write_few : (writes : List CellWrite) (write : CellWrite) → length (with_write writes write) ≤ length writes + 1
-with_write_few writes write = by (list_any (λ (other : CellWrite). nat_eq write.variable other.variable) writes)
-  where
-    by : (b : Bool) → length (if b then writes else writes ++ write ∷ []) ≤ length writes + 1
-    by true = omega arith
-    by false = omega (arith, length-append writes (write ∷ []))
+with_write_few writes write = grind (arith, common_steps, length-append)
 
 writes_few : (before writes : List CellWrite) → length (fold with_write before writes) ≤ length before + length writes
 writes_few before [] = omega arith

@@ -1,5 +1,6 @@
 -- What is seen of a node by its number is what the semantics asks of it by its path.
 use Rattle.std.proofs.Common.{◌≡◌, ℕ, ◌<◌, false, List, length, refl, ap, sym, ◌∙◌, arith}
+use Rattle.std.proofs.lemmas.Grind.{common_steps}
 use Rattle.px_value.specs.declared.enums.NodeState.TheVariants as states
 use Rattle.px_value.specs.declared.value.Value.{Value}
 use Rattle.px_value.specs.Truth.{truth_of}
@@ -70,13 +71,7 @@ pub asks_are : (parts : Parts) (node : ℕ) (truths : Truths) → node < length 
     → truths ≡ truths_in (plan_in parts) (world_in parts) (site_in (plan_in parts) node).head.conditions
     → asks_in (record_of parts node) truths.exit truths.invariant truths.end
     ≡ asks_at (plan_in parts) (world_in parts) (site_in (plan_in parts) node).path
-asks_are parts node truths here are =
-    let plan : List Site = plan_in parts in
-    let now : World = world_in parts in
-    ap (λ (truths : Truths). asks_in (record_of parts node) truths.exit truths.invariant truths.end) are
-    ∙ ap (λ (r : NodeRecord). asks_of plan now r (site_in plan node).head.conditions) (sym (record_is parts node here))
-    ∙ ap (λ (site : Site). asks_of plan now (record_at now (site_in plan node).path) site.head.conditions)
-    (sym (found_site plan node (flat_sound parts.flat).distinct here))
+asks_are parts node truths here are = grind (arith, common_steps, record_is, found_site, flat_sound)
 
 -- what is asked of the children of a node
 pub asked_below_is : (plan : List Site) (now : World) (node : ℕ)

@@ -1,18 +1,17 @@
 -- A target in numbers is the target of the plan: its place, and what stands there.
-use Rattle.std.proofs.Common.{◌≡◌, ℕ, ◌+◌, ◌<◌, ◌≤◌, List, length, take, drop, refl, ap, sym, ◌∙◌, arith, Option, Some, None, length-drop}
+use Rattle.std.proofs.Common.{◌≡◌, ℕ, ◌+◌, ◌<◌, ◌≤◌, List, length, take, drop, refl, ap, ◌∙◌, arith, Option, Some, None, length-drop}
+use Rattle.std.proofs.lemmas.Grind.{common_steps}
 use Rattle.std.specs.Option.{option_map}
 use Rattle.std.proofs.lemmas.List.{get_or-take, get_or-drop, length-take}
 use Rattle.px_value.specs.declared.value.Value.{Value}
 use Rattle.px_value.specs.declared.value.Value.TheVariants as values
-use Rattle.px_value.specs.Value.{value_index}
 use Rattle.px_core.specs.Expr.{Term}
 use Rattle.px_core.specs.Plan.{Site}
-use Rattle.px_sem.specs.Effects.{as_kind, taken_as, cell_of, value_at}
+use Rattle.px_sem.specs.Effects.{cell_of, value_at}
 use Rattle.px_sem.specs.Effects as sem
 use Rattle.px_sem.specs.Expressions.{value}
 use Rattle.px_sem.specs.World as world
-use Rattle.px_sem.specs.World.{World, cells_at, variable_at}
-use Rattle.px_eval.specs.Arrays.{place_in}
+use Rattle.px_sem.specs.World.{cells_at}
 use Rattle.px_flat.specs.Layout.{Place}
 use Rattle.px_flat.specs.Numbered.{held, numbered, numbered_target, place_of}
 use Rattle.px_flat.proofs.Tables.{flat_sound}
@@ -57,12 +56,7 @@ pub value_held : (parts : Parts) (owner name : List ℕ) (place : world.Place) �
     → cell_of place < (place_of (plan_in parts) owner name).size
     → held parts.cells.contents.values ((place_of (plan_in parts) owner name).first + cell_of place)
     ≡ value_at (cells_at (plan_in parts) (world_in parts) owner name) place
-value_held parts owner name place has inside =
-    let at : Place = place_of (plan_in parts) owner name in
-    let all : List Value = parts.cells.contents.values in
-    sym (ap (λ cells. value_at cells place) has.cells
-    ∙ get_or-take at.size (drop at.first all) (cell_of place) values.Unknown inside
-    ∙ get_or-drop at.first all (cell_of place) values.Unknown)
+value_held parts owner name place has inside = grind (arith, common_steps, get_or-take, get_or-drop)
 
 -- ---- its place
 
@@ -73,13 +67,4 @@ pub place_is : (parts : Parts) (owner name : List ℕ) (index : Option Term) →
     → option_map place_data (place_now parts (numbered_target (plan_in parts) (record { owner = owner; name = name; index = index })))
     ≡ sem.place_of (plan_in parts) (world_in parts) (record { owner = owner; name = name; index = index })
 place_is parts owner name None has worth = refl
-place_is parts owner name (Some term) has worth =
-    let plan : List Site = plan_in parts in
-    let cells : List Value = cells_at plan (world_in parts) owner name in
-    twice (place_in (place_of plan owner name).size (value_in parts (numbered plan term)))
-    ∙ ap (option_map world.Element) (sym (index_is cells (place_of plan owner name).size (value_in parts (numbered plan term)) has.long)
-    ∙ ap (value_index cells) (worth term refl))
-  where
-    twice : (found : Option ℕ) → option_map place_data (option_map places.Element found) ≡ option_map world.Element found
-    twice None = refl
-    twice (Some index) = refl
+place_is parts owner name (Some term) has worth = grind (arith, common_steps, index_is)

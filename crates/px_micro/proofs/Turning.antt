@@ -1,8 +1,8 @@
 -- The turns of one more node that goes.
-use Rattle.std.proofs.Common.{◌≡◌, Bool, true, false, List, [], ◌∷◌, ◌++◌, fold, map, append-nil, refl, ap, sym, ◌∙◌, subst, Option}
+use Rattle.std.proofs.Common.{◌≡◌, Bool, true, false, List, [], ◌∷◌, ◌++◌, fold, map, append-nil, refl, ap, sym, ◌∙◌, subst, Option, arith}
 use Rattle.std.specs.List.{filter_map, flat_map, cons_option, All}
 use Rattle.std.specs.Option.{option_map}
-use Rattle.std.proofs.lemmas.Grind.{flat_map-append}
+use Rattle.std.proofs.lemmas.Grind.{flat_map-append, common_steps}
 use Rattle.std.proofs.lemmas.List.{map-append}
 use Rattle.std.proofs.lemmas.List.Elements.{All-push, filter_map-append}
 use Rattle.std.proofs.lemmas.List.Sums.{fold-append}
@@ -76,14 +76,4 @@ with_room parts latching cells acts = record {
 pub turns_stay : (parts : Parts) (latching : Latches parts) (cells : MarkedData Value) (acts : MarkedData Act)
     (going : List Going) (made : Turns) → cells.contents ≡ parts.cells.contents → acts.contents ≡ parts.actions.contents → AreTurns parts going made
     → AreTurns (with_room parts latching cells acts) going made
-turns_stay parts latching cells acts going made cells_same acts_same are =
-    subst (λ parts. AreTurns parts going made)
-    (λ i. with_room parts latching (record cells { contents = sym cells_same i }) (record acts { contents = sym acts_same i }))
-    (record {
-      writes = are.writes;
-      initial = are.initial;
-      goers = are.goers;
-      each = λ k d within.
-          let turn = are.each k d within in
-          record { within = turn.within; action = turn.action; fits = turn.fits };
-    })
+turns_stay parts latching cells acts going made cells_same acts_same are = grind (arith, common_steps)

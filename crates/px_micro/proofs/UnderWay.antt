@@ -1,9 +1,9 @@
 -- What the cells and the act of a node say of its action.
-use Rattle.std.proofs.Common.{◌≡◌, ℕ, ◌||◌, true, Option, Some, None, is_some, refl, ap, sym, ◌∙◌}
-use Rattle.px_value.specs.declared.enums.Handle.{Handle}
+use Rattle.std.proofs.Common.{◌≡◌, ℕ, ◌||◌, true, Option, is_some, refl, ap, sym, arith}
+use Rattle.std.proofs.lemmas.Grind.{common_steps}
 use Rattle.px_value.specs.declared.value.Value.{Value}
 use Rattle.px_value.specs.Value.{is_known}
-use Rattle.px_sem.specs.Expressions.{handle_value, handle_of, is_acknowledged}
+use Rattle.px_sem.specs.Expressions.{handle_of, is_acknowledged}
 use Rattle.px_sem.specs.Guards.{command_is_over, is_final_handle}
 use Rattle.px_flat.specs.declared.act.Abort.{Abort}
 use Rattle.px_flat.specs.declared.act.Abort.TheVariants as aborts
@@ -15,13 +15,7 @@ use Rattle.px_flat.proofs.Worlds.{handle_value-action_in, is_acknowledged-action
 
 pub handle_known : (act : Act) (handle acknowledgement : Value) → is_handle_of act handle ≡ true
     → is_known handle ≡ is_some (handle_of (action_in act handle acknowledgement))
-handle_known act handle acknowledgement is =
-    ap is_known (sym (handle_value-action_in act handle acknowledgement is))
-    ∙ by (handle_of (action_in act handle acknowledgement))
-  where
-    by : (handle : Option Handle) → is_known (handle_value handle) ≡ is_some handle
-    by None = refl
-    by (Some handle) = refl
+handle_known act handle acknowledgement is = grind (arith, common_steps, handle_value-action_in, is_some)
 
 pub acknowledged : (act : Act) (handle acknowledgement : Value) → is_acknowledgement_of act acknowledgement ≡ true
     → truth_in acknowledgement ≡ is_acknowledged (action_in act handle acknowledgement)

@@ -5,6 +5,7 @@ use Rattle.std.specs.Cmp.Lexicographic.{same_text}
 use Rattle.std.specs.Option.{ForSome, option_and_then, option_map}
 use Rattle.std.proofs.lemmas.Bool.{and_from, and_parts, eqb-false, ltb-true, false_from_ne_true}
 use Rattle.std.proofs.lemmas.Bool.Decides.{eqb_tells}
+use Rattle.std.proofs.lemmas.Grind.{common_steps}
 use Rattle.std.proofs.lemmas.List.{get_or-drop, get_or-set_same, get_or-set_other, get_or-take, length-set, length-take-le}
 use Rattle.std.proofs.lemmas.List.Elements.{All-cons, All-head, All-map, All-nil, All-tail}
 use Rattle.std.proofs.lemmas.List.Sums.{AllPass-from_list_all}
@@ -21,9 +22,8 @@ use Rattle.px_sem.specs.Effects.{Write, cell_of, effects_of, move_kind, write_at
 use Rattle.px_sem.specs.Expressions.{value}
 use Rattle.px_sem.specs.Step.{step_writes}
 use Rattle.px_sem.specs.World as world
-use Rattle.px_sem.specs.World.{World, NodeRecord, cells_at}
+use Rattle.px_sem.specs.World.{World, NodeRecord}
 use Rattle.px_sem.proofs.Writes.{IsTo, found_to}
-use Rattle.px_eval.specs.Arrays.{place_in}
 use Rattle.px_flat.specs.declared.act.Act.{Act}
 use Rattle.px_flat.specs.declared.act.Act.TheVariants as acts
 use Rattle.px_flat.specs.Layout.{Place, all_cells, first_cell, variable_cells}
@@ -80,21 +80,7 @@ place_small : (parts : Parts) (owner name : List ℕ) (index : Option Term) (pla
 place_small parts owner name None place has is =
     let same : world.Whole ≡ place = cc is in
     subst (λ place. cell_of place < (place_of (plan_in parts) owner name).size) same has.some
-place_small parts owner name (Some term) place has is =
-    by (place_in size at) refl
-    (sym (ap (option_map world.Element) (index_is (cells_at (plan_in parts) (world_in parts) owner name) size at has.long)) ∙ is)
-  where
-    size : ℕ
-    size = (place_of (plan_in parts) owner name).size
-
-    at : Value
-    at = value (plan_in parts) (world_in parts) term
-
-    by : (found : Option ℕ) → place_in size at ≡ found → option_map world.Element found ≡ Some place → cell_of place < size
-    by None here none = absurd (cc none)
-    by (Some index) here is =
-        let same : world.Element index ≡ place = cc is in
-        subst (λ place. cell_of place < size) same (ltb-true index size (place_inside size at index here))
+place_small parts owner name (Some term) place has is = grind (arith, common_steps, index_is, ltb-true, place_inside)
 
 -- an assignment
 assigns_inside : (parts : Parts) (target : TargetData) (right : Term)
@@ -341,14 +327,7 @@ put cell write old = if nat_eq write.cell cell then write.value else old
 
 after_set : (cells : List Value) (at cell : ℕ) (value : Value) → at < length cells
     → held (set cells at value) cell ≡ (if nat_eq at cell then value else held cells cell)
-after_set cells at cell value within = elim (eqb_tells at cell) [
-  | inl same ↦
-      ap (held (set cells at value)) (sym same.1) ∙ get_or-set_same cells at value values.Unknown within
-      ∙ ap (λ b. if b then value else held cells cell) (sym same.0)
-  | inr apart ↦
-      get_or-set_other cells at cell value values.Unknown (λ same. apart.1 (sym same))
-      ∙ ap (λ b. if b then value else held cells cell) (sym apart.0)
-]
+after_set cells at cell value within = grind (arith, common_steps, eqb_tells, get_or-set_same, get_or-set_other)
 
 cell_small : (plan : List Site) (write : CellWrite) → IsSound plan → IsWriteOf plan write → write.cell < variable_cells plan
 cell_small plan write sound of =
