@@ -3,7 +3,7 @@ use Rattle.std.proofs.Common.{◌≡◌, ◌≢◌, ℕ, zero, suc, ◌+◌, ◌
 use Rattle.std.specs.List.{list_any}
 use Rattle.std.proofs.lemmas.Bool.{eqb-true, eq-eqb, cases_lt, cases_Bool}
 use Rattle.std.proofs.lemmas.Bool.Decides.{Decides-eqb, eqb_tells}
-use Rattle.std.proofs.lemmas.List.{get_or-set_same, get_or-set_other, get_or_past, length-set, drop_more, drop_all}
+use Rattle.std.proofs.lemmas.List.{get_or-set_same, get_or-set_other, get_or_past, length-set}
 use Rattle.std.proofs.lemmas.List.Folds.{list_any-append, list_any_at}
 use Rattle.std.proofs.lemmas.List.Quantifiers.{all_pairs_push}
 use Rattle.std.proofs.lemmas.Map.Made.{IsDistinct-from_AllPairs}
@@ -71,29 +71,6 @@ room-push flags numbers flagged once at below new =
 -- the flags that still stand are those of what is left
 abbrev pub AreLeftFlagged : List Bool → List ℕ → ℕ → Type 0
 AreLeftFlagged flags numbers i = (at : ℕ) → get_or flags at false ≡ true → list_any (nat_eq at) (drop i numbers) ≡ true
-
-pub flags-first : (flags : List Bool) (numbers : List ℕ) → AreFlagged flags numbers → AreLeftFlagged flags numbers 0
-flags-first flags numbers flagged at stands = sym (flagged at) ∙ stands
-
-pub flags-next : (flags : List Bool) (numbers : List ℕ) (i d : ℕ) → i < length numbers
-    → get_or numbers i d < length flags → AreLeftFlagged flags numbers i
-    → AreLeftFlagged (set flags (get_or numbers i d) false) numbers (i + 1)
-flags-next flags numbers i d within below left at stands = elim (eqb_tells at (get_or numbers i d)) [
-  | inl same ↦ absurd (cc (sym stands ∙ ap (λ at. get_or (set flags (get_or numbers i d) false) at false) same.1
-      ∙ get_or-set_same flags (get_or numbers i d) false false below))
-  | inr other ↦
-      let before : list_any (nat_eq at) (drop i numbers) ≡ true =
-      left at (sym (get_or-set_other flags (get_or numbers i d) at false false other.1) ∙ stands) in
-      sym (ap (λ b. b || list_any (nat_eq at) (drop (i + 1) numbers)) other.0)
-      ∙ sym (ap (list_any (nat_eq at)) (drop_more numbers i d within)) ∙ before
-]
-
-pub flags-none : (flags : List Bool) (numbers : List ℕ) (i : ℕ) → length numbers ≤ i → AreLeftFlagged flags numbers i
-    → (at : ℕ) → get_or flags at false ≡ false
-flags-none flags numbers i past left at = elim (cases_Bool (get_or flags at false)) [
-  | inl is ↦ absurd (cc (sym (left at is) ∙ ap (list_any (nat_eq at)) (drop_all i numbers past)))
-  | inr is ↦ is
-]
 
 -- ---- what isn't news
 

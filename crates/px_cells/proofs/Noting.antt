@@ -81,9 +81,6 @@ module _ {T : Type 0} where
   AreLeft olds changed i =
       (at : ℕ) → is_some (get_or olds at None) ≡ true → list_any (nat_eq at) (drop i changed) ≡ true
 
-  pub left_first : (olds : List (Option T)) (changed : List ℕ) → AreNoted olds changed → AreLeft olds changed 0
-  left_first olds changed noted at kept = sym (noted at) ∙ kept
-
   pub left_next : (olds : List (Option T)) (changed : List ℕ) (i d : ℕ) → i < length changed
       → get_or changed i d < length olds → AreLeft olds changed i
       → AreLeft (set olds (get_or changed i d) None) changed (i + 1)
