@@ -1,5 +1,5 @@
 -- The bodies of records, in either version: what is read of them, and how long they are.
-use Rattle.std.proofs.Common.{◌≡◌, ◌≤◌, inl, inr, ℕ, true, List, [], ◌∷◌, length, Option, Some, None, refl, ◌∙◌, ap, subst, arith}
+use Rattle.std.proofs.Common.{rules, ◌≡◌, ◌≤◌, inl, inr, ℕ, true, List, [], ◌∷◌, length, Option, Some, None, refl, subst, arith}
 use Rattle.std.specs.Prelude.{◌&&◌, ◌==◌, is_none}
 use Rattle.std.specs.Option.{option_map}
 use Rattle.std.proofs.lemmas.Bool.{and_parts, and_from, cases_Bool}
@@ -52,9 +52,7 @@ body_takes versions.Two bytes named fits e = named_decoded_takes bytes named fit
 
 pub body_again : (version : Version) (named : NamedEntry) → is_fit version named ≡ true → body_of version (body_bytes version named) ≡ Some named
 body_again versions.One named fit =
-    let parts = and_parts (is_none named.name) (is_fit_entry named.entry) fit in
-    ap (λ (read : Option Entry). option_map unnamed read) (decoded_again named.entry (parts.1))
-    ∙ ap (λ (n : NamedEntry). Some n) (unnamed_is named.name named.entry (parts.0))
+    search (rules, and_parts, decoded_again, unnamed_is)
 body_again versions.Two named fit = named_decoded_again named fit
 
 -- no bytes are the body of two

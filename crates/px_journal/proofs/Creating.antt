@@ -9,7 +9,7 @@ use Rattle.px_ports.specs.Disk.{Told}
 use Rattle.px_ports.specs.Moment.{Images, Torn, Elapses, Stays, overwritten}
 use Rattle.px_ports.specs.declared.disk.DiskFault.{DiskFault}
 use Rattle.px_ports.specs.declared.moment.Moment.{Moment}
-use Rattle.px_journal.specs.Crash.{Puts, LeavesOnly, OldOrNew, OldOrNewAs}
+use Rattle.px_journal.specs.Crash.{Puts, LeavesOnly, OldOrNewAs}
 use Rattle.px_journal.specs.Layout.{heading, is_open, is_closed, is_nothing, next_gate, StandsAs}
 use Rattle.px_journal.specs.declared.version.Version.{Version}
 use Rattle.px_journal.proofs.Appending.{closed_within, open_or_closed, same_told, told_before}
@@ -162,9 +162,3 @@ pub old_or_new : (version : Version) (images : Images) (text : List ℕ) (old mi
 old_or_new version images text old mid new first second = leaves_on images (OldOrNewAs version (images old) text) old mid new
     (leaves_more images _ _ old mid (λ image left. ⊎_elim (λ was. inl was) (λ none. inr (inl none)) left) first)
     (leaves_more images _ _ mid new (λ image left. inr left) second)
-
--- without the version
-pub in_some_version : (version : Version) (old : List ℕ → Type 0) (text image : List ℕ) → OldOrNewAs version old text image → OldOrNew old text image
-in_some_version version old text image = ⊎_elim
-    (λ was. inl was)
-    (⊎_elim (λ none. inr (inl none)) (λ stands. inr (inr (record { version = version; named = []; stands = stands; entries_are = refl }))))

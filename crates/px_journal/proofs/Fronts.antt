@@ -1,5 +1,5 @@
 -- The bytes up to a gate decide what stands before it.
-use Rattle.std.proofs.Common.{◌≡◌, ◌≤◌, ◌+◌, ◌-◌, ℕ, List, [], ◌∷◌, ◌++◌, length, take, drop, refl, sym, ◌∙◌, ap, subst, arith, IsTrue}
+use Rattle.std.proofs.Common.{rules, ◌≡◌, ◌≤◌, ◌+◌, ◌-◌, ℕ, List, [], ◌∷◌, ◌++◌, length, take, drop, refl, sym, ◌∙◌, ap, subst, arith, IsTrue}
 use Rattle.std.proofs.lemmas.List.{take-take, drop-take, drop-drop}
 use Rattle.std.specs.List.{list_all}
 use Rattle.std.proofs.lemmas.Bool.{and_from, and_parts}
@@ -17,18 +17,10 @@ pub same_rest : (n k : ℕ) (a b : List ℕ) → take n a ≡ take n b → k ≤
 same_rest n k a b same fits = same_part n k (n - k) a b same (omega arith)
 
 is_open-front : (a b : List ℕ) → take 1 a ≡ take 1 b → is_open a ≡ is_open b
-is_open-front a b same = is_open-take a ∙ ap is_open same ∙ sym (is_open-take b)
-  where
-    is_open-take : (a : List ℕ) → is_open a ≡ is_open (take 1 a)
-    is_open-take [] = refl
-    is_open-take (x ∷ xs) = refl
+is_open-front a b same = search rules
 
 pub is_closed-front : (a b : List ℕ) → take 1 a ≡ take 1 b → is_closed a ≡ is_closed b
-is_closed-front a b same = is_closed-take a ∙ ap is_closed same ∙ sym (is_closed-take b)
-  where
-    is_closed-take : (a : List ℕ) → is_closed a ≡ is_closed (take 1 a)
-    is_closed-take [] = refl
-    is_closed-take (x ∷ xs) = refl
+is_closed-front a b same = search rules
 
 Opens-local : (n : ℕ) (behind a b : List ℕ) → take n a ≡ take n b → 1 + length behind ≤ n → Opens behind a → Opens behind b
 Opens-local n behind a b same fits opens = record {

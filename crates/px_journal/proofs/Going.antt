@@ -1,7 +1,7 @@
 -- From one call of a disk to the next: what it keeps over both, and how its faults are counted.
 use Rattle.std.proofs.Common.{◌≡◌, ◌≢◌, ◌≤◌, ℕ, Bool, List, length, Option, refl, sym, ◌∙◌, ap, arith}
 use Rattle.std.proofs.lemmas.List.{take_all}
-use Rattle.std.specs.Prelude.{Result, Ok, Err, IsErrAnd, is_some}
+use Rattle.std.specs.Prelude.{Result, Ok, Err, IsErrAnd}
 use Rattle.px_value.proofs.General.{begins_further}
 use Rattle.px_ports.specs.Disk.{CountsFaults, OnlyReads, StaysAttached}
 use Rattle.px_ports.specs.Host.{Rose}
@@ -83,15 +83,6 @@ module _ {D : Type 0} (members : Disk.Ghosts D) where
     unwritten = reads.unwritten;
     stays = reads.stays;
     faults = rises_told reads.faults to from;
-  }
-
-  -- a call that only reads, as a call that may write
-  pub goes_by_reads : {F : Type 0} {old new : D} → Reads members F old new → Goes members F old new
-  goes_by_reads reads = record {
-    tells = ap is_some reads.only.bytes;
-    grows = reads.only.elapses.grows;
-    stays = reads.stays;
-    faults = reads.faults;
   }
 
   pub goes_none : {F : Type 0} (disk : D) → ¬ F → Goes members F disk disk

@@ -1,5 +1,5 @@
 -- What each image since some moment begins with, an append doesn't take away; and how far the gates can stand.
-use Rattle.std.proofs.Common.{◌≡◌, ◌≤◌, ◌+◌, ◌*◌, ◌⊎◌, inl, inr, ⊎_elim, ℕ, List, [], ◌∷◌, ◌++◌, length, sym, ◌∙◌, ap, subst, arith, append_assoc, length-append, map, IsTrue}
+use Rattle.std.proofs.Common.{rules, ◌≡◌, ◌≤◌, ◌+◌, ◌*◌, ◌⊎◌, ⊎_elim, ℕ, List, [], ◌∷◌, ◌++◌, length, sym, ◌∙◌, ap, subst, arith, append_assoc, length-append, map, IsTrue}
 use Rattle.std.proofs.lemmas.List.{take_all, length-map, map-append}
 use Rattle.std.proofs.lemmas.Bool.{and_parts}
 use Rattle.std.specs.List.{list_all}
@@ -72,14 +72,7 @@ map-push part named next parts are = map-append part named (next ∷ []) ∙ ap 
 -- with the names or without
 pub without_names : (version : Version) (text : List ℕ) (named : List NamedEntry) (next : NamedEntry) (history : List Entry) (image : List ℕ) → entries named ≡ history
     → WithOrWithoutAs version text named next image → WithOrWithout text history next.entry image
-without_names version text named next history image are = ⊎_elim
-    (λ without. inl (record { version = version; named = named; stands = without; entries_are = are }))
-    (λ with. inr (record {
-      version = version;
-      named = named ++ next ∷ [];
-      stands = with;
-      entries_are = map-push (λ n. n.entry) named next history are;
-    }))
+without_names version text named next history image are = search (rules, map-push)
 
 module _ (version : Version) where
   pub length-record : (entry : NamedEntry) → length (record_bytes version entry) ≡ 2 + length (body_bytes version entry)

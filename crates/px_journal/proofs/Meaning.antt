@@ -1,5 +1,5 @@
 -- Bytes are of at most one version, and stand for at most one text and one history.
-use Rattle.std.proofs.Common.{◌≡◌, ◌≤◌, ◌<◌, ◌+◌, ◌^◌, ℕ, List, [], ◌∷◌, ◌++◌, Option, length, take, drop, refl, sym, ◌∙◌, ap, subst, arith, length-append, IsTrue}
+use Rattle.std.proofs.Common.{rules, ◌≡◌, ◌≤◌, ◌<◌, ◌+◌, ◌^◌, ℕ, List, [], ◌∷◌, ◌++◌, Option, length, take, drop, refl, sym, ◌∙◌, ap, subst, arith, length-append, IsTrue}
 use Rattle.std.proofs.lemmas.List.{take_at, drop_at, drop-drop, take-take, drop-take, get_or-drop}
 use Rattle.std.proofs.lemmas.Bool.{and_parts}
 use Rattle.std.specs.Prelude.{slice_index}
@@ -73,12 +73,7 @@ module _ (version : Version) where
   text_starts text bytes opens = starts_second (digit version ∷ []) (big_bytes 4 (length text) ++ text) (drop 7 (drop 1 bytes)) (version_starts text bytes opens)
 
   pub has_version : (text bytes : List ℕ) → Opens (heading version text) bytes → HasVersion version bytes
-  has_version text bytes opens = (
-    starts_first magic (digit version ∷ (big_bytes 4 (length text) ++ text)) (drop 1 bytes) opens.content,
-    sym (get_or-drop 1 bytes 7 0)
-        ∙ sym (get_or-drop 7 (drop 1 bytes) 0 0)
-        ∙ first_byte (digit version) (big_bytes 4 (length text) ++ text) (drop 7 (drop 1 bytes)) (version_starts text bytes opens),
-  )
+  has_version text bytes opens = search (rules, starts_first, get_or-drop, first_byte, version_starts)
 
   pub one_heading : (a b bytes : List ℕ) → length a ≤ 1048576 → length b ≤ 1048576 → Opens (heading version a) bytes → Opens (heading version b) bytes → a ≡ b
   one_heading a b bytes a_fits b_fits a_opens b_opens =
@@ -109,11 +104,7 @@ module _ (version : Version) (bytes text_a text_b : List ℕ) (a b : List NamedE
 
   one_history_as : a ≡ b
   one_history_as =
-      let n = 1 + length (heading version text_a) in
-      let place : drop (1 + length (heading version text_b)) bytes ≡ drop n bytes = ap (λ (t : List ℕ). drop (1 + length (heading version t)) bytes) (sym one_text_as) in
-      one_history version a b (drop n bytes) a_stands.front.fit b_stands.front.fit a_stands.front.records (subst (Records version b) place b_stands.front.records)
-      (subst IsTrue (ap is_closed (sym (drop-drop (records_size version a) n bytes))) a_stands.closed)
-      (subst IsTrue (ap is_closed (sym (drop-drop (records_size version b) (1 + length (heading version text_b)) bytes) ∙ ap (λ (l : List ℕ). drop (records_size version b) l) place)) b_stands.closed)
+      search (rules, one_text_as, one_history, drop-drop)
 
 -- bytes have one version at most, which is that of what they stand for
 pub one_told : (v w : Version) (bytes : List ℕ) → HasVersion v bytes → HasVersion w bytes → v ≡ w
@@ -130,9 +121,7 @@ one_version v w a b bytes v_opens w_opens = one_told v w bytes (has_version v a 
 pub one_meaning : (v w : Version) (bytes text other : List ℕ) (a b : List NamedEntry) → StandsAs v bytes text a → StandsAs w bytes other b
     → (v ≡ w) × (text ≡ other) × (a ≡ b)
 one_meaning v w bytes text other a b first second =
-    let versions = one_version v w text other bytes first.front.opens second.front.opens in
-    let same = subst (λ (u : Version). StandsAs u bytes other b) (sym versions) second in
-    (versions, one_text_as v bytes text other a b first same, one_history_as v bytes text other a b first same)
+    search (rules, one_version, one_text_as, one_history_as)
 
 module _ (bytes text_a text_b : List ℕ) (a b : List Entry) (a_stands : Stands bytes text_a a) (b_stands : Stands bytes text_b b) where
   pub one_meaning_text : text_a ≡ text_b

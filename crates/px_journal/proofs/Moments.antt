@@ -1,5 +1,5 @@
 -- From one call of a disk to the next: what a crash at a moment of either may leave.
-use Rattle.std.proofs.Common.{◌≡◌, ◌≤◌, ◌⊎◌, inl, inr, ⊎_elim, ℕ, List, length, take, refl, sym, ◌∙◌, ap, subst, arith}
+use Rattle.std.proofs.Common.{rules, ◌≡◌, ◌≤◌, ◌⊎◌, inl, inr, ⊎_elim, ℕ, List, length, take, refl, sym, ◌∙◌, ap, subst, arith}
 use Rattle.std.specs.Prelude.{Result, Ok, Err}
 use Rattle.std.proofs.lemmas.Bool.{cases_lt}
 use Rattle.std.proofs.lemmas.List.{take-take, take_all, length-take}
@@ -86,10 +86,7 @@ module _ (images : Images) where
 
   -- calls that only read, one behind the other
   pub elapses_none : (now : List Moment) → Elapses images Stays now now
-  elapses_none now = record {
-    grows = take_all (length now) now (omega arith);
-    each = λ image left. (image, subst (λ (ms : List Moment). images ms image) (take_all (left.0) now (left.1)) (left.3), refl);
-  }
+  elapses_none now = search (rules, take_all)
 
   pub reads_none : (told : Told) (now : List Moment) → OnlyReads images told told now now
   reads_none told now = record { bytes = refl; elapses = elapses_none now; kept = λ image left. left }

@@ -1,5 +1,5 @@
 -- What a torn write and a whole one leave below and above their range.
-use Rattle.std.proofs.Common.{◌≡◌, ◌≤◌, ◌<◌, ◌+◌, ℕ, List, ◌++◌, length, take, drop, refl, sym, ◌∙◌, ap, arith, append_assoc}
+use Rattle.std.proofs.Common.{rules, ◌≡◌, ◌≤◌, ◌+◌, ℕ, List, ◌++◌, length, take, drop, refl, sym, ◌∙◌, ap, arith, append_assoc}
 use Rattle.std.proofs.lemmas.List.{take_at, drop_at, drop-drop, length-drop, get_or-take, get_or-drop, length-take-le}
 use Rattle.std.proofs.lemmas.Grind.{same_number_lists}
 use Rattle.px_ports.specs.Moment.{Torn, overwritten}
@@ -7,20 +7,14 @@ use Rattle.px_ports.specs.Moment.{Torn, overwritten}
 module _ (at n : ℕ) (old new : List ℕ) (torn : Torn at n old new) where
   pub torn_below : at ≤ length old → take at new ≡ take at old
   torn_below fits =
-      let long : length (take at old) ≡ at = length-take-le at old fits in
-      let long_new : length (take at new) ≡ at = length-take-le at new (omega (arith, torn.no_shorter)) in
-      same_number_lists (take at new) (take at old) (long_new ∙ sym long) (λ k below.
-      let inside : k < at = omega (arith, below, long_new) in
-      get_or-take at new k 0 inside ∙ torn.below k inside (omega (arith, inside, fits)) ∙ sym (get_or-take at old k 0 inside))
+      search (rules, length-take-le, same_number_lists, get_or-take)
 
   pub torn_length : at + n ≤ length old → length new ≡ length old
   torn_length fits = omega (arith, torn.no_shorter, torn.no_longer)
 
   pub torn_above : at + n ≤ length old → drop (at + n) new ≡ drop (at + n) old
   torn_above fits =
-      let long = torn_length fits in
-      same_number_lists (drop (at + n) new) (drop (at + n) old) (omega (arith, long, length-drop (at + n) new, length-drop (at + n) old)) (λ k below.
-      get_or-drop (at + n) new k 0 ∙ torn.above (at + n + k) (omega arith) (omega (arith, below, long, length-drop (at + n) new)) ∙ sym (get_or-drop (at + n) old k 0))
+      search (rules, torn_length, same_number_lists, length-drop, get_or-drop)
 
 module _ (at : ℕ) (bytes old : List ℕ) (fits : at ≤ length old) where
   whole : overwritten at bytes old ≡ take at old ++ (bytes ++ drop (at + length bytes) old)

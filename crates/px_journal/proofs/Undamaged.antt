@@ -1,5 +1,5 @@
 -- Bytes that stand for a text and a history are not damaged, and others are damaged at one place.
-use Rattle.std.proofs.Common.{◌≡◌, ◌≢◌, ◌≤◌, ◌<◌, ◌+◌, ◌^◌, ◌⊎◌, inl, inr, ⊎_elim, ℕ, true, false, List, [], ◌∷◌, length, take, drop, refl, sym, ◌∙◌, ap, subst, arith, IsTrue}
+use Rattle.std.proofs.Common.{rules, ◌≡◌, ◌≢◌, ◌≤◌, ◌<◌, ◌+◌, ◌^◌, ◌⊎◌, inl, inr, ⊎_elim, ℕ, true, false, List, [], ◌∷◌, length, take, drop, refl, sym, ◌∙◌, ap, subst, arith, IsTrue}
 use Rattle.std.specs.Prelude.{slice_index}
 use Rattle.std.specs.List.{list_all}
 use Rattle.std.proofs.lemmas.Bool.{and_parts, cases_lt}
@@ -108,9 +108,7 @@ module _ (version : Version) where
         ∙ spelled 4 (length text) behind (omega (arith, front.text_fits)) number
 
     not_cut : (1048576 < text_length bytes) ⊎ (length bytes ≤ 13 + text_length bytes) → ⊥
-    not_cut cut = ⊎_elim
-        (λ much. omega (arith, much, is_length, front.text_fits))
-        (λ short. omega (arith, short, is_length, within, length-heading version text)) cut
+    not_cut cut = search (rules, is_length, within, length-heading)
 
     -- the record that the history has at the gate behind a part of it
     module _ (few : length history ≤ 100000) (before : List NamedEntry) (next : Ahead history before (drop (1 + length (heading version text)) bytes)) where
@@ -128,13 +126,7 @@ module _ (version : Version) where
           ∙ starts_second (big_bytes 2 (length (body_bytes version next.entry))) (body_bytes version next.entry) (drop 1 (drop (next_gate version text before) bytes)) opens.content
 
       no_damage : (at : ℕ) → DamagedRecord version bytes before (next_gate version text before) at → ⊥
-      no_damage at damaged = ⊎_elim
-          (λ much. omega (arith, much.1, next.shorter, few))
-          (λ broken. ⊎_elim
-          (λ cut. omega (arith, cut.1, told, within, next.within, length-record version next.entry))
-          (λ none. none.2 next.entry next.fit is_body)
-          (broken.1))
-          damaged.row
+      no_damage at damaged = search (rules, told, within, length-record, is_body)
 
   -- two histories behind one text, over the same bytes
   fronts_ahead : (bytes text : List ℕ) (a b : List NamedEntry) → Front version bytes text a → Front version bytes text b
@@ -148,19 +140,7 @@ module _ (version : Version) where
   row_few bytes before gate at damaged = ⊎_elim (λ full. omega (arith, full.1)) (λ broken. omega (arith, broken.0)) damaged.row
 
   one_row : (bytes : List ℕ) (before : List NamedEntry) (gate at other : ℕ) → DamagedRecord version bytes before gate at → DamagedRecord version bytes before gate other → at ≡ other
-  one_row bytes before gate at other first second = ⊎_elim
-      (λ full. ⊎_elim (λ again. omega (arith, full.0, again.0)) (λ broken. absurd (omega (arith, full.1, broken.0))) second.row)
-      (λ broken. ⊎_elim
-      (λ full. absurd (omega (arith, full.1, broken.0)))
-      (λ again. one_break (broken.1) (again.1))
-      second.row)
-      first.row
-    where
-      one_break : IsBroken version bytes gate at → IsBroken version bytes gate other → at ≡ other
-      one_break (inl cut) (inl again) = omega (arith, cut.0, again.0)
-      one_break (inl cut) (inr whole) = absurd (omega (arith, cut.1, whole.1))
-      one_break (inr whole) (inl cut) = absurd (omega (arith, cut.1, whole.1))
-      one_break (inr whole) (inr again) = omega (arith, whole.0, again.0)
+  one_row bytes before gate at other first second = search rules
 
   one_record_place : (bytes text : List ℕ) (a b : List NamedEntry) (at other : ℕ) → Front version bytes text a → Front version bytes text b → DamagedRecord version bytes a (next_gate version text a) at
       → DamagedRecord version bytes b (next_gate version text b) other → at ≡ other
@@ -229,13 +209,7 @@ other_record version other bytes text text' a b at place front damaged front' da
     (subst (λ (t : List ℕ). DamagedRecord version bytes b (next_gate version t b) place) texts broken)
 
 pub one_place : (bytes : List ℕ) (at other : ℕ) → Damage.Damaged bytes at → Damage.Damaged bytes other → at ≡ other
-one_place bytes at other (magic_differs i below before differs) (magic_differs j j_below j_before j_differs) = elim (cases_lt i j) [
-  | inl less ↦ absurd (differs (right_byte bytes j i j_before less))
-  | inr most ↦ elim (cases_lt j i) [
-    | inl more ↦ absurd (j_differs (right_byte bytes i j before more))
-    | inr least ↦ omega (arith, most, least)
-  ]
-]
+one_place bytes at other (magic_differs i below before differs) (magic_differs j j_below j_before j_differs) = search (rules, cases_lt, right_byte)
 one_place bytes at other (magic_differs i below before differs) (version_differs same none) = absurd (no_difference bytes same i below differs)
 one_place bytes at other (magic_differs i below before differs) (text_is_cut version has cut) = absurd (no_difference bytes (has.0) i below differs)
 one_place bytes at other (magic_differs i below before differs) (record_is version text records place front damaged) =

@@ -1,5 +1,5 @@
 -- Bytes that aren't nothing stand for a text and a history, or are damaged at some place.
-use Rattle.std.proofs.Common.{◌≡◌, ◌≢◌, ◌≤◌, ◌<◌, ◌+◌, ◌⊎◌, inl, inr, ℕ, zero, suc, false, List, [], ◌∷◌, ◌++◌, Option, Some, None, length, take, drop, refl, sym, ◌∙◌, ap, arith, length-append, take-add, IsTrue}
+use Rattle.std.proofs.Common.{rules, ◌≡◌, ◌≢◌, ◌≤◌, ◌<◌, ◌+◌, ◌⊎◌, inl, inr, ℕ, zero, suc, false, List, [], ◌∷◌, ◌++◌, Option, Some, None, length, take, drop, refl, sym, ◌∙◌, ap, arith, length-append, take-add, IsTrue}
 use Rattle.std.specs.Prelude.{slice_index, IsFalse}
 use Rattle.std.proofs.lemmas.Bool.{both_ways, cases_lt, cases_eq, cases_Bool}
 use Rattle.std.proofs.lemmas.List.{take-take, length-take, length-drop, drop-drop, get_or-drop}
@@ -12,7 +12,7 @@ use Rattle.std.proofs.lemmas.List.{get_or-take, get_or_past}
 use Rattle.px_journal.specs.Damage as Damage
 use Rattle.px_journal.specs.Damage.{body, body_length, text_length, DamagedRecord, IsNoBody}
 use Rattle.px_journal.specs.Damage.Damaged.{magic_differs, version_differs, text_is_cut, record_is}
-use Rattle.px_journal.specs.Layout.{magic, digit, body_bytes, entries, heading, is_fit, is_open, is_closed, is_nothing, record_bytes, next_gate, Opens, Front, Stands, StandsAs, HasVersion}
+use Rattle.px_journal.specs.Layout.{magic, body_bytes, entries, heading, is_fit, is_open, is_closed, is_nothing, record_bytes, next_gate, Opens, Front, Stands, StandsAs, HasVersion}
 use Rattle.px_journal.specs.declared.version.Version.{Version}
 use Rattle.px_journal.proofs.Appending.{open_or_closed}
 use Rattle.px_journal.proofs.Bodies.{body_of, body_takes, body_again}
@@ -24,10 +24,7 @@ use Rattle.px_journal.proofs.Histories.{length-heading, length-record}
 -- ---- bytes
 
 part_bytes : (n k : ℕ) (bytes : List ℕ) → IsBytes bytes → IsBytes (take n (drop k bytes))
-part_bytes n k bytes fits i = elim (cases_lt i n) [
-  | inl within ↦ rw (get_or-take n (drop k bytes) i 0 within, get_or-drop k bytes i 0) (fits (k + i))
-  | inr past ↦ rw (get_or_past (take n (drop k bytes)) i 0 (omega (arith, past, length-take n (drop k bytes)))) (omega arith)
-]
+part_bytes n k bytes fits i = search (rules, cases_lt, get_or-take, get_or-drop, get_or_past, length-take)
 
 -- a length is spelled where it was read
 two_spelled : (bytes : List ℕ) → IsBytes bytes → 3 ≤ length bytes → take 2 (drop 1 bytes) ≡ big_bytes 2 (body_length bytes)
@@ -72,26 +69,7 @@ module _ (version : Version) where
   opens_heading : (bytes text : List ℕ) → IsTrue (is_open bytes) → 13 ≤ length bytes → HasVersion version bytes → take 4 (drop 9 bytes) ≡ big_bytes 4 (length text)
       → take (length text) (drop 13 bytes) ≡ text → Opens (heading version text) bytes
   opens_heading bytes text gate long has is_length is_text =
-      let behind : take (4 + length text) (drop 9 bytes) ≡ big_bytes 4 (length text) ++ text =
-      take-add 4 (length text) (drop 9 bytes)
-      ∙ ap (λ (l : List ℕ). take 4 (drop 9 bytes) ++ take (length text) l) (drop-drop 4 9 bytes)
-      ∙ ap (λ (l : List ℕ). take 4 (drop 9 bytes) ++ l) is_text
-      ∙ ap (λ (l : List ℕ). l ++ text) is_length in
-      let told : take (1 + (4 + length text)) (drop 8 bytes) ≡ digit version ∷ (big_bytes 4 (length text) ++ text) =
-      take-add 1 (4 + length text) (drop 8 bytes)
-      ∙ ap (λ (l : List ℕ). take 1 (drop 8 bytes) ++ take (4 + length text) l) (drop-drop 1 8 bytes)
-      ∙ ap (λ (l : List ℕ). take 1 (drop 8 bytes) ++ l) behind
-      ∙ ap (λ (l : List ℕ). l ++ (big_bytes 4 (length text) ++ text))
-      (one_byte (drop 8 bytes) (omega (arith, long, length-drop 8 bytes)) ∙ ap (λ (n : ℕ). n ∷ []) (get_or-drop 8 bytes 0 0 ∙ has.1)) in
-      record {
-        gate = gate;
-        content =
-            ap (λ (n : ℕ). take n (drop 1 bytes)) (let sum : length (heading version text) ≡ 7 + (1 + (4 + length text)) = omega (arith, length-heading version text) in sum)
-            ∙ take-add 7 (1 + (4 + length text)) (drop 1 bytes)
-            ∙ ap (λ (l : List ℕ). take 7 (drop 1 bytes) ++ take (1 + (4 + length text)) l) (drop-drop 7 1 bytes)
-            ∙ ap (λ (l : List ℕ). take 7 (drop 1 bytes) ++ l) told
-            ∙ ap (λ (l : List ℕ). l ++ (digit version ∷ (big_bytes 4 (length text) ++ text))) (has.0);
-      }
+      search (rules, take-add, drop-drop, one_byte, long, length-drop, get_or-drop, gate, length-heading)
 
   opens_record : (rest : List ℕ) (entry : NamedEntry) → IsBytes rest → IsTrue (is_open rest) → 3 + body_length rest < length rest → body rest ≡ body_bytes version entry
       → (length (body_bytes version entry) ≡ body_length rest) × Opens (record_bytes version entry) rest

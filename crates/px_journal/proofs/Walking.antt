@@ -10,7 +10,7 @@ use Rattle.px_ports.specs.declared.disk.Disk
 use Rattle.px_journal.specs.Damage.{Damaged, DamagedRecord, IsBroken}
 use Rattle.px_journal.specs.Damage.Damaged.{record_is}
 use Rattle.px_journal.specs.Goes.{Reads}
-use Rattle.px_journal.specs.Layout.{entries, interfaces, is_closed, is_fit, is_open, next_gate, record_bytes, Front, Opens, StandsAs}
+use Rattle.px_journal.specs.Layout.{entries, interfaces, is_fit, is_open, next_gate, record_bytes, Front, Opens}
 use Rattle.px_journal.specs.declared.version.Version.{Version}
 use Rattle.px_journal.proofs.Fronts.{Front-push, fits-push, next_gate-push}
 use Rattle.px_journal.proofs.Histories.{length-heading, map-push}
@@ -51,13 +51,6 @@ module _ {D : Type 0} (members : Disk.Ghosts D) (old now : D) (version : Version
     front = λ told is. Front-push version told plan history entry (read.front told is) fit
         (subst (λ (n : ℕ). Opens (record_bytes version entry) (drop n told)) read.place (opens told (now_told told is)));
     reads = reads_then members read.reads (λ failed. failed) reads;
-  }
-
-  pub read_stands : ForSome (members.content now) (λ told. IsTrue (is_closed (drop gate told))) → ForSome (members.content old) (λ told. StandsAs version told plan history)
-  read_stands closed = λ told is. record {
-    front = read.front told is;
-    closed = subst (λ (n : ℕ). IsTrue (is_closed (drop n told))) read.place (closed told (now_told told is));
-    few = read.few;
   }
 
   pub read_damaged : (at : ℕ) (is_full : Bool) → (IsTrue is_full → length history ≡ 100000) → (IsFalse is_full → length history < 100000)
