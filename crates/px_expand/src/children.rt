@@ -122,7 +122,7 @@ impl Children {
 }
 
 /// The name of the action with this place in its block.
-pub(crate) fn name_of(alloc: Global, place: usize, action: &Action) -> Result<Name, NoMemory>
+fn name_of(alloc: Global, place: usize, action: &Action) -> Result<Name, NoMemory>
     ensures { IfOk result (λ name. name ≡ name_of place (action_of action.now)) }
 {
     match u32::try_from(place) {

@@ -9,7 +9,7 @@ use Rattle.byteorder.specs.Endian.{big_bytes, big_number}
 use Rattle.byteorder.specs.Numbers.{big_from-take, big_number-reads_back, length-bytes_high_first}
 use Rattle.px_event.specs.declared.entry.Entry.{Entry}
 use Rattle.px_event.specs.declared.named.NamedEntry.{NamedEntry}
-use Rattle.px_journal.specs.Damage.{body, body_length, text_length, DamagedRecord, IsBroken}
+use Rattle.px_journal.specs.Damage.{body, body_length, text_length, DamagedRecord}
 use Rattle.px_journal.specs.Damage as Damage
 use Rattle.px_journal.specs.Damage.Damaged.{magic_differs, version_differs, text_is_cut, record_is}
 use Rattle.px_journal.specs.Layout.{magic, body_bytes, heading, is_fit, is_open, is_closed, record_bytes, records_size, next_gate, Opens, Records, Front, Stands, StandsAs}

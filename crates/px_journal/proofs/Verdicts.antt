@@ -10,7 +10,7 @@ use Rattle.px_event.specs.declared.named.NamedEntry.{NamedEntry}
 use Rattle.px_event.proofs.Fields.{IsBytes, two_back, four_back}
 use Rattle.std.proofs.lemmas.List.{get_or-take, get_or_past}
 use Rattle.px_journal.specs.Damage as Damage
-use Rattle.px_journal.specs.Damage.{body, body_length, text_length, DamagedRecord, IsNoBody}
+use Rattle.px_journal.specs.Damage.{body, body_length, text_length, IsNoBody}
 use Rattle.px_journal.specs.Damage.Damaged.{magic_differs, version_differs, text_is_cut, record_is}
 use Rattle.px_journal.specs.Layout.{magic, body_bytes, entries, heading, is_fit, is_open, is_closed, is_nothing, record_bytes, next_gate, Opens, Front, Stands, StandsAs, HasVersion}
 use Rattle.px_journal.specs.declared.version.Version.{Version}

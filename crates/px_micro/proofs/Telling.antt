@@ -1,5 +1,5 @@
 -- Where moves are told, or not, all else of a step stays.
-use Rattle.std.proofs.Common.{◌≡◌, Bool, true, false, List, ap, sym, ◌∙◌, subst, if◌then◌else◌}
+use Rattle.std.proofs.Common.{◌≡◌, Bool, true, false, List, sym, ◌∙◌, subst, if◌then◌else◌}
 use Rattle.px_sem.specs.declared.moves.Move.{Move}
 use Rattle.px_sem.specs.Step.{move_of}
 use Rattle.px_flat.specs.Flat.{plan_of}

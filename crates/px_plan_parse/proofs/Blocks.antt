@@ -12,8 +12,7 @@ use Rattle.px_syntax.specs.declared.word.BlockForm.{BlockForm}
 use Rattle.px_syntax.specs.declared.word.BlockForm.TheVariants as forms
 use Rattle.px_syntax.specs.Block.{ItemData, BlockTree, Braces, Actions, NoActions, More, ActionTree, Labelled, BodyTree, Inner, Assign, CallInto, Call, Update, If, While, For, actions_in_turn}
 use Rattle.px_syntax.specs.BlockGrammar.{action, block, body, each_action}
-use Rattle.px_syntax.specs.Form.{Form, identifier, kind_at, maybe, sign, ◌then◌, each}
-use Rattle.px_expr_parse.specs.Verdict.{Agree, IsBegun}
+use Rattle.px_syntax.specs.Form.{Form, identifier, maybe, sign, ◌then◌, each}
 use Rattle.px_plan_parse.specs.declared.start.Start.{Start}
 use Rattle.px_plan_parse.specs.declared.start.Start.TheVariants as starts
 use Rattle.px_plan_parse.specs.Part.{Anything, IsLacking, IsPart}

@@ -1,12 +1,11 @@
 -- What actions and branches consist of.
-use Rattle.std.proofs.Common.{◌≡◌, ℕ, ℤ, ◌+◌, ◌≤◌, ◌<◌, ◌⊎◌, inl, inr, refl, sym, ap, subst, ◌∙◌, List, [], ◌∷◌, length, Option, Some, None, true, false, arith}
+use Rattle.std.proofs.Common.{◌≡◌, ℕ, ℤ, ◌+◌, inl, inr, refl, sym, ap, subst, ◌∙◌, List, [], ◌∷◌, Option, Some, None, true, false, arith}
 use Rattle.std.proofs.lemmas.Option.{none-some, same_Some}
 use Rattle.px_lex.specs.declared.keyword.Keyword.TheVariants as words
 use Rattle.px_lex.specs.declared.sign.Sign.TheVariants as signs
 use Rattle.px_lex.specs.declared.token.Token.{Token}
 use Rattle.px_lex.specs.declared.token.TokenKind.TheVariants as kinds
 use Rattle.px_syntax.specs.declared.expr.Identifier.{Identifier}
-use Rattle.px_syntax.specs.declared.fault.ParseFault.{ParseFault}
 use Rattle.px_syntax.specs.Block.{ActionTree, Labelled, BlockTree, BranchTree, Branch, GuardedTree, Guarded, ElseIfs, NoElseIfs, ElseIf, ElseTree, NoElse, Else, BodyTree, Inner, Assign, CallInto, Call, PairData, Update, If, While, For, else_ifs_in_turn, else_of}
 use Rattle.px_syntax.specs.BlockGrammar.{action, block, body, branch, else_ifs, guarded, label, otherwise}
 use Rattle.px_syntax.specs.Expr.{Term}
@@ -19,7 +18,7 @@ use Rattle.px_expr_parse.proofs.Parts.{agree_before}
 use Rattle.px_plan_parse.specs.declared.start.Start.{Start}
 use Rattle.px_plan_parse.specs.declared.start.Start.TheVariants as starts
 use Rattle.px_plan_parse.specs.Named.{NamedData, Calls, Writes, Value, Answer, named, named_body}
-use Rattle.px_plan_parse.specs.Part.{Anything, IsLacking, IsPart}
+use Rattle.px_plan_parse.specs.Part.{Anything}
 use Rattle.px_plan_parse.specs.Start.{NoBranch, NoElse as NotElse, NoElseIf as NotElseIf, NoName, is_branch, keyword_start, start_at}
 use Rattle.px_plan_parse.specs.Tail.{counter, end_if, update_pairs, test}
 use Rattle.px_plan_parse.proofs.Blocks.{block_sort, body_sort}

@@ -13,12 +13,11 @@ use Rattle.px_syntax.specs.BlockGrammar.{type_word}
 use Rattle.px_syntax.specs.Form.{Form, identifier, keyword, kind_at, sign, ◌then◌, maybe}
 use Rattle.px_syntax.specs.Plan.{DeclarationData, Command, Lookup}
 use Rattle.px_syntax.specs.PlanGrammar.{declaration, parameter}
-use Rattle.px_expr_parse.specs.Verdict.{Agree, IsBegun}
 use Rattle.px_expr_parse.proofs.Completions.{Shortest}
 use Rattle.px_plan_parse.specs.declared.start.Start.{Start}
 use Rattle.px_plan_parse.specs.declared.start.Start.TheVariants as starts
 use Rattle.px_plan_parse.specs.Part.{Follow, Anything, IsLacking, IsPart}
-use Rattle.px_plan_parse.specs.Start.{NoDeclaration, NoName, is_declaration, keyword_start, start_at}
+use Rattle.px_plan_parse.specs.Start.{NoName, is_declaration, keyword_start, start_at}
 use Rattle.px_plan_parse.specs.Tail.{closed_parameters, declared_parameters, signature}
 use Rattle.px_plan_parse.proofs.Commas.{Separates, closed_commas}
 use Rattle.px_plan_parse.proofs.Parts.{HasKind, Makes, Splits, alone, before, behind, lack_here, makes_by}

@@ -1,5 +1,5 @@
 -- What items consist of.
-use Rattle.std.proofs.Common.{◌≡◌, ℕ, ◌+◌, ◌≤◌, ◌<◌, ◌⊎◌, inl, inr, refl, sym, ap, subst, ◌∙◌, List, length, Option, Some, None, true, false, arith}
+use Rattle.std.proofs.Common.{◌≡◌, ℕ, ◌+◌, ◌<◌, ◌⊎◌, inl, inr, refl, sym, ap, subst, ◌∙◌, List, length, Option, Some, None, true, arith}
 use Rattle.px_lex.specs.declared.keyword.Keyword.TheVariants as words
 use Rattle.px_lex.specs.declared.sign.Sign.{Sign}
 use Rattle.px_lex.specs.declared.sign.Sign.TheVariants as signs
@@ -14,18 +14,17 @@ use Rattle.px_syntax.specs.declared.fault.ParseFault.{ParseFault}
 use Rattle.px_syntax.specs.declared.fault.ParseFault.TheVariants as faults
 use Rattle.px_syntax.specs.declared.word.Condition.{Condition}
 use Rattle.px_syntax.specs.declared.word.TypeName.{TypeName}
-use Rattle.px_syntax.specs.Block.{InitialData, Value, Listed, ItemData, Variables, Conditions, Priority, VariableData}
+use Rattle.px_syntax.specs.Block.{InitialData, Value, Listed, Variables, Conditions, Priority, VariableData}
 use Rattle.px_syntax.specs.BlockGrammar.{condition_word, initial, item, listed, literal, type_word, variable}
 use Rattle.px_syntax.specs.Expr.{Term}
-use Rattle.px_syntax.specs.ExprGrammar.{expression, literal_kind}
-use Rattle.px_syntax.specs.Form.{Form, identifier, kind_at, one, ◌then◌}
-use Rattle.px_expr_parse.specs.Verdict.{Agree, IsBegun}
+use Rattle.px_syntax.specs.ExprGrammar.{literal_kind}
+use Rattle.px_syntax.specs.Form.{Form, identifier, kind_at, ◌then◌}
+use Rattle.px_expr_parse.specs.Verdict.{Agree}
 use Rattle.px_expr_parse.specs.Tail.{closed}
 use Rattle.px_expr_parse.proofs.Arguments.{no_colon}
 use Rattle.px_expr_parse.proofs.Primaries.{literal_kind_one}
-use Rattle.px_plan_parse.specs.declared.start.Start.{Start}
 use Rattle.px_plan_parse.specs.declared.start.Start.TheVariants as starts
-use Rattle.px_plan_parse.specs.Part.{Anything, IsLacking, IsPart, IsSole}
+use Rattle.px_plan_parse.specs.Part.{Anything, IsLacking, IsPart}
 use Rattle.px_plan_parse.specs.Start.{keyword_start, start_at}
 use Rattle.px_plan_parse.specs.Tail.{array_size, closed_variables, first_value, listed_values, NoLiteral, Only, priority, test, Unless, VariableEnded}
 use Rattle.px_plan_parse.proofs.Commas.{Separates}

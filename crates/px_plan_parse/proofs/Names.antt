@@ -17,7 +17,7 @@ use Rattle.px_expr_parse.proofs.Closed.{closer_ends}
 use Rattle.px_expr_parse.proofs.Calls.{inside_of, no_value}
 use Rattle.px_expr_parse.proofs.Completions.{begun_as, moved}
 use Rattle.px_expr_parse.proofs.Spans.{local_identifier}
-use Rattle.px_plan_parse.specs.Named.{NamedData, Calls, Writes, WrittenData, Value, Answer, called, named, optional_index, written}
+use Rattle.px_plan_parse.specs.Named.{Calls, Writes, WrittenData, Value, Answer, called, named, optional_index, written}
 use Rattle.px_plan_parse.specs.Part.{Follow, Anything, Ended, IsLacking, IsPart, IsSole, Lacks}
 use Rattle.px_plan_parse.specs.Tail.{closed_pairs, Unless}
 use Rattle.px_plan_parse.proofs.Commas.{Separates}

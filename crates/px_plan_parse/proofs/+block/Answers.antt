@@ -1,4 +1,4 @@
-use Rattle.std.proofs.Common.{◌≡◌, refl, sym, ap, subst, ◌∙◌, None, List, map, arith}
+use Rattle.std.proofs.Common.{◌≡◌, refl, sym, ap, subst, ◌∙◌, None, arith}
 use Rattle.std.proofs.lemmas.List.{map_push}
 use Rattle.std.proofs.lemmas.Result.{IfErr-weaker, IfOk-weaker}
 use Rattle.px_value.proofs.General.{handed_on}
@@ -11,13 +11,12 @@ use Rattle.std.proofs.Common.{ℤ}
 use Rattle.std.proofs.lemmas.Int.{to_z-of_z}
 use mir.Syntax.{w32}
 use mir.Val.{of_z, to_z}
-use Rattle.px_syntax.specs.Block.{ActionTree, BlockTree, BodyTree, BranchTree, For, GuardedTree, Labelled, action_of, body_of, branch_of, guarded_of}
+use Rattle.px_syntax.specs.Block.{ActionTree, BodyTree, For, GuardedTree, Labelled, action_of, branch_of, guarded_of}
 use Rattle.px_syntax.specs.BlockGrammar.{action, block, body, branch, guarded}
 use Rattle.px_syntax.specs.Expr.{term_of}
 use Rattle.px_expr_parse.specs.Tail.{closed}
 use Rattle.px_plan_parse.specs.Part.{Anything, IsPart}
-use Rattle.px_plan_parse.specs.Start.{NoBranch, NoElseIf, is_action, keyword_start}
-use Rattle.px_plan_parse.specs.Tail.{Only}
+use Rattle.px_plan_parse.specs.Start.{NoBranch, is_action, keyword_start}
 use Rattle.px_plan_parse.proofs.Blocks.{action_acts, actions_follow, block_tail, closing_no_branch, list_begins, makes_actions, makes_block, brace_closes}
 use Rattle.px_plan_parse.proofs.Bodies.{block_no_name, else_follows, end_follows, makes_branch, makes_else_ifs, makes_for, makes_guarded, makes_if, makes_inner, makes_named, makes_otherwise, makes_unlabelled, makes_update, makes_while, no_body, no_sort, one_else_if, joins_labelled, joins_plain}
 use Rattle.px_plan_parse.proofs.Globals.{lacks_here}

@@ -1,11 +1,9 @@
-use Rattle.std.proofs.Common.{refl, sym, ap, subst, ◌∙◌}
+use Rattle.std.proofs.Common.{refl, sym, ap, ◌∙◌}
 use Rattle.px_value.proofs.General.{handed_on}
 use Rattle.px_lex.specs.declared.keyword.Keyword.TheVariants as words
 use Rattle.px_lex.specs.declared.token.TokenKind.TheVariants as kinds
 use Rattle.px_plan_parse.specs.declared.start.Start.TheVariants as starts
-use Rattle.px_syntax.specs.Plan.{DeclarationData}
 use Rattle.px_syntax.specs.PlanGrammar.{declaration}
-use Rattle.px_plan_parse.specs.Part.{Anything, IsPart}
 use Rattle.px_plan_parse.specs.Start.{is_declaration}
 use Rattle.px_plan_parse.proofs.Globals.{lacks_here, makes_command, not_declaration, declaration_starts}
 use Rattle.px_plan_parse.proofs.Parts.{lack_behind, lack_made, part_behind, part_made}

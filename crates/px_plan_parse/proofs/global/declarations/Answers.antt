@@ -1,9 +1,9 @@
-use Rattle.std.proofs.Common.{sym, ap, subst, ◌∙◌, arith, List, map}
+use Rattle.std.proofs.Common.{sym, ap, ◌∙◌, arith}
 use Rattle.std.proofs.lemmas.List.{map_push}
 use Rattle.px_value.proofs.General.{handed_on}
-use Rattle.px_syntax.specs.Plan.{DeclarationData, declaration_data}
+use Rattle.px_syntax.specs.Plan.{declaration_data}
 use Rattle.px_syntax.specs.PlanGrammar.{declaration}
-use Rattle.px_plan_parse.specs.Start.{NoDeclaration, is_declaration}
+use Rattle.px_plan_parse.specs.Start.{is_declaration}
 use Rattle.px_plan_parse.proofs.Parts.{front_ends, front_lacks, front_more}
 use Rattle.px_plan_parse.proofs.Starts.{start_too, not_there, starts_there}
 use Rattle.px_plan_parse.proofs.Spans.{local_declaration}

@@ -1,12 +1,8 @@
-use Rattle.std.proofs.Common.{◌+◌, refl, sym, subst, ◌∙◌, arith, true, false}
+use Rattle.std.proofs.Common.{◌+◌, refl, sym, ◌∙◌, arith, true, false}
 use Rattle.px_value.proofs.General.{handed_on}
 use Rattle.px_lex.specs.declared.keyword.Keyword.TheVariants as words
 use Rattle.px_lex.specs.declared.token.TokenKind.TheVariants as kinds
 use Rattle.px_plan_parse.specs.declared.start.Start.TheVariants as starts
-use Rattle.px_syntax.specs.BlockGrammar.{type_word}
-use Rattle.px_syntax.specs.Plan.{DeclarationData}
-use Rattle.px_syntax.specs.PlanGrammar.{declaration}
-use Rattle.px_plan_parse.specs.Part.{Anything, IsPart}
 use Rattle.px_plan_parse.proofs.Globals.{lacks_here, makes_typed, no_word, worded, makes_worded}
 use Rattle.px_plan_parse.proofs.Parts.{lack_behind, lack_made, part_behind, part_made, two, lack_joined, part_joined}
 use Rattle.px_plan_parse.proofs.Starts.{here, joins_type}

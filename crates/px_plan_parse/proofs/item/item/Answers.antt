@@ -1,10 +1,8 @@
-use Rattle.std.proofs.Common.{refl, sym, ap, subst, ◌∙◌}
+use Rattle.std.proofs.Common.{refl, sym, ap, ◌∙◌}
 use Rattle.px_value.proofs.General.{handed_on}
 use Rattle.px_lex.specs.declared.keyword.Keyword.TheVariants as words
 use Rattle.px_lex.specs.declared.token.TokenKind.TheVariants as kinds
-use Rattle.px_syntax.specs.Block.{ItemData}
 use Rattle.px_syntax.specs.BlockGrammar.{item}
-use Rattle.px_plan_parse.specs.Part.{Anything, IsPart}
 use Rattle.px_plan_parse.proofs.Items.{makes_condition, makes_priority, makes_variables}
 use Rattle.px_plan_parse.proofs.Parts.{lack_behind, lack_made, part_behind, part_made, lack_joined, part_joined}
 use Rattle.px_plan_parse.proofs.Starts.{here, not_item, item_starts, joins_condition, joins_type, not_there}

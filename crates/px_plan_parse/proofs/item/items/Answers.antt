@@ -1,9 +1,9 @@
-use Rattle.std.proofs.Common.{sym, ap, subst, ◌∙◌, List, map, arith}
+use Rattle.std.proofs.Common.{sym, ap, ◌∙◌, arith}
 use Rattle.std.proofs.lemmas.List.{map_push}
 use Rattle.px_value.proofs.General.{handed_on}
-use Rattle.px_syntax.specs.Block.{ItemData, item_data}
+use Rattle.px_syntax.specs.Block.{item_data}
 use Rattle.px_syntax.specs.BlockGrammar.{item}
-use Rattle.px_plan_parse.specs.Start.{NoItem, is_item}
+use Rattle.px_plan_parse.specs.Start.{is_item}
 use Rattle.px_plan_parse.proofs.Parts.{front_ends, front_lacks, front_more}
 use Rattle.px_plan_parse.proofs.Spans.{local_item}
 use Rattle.px_plan_parse.proofs.Starts.{item_starts, not_there, start_too, starts_there}

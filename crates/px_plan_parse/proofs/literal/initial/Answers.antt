@@ -1,9 +1,6 @@
-use Rattle.std.proofs.Common.{refl, sym, subst}
+use Rattle.std.proofs.Common.{refl}
 use Rattle.px_value.proofs.General.{handed_on}
 use Rattle.std.proofs.lemmas.Bool.{false≢true}
-use Rattle.px_syntax.specs.Block.{InitialData}
-use Rattle.px_syntax.specs.BlockGrammar.{initial}
-use Rattle.px_plan_parse.specs.Part.{Anything, IsPart}
 use Rattle.px_plan_parse.proofs.Items.{makes_list, makes_value}
 use Rattle.px_plan_parse.proofs.Parts.{lack_behind, lack_made, part_behind, part_made}
 use Rattle.px_plan_parse.proofs.literal.initial.Goals as goal

@@ -1,10 +1,7 @@
-use Rattle.std.proofs.Common.{refl, sym, subst, ◌∙◌, arith, List}
+use Rattle.std.proofs.Common.{refl, sym, ◌∙◌, arith}
 use Rattle.px_value.proofs.General.{handed_on}
 use Rattle.std.proofs.lemmas.Bool.{false≢true}
 use Rattle.px_lex.specs.declared.sign.Sign.TheVariants as signs
-use Rattle.px_syntax.specs.declared.block.ListedLiteral.{ListedLiteral}
-use Rattle.px_syntax.specs.BlockGrammar.{listed}
-use Rattle.px_plan_parse.specs.Tail.{Only}
 use Rattle.px_plan_parse.proofs.Items.{comma_is_no_minus, listed_begins, paren_is_no_minus, paren_no_comma}
 use Rattle.px_plan_parse.proofs.Parts.{front_ends, front_lacks, front_more, lack_before, part_before, local_each}
 use Rattle.px_plan_parse.proofs.Spans.{local_listed}

@@ -1,9 +1,5 @@
-use Rattle.std.proofs.Common.{sym, subst}
 use Rattle.px_value.proofs.General.{handed_on}
-use Rattle.px_syntax.specs.Block.{VariableData}
-use Rattle.px_syntax.specs.BlockGrammar.{variable}
-use Rattle.px_plan_parse.specs.Part.{Anything, IsPart}
-use Rattle.px_plan_parse.specs.Tail.{VariableEnded}
+use Rattle.px_plan_parse.specs.Part.{Anything}
 use Rattle.px_plan_parse.proofs.Items.{makes_variable, size_begins}
 use Rattle.px_plan_parse.proofs.Parts.{lack_made, of_found, part_made, joins_both, lack_joined, part_joined}
 use Rattle.px_expr_parse.proofs.Spans.{local_identifier}
