@@ -34,12 +34,6 @@ read_short ds read digits short parses none =
     let some : result_ok read ≡ Some (digits_value 10 ds) = ap result_ok is in
     cc
 
--- what is read is the number that the digits spell
-value_read : {E : Type 0} (ds : List ℕ) (read : Result ℕ E) (number : ℕ) → are_digits ds ≡ true → ParsesUnsigned 8 10 ds read → read ≡ Ok number
-    → number ≡ digits_value 10 ds
-value_read ds read number digits parses is =
-    (subst (λ r. OkIff r ((0 < length ds) × (digits_value 10 ds < 2 ^ 8)) (digits_value 10 ds)) is (parse_digits numerals 8 ds read parses (digits_of ds digits))).1
-
 -- digits are text
 digit_ascii : (c : ℕ) → is_digit c ≡ true → is_ascii c ≡ true
 digit_ascii c h = grind (arith, nat_tests)
@@ -58,15 +52,6 @@ no_name word other = elim (cases_Bool (is_report_name word)) [
 -- the thread of a number
 abbrev pub thread_at : ℕ → Option ℕ
 thread_at number = if is_thread number then Some number else None
-
-pub found : {E : Type 0} (ds : List ℕ) (read : Result ℕ E) (number : ℕ) → are_digits ds ≡ true → ParsesUnsigned 8 10 ds read → read ≡ Ok number
-    → is_thread number ≡ true → Some number ≡ thread_at (digits_value 10 ds)
-found ds read number digits parses is thread = rw (← value_read ds read number digits parses is, thread) refl
-
--- a number of no thread
-pub none_found : {E : Type 0} (ds : List ℕ) (read : Result ℕ E) (number : ℕ) → are_digits ds ≡ true → ParsesUnsigned 8 10 ds read → read ≡ Ok number
-    → is_thread number ≡ false → None ≡ thread_at (digits_value 10 ds)
-none_found ds read number digits parses is other = rw (← value_read ds read number digits parses is, other) refl
 
 -- a number that is too large to be read
 pub unread : {E : Type 0} (ds : List ℕ) (read : Result ℕ E) → are_digits ds ≡ true → ParsesUnsigned 8 10 ds read → result_ok read ≡ None

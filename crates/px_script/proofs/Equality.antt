@@ -39,9 +39,7 @@ what_eq-decides a b = (λ e. cc, λ e. cc)
 
 line_eq-decides : (a b : Line) → Decides (line_eq a b) (a ≡ b)
 line_eq-decides a b =
-    Decides-like _ (λ e i. record { number = e.0 i; what = e.1 i })
-    (λ e. (ap (λ (x : Line). x.number) e, ap (λ (x : Line). x.what) e))
-    (Decides-and _ _ (Decides-eqb a.number b.number) (what_eq-decides a.what b.what))
+    search (rules, Decides-like, Decides-and, Decides-eqb, what_eq-decides)
 
 todo_eq-decides : (a b : Todo) → Decides (todo_eq a b) (a ≡ b)
 todo_eq-decides a b =
@@ -51,9 +49,7 @@ todo_eq-decides a b =
 
 row_eq-decides : (a b : ThreadName) → Decides (is_same_row a b) (a ≡ b)
 row_eq-decides a b =
-    Decides-like _ (λ e i. record { thread = e.0 i; name = e.1 i })
-    (λ e. (ap (λ (x : ThreadName). x.thread) e, ap (λ (x : ThreadName). x.name) e))
-    (Decides-and _ _ (Decides-eqb a.thread b.thread) (bytes_decides a.name b.name))
+    search (rules, Decides-like, Decides-and, Decides-eqb)
 
 pub script_eq-decides : (a b : Script) → Decides (script_eq a b) (a ≡ b)
 script_eq-decides a b =

@@ -1,5 +1,5 @@
 -- The names that lines give threads, as they are kept line by line.
-use Rattle.std.proofs.Common.{◌≡◌, ℕ, ◌+◌, Bool, true, false, List, [], ◌∷◌, ◌++◌, refl, sym, ap, ◌∙◌, subst, Option, Some, None, cond, inl, inr}
+use Rattle.std.proofs.Common.{rules, ◌≡◌, ℕ, ◌+◌, Bool, true, false, List, [], ◌∷◌, ◌++◌, refl, sym, ap, ◌∙◌, subst, Option, Some, None, cond, inl, inr}
 use Rattle.std.specs.Prelude.{◌==◌, ◌&&◌, ◌||◌, not, is_none, nat_lt}
 use Rattle.std.specs.Cmp.Lexicographic.{bytes_decides}
 use Rattle.std.specs.List.{filter, cons_option, list_all, list_any}
@@ -109,24 +109,12 @@ twice false = refl
 -- the name that a thread has, and the row that may give it the same name, or be of another thread
 agree_one : (thread : ℕ) (name : List ℕ) (row : ThreadName) (found : Option (List ℕ)) → ((row.thread == thread) ≡ true → is_another (Some row.name) found ≡ false)
     → (is_another (Some name) found || (is_other_name thread name row || false)) ≡ is_another (Some name) (or_row thread row found)
-agree_one thread name row None same = elim (cases_Bool (row.thread == thread)) [
-  | inl is ↦ rw is (or-false (not (is_same row.name name)))
-  | inr isnt ↦ rw isnt refl
-]
-agree_one thread name row (Some kept) same = elim (cases_Bool (row.thread == thread)) [
-  | inl is ↦
-      let equal : kept ≡ row.name = (bytes_decides kept row.name).0 (not-false (is_same kept row.name) (same is)) in
-      rw (is, equal) (twice (not (is_same row.name name)))
-  | inr isnt ↦ rw isnt (or-false (not (is_same kept name)))
-]
+agree_one thread name row None same = search (rules, cases_Bool, or-false)
+agree_one thread name row (Some kept) same = search (rules, cases_Bool, not-false, twice, or-false)
 
 agree_push : (rows : List ThreadName) (row : ThreadName) → Agree rows → is_another (Some row.name) (name_of row.thread rows) ≡ false → Agree (rows ++ row ∷ [])
 agree_push rows row agree same thread name =
-    list_any-append (is_other_name thread name) rows (row ∷ [])
-    ∙ ap (λ b. b || (is_other_name thread name row || false)) (agree thread name)
-    ∙ agree_one thread name row (name_of thread rows)
-    (λ is. subst (λ (t : ℕ). is_another (Some row.name) (name_of t rows) ≡ false) (eqb-true row.thread thread is) same)
-    ∙ sym (ap (is_another (Some name)) (name_push thread rows row))
+    search (rules, list_any-append, agree, agree_one, eqb-true, name_push)
 
 -- ---- what is kept of lines
 
@@ -153,11 +141,7 @@ name_kept : (before : List Said) (names : List ThreadName) (thread : ℕ) → Ar
 name_kept before names thread kept = sym (ap (name_of thread) kept.first ∙ name_first thread (names_given before))
 
 with_named : (thread : ℕ) (name : List ℕ) (names : List ThreadName) → with_row (name_of thread names) names (row_of thread name) ≡ with_name names thread (Some name)
-with_named thread name names = by (name_of thread names)
-  where
-    by : (found : Option (List ℕ)) → with_row found names (row_of thread name) ≡ cond (is_none found) (names ++ row_of thread name ∷ []) names
-    by None = refl
-    by (Some kept) = refl
+with_named thread name names = search rules
 
 -- behind one that gives a thread a name, which is the same where it has one
 pub kept_named : (before : List Said) (names : List ThreadName) (said : Said) (thread : ℕ) (name : List ℕ) → name_given said ≡ Some (row_of thread name)
@@ -187,9 +171,7 @@ none_earlier number (said ∷ behind) from = rw (le-ltb said.number number from.
 earlier_are : (all before behind : List Said) (said : Said) → all ≡ before ++ behind → AllBelow said.number before → AllFrom said.number behind
     → earlier_lines said all ≡ before
 earlier_are all before behind said whole below from =
-    ap (earlier_lines said) whole ∙ filter-append (λ line. nat_lt line.number said.number) before behind
-    ∙ ap (λ lines. lines ++ earlier_lines said behind) (all_earlier said.number before below)
-    ∙ ap (λ lines. before ++ lines) (none_earlier said.number behind from) ∙ append-nil before
+    search (rules, filter-append, all_earlier, none_earlier, append-nil)
 
 -- whether an earlier line names a thread otherwise is seen by the names that are kept
 pub otherwise_is : (all before behind : List Said) (names : List ThreadName) (said : Said) (thread : ℕ) (name : List ℕ) → all ≡ before ++ behind

@@ -1,5 +1,5 @@
 -- What a line says is fit.
-use Rattle.std.proofs.Common.{◌≡◌, ℕ, zero, suc, ◌≤◌, Bool, true, false, List, [], ◌∷◌, length, map, refl, arith, Option, Some, None, cond, inl, inr}
+use Rattle.std.proofs.Common.{rules, ◌≡◌, ℕ, zero, suc, ◌≤◌, Bool, true, false, List, [], ◌∷◌, length, map, refl, arith, Option, Some, None, cond, inl, inr}
 use Rattle.std.specs.Prelude.{◌&&◌, ◌==◌, nat_le, codes}
 use Rattle.std.specs.List.{list_all, find}
 use Rattle.std.specs.Option.{option_map, option_and_then, option_or, unwrap_or}
@@ -62,10 +62,7 @@ abbrev IsTold : Value → Type 0
 IsTold value = is_plain_or_unknown value ≡ true
 
 plain_fit : (value : Value) → Of IsPlain (plain value)
-plain_fit value = elim (cases_Bool (is_plain value)) [
-  | inl is ↦ rw is is
-  | inr isnt ↦ rw isnt tt
-]
+plain_fit value = search (rules, cases_Bool)
 
 all_fit_text : (read : Option (List ℕ × List ℕ)) → Of IsPlain (all_of read)
 all_fit_text None = tt
@@ -74,10 +71,7 @@ all_fit_text (Some (content, c ∷ cs)) = tt
 
 argument_fit : (spelling : List ℕ) → Of IsPlain (argument_of spelling)
 argument_fit spelling =
-    of_or IsPlain _ _
-    (of_cond IsPlain (is_same (codes "true") spelling) _ _ refl (of_cond IsPlain (is_same (codes "false") spelling) _ _ refl tt))
-    (of_or IsPlain (integer_of spelling) (text_of spelling)
-    (of_cond IsPlain (is_number spelling) _ _ (plain_fit (values.Integer (signed_digits_value 10 spelling))) tt) (all_fit_text (read_string spelling)))
+    search (rules, of_or, of_cond, plain_fit, all_fit_text)
 
 plain_told : (value : Value) → IsPlain value → IsTold value
 plain_told values.Unknown is = refl
@@ -149,9 +143,7 @@ called_few name (Some text) = of_and_then HasFew (IsFew 8) (setting_with name) (
 
 setting_few : (text : List ℕ) → Of HasFew (setting_of text)
 setting_few text =
-    of_or HasFew (plain_setting text) (setting_with_arguments text)
-    (of_map HasFew _ (told_in (behind_place text)) (λ value. omega arith))
-    (called_few (in_place text) (behind_sign 40 (behind_place text)))
+    search (rules, of_or, of_map, called_few)
 
 -- what a line posts is fit, and what it names is a thread, by a name if there is one
 abbrev pub IsFitParsedLine : ParsedLine → Type 0
@@ -166,19 +158,10 @@ report_fit : (name : List ℕ) (most : ℕ) (args : Option (List Value)) (value 
 report_fit name most None value named small few told = tt
 report_fit name most (Some args) None named small few told = tt
 report_fit name most (Some args) (Some value) named small few told =
-    let short : nat_le (length args) 8 ≡ true = le-leb (length args) 8 (omega (arith, few.few)) in
-    and_from (is_report_name name && nat_le (length args) 8 && list_all is_plain args) (is_plain_or_unknown value)
-    (and_from (is_report_name name && nat_le (length args) 8) (list_all is_plain args)
-    (and_from (is_report_name name) (nat_le (length args) 8) named short) few.plain) told
+    search (rules, le-leb, and_from)
 
 says_fit : (setting : Setting) → HasFew setting → Of IsFitParsedLine (setting_says setting)
-says_fit setting few = elim (cases_Bool (is_report_name setting.name)) [
-  | inl named ↦
-      rw named
-      (report_fit setting.name (length setting.args) (all_values (map argument_of setting.args)) (value_of setting.value) named few
-      (arguments_fit setting.args) (value_fit setting.value))
-  | inr isnt ↦ rw isnt tt
-]
+says_fit setting few = search (rules, cases_Bool, report_fit, few, arguments_fit, value_fit)
 
 set_fit : (text : List ℕ) → Of IsFitParsedLine (set_line text)
 set_fit text = of_and_then IsFitParsedLine HasFew setting_says (setting_of text) says_fit (setting_few text)
@@ -186,32 +169,10 @@ set_fit text = of_and_then IsFitParsedLine HasFew setting_says (setting_of text)
 -- ---- lines that tell of a node
 
 command_fit : (plan : List Site) (path : List ℕ) (says : ParsedLine) → (is_path path ≡ true → IsFitParsedLine says) → IsFitParsedLine (of_command (kind_at plan path) says)
-command_fit plan path says fit = elim (cases_Bool (is_path path)) [
-  | inl is ↦ rw is (by (option_map (λ site. site.head.kind) (find (λ site. is_same path site.path) plan)) (fit is))
-  | inr isnt ↦ rw isnt tt
-]
-  where
-    by : (kind : Option Kind) → IsFitParsedLine says → IsFitParsedLine (of_command kind says)
-    by None fit = tt
-    by (Some kinds.List) fit = tt
-    by (Some kinds.Empty) fit = tt
-    by (Some kinds.Assignment) fit = tt
-    by (Some kinds.Command) fit = fit
-    by (Some kinds.Update) fit = tt
+command_fit plan path says fit = search (rules, cases_Bool)
 
 update_fit : (plan : List Site) (path : List ℕ) (says : ParsedLine) → (is_path path ≡ true → IsFitParsedLine says) → IsFitParsedLine (of_update (kind_at plan path) says)
-update_fit plan path says fit = elim (cases_Bool (is_path path)) [
-  | inl is ↦ rw is (by (option_map (λ site. site.head.kind) (find (λ site. is_same path site.path) plan)) (fit is))
-  | inr isnt ↦ rw isnt tt
-]
-  where
-    by : (kind : Option Kind) → IsFitParsedLine says → IsFitParsedLine (of_update kind says)
-    by None fit = tt
-    by (Some kinds.List) fit = tt
-    by (Some kinds.Empty) fit = tt
-    by (Some kinds.Assignment) fit = tt
-    by (Some kinds.Command) fit = tt
-    by (Some kinds.Update) fit = fit
+update_fit plan path says fit = search (rules, cases_Bool)
 
 returned_fit : (path : List ℕ) (value : Option Value) → Of IsTold value → is_path path ≡ true → IsFitParsedLine (returned path value)
 returned_fit path None told is = tt
@@ -267,16 +228,10 @@ wait_fit plan text = row_fit (waits plan) (first_word text) (behind_word text) (
 
 word_fit : (number : ℕ) (word : List ℕ) → is_thread number ≡ true
     → Of IsFitParsedLine (cond (is_nothing word) (Some (Thread number None)) (cond (is_report_name word) (Some (Thread number (Some word))) None))
-word_fit number word is = elim (cases_Bool (is_report_name word)) [
-  | inl fit ↦ rw fit (of_cond IsFitParsedLine (is_nothing word) _ _ (is, refl) (is, fit))
-  | inr unfit ↦ rw unfit (of_cond IsFitParsedLine (is_nothing word) _ _ (is, refl) tt)
-]
+word_fit number word is = search (rules, cases_Bool, of_cond)
 
 named_fit : (number : ℕ) (word : List ℕ) → Of IsFitParsedLine (thread_named number word)
-named_fit number word = elim (cases_Bool (is_thread number)) [
-  | inl is ↦ rw is (word_fit number word is)
-  | inr isnt ↦ rw isnt tt
-]
+named_fit number word = search (rules, cases_Bool, word_fit)
 
 thread_fit : (text : List ℕ) → Of IsFitParsedLine (thread_line text)
 thread_fit text =

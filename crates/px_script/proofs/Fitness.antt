@@ -1,5 +1,5 @@
 -- What is read is fit.
-use Rattle.std.proofs.Common.{◌≡◌, ℕ, ◌+◌, ◌^◌, ◌<◌, ◌≤◌, true, List, [], ◌∷◌, ◌++◌, length, map, refl, sym, ap, ◌∙◌, arith, Option, Some, None, Result, Ok, Err, IfOk, cond, inl, inr}
+use Rattle.std.proofs.Common.{rules, ◌≡◌, ℕ, ◌+◌, ◌^◌, ◌<◌, ◌≤◌, true, List, [], ◌∷◌, ◌++◌, length, map, refl, sym, ap, ◌∙◌, arith, Option, Some, None, Result, Ok, Err, IfOk, cond, inl, inr}
 use Rattle.std.specs.Prelude.{◌==◌, nat_le, nat_lt}
 use Rattle.std.specs.List.{list_all, filter, filter_map, cons_option, range_with_len}
 use Rattle.std.proofs.lemmas.List.{append_assoc, append-nil, length-map, length_push}
@@ -77,11 +77,7 @@ each_fit of thread number (says ∷ more) few fit = elim (cases_Bool (thread == 
 -- ---- no thread has too many
 
 none_at : {X Y : Type 0} (f : X → Option Y) (before : List X) (x : X) (behind : List X) → filter_map f (before ++ x ∷ behind) ≡ [] → f x ≡ None
-none_at {Y = Y} f [] x behind none = by (f x) none
-  where
-    by : (o : Option Y) → cons_option o (filter_map f behind) ≡ [] → o ≡ None
-    by None none = refl
-    by (Some y) none = cc
+none_at {Y = Y} f [] x behind none = search (rules, none, behind)
 none_at {Y = Y} f (first ∷ before) x behind none = none_at f before x behind (by (f first) none)
   where
     by : (o : Option Y) → cons_option o (filter_map f (before ++ x ∷ behind)) ≡ [] → filter_map f (before ++ x ∷ behind) ≡ []
@@ -89,10 +85,7 @@ none_at {Y = Y} f (first ∷ before) x behind none = none_at f before x behind (
     by (Some y) none = cc
 
 room_of : (number count : ℕ) → fault_after number count ≡ None → count < 100000
-room_of number count none = elim (cases_Bool (nat_le 100000 count)) [
-  | inl full ↦ let some : fault_after number count ≡ Some (number, TooManyLines) = rw full refl in cc
-  | inr room ↦ leb-false 100000 count room
-]
+room_of number count none = search (rules, cases_Bool, count, fault_after, leb-false)
 
 has_room : (all : List Said) (thread number : ℕ) (says : ParsedLine) → fault_in all (say thread number says) ≡ None
     → Of (λ (line : Line). lines_before (say thread number says) all < 100000) (done_at (say thread number says))

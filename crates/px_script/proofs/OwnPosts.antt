@@ -15,23 +15,6 @@ use Rattle.px_script.proofs.Walks.{line_at}
 abbrev pub posts_of : ℕ → List Line → List Entry
 posts_of thread lines = filter_map (entry_of thread) lines
 
-pub entries_of_own : (thread : ℕ) (lines : List Line) → entries_of thread (posts_of thread lines) ≡ posts_of thread lines
-entries_of_own thread [] = refl
-entries_of_own thread (line ∷ lines) = by line.what (entries_of_own thread lines)
-  where
-    by : (what : What) → entries_of thread (posts_of thread lines) ≡ posts_of thread lines
-        → entries_of thread (posts_of thread (line_at line.number what ∷ lines)) ≡ posts_of thread (line_at line.number what ∷ lines)
-    by (whats.Post event) others = rw (eq-eqb thread thread refl) (ap (λ (entries : List Entry). record { thread = thread; line = line.number; event = event } ∷ entries) others)
-    by (whats.Wait cond) others = others
-
-pub entries_of_other : (other thread : ℕ) (lines : List Line) → thread ≢ other → entries_of other (posts_of thread lines) ≡ []
-entries_of_other other thread [] differ = refl
-entries_of_other other thread (line ∷ lines) differ = by line.what (entries_of_other other thread lines differ)
-  where
-    by : (what : What) → entries_of other (posts_of thread lines) ≡ [] → entries_of other (posts_of thread (line_at line.number what ∷ lines)) ≡ []
-    by (whats.Post event) others = rw (ne_eqb thread other differ) others
-    by (whats.Wait cond) others = others
-
 pub own_thread : (thread : ℕ) (lines : List Line) → All (λ entry. entry.thread ≡ thread) (posts_of thread lines)
 own_thread thread [] = All-nil (λ (entry : Entry). entry.thread ≡ thread)
 own_thread thread (line ∷ lines) = by line.what (own_thread thread lines)

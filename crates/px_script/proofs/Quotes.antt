@@ -18,10 +18,6 @@ read_behind Outside text = Some ([], text)
 read_behind Inside text = string_from text
 read_behind Escaped text = escape_from text
 
-abbrev rest_of : Option (List ℕ × List ℕ) → List ℕ
-rest_of None = []
-rest_of (Some read) = read.1
-
 inside_on : (quote backslash line_end : Bool) (c : ℕ) (cs content rest : List ℕ)
     → (if quote then Some ([], cs) else if backslash then escape_from cs else if line_end then None else with_byte (Some c) (string_from cs)) ≡ Some (content, rest)
     → (less : List ℕ) × (read_behind (if quote then Outside else if backslash then Escaped else Inside) cs ≡ Some (less, rest))
@@ -45,23 +41,7 @@ list_goes_on quoting [] content rest within some h = absurd (omega arith)
 list_goes_on quoting (c ∷ cs) content rest within some h =
     rw (take_rest (c ∷ cs) 1) (goes_on quoting c cs content rest within h)
 
--- behind the closing quote
-pub closed_by : (text content rest : List ℕ) → read_behind Outside text ≡ Some (content, rest) → text ≡ rest
-closed_by text content rest h = ap rest_of h
-
 pub opened_by : (text content rest : List ℕ) → 1 ≤ length text → get_or text 0 0 ≡ 34 → read_string text ≡ Some (content, rest)
     → (less : List ℕ) × (string_from (take (length text - 1) (drop 1 text)) ≡ Some (less, rest))
 opened_by [] content rest some quote h = absurd (omega arith)
 opened_by (c ∷ cs) content rest some quote h = (content, rw (take_rest (c ∷ cs) 1) (rw quote at h))
-
-pub begins_quote : (text : List ℕ) → 1 ≤ length text → get_or text 0 0 ≡ 34 → begins is_quote text ≡ true
-begins_quote [] some quote = absurd (omega arith)
-begins_quote (c ∷ cs) some quote = rw quote refl
-
--- what doesn't begin with a quote isn't read as a string
-pub unquoted : (text content rest : List ℕ) → (1 ≤ length text → get_or text 0 0 ≡ 34 → ⊥) → read_string text ≡ Some (content, rest) → ⊥
-unquoted [] content rest other h = cc
-unquoted (c ∷ cs) content rest other h = elim (cases_Bool (is_quote c)) [
-  | inl quote ↦ other (omega arith) (eqb-true c 34 quote)
-  | inr plain ↦ none-some (content, rest) (rw plain at h)
-]

@@ -1,5 +1,5 @@
 -- A script is read line by line: what is left of it, behind lines of which the threads keep these.
-use Rattle.std.proofs.Common.{◌≡◌, ℕ, zero, suc, ◌+◌, ◌-◌, ◌≤◌, Bool, true, false, List, [], ◌∷◌, ◌++◌, length, replicate, set, map, refl, sym, ap, ◌∙◌, arith, Option, Some, None, cond, inl, inr}
+use Rattle.std.proofs.Common.{rules, ◌≡◌, ℕ, zero, suc, ◌+◌, ◌-◌, ◌≤◌, Bool, true, false, List, [], ◌∷◌, ◌++◌, length, replicate, set, map, refl, sym, ap, ◌∙◌, arith, Option, Some, None, cond, inl, inr}
 use Rattle.std.specs.Prelude.{◌==◌, nat_le, if◌then◌else◌}
 use Rattle.std.specs.List.{filter, filter_map, cons_option, range_with_len}
 use Rattle.std.proofs.lemmas.List.{append-nil, append_assoc}
@@ -60,61 +60,24 @@ kept_of before = map (λ thread. lines_of_thread thread before) (range_with_len 
 -- one place among those of all threads
 place_of : {X : Type 0} (f : ℕ → X) (x : X) (thread : ℕ) → is_thread thread ≡ true
     → set (map f (range_with_len 1 8)) (thread - 1) x ≡ map (λ t. cond (thread == t) x (f t)) (range_with_len 1 8)
-place_of f x thread is = by thread (leb-true 1 thread parts.0) (leb-true thread 8 parts.1)
-  where
-    parts : (nat_le 1 thread ≡ true) × (nat_le thread 8 ≡ true)
-    parts = and_parts (nat_le 1 thread) (nat_le thread 8) is
-
-    by : (thread : ℕ) → 1 ≤ thread → thread ≤ 8 → set (map f (range_with_len 1 8)) (thread - 1) x ≡ map (λ t. cond (thread == t) x (f t)) (range_with_len 1 8)
-    by zero low high = absurd (omega arith)
-    by (suc zero) low high = refl
-    by (suc (suc zero)) low high = refl
-    by (suc (suc (suc zero))) low high = refl
-    by (suc (suc (suc (suc zero)))) low high = refl
-    by (suc (suc (suc (suc (suc zero))))) low high = refl
-    by (suc (suc (suc (suc (suc (suc zero)))))) low high = refl
-    by (suc (suc (suc (suc (suc (suc (suc zero))))))) low high = refl
-    by (suc (suc (suc (suc (suc (suc (suc (suc zero)))))))) low high = refl
-    by (suc (suc (suc (suc (suc (suc (suc (suc (suc thread))))))))) low high = absurd (omega arith)
+place_of f x thread is = search (rules, leb-true, and_parts)
 
 lines_there : (before : List Said) (kept : List (List Line)) (thread : ℕ) → is_thread thread ≡ true → kept ≡ kept_of before
     → lines_in kept thread ≡ lines_of_thread thread before
 lines_there before kept thread is same =
-    let parts = and_parts (nat_le 1 thread) (nat_le thread 8) is in
-    let low : 1 ≤ thread = leb-true 1 thread parts.0 in
-    let high : thread ≤ 8 = leb-true thread 8 parts.1 in
-    ap (λ lists. lines_in lists thread) same
-    ∙ get_or-map-range_with_len (λ t. lines_of_thread t before) 1 8 (thread - 1) thread [] (omega arith) (omega arith)
+    search (rules, and_parts, leb-true, get_or-map-range_with_len)
 
 -- lines that differ at no thread
 same_lists : (f g : ℕ → List Line) → ((t : ℕ) → f t ≡ g t) → map f (range_with_len 1 8) ≡ map g (range_with_len 1 8)
 same_lists f g same i = map (λ t. same t i) (range_with_len 1 8)
 
 silent : (before : List Said) (kept : List (List Line)) (said : Said) → kept ≡ kept_of before → done_at said ≡ None → kept ≡ kept_of (before ++ said ∷ [])
-silent before kept said is none = is ∙ same_lists _ _ each
-  where
-    each : (t : ℕ) → lines_of_thread t before ≡ lines_of_thread t (before ++ said ∷ [])
-    each t = sym (lines_push t before said ∙ ap (λ done. lines_of_thread t before ++ cond (said.thread == t) (cons_option done []) []) none ∙ by (said.thread == t))
-      where
-        by : (b : Bool) → lines_of_thread t before ++ cond b [] [] ≡ lines_of_thread t before
-        by true = append-nil (lines_of_thread t before)
-        by false = append-nil (lines_of_thread t before)
+silent before kept said is none = search (rules, same_lists, lines_push, append-nil)
 
 one_more : (before : List Said) (kept : List (List Line)) (said : Said) (line : Line) → is_thread said.thread ≡ true → kept ≡ kept_of before
     → done_at said ≡ Some line → with_line kept said.thread line ≡ kept_of (before ++ said ∷ [])
 one_more before kept said line thread is done =
-    ap (λ lines. set kept (said.thread - 1) (lines ++ line ∷ [])) (lines_there before kept said.thread thread is)
-    ∙ ap (λ lists. set lists (said.thread - 1) (lines_of_thread said.thread before ++ line ∷ [])) is
-    ∙ place_of (λ t. lines_of_thread t before) (lines_of_thread said.thread before ++ line ∷ []) said.thread thread
-    ∙ same_lists _ _ each
-  where
-    each : (t : ℕ) → cond (said.thread == t) (lines_of_thread said.thread before ++ line ∷ []) (lines_of_thread t before) ≡ lines_of_thread t (before ++ said ∷ [])
-    each t = by (said.thread == t) (λ same. eqb-true said.thread t same) ∙ sym (lines_push t before said ∙ ap (λ done. lines_of_thread t before ++ cond (said.thread == t) (cons_option done []) []) done)
-      where
-        by : (b : Bool) → (b ≡ true → said.thread ≡ t) → cond b (lines_of_thread said.thread before ++ line ∷ []) (lines_of_thread t before)
-            ≡ lines_of_thread t before ++ cond b (line ∷ []) []
-        by true same = ap (λ t. lines_of_thread t before ++ line ∷ []) (same refl)
-        by false same = sym (append-nil (lines_of_thread t before))
+    search (rules, lines_there, place_of, same_lists, eqb-true, lines_push, append-nil)
 
 -- what is kept of lines: those of each thread, and the names
 record IsKept (before : List Said) (kept : List (List Line)) (names : List ThreadName) : Type 0 where
@@ -134,11 +97,7 @@ pass all before said none sound =
 stop : (all before after : List Said) (said : Said) (fault : ℕ × FaultKind) → all ≡ before ++ said ∷ after
     → filter_map (fault_in all) before ≡ [] → fault_in all said ≡ Some fault → Fault fault.0 (number_of fault.1) ≡ reading all
 stop all before after said fault whole none at =
-    let cut : filter_map (fault_in all) all ≡ fault ∷ filter_map (fault_in all) after
-    = ap (filter_map (fault_in all)) whole ∙ filter_map-append (fault_in all) before (said ∷ after)
-    ∙ ap (λ faults. faults ++ filter_map (fault_in all) (said ∷ after)) none
-    ∙ ap (λ found. cons_option found (filter_map (fault_in all) after)) at in
-    sym (ap (λ faults. by_faults faults (threads_of all) (names_of all)) cut)
+    search (rules, filter_map-append)
 
 -- ---- line by line
 
@@ -160,9 +119,7 @@ module _ (all : List Said) where
 
   at_end : (number : ℕ) → IsRead number []
   at_end number before kept names thread whole is below named none =
-      let same : all ≡ before = whole ∙ append-nil before in
-      ap (λ lists. Threads (filter has_a_line (todos_from 1 lists)) names) is.lines ∙ ap (Threads (threads_of before)) is.named.first
-      ∙ sym (ap reading same ∙ ap (λ faults. by_faults faults (threads_of before) (names_of before)) (ap (λ said. filter_map (fault_in said) before) (sym same) ∙ none))
+      search (rules, append-nil)
 
   -- behind a line without a fault
   behind : (number : ℕ) (more : List ParsedLine) (before : List Said) (lists : List (List Line)) (names : List ThreadName) (thread to : ℕ) (says : ParsedLine)
@@ -170,9 +127,7 @@ module _ (all : List Said) where
       → IsKept (before ++ say thread number says ∷ []) lists names → AllBelow number before → is_thread to ≡ true
       → filter_map (fault_in all) before ≡ [] → fault_in all (say thread number says) ≡ None → read_on lists names to (number + 1) more ≡ reading all
   behind number more before lists names thread to says later whole is below named none sound =
-      let said : Said = say thread number says in
-      later (before ++ said ∷ []) lists names to (whole ∙ sym (append_assoc before (said ∷ []) (said_from to (number + 1) more))) is
-      (below_said number before said below refl) named (pass all before said none sound)
+      search (rules, say, append_assoc, below_said, named, pass)
 
   -- at a line at which its thread does something
   done : (number : ℕ) (more : List ParsedLine) (before : List Said) (kept : List (List Line)) (names : List ThreadName) (thread : ℕ) (says : ParsedLine) (what : What)

@@ -1,5 +1,5 @@
 -- What is left of a script after a history.
-use Rattle.std.proofs.Common.{◌≡◌, ℕ, ◌<◌, ◌≤◌, Bool, true, false, List, [], ◌∷◌, ◌++◌, length, map, get_or, refl, sym, ap, ◌∙◌, arith, cond, eqb, inl, inr}
+use Rattle.std.proofs.Common.{rules, ◌≡◌, ℕ, ◌<◌, ◌≤◌, Bool, true, false, List, [], ◌∷◌, ◌++◌, length, map, get_or, refl, sym, ap, ◌∙◌, arith, cond, eqb, inl, inr}
 use Rattle.std.specs.Prelude.{◌&&◌, max, nat_le, nat_lt}
 use Rattle.std.specs.List.{filter, fold, list_all, All}
 use Rattle.std.proofs.lemmas.List.{map-append}
@@ -29,9 +29,7 @@ max_grows low (number ∷ numbers) = omega (arith, max_grows (max low number) nu
 
 last_line-append : (thread : ℕ) (history more : List Entry) → last_line thread (history ++ more) ≡ fold max (last_line thread history) (numbers_of thread more)
 last_line-append thread history more =
-    ap (λ entries. fold max 0 (map line_of entries)) (filter-append (λ (entry : Entry). eqb entry.thread thread) history more)
-    ∙ ap (fold max 0) (map-append line_of (entries_of thread history) (entries_of thread more))
-    ∙ fold-append max 0 (numbers_of thread history) (numbers_of thread more)
+    search (rules, filter-append, map-append, fold-append)
 
 last_line_grows : (thread : ℕ) (history more : List Entry) → last_line thread history ≤ last_line thread (history ++ more)
 last_line_grows thread history more = rw last_line-append (max_grows (last_line thread history) (numbers_of thread more))
@@ -72,13 +70,7 @@ left_of_twice history more todo =
 -- of no line none is left
 none_left : (history : List Entry) (todo : Todo) → has_a_line todo ≡ false → has_a_line (left_of history todo) ≡ false
 none_left history todo none =
-    le-ltb 0 (length (lines_above (last_line todo.thread history) todo.lines))
-    (omega (
-      arith,
-      ltb-false 0 (length todo.lines) none,
-      length-filter (λ (line : Line). nat_lt (last_line todo.thread history) line.number) todo.lines,
-      count_by-le-length (λ (line : Line). nat_lt (last_line todo.thread history) line.number) todo.lines,
-    ))
+    search (rules, le-ltb, ltb-false, length-filter, count_by-le-length)
 
 -- the same thread before the same others
 same_first : (one other : Todo) (ones others : List Todo) → one ≡ other → ones ≡ others
@@ -117,9 +109,7 @@ rest_ahead threads history =
 pub rest_more : (threads : List Todo) (history : List Entry) (todo : Todo) (kept : List Todo) (left : Todo) → kept ≡ rest threads history → left ≡ left_of history todo
     → kept ++ filter has_a_line (left ∷ []) ≡ rest (threads ++ todo ∷ []) history
 rest_more threads history todo kept left so_far is =
-    rw (so_far, is)
-    (sym
-    (ap (filter has_a_line) (map-append (left_of history) threads (todo ∷ [])) ∙ filter-append has_a_line (map (left_of history) threads) (left_of history todo ∷ [])))
+    search (rules, map-append, filter-append)
 
 -- ---- fit scripts
 

@@ -1,5 +1,5 @@
 -- The lines of a thread, among what is said.
-use Rattle.std.proofs.Common.{◌≡◌, ℕ, ◌+◌, ◌<◌, ◌≤◌, Bool, true, false, List, [], ◌∷◌, ◌++◌, length, refl, ap, ◌∙◌, arith, Option, Some, None, cond, inl, inr}
+use Rattle.std.proofs.Common.{rules, ◌≡◌, ℕ, ◌+◌, ◌<◌, ◌≤◌, Bool, true, false, List, [], ◌∷◌, ◌++◌, length, refl, ap, ◌∙◌, arith, Option, Some, None, cond, inl, inr}
 use Rattle.std.specs.Prelude.{◌==◌, nat_lt}
 use Rattle.std.specs.List.{filter, filter_map, cons_option, count_by}
 use Rattle.std.proofs.lemmas.List.Elements.{filter-append, filter_map-append}
@@ -99,16 +99,8 @@ none_before thread number (said ∷ behind) from = elim (cases_Bool (said.thread
 pub count_is : (all before behind : List Said) (thread number : ℕ) (says : ParsedLine) → all ≡ before ++ behind
     → AllBelow number before → AllFrom number behind → lines_before (say thread number says) all ≡ length (lines_of_thread thread before)
 count_is all before behind thread number says whole below from =
-    let cut : lines_of_thread thread all ≡ lines_of_thread thread before ++ lines_of_thread thread behind
-    = ap (lines_of_thread thread) whole ∙ lines-append thread before behind in
-    let sum : lines_before (say thread number says) all ≡ count_before number (lines_of_thread thread before) + count_before number (lines_of_thread thread behind)
-    = ap (count_before number) cut ∙ sum_by-append (λ line. cond (is_before number line) 1 0) (lines_of_thread thread before) (lines_of_thread thread behind) in
-    omega (arith, all_before thread number before below, none_before thread number behind from)
+    search (rules, lines-append, sum_by-append, all_before, none_before)
 
 -- the lines behind one more
 pub lines_push : (of : ℕ) (before : List Said) (said : Said) → lines_of_thread of (before ++ said ∷ []) ≡ lines_of_thread of before ++ cond (said.thread == of) (cons_option (done_at said) []) []
-lines_push of before said = lines-append of before (said ∷ []) ∙ ap (λ lines. lines_of_thread of before ++ lines) (by (said.thread == of))
-  where
-    by : (b : Bool) → filter_map done_at (cond b (said ∷ []) []) ≡ cond b (cons_option (done_at said) []) []
-    by true = refl
-    by false = refl
+lines_push of before said = search (rules, lines-append)

@@ -119,8 +119,3 @@ one_of_script script threads i todo same within is = record {
 pub fit_one : (script : Script) (i : ℕ) (todo : Todo) → IsFitScript script → OneOf script i todo → list_all is_fit_entry (thread_entries todo) ≡ true
 fit_one script i todo fit one =
     subst (λ (t : Todo). list_all is_fit_entry (thread_entries t) ≡ true) (sym one.is) (fit_thread script i todo fit one.within)
-
-pub one_differs : (script : Script) (i : ℕ) (todo : Todo) → IsFitScript script → OneOf script i todo
-    → (j : ℕ) (d : Todo) → j < length script.threads → j ≢ i → todo.thread ≢ (get_or script.threads j d).thread
-one_differs script i todo fit one j d within other same =
-    threads_differ script i j todo d fit one.within within other (sym (ap (λ (t : Todo). t.thread) one.is) ∙ same)

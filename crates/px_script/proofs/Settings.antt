@@ -61,21 +61,6 @@ pub close : (args : List (List ℕ)) (most : ℕ) (text rest : List ℕ) → beh
     → ◌≡◌ {A = Option Arguments} (Some (args ++ in_place text ∷ [], rest)) (reading args (suc most) text)
 close args most text rest h = close_from args (in_place text) (arguments_in most) (behind_place text) rest h
 
-neither_from : (args : List (List ℕ)) (arg : List ℕ) (more : List ℕ → Option Arguments) (text : List ℕ) → behind_sign 44 text ≡ None → behind_sign 41 text ≡ None
-    → ◌≡◌ {A = Option Arguments} None (option_map (with_arguments args) (arguments_from arg more text))
-neither_from args arg more [] comma close = refl
-neither_from args arg more (c ∷ cs) comma close = elim (cases_Bool (c == 44)) [
-  | inl is ↦ let some : ◌≡◌ {A = Option (List ℕ)} (Some cs) None = rw is at comma in cc
-  | inr other ↦ elim (cases_Bool (c == 41)) [
-    | inl is ↦ let some : ◌≡◌ {A = Option (List ℕ)} (Some cs) None = rw is at close in cc
-    | inr plain ↦ rw (other, plain) refl
-  ]
-]
-
-pub neither : (args : List (List ℕ)) (most : ℕ) (text : List ℕ) → behind_sign 44 (behind_place text) ≡ None → behind_sign 41 (behind_place text) ≡ None
-    → ◌≡◌ {A = Option Arguments} None (reading args (suc most) text)
-neither args most text comma close = neither_from args (in_place text) (arguments_in most) (behind_place text) comma close
-
 pub reading_all : (o : Option Arguments) → option_map (with_arguments []) o ≡ o
 reading_all None = refl
 reading_all (Some more) = refl
@@ -113,12 +98,6 @@ pub close_step : (args : List (List ℕ)) (n : ℕ) (text rest : List ℕ) → n
 close_step args n text rest few h =
     let more : 8 - n ≡ suc (8 - (n + 1)) = omega arith in
     close args (8 - (n + 1)) text rest h ∙ ap (λ most. reading args most text) (sym more)
-
-pub neither_step : (args : List (List ℕ)) (n : ℕ) (text : List ℕ) → n < 8 → behind_sign 44 (behind_place text) ≡ None → behind_sign 41 (behind_place text) ≡ None
-    → ◌≡◌ {A = Option Arguments} None (reading args (8 - n) text)
-neither_step args n text few comma close =
-    let more : 8 - n ≡ suc (8 - (n + 1)) = omega arith in
-    neither args (8 - (n + 1)) text comma close ∙ ap (λ most. reading args most text) (sym more)
 
 -- the same of the places that the code keeps
 pub comma_kept : (kept new : List (Bor (List ℕ))) (arg : Bor (List ℕ)) (text rest : List ℕ) → new ≡ kept ++ arg ∷ [] → arg.now ≡ in_place text → length kept < 8

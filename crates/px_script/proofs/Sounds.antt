@@ -1,5 +1,5 @@
 -- A sound history goes on soundly as a log follows what it leaves of a fit script.
-use Rattle.std.proofs.Common.{◌≡◌, ℕ, ◌+◌, true, List, [], ◌∷◌, ◌++◌, map, get_or, take, refl, sym, ap, ◌∙◌, subst, eqb, inl, inr}
+use Rattle.std.proofs.Common.{rules, ◌≡◌, ℕ, ◌+◌, true, List, [], ◌∷◌, ◌++◌, map, get_or, take, refl, sym, ap, ◌∙◌, subst, eqb, inl, inr}
 use Rattle.std.specs.Prelude.{nat_lt, IfSome, ◌⊎◌}
 use Rattle.std.specs.List.{list_all, filter, All, Contains}
 use Rattle.std.proofs.lemmas.List.{map-append, append-nil, append_assoc, take_more}
@@ -129,9 +129,7 @@ module _ (plan : List Site) (first : List Entry) (log : Log) where
   thread_rises : (todo : Todo) (count : ℕ) → GoesThrough plan first log todo count → RisesBehind first todo
       → rise_above (last_line todo.thread first) (numbers_of todo.thread (posted_in log)) ≡ true
   thread_rises todo count through rising =
-      let last = last_line todo.thread first in
-      ap (λ (entries : List Entry). rise_above last (map line_of entries)) through.entries
-      ∙ posts_rise todo.thread last (take count todo.lines) (rise-take (λ (line : Line). line.number) last count todo.lines rising)
+      search (rules, line_of, posts_rise, rise-take)
 
   log_rises : (threads : List Todo) (thread : ℕ) → All (RisesBehind first) threads → Follows plan first log threads
       → rise_above (last_line thread first) (numbers_of thread (posted_in log)) ≡ true

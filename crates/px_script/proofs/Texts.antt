@@ -1,5 +1,5 @@
 -- The first line of a text.
-use Rattle.std.proofs.Common.{◌≡◌, ℕ, ◌+◌, ◌-◌, ◌<◌, ◌≤◌, List, [], ◌∷◌, length, take, drop, ◌∙◌, arith}
+use Rattle.std.proofs.Common.{rules, ◌≡◌, ℕ, ◌+◌, ◌-◌, ◌<◌, ◌≤◌, List, [], ◌∷◌, length, take, drop, ◌∙◌, arith}
 use Rattle.std.specs.Prelude.{◌==◌}
 use Rattle.std.specs.List.{position_or_len}
 use Rattle.std.proofs.lemmas.List.{take_rest}
@@ -11,9 +11,7 @@ use Rattle.px_script.specs.Text.{lines_of}
 pub first_line : (text : List ℕ) (end : ℕ) → end ≡ position_or_len (λ c. c == 10) text → end < length text
     → lines_of text ≡ take end text ∷ lines_of (take (length text - (end + 1)) (drop (end + 1) text))
 first_line text end place within =
-    let found : position_or_len (λ c. c == 10) text < length text = omega arith in
-    let split : lines_of text ≡ take (position_or_len (λ c. c == 10) text) text ∷ lines_of (drop (position_or_len (λ c. c == 10) text + 1) text) = slice_split_first (λ c. c == 10) text 0 found in
-    split ∙ rw (take_rest text (end + 1), place)
+    search (rules, slice_split_first, take_rest)
 
 -- where there is none
 pub last_line : (text : List ℕ) (end : ℕ) → end ≡ position_or_len (λ c. c == 10) text → length text ≤ end

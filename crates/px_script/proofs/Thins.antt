@@ -1,6 +1,6 @@
 -- Numbers that rise still do as some are left out, in a front of them, and with greater ones behind; what holds of all that
 -- stays of a list.
-use Rattle.std.proofs.Common.{◌≡◌, ℕ, zero, suc, Bool, true, false, List, [], ◌∷◌, ◌++◌, map, take, Option, Some, None, refl, ap, ◌∙◌, subst, arith, cond, eqb, inl, inr}
+use Rattle.std.proofs.Common.{rules, ◌≡◌, ℕ, zero, suc, Bool, true, false, List, [], ◌∷◌, ◌++◌, map, take, Option, Some, None, refl, ap, ◌∙◌, subst, arith, cond, eqb, inl, inr}
 use Rattle.std.specs.Prelude.{max, nat_lt, IfSome}
 use Rattle.std.specs.List.{filter, filter_map, cons_option, fold, All}
 use Rattle.std.proofs.lemmas.List.{map-append}
@@ -119,22 +119,12 @@ Thinner thread all some = (low : ℕ) → rise_above low (numbers_of thread all)
 one_stays : (thread low : ℕ) (entry : Entry) (all some : List Entry) → Thinner thread all some → rise_above low (numbers_of thread (entry ∷ all)) ≡ true
     → rise_above low (numbers_of thread (entry ∷ some)) ≡ true
 one_stays thread low entry all some thinner rising =
-    elim (cases_Bool (eqb entry.thread thread)) [
-      | inl is ↦
-          let parts = and_parts (nat_lt low entry.line) (rise_above entry.line (numbers_of thread all)) (rw is at rising) in
-          rw is (and_from (nat_lt low entry.line) (rise_above entry.line (numbers_of thread some)) parts.0 (thinner entry.line parts.1))
-      | inr isnt ↦ rw isnt (thinner low (rw isnt at rising))
-    ]
+    search (rules, cases_Bool, and_parts, numbers_of, and_from)
 
 one_goes : (thread low : ℕ) (entry : Entry) (all some : List Entry) → Thinner thread all some → rise_above low (numbers_of thread (entry ∷ all)) ≡ true
     → rise_above low (numbers_of thread some) ≡ true
 one_goes thread low entry all some thinner rising =
-    elim (cases_Bool (eqb entry.thread thread)) [
-      | inl is ↦
-          let parts = and_parts (nat_lt low entry.line) (rise_above entry.line (numbers_of thread all)) (rw is at rising) in
-          rise_from low entry.line (numbers_of thread some) (omega (arith, ltb-true low entry.line parts.0)) (thinner entry.line parts.1)
-      | inr isnt ↦ thinner low (rw isnt at rising)
-    ]
+    search (rules, cases_Bool, and_parts, numbers_of, rise_from, ltb-true)
 
 -- what was accepted rises where all that was posted does
 pub accepted_rise : (thread : ℕ) (log : Log) (more : List Entry) (low : ℕ) → rise_above low (numbers_of thread (posted_in log ++ more)) ≡ true
