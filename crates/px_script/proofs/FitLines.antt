@@ -1,15 +1,14 @@
 -- What a line says is fit.
 use Rattle.std.proofs.Common.{rules, ◌≡◌, ℕ, zero, suc, ◌≤◌, Bool, true, false, List, [], ◌∷◌, length, map, refl, arith, Option, Some, None, cond, inl, inr}
 use Rattle.std.specs.Prelude.{◌&&◌, ◌==◌, nat_le, codes}
-use Rattle.std.specs.List.{list_all, find}
+use Rattle.std.specs.List.{list_all}
 use Rattle.std.specs.Option.{option_map, option_and_then, option_or, unwrap_or}
 use Rattle.std.specs.Str.{is_utf8}
-use Rattle.std.specs.Str.Parse.{digits_value, signed_digits_value}
+use Rattle.std.specs.Str.Parse.{digits_value}
 use Rattle.std.proofs.lemmas.Bool.{le-leb, and_from, cases_Bool}
 use Rattle.px_value.specs.Path.{is_path}
 use Rattle.px_value.specs.declared.value.Value.{Value}
 use Rattle.px_value.specs.declared.value.Value.TheVariants as values
-use Rattle.px_lex.specs.String.{read_string}
 use Rattle.px_lex.specs.Table.{row_of}
 use Rattle.px_core.specs.declared.node.Kind.{Kind}
 use Rattle.px_core.specs.declared.node.Kind.TheVariants as kinds
@@ -20,11 +19,11 @@ use Rattle.px_event.specs.declared.cond.Cond.TheVariants.{State}
 use Rattle.px_event.specs.declared.event.Event.TheVariants as events
 use Rattle.px_script.specs.NodeLine.{kind_at, of_command, of_update, handle_of, handle_line, returned, return_line, is_one_word, abort_line, ack_line}
 use Rattle.px_script.specs.ParsedLine.{lines, said_in_text, said, is_silent, parsed_line}
-use Rattle.px_script.specs.Place.{in_place, behind_place, behind_sign}
-use Rattle.px_script.specs.SetLine.{Setting, told_in, with_argument, arguments_from, arguments_in, plain_setting, setting_with, setting_with_arguments, setting_of, all_values, report, setting_says, set_line}
+use Rattle.px_script.specs.Place.{in_place, behind_place}
+use Rattle.px_script.specs.SetLine.{Setting, told_in, with_argument, arguments_from, arguments_in, setting_with, setting_of, all_values, report, setting_says, set_line}
 use Rattle.px_script.specs.Text.{content, first_word, behind_word, is_nothing}
 use Rattle.px_script.specs.ThreadLine.{are_digits, is_thread, thread_named, thread_line}
-use Rattle.px_script.specs.Value.{plain, is_number, integer_of, all_of, text_of, argument_of, value_of}
+use Rattle.px_script.specs.Value.{plain, all_of, argument_of, value_of}
 use Rattle.px_script.specs.WaitLine.{of_node, state_of, state_wait, events_wait, waits, wait_line}
 use Rattle.px_script.specs.declared.fault.FaultKind.TheVariants.{BadLine}
 use Rattle.px_script.specs.declared.parsed_line.ParsedLine.{ParsedLine}

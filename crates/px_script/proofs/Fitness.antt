@@ -7,7 +7,6 @@ use Rattle.std.proofs.lemmas.Bool.{lt-ltb, leb-false, ltb-true, and_from, eqb-tr
 use Rattle.px_core.specs.Plan.{Site}
 use Rattle.px_event.specs.Fit.{is_report_name}
 use Rattle.px_script.specs.declared.fault.FaultKind.{FaultKind}
-use Rattle.px_script.specs.declared.fault.FaultKind.TheVariants.{TooManyLines}
 use Rattle.px_script.specs.Fit.{rise_above, is_fit_line, are_fit_lines, IsFitScript}
 use Rattle.px_script.specs.ParsedLine.{parsed_line}
 use Rattle.px_script.specs.Remainder.{has_a_line}

@@ -1,13 +1,11 @@
 -- How the reading of a string goes on behind a byte.
-use Rattle.std.proofs.Common.{◌≡◌, ℕ, ◌-◌, ◌≤◌, Bool, true, false, List, [], ◌∷◌, length, get_or, take, drop, Option, Some, None, refl, ap, arith, inl, inr}
+use Rattle.std.proofs.Common.{◌≡◌, ℕ, ◌-◌, ◌≤◌, Bool, true, false, List, [], ◌∷◌, length, get_or, take, drop, Option, Some, None, refl, arith}
 use Rattle.std.specs.Prelude.{if◌then◌else◌}
 use Rattle.std.proofs.lemmas.List.{take_rest}
-use Rattle.std.proofs.lemmas.Bool.{cases_Bool, eqb-true}
 use Rattle.px_value.specs.Text.{unescaped}
 use Rattle.std.proofs.lemmas.Option.{none-some}
 use Rattle.px_lex.proofs.StringFronts.{inner}
 use Rattle.px_lex.specs.String.{is_quote, is_backslash, is_line_end, with_byte, string_from, escape_from, read_string}
-use Rattle.px_lex.specs.Gap.{begins}
 use Rattle.px_script.specs.Place.{behind_byte}
 use Rattle.px_script.specs.declared.place.Quoting.{Quoting}
 use Rattle.px_script.specs.declared.place.Quoting.TheVariants.{Outside, Inside, Escaped}

@@ -1,5 +1,5 @@
 -- A script is read line by line: what is left of it, behind lines of which the threads keep these.
-use Rattle.std.proofs.Common.{rules, ◌≡◌, ℕ, zero, suc, ◌+◌, ◌-◌, ◌≤◌, Bool, true, false, List, [], ◌∷◌, ◌++◌, length, replicate, set, map, refl, sym, ap, ◌∙◌, arith, Option, Some, None, cond, inl, inr}
+use Rattle.std.proofs.Common.{rules, ◌≡◌, ℕ, ◌+◌, ◌-◌, Bool, true, false, List, [], ◌∷◌, ◌++◌, length, replicate, set, map, refl, sym, ap, ◌∙◌, arith, Option, Some, None, cond, inl, inr}
 use Rattle.std.specs.Prelude.{◌==◌, nat_le, if◌then◌else◌}
 use Rattle.std.specs.List.{filter, filter_map, cons_option, range_with_len}
 use Rattle.std.proofs.lemmas.List.{append-nil, append_assoc}
@@ -20,7 +20,7 @@ use Rattle.px_script.specs.Fault.{number_of}
 use Rattle.px_script.specs.Naming.{is_another, with_name}
 use Rattle.px_script.specs.ParsedLine.{parsed_line}
 use Rattle.px_script.specs.Remainder.{has_a_line}
-use Rattle.px_script.specs.Script.{Reading, Threads, Fault, Said, said_from, done_at, lines_of_thread, lines_before, name_given, fault_in, threads_of, names_of, by_faults, reading}
+use Rattle.px_script.specs.Script.{Reading, Threads, Fault, Said, said_from, done_at, lines_of_thread, lines_before, name_given, fault_in, reading}
 use Rattle.px_script.specs.ThreadLine.{is_thread}
 use Rattle.px_script.specs.Threads.{lines_in, with_line, todos_from}
 use Rattle.px_script.proofs.FitLines.{IsFitParsedLine, AllFit}
