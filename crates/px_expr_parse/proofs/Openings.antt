@@ -43,22 +43,18 @@ use Rattle.px_expr_parse.specs.Verdict.{unary_at}
 
 opening_of_literal : (value : LiteralValue) → opening_of (literal_kind value) ≡ openings.Literal
 unfolding opening_of keyword_opening
-opening_of_literal (literals.Integer value) = refl
 opening_of_literal (literals.Boolean true) = refl
-opening_of_literal (literals.Boolean false) = refl
-opening_of_literal (literals.Text content) = refl
+opening_of_literal value = refl
 
 opening_of_look : (word : LookWord) → opening_of (kinds.Keyword (look_keyword word)) ≡ openings.Look word
 unfolding opening_of keyword_opening
 opening_of_look looks.Lookup = refl
-opening_of_look looks.LookupNow = refl
-opening_of_look looks.LookupOnChange = refl
+opening_of_look word = refl
 
 opening_of_unary : (function : UnaryFunction) → opening_of (kinds.Keyword (unary_keyword function)) ≡ openings.UnaryCall function
 unfolding opening_of keyword_opening
 opening_of_unary unary_functions.IsKnown = refl
-opening_of_unary unary_functions.Abs = refl
-opening_of_unary unary_functions.StrLen = refl
+opening_of_unary function = refl
 
 opening_of_binary : (function : BinaryFunction) → opening_of (kinds.Keyword (binary_keyword function)) ≡ openings.BinaryCall function
 unfolding opening_of keyword_opening
@@ -70,28 +66,13 @@ opening_of_enumerated :
     → option_map (λ (word : Keyword). opening_of (kinds.Keyword word)) (enumerated_keyword value) ≡ Some (openings.Enumerated value)
 unfolding opening_of keyword_opening enumerated_of enumerated_keyword
 opening_of_enumerated (enumerated.State states.Inactive) = refl
-opening_of_enumerated (enumerated.State states.Waiting) = refl
-opening_of_enumerated (enumerated.State states.Executing) = refl
-opening_of_enumerated (enumerated.State states.Finishing) = refl
-opening_of_enumerated (enumerated.State states.IterationEnded) = refl
-opening_of_enumerated (enumerated.State states.Failing) = refl
-opening_of_enumerated (enumerated.State states.Finished) = refl
+opening_of_enumerated (enumerated.State state) = refl
 opening_of_enumerated (enumerated.Outcome outcomes.Success) = refl
-opening_of_enumerated (enumerated.Outcome outcomes.Failure) = refl
-opening_of_enumerated (enumerated.Outcome outcomes.Skipped) = refl
-opening_of_enumerated (enumerated.Outcome outcomes.Interrupted) = refl
+opening_of_enumerated (enumerated.Outcome outcome) = refl
 opening_of_enumerated (enumerated.Failure failures.PreConditionFailed) = refl
-opening_of_enumerated (enumerated.Failure failures.PostConditionFailed) = refl
-opening_of_enumerated (enumerated.Failure failures.InvariantConditionFailed) = refl
-opening_of_enumerated (enumerated.Failure failures.ParentFailed) = refl
-opening_of_enumerated (enumerated.Failure failures.Exited) = refl
-opening_of_enumerated (enumerated.Failure failures.ParentExited) = refl
+opening_of_enumerated (enumerated.Failure failure) = refl
 opening_of_enumerated (enumerated.Handle handles.CommandSentToSystem) = refl
-opening_of_enumerated (enumerated.Handle handles.CommandAccepted) = refl
-opening_of_enumerated (enumerated.Handle handles.CommandRcvdBySystem) = refl
-opening_of_enumerated (enumerated.Handle handles.CommandFailed) = refl
-opening_of_enumerated (enumerated.Handle handles.CommandDenied) = refl
-opening_of_enumerated (enumerated.Handle handles.CommandSuccess) = refl
+opening_of_enumerated (enumerated.Handle handle) = refl
 
 pub opening_of_name : (name : List ℕ) → opening_of (kinds.Identifier name) ≡ openings.Name
 unfolding opening_of

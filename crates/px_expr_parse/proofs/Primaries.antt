@@ -48,22 +48,11 @@ found_alone tokens place within =
 
 -- a literal is told by its kind of token
 pub literal_kind_one : (a b : LiteralValue) → literal_kind a ≡ literal_kind b → a ≡ b
-literal_kind_one (literals.Integer x) (literals.Integer y) e = cc
-literal_kind_one (literals.Integer x) (literals.Boolean true) e = cc
-literal_kind_one (literals.Integer x) (literals.Boolean false) e = cc
-literal_kind_one (literals.Integer x) (literals.Text y) e = cc
-literal_kind_one (literals.Boolean true) (literals.Integer y) e = cc
 literal_kind_one (literals.Boolean true) (literals.Boolean true) e = refl
-literal_kind_one (literals.Boolean true) (literals.Boolean false) e = cc
-literal_kind_one (literals.Boolean true) (literals.Text y) e = cc
-literal_kind_one (literals.Boolean false) (literals.Integer y) e = cc
-literal_kind_one (literals.Boolean false) (literals.Boolean true) e = cc
 literal_kind_one (literals.Boolean false) (literals.Boolean false) e = refl
-literal_kind_one (literals.Boolean false) (literals.Text y) e = cc
-literal_kind_one (literals.Text x) (literals.Integer y) e = cc
+literal_kind_one (literals.Integer x) (literals.Boolean true) e = cc
 literal_kind_one (literals.Text x) (literals.Boolean true) e = cc
-literal_kind_one (literals.Text x) (literals.Boolean false) e = cc
-literal_kind_one (literals.Text x) (literals.Text y) e = cc
+literal_kind_one a b e = cc
 
 -- ---- what a word or a parenthesis begins
 
