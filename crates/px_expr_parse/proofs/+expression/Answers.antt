@@ -119,7 +119,8 @@ lookup::look_rest-returns-in_err-tolerance-2-clause-fault t c =
     let opening = c.if-not-is_sign.ensures.answer.0 refl in
     handed_on _ _ _ c.from_residual-in_err-tolerance-2.ensures.1
     (missing_ending (ends_given c.args.word c.args.tokens.now c.args.from opening) c.in_err-tolerance-2.field-0.0
-    (missing_ending (ends_behind signs.OpenParen c.args.tokens.now c.args.from (both closed_arguments (look_end c.args.word)) opening) c.in_err-tolerance-2.field-0.0
+    (missing_ending (ends_behind signs.OpenParen c.args.tokens.now c.args.from
+    (both closed_arguments (look_end c.args.word)) opening) c.in_err-tolerance-2.field-0.0
     (missing_ending (ends_both closed_arguments (look_end c.args.word) (local_closed_arguments _) c.in_ok-args.ensures.ok) c.in_err-tolerance-2.field-0.0
     c.in_err-tolerance-2.ensures.fault)))
 

@@ -5,7 +5,8 @@ use Rattle.px_plan_parse.proofs.block.head.Goals as goal
 
 pub returns-in_err-expect-clause-fault : goal.returns-in_err-expect-clause-fault
 returns-in_err-expect-clause-fault c =
-    handed_on _ _ _ c.from_residual.ensures.1 (lack_form c.args.tokens.now c.args.from c.in-Form.form (sym c.start_at.ensures.value ∙ c.in-Form.is) (omega (arith, c.start_at.ensures.inside (λ e. let t = c.in-Form.is in cc))) c.in_err-expect.ensures.fault)
+    handed_on _ _ _ c.from_residual.ensures.1 (lack_form c.args.tokens.now c.args.from c.in-Form.form
+    (sym c.start_at.ensures.value ∙ c.in-Form.is) (omega (arith, c.start_at.ensures.inside (λ e. let t = c.in-Form.is in cc))) c.in_err-expect.ensures.fault)
 
 pub returns-in-Form-clause-ok : goal.returns-in-Form-clause-ok
 returns-in-Form-clause-ok c =
@@ -14,7 +15,9 @@ returns-in-Form-clause-ok c =
 
 pub returns-in_err-expect-2-clause-fault : goal.returns-in_err-expect-2-clause-fault
 returns-in_err-expect-2-clause-fault c =
-    handed_on _ _ _ c.from_residual-in_err-expect-2.ensures.1 (lack_brace c.args.tokens.now c.args.from (λ form is. c.in_default.not-Form form (c.start_at.ensures.value ∙ is)) c.requires c.in_err-expect-2.ensures.fault)
+    handed_on _ _ _ c.from_residual-in_err-expect-2.ensures.1
+    (lack_brace c.args.tokens.now c.args.from (λ form is. c.in_default.not-Form form
+    (c.start_at.ensures.value ∙ is)) c.requires c.in_err-expect-2.ensures.fault)
 
 pub returns-clause-ok : goal.returns-clause-ok
 returns-clause-ok c =

@@ -23,6 +23,7 @@ returns-in_err-name-clause-fault c =
 
 pub returns-in_err-expect-clause-fault : goal.returns-in_err-expect-clause-fault
 returns-in_err-expect-clause-fault c =
-    handed_on _ _ _ c.from_residual-in_err-expect.ensures.1 (lack_present (starts_so c.args.tokens.now c.args.from starts.Name (c.if-not-begins.ensures.answer.0 refl))
+    handed_on _ _ _ c.from_residual-in_err-expect.ensures.1
+    (lack_present (starts_so c.args.tokens.now c.args.from starts.Name (c.if-not-begins.ensures.answer.0 refl))
     (lack_token {Next = Anything} (λ others place is. tt) (local_identifier _) (of_found Anything c.in_ok-name.ensures.ok)
     c.in_err-expect.ensures.fault))

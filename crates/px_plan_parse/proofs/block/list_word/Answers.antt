@@ -28,9 +28,11 @@ returns-then-not-begins-clause-ok c =
 pub returns-in_err-expect-clause-fault : goal.returns-in_err-expect-clause-fault
 returns-in_err-expect-clause-fault c =
     let is = c.if-not-begins.ensures.answer.0 refl in
-    handed_on _ _ _ c.from_residual.ensures.1 (subst (λ (word : Option BlockForm). IsLacking (list_word word) NoListWord c.args.tokens.now c.args.from c.in_err-expect.field-0.0)
+    handed_on _ _ _ c.from_residual.ensures.1 (subst
+    (λ (word : Option BlockForm). IsLacking (list_word word) NoListWord c.args.tokens.now c.args.from c.in_err-expect.field-0.0)
     (sym c.in_default.is)
-    (list_lacks c.args.tokens.now c.args.from is (here starts.NodeList (kinds.Keyword words.NodeList) (λ kind is_of. is_of) (λ e. cc) c.args.tokens.now c.args.from is) (omega (arith, c.if-not-begins.ensures.inside refl (λ e. cc))) c.in_err-expect.ensures.fault))
+    (list_lacks c.args.tokens.now c.args.from is (here starts.NodeList (kinds.Keyword words.NodeList) (λ kind is_of. is_of)
+    (λ e. cc) c.args.tokens.now c.args.from is) (omega (arith, c.if-not-begins.ensures.inside refl (λ e. cc))) c.in_err-expect.ensures.fault))
 
 pub returns-clause-ok : goal.returns-clause-ok
 returns-clause-ok c =

@@ -38,7 +38,9 @@ returns-then-not-begins-clause-fault c =
 
 pub returns-in_err-first-clause-fault : goal.returns-in_err-first-clause-fault
 returns-in_err-first-clause-fault c =
-    handed_on _ _ _ c.from_residual-in_err-first.ensures.1 (lack_behind c.in_ok-expect.ensures.ok.1 (lack_behind (here (starts.Type types.Integer) (kinds.Keyword words.Integer) (λ kind is_of. is_of) (λ e. cc) c.args.tokens.now (c.args.from + 1)
+    handed_on _ _ _ c.from_residual-in_err-first.ensures.1
+    (lack_behind c.in_ok-expect.ensures.ok.1 (lack_behind
+    (here (starts.Type types.Integer) (kinds.Keyword words.Integer) (λ kind is_of. is_of) (λ e. cc) c.args.tokens.now (c.args.from + 1)
     (c.if-not-begins.ensures.answer.0 refl)) (rw (sym (two c.args.from)) (
     lack_joined (joins_both (λ others part from end o next. tt) (local_identifier _) (of_found Anything c.in_ok-variable.ensures.ok))
     (rw (sym (three c.args.from)) (lack_behind c.in_ok-expect-2.ensures.ok.1 (lack_before {Next = Anything} (λ others place is. tt)
@@ -46,7 +48,9 @@ returns-in_err-first-clause-fault c =
 
 pub returns-in_err-expect-3-clause-fault : goal.returns-in_err-expect-3-clause-fault
 returns-in_err-expect-3-clause-fault c =
-    handed_on _ _ _ c.from_residual-in_err-expect-3.ensures.1 (lack_behind c.in_ok-expect.ensures.ok.1 (lack_behind (here (starts.Type types.Integer) (kinds.Keyword words.Integer) (λ kind is_of. is_of) (λ e. cc) c.args.tokens.now (c.args.from + 1)
+    handed_on _ _ _ c.from_residual-in_err-expect-3.ensures.1
+    (lack_behind c.in_ok-expect.ensures.ok.1 (lack_behind
+    (here (starts.Type types.Integer) (kinds.Keyword words.Integer) (λ kind is_of. is_of) (λ e. cc) c.args.tokens.now (c.args.from + 1)
     (c.if-not-begins.ensures.answer.0 refl)) (rw (sym (two c.args.from)) (
     lack_joined (joins_both (λ others part from end o next. tt) (local_identifier _) (of_found Anything c.in_ok-variable.ensures.ok))
     (rw (sym (three c.args.from)) (lack_behind c.in_ok-expect-2.ensures.ok.1 (lack_token {Next = Anything} (λ others place is. tt) (local_signed _)
@@ -76,14 +80,18 @@ returns-in_err-expect-clause-fault c =
 
 pub returns-in_err-variable-clause-fault : goal.returns-in_err-variable-clause-fault
 returns-in_err-variable-clause-fault c =
-    handed_on _ _ _ c.from_residual-in_err-variable.ensures.1 (lack_behind c.in_ok-expect.ensures.ok.1 (lack_behind (here (starts.Type types.Integer) (kinds.Keyword words.Integer) (λ kind is_of. is_of) (λ e. cc) c.args.tokens.now (c.args.from + 1)
+    handed_on _ _ _ c.from_residual-in_err-variable.ensures.1
+    (lack_behind c.in_ok-expect.ensures.ok.1 (lack_behind
+    (here (starts.Type types.Integer) (kinds.Keyword words.Integer) (λ kind is_of. is_of) (λ e. cc) c.args.tokens.now (c.args.from + 1)
     (c.if-not-begins.ensures.answer.0 refl)) (rw (sym (two c.args.from)) (
     lack_first {Next = Anything} (λ others part from end o next. tt) (short_behind (kinds.Sign signs.Assign) short_first)
     (of_missing identifier c.args.tokens.now (c.args.from + 2) c.in_err-variable.field-0.0 Anything c.in_err-variable.ensures.fault)))))
 
 pub returns-in_err-expect-2-clause-fault : goal.returns-in_err-expect-2-clause-fault
 returns-in_err-expect-2-clause-fault c =
-    handed_on _ _ _ c.from_residual-in_err-expect-2.ensures.1 (lack_behind c.in_ok-expect.ensures.ok.1 (lack_behind (here (starts.Type types.Integer) (kinds.Keyword words.Integer) (λ kind is_of. is_of) (λ e. cc) c.args.tokens.now (c.args.from + 1)
+    handed_on _ _ _ c.from_residual-in_err-expect-2.ensures.1
+    (lack_behind c.in_ok-expect.ensures.ok.1 (lack_behind
+    (here (starts.Type types.Integer) (kinds.Keyword words.Integer) (λ kind is_of. is_of) (λ e. cc) c.args.tokens.now (c.args.from + 1)
     (c.if-not-begins.ensures.answer.0 refl)) (rw (sym (two c.args.from)) (
     lack_joined (joins_both (λ others part from end o next. tt) (local_identifier _) (of_found Anything c.in_ok-variable.ensures.ok))
     (rw (sym (three c.args.from)) (lack_kind (omega (arith, c.in_ok-variable.ensures.ok.within)) short_first c.in_err-expect-2.ensures.fault))))))

@@ -14,12 +14,14 @@ returns-then-is_sign-clause-ok c =
 
 pub returns-in_err-first-clause-fault : goal.returns-in_err-first-clause-fault
 returns-in_err-first-clause-fault c =
-    handed_on _ _ _ c.from_residual.ensures.1 (lack_made (makes_parameters c.args.tokens.now c.args.from (λ has. false≢true (c.if-is_sign.ensures.answer.1 has)))
+    handed_on _ _ _ c.from_residual.ensures.1 (lack_made
+    (makes_parameters c.args.tokens.now c.args.from (λ has. false≢true (c.if-is_sign.ensures.answer.1 has)))
     (commas_lack_first parameters_separate c.in_err-first.ensures.fault))
 
 pub returns-in_err-next-clause-fault : goal.returns-in_err-next-clause-fault
 returns-in_err-next-clause-fault c =
-    handed_on _ _ _ c.from_residual-in_err-next.ensures.1 (lack_made (makes_parameters c.args.tokens.now c.args.from (λ has. false≢true (c.if-is_sign.ensures.answer.1 has)))
+    handed_on _ _ _ c.from_residual-in_err-next.ensures.1
+    (lack_made (makes_parameters c.args.tokens.now c.args.from (λ has. false≢true (c.if-is_sign.ensures.answer.1 has)))
     (commas_lack parameters_separate c.loop-alloc.invariant (c.loop-alloc-test.ensures.answer.0 refl) c.in_err-next.ensures.fault))
 
 pub loop-alloc-preserved : goal.loop-alloc-preserved
@@ -29,7 +31,8 @@ loop-alloc-preserved c =
 
 pub returns-in_err-expect-clause-fault : goal.returns-in_err-expect-clause-fault
 returns-in_err-expect-clause-fault c =
-    handed_on _ _ _ c.from_residual-in_err-expect.ensures.1 (lack_made (makes_parameters c.args.tokens.now c.args.from (λ has. false≢true (c.if-is_sign.ensures.answer.1 has)))
+    handed_on _ _ _ c.from_residual-in_err-expect.ensures.1
+    (lack_made (makes_parameters c.args.tokens.now c.args.from (λ has. false≢true (c.if-is_sign.ensures.answer.1 has)))
     (commas_lack_close parameters_separate c.loop-alloc.invariant (λ has. false≢true (c.loop-alloc-test.ensures.answer.1 has)) c.in_err-expect.ensures.fault))
 
 pub returns-clause-ok : goal.returns-clause-ok

@@ -15,7 +15,8 @@ pub returns-in_err-name-in-Command-clause-fault : goal.returns-in_err-name-in-Co
 returns-in_err-name-in-Command-clause-fault c =
     let is = sym c.start_at.ensures.value ∙ c.in-Command.is in
     handed_on _ _ _ c.from_residual.ensures.1 (lack_made (makes_command c.args.tokens.now c.args.from is)
-    (lack_behind (here starts.Command (kinds.Keyword words.Command) (λ kind is_of. is_of) (λ e. cc) c.args.tokens.now c.args.from is) c.in_err-name-in-Command.ensures.fault))
+    (lack_behind (here starts.Command (kinds.Keyword words.Command) (λ kind is_of. is_of)
+    (λ e. cc) c.args.tokens.now c.args.from is) c.in_err-name-in-Command.ensures.fault))
 
 pub returns-in_ok-name-in-Command-clause-ok : goal.returns-in_ok-name-in-Command-clause-ok
 returns-in_ok-name-in-Command-clause-ok c =
@@ -27,4 +28,5 @@ returns-in_ok-name-in-Command-clause-ok c =
 pub returns-in_default-clause-fault : goal.returns-in_default-clause-fault
 returns-in_default-clause-fault c =
     lacks_here c.args.tokens.now c.args.from _ refl c.requires short_declaration
-    (not_there c.args.tokens.now c.args.from declaration is_declaration declaration_starts (ap is_declaration (sym c.start_at.ensures.value) ∙ not_declaration c.start_at.result c.in_default.not-Command c.in_default.not-Type))
+    (not_there c.args.tokens.now c.args.from declaration is_declaration declaration_starts
+    (ap is_declaration (sym c.start_at.ensures.value) ∙ not_declaration c.start_at.result c.in_default.not-Command c.in_default.not-Type))

@@ -13,13 +13,15 @@ use Rattle.px_plan_parse.proofs.global.declarations.Goals as goal
 pub returns-in_err-declaration-clause-fault : goal.returns-in_err-declaration-clause-fault
 returns-in_err-declaration-clause-fault c =
     handed_on _ _ _ c.from_residual.ensures.1 (front_lacks c.loop-alloc.invariant (λ others part from end o. tt) (λ others place last. tt)
-    (starts_there c.args.tokens.now c.loop-alloc.at is_declaration (ap is_declaration (sym c.start_at.ensures.value) ∙ sym c.is_declaration.ensures ∙ c.loop-alloc-test.true)) local_declaration c.in_err-declaration.ensures.fault)
+    (starts_there c.args.tokens.now c.loop-alloc.at is_declaration
+    (ap is_declaration (sym c.start_at.ensures.value) ∙ sym c.is_declaration.ensures ∙ c.loop-alloc-test.true)) local_declaration c.in_err-declaration.ensures.fault)
 
 pub loop-alloc-preserved : goal.loop-alloc-preserved
 loop-alloc-preserved c =
     rw (c.in_ok-push.ensures.items, map_push declaration_data c.loop-alloc.declarations.items c.in_ok-declaration.declaration)
     (front_more c.loop-alloc.invariant (λ others part from end o. tt) (λ others place last. tt)
-    (starts_there c.args.tokens.now c.loop-alloc.at is_declaration (ap is_declaration (sym c.start_at.ensures.value) ∙ sym c.is_declaration.ensures ∙ c.loop-alloc-test.true)) c.in_ok-declaration.ensures.ok)
+    (starts_there c.args.tokens.now c.loop-alloc.at is_declaration
+    (ap is_declaration (sym c.start_at.ensures.value) ∙ sym c.is_declaration.ensures ∙ c.loop-alloc-test.true)) c.in_ok-declaration.ensures.ok)
 
 pub returns-clause-ok : goal.returns-clause-ok
 returns-clause-ok c =

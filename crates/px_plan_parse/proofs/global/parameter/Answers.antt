@@ -22,7 +22,8 @@ returns-then-not-begins-clause-ok c =
     rw c.parameter.ensures (part_made (makes_parameter c.args.tokens.now c.args.from c.in-Type.of_type is)
     (part_joined (joins_type (maybe identifier) c.args.tokens.now c.args.from c.in-Type.of_type is)
     (part_absent (omega (arith, c.start_at.ensures.inside (λ e. let t = c.in-Type.is in cc)))
-    (not_so c.args.tokens.now (c.args.from + 1) identifier starts.Name (λ others part from end o. start_name others from part.name o.1.0) (λ name. false≢true (c.if-not-begins.ensures.answer.1 name))))))
+    (not_so c.args.tokens.now (c.args.from + 1) identifier starts.Name (λ others part from end o. start_name others from part.name o.1.0)
+    (λ name. false≢true (c.if-not-begins.ensures.answer.1 name))))))
 
 pub returns-in_err-name-clause-fault : goal.returns-in_err-name-clause-fault
 returns-in_err-name-clause-fault c =

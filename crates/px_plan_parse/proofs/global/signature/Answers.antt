@@ -9,7 +9,9 @@ use Rattle.px_plan_parse.proofs.global.signature.Goals as goal
 
 pub returns-in_err-parameters-clause-fault : goal.returns-in_err-parameters-clause-fault
 returns-in_err-parameters-clause-fault c =
-    handed_on _ _ _ c.from_residual-in_err-parameters.ensures.1 (lack_joined (joins_both (λ others part from end o next. tt) (local_identifier _) (of_found Anything c.in_ok-name.ensures.ok)) c.in_err-parameters.ensures.fault)
+    handed_on _ _ _ c.from_residual-in_err-parameters.ensures.1
+    (lack_joined (joins_both (λ others part from end o next. tt) (local_identifier _)
+    (of_found Anything c.in_ok-name.ensures.ok)) c.in_err-parameters.ensures.fault)
 
 pub returns-clause-ok : goal.returns-clause-ok
 returns-clause-ok c =

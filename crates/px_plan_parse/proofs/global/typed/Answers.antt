@@ -15,7 +15,8 @@ returns-in_err-name-in-Command-clause-fault c =
     handed_on _ _ _ c.from_residual.ensures.1 (lack_made (makes_typed c.args.tokens.now c.args.from c.args.answer c.requires.begins)
     (lack_joined (joins_type worded c.args.tokens.now c.args.from c.args.answer c.requires.begins)
     (lack_made (makes_worded c.args.tokens.now (c.args.from + 1) true is)
-    (lack_behind (here starts.Command (kinds.Keyword words.Command) (λ kind is_of. is_of) (λ e. cc) c.args.tokens.now (c.args.from + 1) is) (rw (two c.args.from) at c.in_err-name-in-Command.ensures.fault)))))
+    (lack_behind (here starts.Command (kinds.Keyword words.Command) (λ kind is_of. is_of) (λ e. cc) c.args.tokens.now (c.args.from + 1) is)
+    (rw (two c.args.from) at c.in_err-name-in-Command.ensures.fault)))))
 
 pub returns-in_ok-name-in-Command-clause-ok : goal.returns-in_ok-name-in-Command-clause-ok
 returns-in_ok-name-in-Command-clause-ok c =
@@ -32,7 +33,8 @@ returns-in_err-name-in-Lookup-clause-fault c =
     handed_on _ _ _ c.from_residual-in_err-name-in-Lookup.ensures.1 (lack_made (makes_typed c.args.tokens.now c.args.from c.args.answer c.requires.begins)
     (lack_joined (joins_type worded c.args.tokens.now c.args.from c.args.answer c.requires.begins)
     (lack_made (makes_worded c.args.tokens.now (c.args.from + 1) false is)
-    (lack_behind (here starts.Lookup (kinds.Keyword words.Lookup) (λ kind is_of. is_of) (λ e. cc) c.args.tokens.now (c.args.from + 1) is) (rw (two c.args.from) at c.in_err-name-in-Lookup.ensures.fault)))))
+    (lack_behind (here starts.Lookup (kinds.Keyword words.Lookup) (λ kind is_of. is_of) (λ e. cc) c.args.tokens.now (c.args.from + 1) is)
+    (rw (two c.args.from) at c.in_err-name-in-Lookup.ensures.fault)))))
 
 pub returns-in_ok-name-in-Lookup-clause-ok : goal.returns-in_ok-name-in-Lookup-clause-ok
 returns-in_ok-name-in-Lookup-clause-ok c =

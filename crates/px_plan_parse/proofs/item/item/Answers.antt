@@ -28,7 +28,10 @@ returns-in_err-test-in-Condition-clause-fault c =
 pub returns-in_err-priority-in-Priority-clause-fault : goal.returns-in_err-priority-in-Priority-clause-fault
 returns-in_err-priority-in-Priority-clause-fault c =
     let is = sym c.start_at.ensures.value ∙ c.in-Priority.is in
-    handed_on _ _ _ c.from_residual-in_err-priority-in-Priority.ensures.1 (lack_made (makes_priority c.args.tokens.now c.args.from is) (lack_behind (here starts.Priority (kinds.Keyword words.Priority) (λ kind is_of. is_of) (λ e. cc) c.args.tokens.now c.args.from is) c.in_err-priority-in-Priority.ensures.fault))
+    handed_on _ _ _ c.from_residual-in_err-priority-in-Priority.ensures.1
+    (lack_made (makes_priority c.args.tokens.now c.args.from is)
+    (lack_behind (here starts.Priority (kinds.Keyword words.Priority) (λ kind is_of. is_of)
+    (λ e. cc) c.args.tokens.now c.args.from is) c.in_err-priority-in-Priority.ensures.fault))
 
 pub returns-in_ok-variables-in-Type-clause-ok : goal.returns-in_ok-variables-in-Type-clause-ok
 returns-in_ok-variables-in-Type-clause-ok c =

@@ -12,13 +12,15 @@ use Rattle.px_plan_parse.proofs.item.items.Goals as goal
 pub returns-in_err-item-clause-fault : goal.returns-in_err-item-clause-fault
 returns-in_err-item-clause-fault c =
     handed_on _ _ _ c.from_residual.ensures.1 (front_lacks c.loop-alloc.invariant (λ others part from end o. tt) (λ others place last. tt)
-    (starts_there c.args.tokens.now c.loop-alloc.at is_item (ap is_item (sym c.start_at.ensures.value) ∙ sym c.is_item.ensures ∙ c.loop-alloc-test.true)) local_item c.in_err-item.ensures.fault)
+    (starts_there c.args.tokens.now c.loop-alloc.at is_item
+    (ap is_item (sym c.start_at.ensures.value) ∙ sym c.is_item.ensures ∙ c.loop-alloc-test.true)) local_item c.in_err-item.ensures.fault)
 
 pub loop-alloc-preserved : goal.loop-alloc-preserved
 loop-alloc-preserved c =
     rw (c.in_ok-push.ensures.items, map_push item_data c.loop-alloc.items.items c.in_ok-item.item)
     (front_more c.loop-alloc.invariant (λ others part from end o. tt) (λ others place last. tt)
-    (starts_there c.args.tokens.now c.loop-alloc.at is_item (ap is_item (sym c.start_at.ensures.value) ∙ sym c.is_item.ensures ∙ c.loop-alloc-test.true)) c.in_ok-item.ensures.ok)
+    (starts_there c.args.tokens.now c.loop-alloc.at is_item
+    (ap is_item (sym c.start_at.ensures.value) ∙ sym c.is_item.ensures ∙ c.loop-alloc-test.true)) c.in_ok-item.ensures.ok)
 
 pub returns-clause-ok : goal.returns-clause-ok
 returns-clause-ok c =

@@ -12,11 +12,13 @@ use Rattle.px_plan_parse.proofs.named.called.Goals as goal
 pub returns-in_err-args-clause-fault : goal.returns-in_err-args-clause-fault
 returns-in_err-args-clause-fault c =
     handed_on _ _ _ c.from_residual-in_err-args.ensures.1 (lack_before {Next = Anything} (λ others place is. tt)
-    (lack_behind c.in_ok-expect.ensures.ok.1 (of_missing closed_arguments c.args.tokens.now (c.args.from + 1) c.in_err-args.field-0.0 Anything c.in_err-args.ensures.fault)))
+    (lack_behind c.in_ok-expect.ensures.ok.1 (of_missing closed_arguments c.args.tokens.now
+    (c.args.from + 1) c.in_err-args.field-0.0 Anything c.in_err-args.ensures.fault)))
 
 pub returns-in_err-expect-2-clause-fault : goal.returns-in_err-expect-2-clause-fault
 returns-in_err-expect-2-clause-fault c =
-    handed_on _ _ _ c.from_residual-in_err-expect-2.ensures.1 (lack_token {Next = Anything} (λ others place is. tt) (local_then (local_sign signs.OpenParen) (local_closed_arguments _))
+    handed_on _ _ _ c.from_residual-in_err-expect-2.ensures.1
+    (lack_token {Next = Anything} (λ others place is. tt) (local_then (local_sign signs.OpenParen) (local_closed_arguments _))
     (part_behind c.in_ok-expect.ensures.ok.1 (of_found Anything c.in_ok-args.ensures.ok)) c.in_err-expect-2.ensures.fault)
 
 pub returns-clause-ok : goal.returns-clause-ok
@@ -26,4 +28,5 @@ returns-clause-ok c =
 
 pub returns-in_err-expect-clause-fault : goal.returns-in_err-expect-clause-fault
 returns-in_err-expect-clause-fault c =
-    handed_on _ _ _ c.from_residual.ensures.1 (lack_before {Next = Anything} (λ others place is. tt) (lack_kind c.requires.place short_arguments c.in_err-expect.ensures.fault))
+    handed_on _ _ _ c.from_residual.ensures.1 (lack_before {Next = Anything} (λ others place is. tt)
+    (lack_kind c.requires.place short_arguments c.in_err-expect.ensures.fault))

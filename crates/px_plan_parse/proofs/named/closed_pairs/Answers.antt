@@ -14,7 +14,8 @@ returns-in_err-first-clause-fault c =
 
 pub returns-in_err-next-clause-fault : goal.returns-in_err-next-clause-fault
 returns-in_err-next-clause-fault c =
-    handed_on _ _ _ c.from_residual-in_err-next.ensures.1 (commas_lack pairs_separate c.loop-alloc.invariant (c.loop-alloc-test.ensures.answer.0 refl) c.in_err-next.ensures.fault)
+    handed_on _ _ _ c.from_residual-in_err-next.ensures.1
+    (commas_lack pairs_separate c.loop-alloc.invariant (c.loop-alloc-test.ensures.answer.0 refl) c.in_err-next.ensures.fault)
 
 pub loop-alloc-preserved : goal.loop-alloc-preserved
 loop-alloc-preserved c =
@@ -23,7 +24,8 @@ loop-alloc-preserved c =
 
 pub returns-in_err-expect-clause-fault : goal.returns-in_err-expect-clause-fault
 returns-in_err-expect-clause-fault c =
-    handed_on _ _ _ c.from_residual-in_err-expect.ensures.1 (commas_lack_close pairs_separate c.loop-alloc.invariant (λ has. false≢true (c.loop-alloc-test.ensures.answer.1 has)) c.in_err-expect.ensures.fault)
+    handed_on _ _ _ c.from_residual-in_err-expect.ensures.1
+    (commas_lack_close pairs_separate c.loop-alloc.invariant (λ has. false≢true (c.loop-alloc-test.ensures.answer.1 has)) c.in_err-expect.ensures.fault)
 
 pub returns-clause-ok : goal.returns-clause-ok
 returns-clause-ok c =

@@ -12,7 +12,8 @@ use Rattle.px_plan_parse.proofs.named.named.Goals as goal
 
 pub returns-in_err-args-clause-fault : goal.returns-in_err-args-clause-fault
 returns-in_err-args-clause-fault c =
-    handed_on _ _ _ c.from_residual.ensures.1 (lack_made (makes_call c.args.tokens.now c.args.from (c.if-is_sign.ensures.answer.0 refl)) c.in_err-args.ensures.fault)
+    handed_on _ _ _ c.from_residual.ensures.1 (lack_made
+    (makes_call c.args.tokens.now c.args.from (c.if-is_sign.ensures.answer.0 refl)) c.in_err-args.ensures.fault)
 
 pub returns-then-is_sign-clause-ok : goal.returns-then-is_sign-clause-ok
 returns-then-is_sign-clause-ok c = (
@@ -23,17 +24,21 @@ returns-then-is_sign-clause-ok c = (
 
 pub returns-in_err-index-clause-fault : goal.returns-in_err-index-clause-fault
 returns-in_err-index-clause-fault c =
-    handed_on _ _ _ c.from_residual-in_err-index.ensures.1 (lack_made (makes_assignment c.args.tokens.now c.args.from (λ has. false≢true (c.if-is_sign.ensures.answer.1 has)))
+    handed_on _ _ _ c.from_residual-in_err-index.ensures.1
+    (lack_made (makes_assignment c.args.tokens.now c.args.from (λ has. false≢true (c.if-is_sign.ensures.answer.1 has)))
     (lack_first assign_begins short_assigned c.in_err-index.ensures.fault))
 
 pub returns-in_err-expect-clause-fault : goal.returns-in_err-expect-clause-fault
 returns-in_err-expect-clause-fault c =
-    handed_on _ _ _ c.from_residual-in_err-expect.ensures.1 (lack_made (makes_assignment c.args.tokens.now c.args.from (λ has. false≢true (c.if-is_sign.ensures.answer.1 has)))
-    (lack_joined (joins_both assign_begins (local_index _) c.in_ok-index.ensures.ok) (lack_kind c.in_ok-index.ensures.ok.within short_written c.in_err-expect.ensures.fault)))
+    handed_on _ _ _ c.from_residual-in_err-expect.ensures.1
+    (lack_made (makes_assignment c.args.tokens.now c.args.from (λ has. false≢true (c.if-is_sign.ensures.answer.1 has)))
+    (lack_joined (joins_both assign_begins (local_index _) c.in_ok-index.ensures.ok)
+    (lack_kind c.in_ok-index.ensures.ok.within short_written c.in_err-expect.ensures.fault)))
 
 pub returns-in_err-value-clause-fault : goal.returns-in_err-value-clause-fault
 returns-in_err-value-clause-fault c =
-    handed_on _ _ _ c.from_residual-in_err-value.ensures.1 (lack_made (makes_assignment c.args.tokens.now c.args.from (λ has. false≢true (c.if-is_sign.ensures.answer.1 has)))
+    handed_on _ _ _ c.from_residual-in_err-value.ensures.1
+    (lack_made (makes_assignment c.args.tokens.now c.args.from (λ has. false≢true (c.if-is_sign.ensures.answer.1 has)))
     (lack_joined (joins_both assign_begins (local_index _) c.in_ok-index.ensures.ok) (lack_behind c.in_ok-expect.ensures.ok.1 c.in_err-value.ensures.fault)))
 
 pub returns-clause-ok : goal.returns-clause-ok

@@ -14,7 +14,8 @@ pub returns-in_err-value-clause-fault : goal.returns-in_err-value-clause-fault
 returns-in_err-value-clause-fault c =
     handed_on _ _ _ c.from_residual-in_err-value.ensures.1 (lack_made (makes_pair c.args.tokens.now c.args.from)
     (lack_joined (joins_both (λ others part from end o next. tt) (local_identifier _) (of_found Anything c.in_ok-name.ensures.ok))
-    (lack_behind c.in_ok-expect.ensures.ok.1 (of_refused c.args.tokens.now (c.args.from + 1 + 1) c.in_err-value.field-0.0 (rw (two c.args.from) at c.in_err-value.ensures.refused)))))
+    (lack_behind c.in_ok-expect.ensures.ok.1 (of_refused c.args.tokens.now (c.args.from + 1 + 1) c.in_err-value.field-0.0
+    (rw (two c.args.from) at c.in_err-value.ensures.refused)))))
 
 pub returns-clause-ok : goal.returns-clause-ok
 returns-clause-ok c =

@@ -19,11 +19,14 @@ returns-in_err-name-clause-fault c =
 
 pub returns-in_err-args-clause-fault : goal.returns-in_err-args-clause-fault
 returns-in_err-args-clause-fault c =
-    handed_on _ _ _ c.from_residual-in_err-args.ensures.1 (lack_joined (joins_answer c.args.tokens.now c.args.from c.in_ok-name.name c.in_ok-name.ensures.ok (c.if-calls.ensures.0 refl).1) c.in_err-args.ensures.fault)
+    handed_on _ _ _ c.from_residual-in_err-args.ensures.1
+    (lack_joined (joins_answer c.args.tokens.now c.args.from c.in_ok-name.name c.in_ok-name.ensures.ok
+    (c.if-calls.ensures.0 refl).1) c.in_err-args.ensures.fault)
 
 pub returns-then-calls-clause-ok : goal.returns-then-calls-clause-ok
 returns-then-calls-clause-ok c =
-    rw c.answer.ensures (part_joined (joins_answer c.args.tokens.now c.args.from c.in_ok-name.name c.in_ok-name.ensures.ok (c.if-calls.ensures.0 refl).1) c.in_ok-args.ensures.ok)
+    rw c.answer.ensures (part_joined (joins_answer c.args.tokens.now c.args.from c.in_ok-name.name c.in_ok-name.ensures.ok
+    (c.if-calls.ensures.0 refl).1) c.in_ok-args.ensures.ok)
 
 pub returns-in_err-value-clause-fault : goal.returns-in_err-value-clause-fault
 returns-in_err-value-clause-fault c =
