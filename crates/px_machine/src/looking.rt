@@ -98,8 +98,9 @@ fn look_at(
     push_going(going, node, arrival)
 }
 
-/// Looks at all nodes that are woken. A loser of a conflict stays marked from step to step; a node that neither is woken nor
-/// marked goes nowhere. `NoMemory` leaves who was woken woken.
+/// Looks at all nodes that are woken, and finds those that go without asking for a variable, in place of those of before. A
+/// loser of a conflict stays marked from step to step; a node that neither is woken nor marked goes nowhere. `NoMemory`
+/// leaves who was woken woken.
 pub(crate) fn look(parts: &Parts, kept: &mut Kept, going: &mut Vec<Going>) -> Result<(), NoMemory>
     requires stand { AreStanding parts.now }
     requires right { IsRight parts.now kept.old }

@@ -24,7 +24,7 @@ pub struct Machine {
     parts: Parts,
     kept: Kept,
     begun: Begun,
-    // Who went in the last step, and what they did. Kept for their room: steps like those of before take no more.
+    // What a step fills: who goes, and what they do. Between steps it means nothing, and is kept for its room.
     going: Vec<Going>,
     turns: Turns,
     ghost ready: { IsReady parts kept } by { Prim.hlevel (term_code, codes) },

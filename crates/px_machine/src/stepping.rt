@@ -14,7 +14,8 @@ use px_parts::Parts;
 use px_value::NoMemory;
 use std::alloc::Global;
 
-/// Finds all nodes that go, in preorder, in place of those of before. The world stays as it is, and after `NoMemory` what is kept is as right as before.
+/// Finds all nodes that go, in preorder, in place of those of before. The world stays as it is, and after `NoMemory` what is
+/// kept is as right as before.
 pub(crate) fn goers(
     alloc: Global,
     parts: &mut Parts,
