@@ -77,9 +77,11 @@ impl Name {
     pub fn generated(alloc: Global, k: u32) -> Result<Name, AllocError>
         ensures { IfOk result (λ name. name ≡ generated_name k) }
     {
-        let mut digits = Buffer::new();
-        let mut text = String::from_str(alloc, "#")?;
-        text.push_str(digits.format(k))?;
+        let mut buffer = Buffer::new();
+        let digits = buffer.format(k);
+        let mut text = String::with_capacity(alloc, 1 + digits.len())?;
+        text.push_str("#")?;
+        text.push_str(digits)?;
         Ok(Name {
             text: ArcStr::from_string(text)?,
         })

@@ -7,5 +7,5 @@ use Rattle.px_value.proofs.name.Name.generated.Goals as goal
 
 pub invariant_of-result : goal.invariant_of-result
 invariant_of-result c =
-    let spelled : string_bytes c.push_str.new.self ≡ generated_name c.args.k = grind (arith, common_steps) in
+    let spelled : string_bytes c.push_str-2.new.self ≡ generated_name c.args.k = grind (arith, common_steps) in
     rw (c.in_ok-from_string.ensures.ok, spelled) (generated_is_name c.args.k (omega arith))
