@@ -30,14 +30,13 @@ use Rattle.px_parts.specs.Marks.{AreMarked, AreUnmarked, marked_world}
 use Rattle.px_parts.specs.Parts.{AreOfOnePlan, AreSame, AreStanding, plan_in, world_in}
 use Rattle.px_parts.specs.Seen.{AreSeenAsBefore}
 use Rattle.px_micro.specs.declared.sight.Going.{Going}
-use Rattle.px_micro.specs.Stepping as stepping
+use Rattle.px_micro.specs.Stepping.{moves_after}
 use Rattle.px_machine.specs.declared.begun.Begun.{Begun}
 use Rattle.px_machine.specs.declared.begun.Begun.TheVariants as begun
 use Rattle.px_machine.specs.declared.kept.Kept.{Kept}
 use Rattle.px_machine.specs.Begun.{IsMarkedFor, IsUnderWay, begun_in, heard_of, is_event}
 use Rattle.px_machine.specs.Hearing.{HasHeard, heard_by}
 use Rattle.px_machine.specs.Kept.{own_in}
-use Rattle.px_machine.specs.Machine.{moves_after}
 use Rattle.px_machine.specs.Queue.{HaveGone, HaveRested}
 use Rattle.px_machine.specs.Right.{IsRight}
 use Rattle.px_machine.specs.Seen.{IsSameReport}
@@ -319,8 +318,8 @@ stepped_state now old middle new same one world =
 
 -- what a step tells is what was done, and else the moves are those of before
 pub moves_behind : (tells : Bool) (now : Begun) (old middle new : Parts) → AreSame old middle
-    → middle.moves.items ≡ old.moves.items → new.moves.items ≡ stepping.moves_after middle tells
-    → new.moves.items ≡ moves_after tells (state_with now old) old.moves.items
+    → middle.moves.items ≡ old.moves.items → new.moves.items ≡ moves_after tells (moves (plan_in middle) (world_in middle)) middle.moves.items
+    → new.moves.items ≡ moves_after tells (moves (state_with now old).nodes (state_with now old).world) old.moves.items
 moves_behind true now old middle new same kept told =
     told ∙ ap (λ (state : stepper.State). moves state.nodes state.world) (same_state now old middle same)
 moves_behind false now old middle new same kept told = told ∙ kept

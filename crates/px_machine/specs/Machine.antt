@@ -6,6 +6,7 @@ use Rattle.px_sem.specs.Step.{moves}
 use Rattle.px_sem.specs.Stepper.{State, stepped}
 use Rattle.px_parts.specs.Marks.{marked_world}
 use Rattle.px_parts.specs.Parts.{plan_in, world_in}
+use Rattle.px_micro.specs.Stepping.{moves_after}
 use Rattle.px_machine.specs.declared.machine.Machine.{Machine}
 use Rattle.px_machine.specs.Begun.{begun_in}
 
@@ -16,13 +17,8 @@ state_in machine = record {
   pending = begun_in machine.begun (marked_world machine.parts);
 }
 
--- the moves behind a step: what was done, where it is told, and else those of before
-abbrev pub moves_after : Bool → State → List Move → List Move
-moves_after true old before = moves old.nodes old.world
-moves_after false old before = before
-
 -- Where it answers true, the world was not quiet, and took one micro step; else nothing changed, and there are no moves.
 abbrev pub StepsOn : Bool → State → State → List Move → List Move → Bool → Type 0
 StepsOn tells old new before now true =
-    (is_quiet old.nodes old.world ≡ false) × (new ≡ stepped old) × (now ≡ moves_after tells old before)
+    (is_quiet old.nodes old.world ≡ false) × (new ≡ stepped old) × (now ≡ moves_after tells (moves old.nodes old.world) before)
 StepsOn tells old new before now false = (is_quiet old.nodes old.world ≡ true) × (new ≡ old) × (now ≡ [])

@@ -1,7 +1,7 @@
 -- Where moves are told, or not, all else of a step stays.
-use Rattle.std.proofs.Common.{◌≡◌, Bool, true, false, List, sym, ◌∙◌, subst, if◌then◌else◌}
+use Rattle.std.proofs.Common.{◌≡◌, Bool, true, false, List, sym, ◌∙◌, subst}
 use Rattle.px_sem.specs.declared.moves.Move.{Move}
-use Rattle.px_sem.specs.Step.{move_of}
+use Rattle.px_sem.specs.Step.{move_of, moves}
 use Rattle.px_flat.specs.Flat.{plan_of}
 use Rattle.px_flat.specs.Parts.{IsParts, world_of}
 use Rattle.px_parts.specs.declared.parts.Parts.{Parts}
@@ -46,7 +46,7 @@ told_moved tells made before old new told moved = record {
 -- what was gathered of those that go is what was done
 pub told_moves : (tells : Bool) (before : Parts) (going : List Going) (made old now : List Move)
     → AreAllGoing (plan_in before) (world_in before) going → made ≡ moves_told before tells going → old ≡ before.moves.items
-    → now ≡ (if tells then made else old) → now ≡ moves_after before tells
+    → now ≡ moves_after tells made old → now ≡ moves_after tells (moves (plan_in before) (world_in before)) before.moves.items
 told_moves true before going made old now all gathered kept told =
     told ∙ gathered ∙ sym (gone (plan_in before) (world_in before) (move_of (plan_in before) (world_in before)) going all)
 told_moves false before going made old now all gathered kept told = told ∙ kept

@@ -12,18 +12,17 @@ pub record HaveMoved (old new : Parts) : Type 0 where
   pub loud : is_quiet (plan_in old) (world_in old) ≡ false
   pub world : world_in new ≡ micro (plan_in old) (world_in old)
 
+-- the moves behind a step: those that were made, where they are told, and else those of before
+abbrev pub moves_after : Bool → List Move → List Move → List Move
+moves_after tells made before = if tells then made else before
+
 -- these are the moves, where they are told; nothing else changes
 pub record HasTold (tells : Bool) (made : List Move) (old new : Parts) : Type 0 where
   pub flat : new.flat ≡ old.flat
   pub cells : new.cells ≡ old.cells
   pub reports : new.reports ≡ old.reports
   pub actions : new.actions ≡ old.actions
-  pub moves : new.moves.items ≡ (if tells then made else old.moves.items)
-
--- the moves behind a step: what was done, where it is told, and else what they were
-abbrev pub moves_after : Parts → Bool → List Move
-moves_after old true = moves (plan_in old) (world_in old)
-moves_after old false = old.moves.items
+  pub moves : new.moves.items ≡ moves_after tells made old.moves.items
 
 -- it did, with these moves
 pub record HaveStepped (old new : Parts) : Type 0 where

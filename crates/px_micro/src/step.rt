@@ -1,5 +1,6 @@
 // One micro step.
 ghost use Rattle.std.specs.Prelude.{◌≡◌, ◌<◌, length, IfOk, OnOk, OnErr};
+ghost use Rattle.px_sem.specs.Step.{moves};
 ghost use Rattle.px_micro.specs.Candidates.{AreCandidates};
 ghost use Rattle.px_micro.specs.Going.{AreAllGoing};
 ghost use Rattle.px_micro.specs.Stepping.{AreLeft, HasTold, HaveMoved, Steps, moves_after};
@@ -15,7 +16,7 @@ use px_value::NoMemory;
 use std::alloc::Global;
 use std::mem;
 
-// The moves that were gathered are those of the last step, where they are told.
+// The moves that were gathered are those of the last step, where they are told; those of before go, for their room.
 fn tell(parts: &mut Parts, turns: &mut Turns, tells: bool)
     ensures { HasTold tells turns.old.moves.items parts.old parts.new }
 {
@@ -28,7 +29,7 @@ fn tell(parts: &mut Parts, turns: &mut Turns, tells: bool)
 /// These are all that go in this world, in preorder, with where they go, and there are some. The room of `turns` is used.
 ///
 /// Ok: the world took one micro step, and `moves` has what was done, in preorder, where it is told, and else what it had.
-/// `NoMemory` leaves all as it was. What was last seen stays.
+/// `NoMemory` leaves all as it was, but for what `turns` holds. What was last seen stays.
 pub fn act(
     alloc: Global,
     parts: &mut Parts,
@@ -40,7 +41,8 @@ pub fn act(
     requires going { AreAllGoing (plan_in parts.old) (world_in parts.old) going.now }
     requires some { 0 < length going.now }
     ensures moved { OnOk result (HaveMoved parts.old parts.new) }
-    ensures moves { OnOk result (parts.new.moves.items ≡ moves_after parts.old tells) }
+    ensures moves { OnOk result (parts.new.moves.items
+        ≡ moves_after tells (moves (plan_in parts.old) (world_in parts.old)) parts.old.moves.items) }
     ensures left { OnErr result (AreLeft parts.old parts.new) }
     ensures stand { AreStanding parts.new }
     ensures seen { AreSeenAsBefore parts.old parts.new }

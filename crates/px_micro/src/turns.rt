@@ -41,12 +41,12 @@ pub struct CellValue {
 #[derive(Drop)]
 pub struct Turns {
     /// What is written, of each variable by the first node in preorder that writes it.
-    pub writes: Vec<CellWrite>,
+    pub(crate) writes: Vec<CellWrite>,
     /// The initial values of the nodes that begin to wait, which win over what is written.
-    pub initial: Vec<CellValue>,
-    pub turns: Vec<Turn>,
+    pub(crate) initial: Vec<CellValue>,
+    pub(crate) turns: Vec<Turn>,
     /// The moves, where they are told.
-    pub moves: Vec<Move>,
+    pub(crate) moves: Vec<Move>,
     /// The variables that are written.
     written: BTreeSet<u32>,
 }
@@ -76,8 +76,8 @@ impl Turns {
         self.written.clear();
     }
 
-    /// How many cells are put at most: a node has five beside its variables.
-    pub fn cells(&self) -> u32
+    // How many cells are put at most: a node has five beside its variables.
+    pub(crate) fn cells(&self) -> u32
         requires { length self.now.writes.items + length self.now.initial.items + 5 * length self.now.turns.items < 2 ^ 32 }
         ensures { result
             ≡ length self.now.writes.items + length self.now.initial.items + 5 * length self.now.turns.items }
@@ -250,7 +250,7 @@ fn told_move(
 }
 
 /// Gathers the turns of the nodes that go, in preorder, and their moves where these are told.
-pub fn gather(
+pub(crate) fn gather(
     alloc: Global,
     parts: &Parts,
     going: &[Going],
