@@ -80,17 +80,28 @@ impl<'a> Command<'a> {
             return Ok(None);
         };
         match name.as_str() {
-            "trace-start" => Ok(operand(alloc, words)?.map(|plan| Command::TraceStart { plan })),
+            "trace-start" => Command::trace_start(alloc, words),
             "dry-run" => Command::dry_run(alloc, words),
-            "check" => Ok(operand(alloc, words)?.map(|plan| Command::Check { plan })),
-            "format" => Ok(operand(alloc, words)?.map(|plan| Command::Format { plan })),
+            "check" => Command::check(alloc, words),
+            "format" => Command::format(alloc, words),
             "run" => Command::run(alloc, words),
             "resume" => Command::resume(alloc, words),
-            "trace" => Ok(operand(alloc, words)?.map(|journal| Command::Trace { journal })),
+            "trace" => Command::trace(alloc, words),
             "soak" => Command::soak(alloc, words),
-            "names" => Ok(operand(alloc, words)?.map(|journal| Command::Names { journal })),
+            "names" => Command::names(alloc, words),
             _ => Ok(None),
         }
+    }
+
+    #[tactic(auto, using(crate::proofs::Made::made_later))]
+    fn trace_start(alloc: Global, words: &'a [String]) -> Result<Option<Command<'a>>, NoMemory>
+        ensures { IfOk result (λ found. option_map asked found
+            ≡ option_and_then (of_one TraceStart) (operands (map string_bytes words.now))) }
+    {
+        let Some(plan) = operand(alloc, words)? else {
+            return Ok(None);
+        };
+        Ok(Some(Command::TraceStart { plan }))
     }
 
     fn dry_run(alloc: Global, words: &'a [String]) -> Result<Option<Command<'a>>, NoMemory>
@@ -104,6 +115,28 @@ impl<'a> Command<'a> {
             return Ok(None);
         };
         Ok(Some(Command::DryRun { plan, script }))
+    }
+
+    #[tactic(auto, using(crate::proofs::Made::made_later))]
+    fn check(alloc: Global, words: &'a [String]) -> Result<Option<Command<'a>>, NoMemory>
+        ensures { IfOk result (λ found. option_map asked found
+            ≡ option_and_then (of_one Check) (operands (map string_bytes words.now))) }
+    {
+        let Some(plan) = operand(alloc, words)? else {
+            return Ok(None);
+        };
+        Ok(Some(Command::Check { plan }))
+    }
+
+    #[tactic(auto, using(crate::proofs::Made::made_later))]
+    fn format(alloc: Global, words: &'a [String]) -> Result<Option<Command<'a>>, NoMemory>
+        ensures { IfOk result (λ found. option_map asked found
+            ≡ option_and_then (of_one Format) (operands (map string_bytes words.now))) }
+    {
+        let Some(plan) = operand(alloc, words)? else {
+            return Ok(None);
+        };
+        Ok(Some(Command::Format { plan }))
     }
 
     fn run(alloc: Global, words: &'a [String]) -> Result<Option<Command<'a>>, NoMemory>
@@ -141,6 +174,17 @@ impl<'a> Command<'a> {
         }))
     }
 
+    #[tactic(auto, using(crate::proofs::Made::made_later))]
+    fn trace(alloc: Global, words: &'a [String]) -> Result<Option<Command<'a>>, NoMemory>
+        ensures { IfOk result (λ found. option_map asked found
+            ≡ option_and_then (of_one Trace) (operands (map string_bytes words.now))) }
+    {
+        let Some(journal) = operand(alloc, words)? else {
+            return Ok(None);
+        };
+        Ok(Some(Command::Trace { journal }))
+    }
+
     fn soak(alloc: Global, words: &'a [String]) -> Result<Option<Command<'a>>, NoMemory>
         ensures { IfOk result (λ found. option_map asked found
             ≡ option_and_then soak_of (operands (map string_bytes words.now))) }
@@ -162,6 +206,17 @@ impl<'a> Command<'a> {
             seed: seed_of(seed)?,
             journal,
         })
+    }
+
+    #[tactic(auto, using(crate::proofs::Made::made_later))]
+    fn names(alloc: Global, words: &'a [String]) -> Result<Option<Command<'a>>, NoMemory>
+        ensures { IfOk result (λ found. option_map asked found
+            ≡ option_and_then (of_one Names) (operands (map string_bytes words.now))) }
+    {
+        let Some(journal) = operand(alloc, words)? else {
+            return Ok(None);
+        };
+        Ok(Some(Command::Names { journal }))
     }
 }
 

@@ -35,8 +35,9 @@ impl<'a> Line<'a> {
     pub(crate) fn limited(alloc: Global, words: &'a [String]) -> Result<Option<Line<'a>>, NoMemory>
         ensures { IfOk result (λ line. option_map listed line ≡ limited (map string_bytes words.now)) }
     {
+        let syntax = with_operands(alloc)?;
         let events = Arg::new(alloc, "events").long("events");
-        Line::read(with_operands(alloc)?.arg(events)?, words)
+        Line::read(syntax.arg(events)?, words)
     }
 
     fn read(syntax: Command<'a>, words: &'a [String]) -> Result<Option<Line<'a>>, NoMemory>
