@@ -2,9 +2,9 @@
 //! output to the top call, and ends with its status.
 #![tactic(auto)]
 
-use px_run::plexil;
 use px_script::NoPace;
 use px_system::{Access, StdDisk, StdHost};
+use px_top::plexil;
 use std::env::Env;
 use std::io::ErrorKind;
 use std::process::ExitCode;

@@ -14,6 +14,5 @@ pub mod SeenFiles
 pub mod Resumed
 pub mod Returning
 pub mod Running
-pub mod Sending
 pub mod Soaking
 pub mod Starting

@@ -25,4 +25,4 @@ mod top;
 mod trace;
 mod trace_start;
 
-pub use top::{Done, plexil, plexil_over};
+pub use top::{Done, plexil_over};

@@ -1,5 +1,5 @@
 // The program as a whole: from the words to the status.
-ghost use Rattle.std.specs.Prelude.{◌≡◌, ◌≤◌, None, map};
+ghost use Rattle.std.specs.Prelude.{◌≡◌, None, map};
 ghost use Rattle.std.specs.String.{string_bytes};
 ghost use Rattle.px_output.specs.View.{view, OnlyPrints, KeepsFiles};
 ghost use Rattle.px_words.specs.Words.{command};
@@ -19,7 +19,6 @@ use crate::run::run;
 use crate::soak::soak;
 use crate::trace::trace;
 use crate::trace_start::trace_start;
-use px_machine::Machine;
 use px_output::emit_all;
 use px_ports::{Disk, Host};
 use px_script::Pace;
@@ -38,7 +37,7 @@ pub struct Done<D> {
     pub disk: D,
 }
 
-/// The program: does what the words ask for, which are those after the program's own name, and
+/// The program over any stepper: does what the words ask for, which are those after the program's own name, and
 /// answers the status that the process ends with. All text goes to the host's sink. The disk has
 /// no name yet, and gets that of the journal where the command has one. `run`, `resume` and `soak` let
 /// each thread of a script post from a thread of its own.
@@ -56,7 +55,7 @@ pub struct Done<D> {
 /// | 9 | a call of the disk failed |
 /// | 10 | memory ran out |
 /// | 11 | lines of the script are left, and each thread that has some stands at a wait that isn't met |
-pub fn plexil<H: Host, D: Disk + Send, P: Pace, R: Threads + Wait + Sync>(
+pub fn plexil_over<H: Host, D: Disk + Send, S: Stepper + Send, P: Pace, R: Threads + Wait + Sync>(
     rt: &R,
     alloc: Global,
     words: &[String],
@@ -74,31 +73,6 @@ pub fn plexil<H: Host, D: Disk + Send, P: Pace, R: Threads + Wait + Sync>(
     ensures handed_back { IsHandedBack D.Disk disk result.disk result.status }
 
     // What each status tells, when the command is carried out, and when its files are refused.
-    ensures causes { Cause D.Disk (map string_bytes words.now)
-        (view H.Host host.old) (view H.Host host.new) disk result.disk result.status }
-    ensures complete { IsComplete D.Disk (map string_bytes words.now)
-        (view H.Host host.old) (view H.Host host.new) disk result.disk result.status }
-    ensures refused { RefusesFiles D.Disk (map string_bytes words.now)
-        (view H.Host host.old) (view H.Host host.new) disk result.disk result.status }
-{
-    plexil_over::<H, D, Machine, P, R>(rt, alloc, words, host, disk, pace)
-}
-
-/// The same over any stepper.
-pub fn plexil_over<H: Host, D: Disk + Send, S: Stepper + Send, P: Pace, R: Threads + Wait + Sync>(
-    rt: &R,
-    alloc: Global,
-    words: &[String],
-    host: &mut H,
-    disk: D,
-    pace: &P,
-) -> Done<D>
-    requires unbound { D.bound_to disk ≡ None }
-    ensures headline { Headline D.Disk (map string_bytes words.now)
-        (view H.Host host.old) (view H.Host host.new) disk result.disk result.status }
-    ensures files { H.files host.new ≡ H.files host.old }
-    ensures bound { IsBoundFor D.Disk (command (map string_bytes words.now)) result.disk }
-    ensures handed_back { IsHandedBack D.Disk disk result.disk result.status }
     ensures causes { Cause D.Disk (map string_bytes words.now)
         (view H.Host host.old) (view H.Host host.new) disk result.disk result.status }
     ensures complete { IsComplete D.Disk (map string_bytes words.now)

@@ -1,5 +1,5 @@
 use denote.Param.Send.{sendable}
-use Rattle.px_run.proofs.Sending.{machine_send}
+use Rattle.px_top.proofs.Sending.{machine_send}
 use Rattle.px_program_tests.proofs.Sending.{naive_send}
 use Rattle.px_program_tests.proofs.holds_on_both.Goals as goal
 
