@@ -8,50 +8,53 @@ use px_value::NodeState;
 impl Drawing {
     /// Draws a band behind every second row, under all else.
     pub fn bands(&mut self, rows: usize) {
+        let width = self.layout.width;
         for number in 0..rows {
             if number % 2 == 0 {
                 let top = self.layout.row(number);
-                self.band(top);
+                let attributes = " y=\"{}\" width=\"{}\" height=\"{}\"/>\n";
+                self.begin("rect", "band", attributes, &[top, width, ROW]);
             }
         }
-    }
-
-    fn band(&mut self, top: u32) {
-        let width = self.layout.width;
-        let piece = "<rect class=\"band\" y=\"{}\" width=\"{}\" height=\"{}\"/>\n";
-        self.measure(piece, &[top, width, ROW]);
     }
 
     /// Draws the rows, with their names again at these slots.
     pub fn rows(&mut self, rows: &Rows, again: &[u32]) {
         for (number, (path, row)) in rows.iter().enumerate() {
             let top = self.layout.row(number);
-            self.name(path.as_str(), row.depth, top);
+            let y = top.saturating_add(BASELINE);
+            self.name(path.as_str(), row.depth, y);
             self.row(path.as_str(), row, top);
-            self.names_again(path.as_str(), again, top);
+            self.names_again(last_name(path.as_str()), again, y);
         }
     }
 
-    fn name(&mut self, path: &str, depth: usize, top: u32) {
-        let y = top.saturating_add(BASELINE);
-        self.push("<g><title>");
+    fn name(&mut self, path: &str, depth: usize, y: u32) {
+        self.pen.push("<g><title>");
         self.spell(path);
-        self.push("</title>");
+        self.pen.push("</title>");
         self.words("name", indent(depth), y, last_name(path));
-        self.push("</g>\n");
+        self.pen.push("</g>\n");
     }
 
     // In a wide picture the name stands again and again, so that one is always in sight.
-    fn names_again(&mut self, path: &str, again: &[u32], top: u32) {
-        let y = top.saturating_add(BASELINE);
+    fn names_again(&mut self, name: &str, again: &[u32], y: u32) {
         for slot in again {
             let x = self.layout.x(*slot).saturating_add(4);
-            self.words("again", x, y, last_name(path));
+            self.words("again", x, y, name);
         }
     }
 
     fn row(&mut self, path: &str, row: &Row, top: u32) {
-        self.bars(path, &row.changes, top);
+        for (place, change) in row.changes.iter().enumerate() {
+            let end = match row.changes.get(place.saturating_add(1)) {
+                Some(next) => self.layout.x(next.slot),
+                None => self.layout.right,
+            };
+            if change.state != NodeState::Inactive {
+                self.bar(path, change, end, top);
+            }
+        }
         for mark in &row.marks {
             self.mark(path, mark, top);
         }
@@ -60,71 +63,47 @@ impl Drawing {
         }
     }
 
-    fn bars(&mut self, path: &str, changes: &[Change], top: u32) {
-        for (place, change) in changes.iter().enumerate() {
-            let end = match changes.get(place.saturating_add(1)) {
-                Some(next) => self.layout.x(next.slot),
-                None => self.layout.right,
-            };
-            if change.state != NodeState::Inactive {
-                self.bar(change, end, top);
-                self.begin_title(path);
-                self.standing(change);
-                self.push("</title></rect>\n");
-            }
-        }
-    }
-
-    fn bar(&mut self, change: &Change, end: u32, top: u32) {
+    fn bar(&mut self, path: &str, change: &Change, end: u32, top: u32) {
         let x = self.layout.x(change.slot);
-        let y = top.saturating_add(4);
-        let piece = " x=\"{}\" y=\"{}\" width=\"{}\" height=\"{}\">";
-        self.fill("<rect class=\"{}\"", change.state.word());
-        self.measure(piece, &[x, y, end.saturating_sub(x), BAR]);
+        let measures = [x, top.saturating_add(4), end.saturating_sub(x), BAR];
+        let attributes = " x=\"{}\" y=\"{}\" width=\"{}\" height=\"{}\">";
+        self.begin("rect", change.state.word(), attributes, &measures);
+        self.begin_title(path);
+        self.standing(change);
+        self.pen.push("</title></rect>\n");
     }
 
     fn mark(&mut self, path: &str, mark: &Mark, top: u32) {
         let x = self.layout.x(mark.slot).saturating_add(2);
-        let y = top.saturating_add(11);
-        self.begin_shape("mark", mark.deed.form(), x, y);
+        self.begin_shape("mark", mark.deed.form, x, top.saturating_add(11));
         self.begin_title(path);
         self.spell(mark.says.as_str());
-        self.push("</title></path>\n");
+        self.pen.push("</title></path>\n");
     }
 
     // How the node has ended, or where it stands, at the right.
     fn end(&mut self, last: &Change, top: u32) {
+        let class = match last.outcome {
+            Some(outcome) if last.state == NodeState::Finished => outcome.word(),
+            _ => "faint",
+        };
         let x = self.layout.right.saturating_add(MARGIN);
-        self.begin_text(last.class(), x, top.saturating_add(BASELINE));
+        let y = top.saturating_add(BASELINE);
+        self.begin("text", class, " x=\"{}\" y=\"{}\">", &[x, y]);
         self.standing(last);
-        self.push("</text>\n");
+        self.pen.push("</text>\n");
     }
 
     // Writes the state, the outcome and the failure; of a node that has finished, no state.
     fn standing(&mut self, change: &Change) {
+        let state = change.state.word();
         match change.outcome {
-            Some(outcome) => self.outcome(change.state, outcome.word()),
-            None => self.push(change.state.word()),
+            Some(outcome) if change.state == NodeState::Finished => self.pen.push(outcome.word()),
+            Some(outcome) => self.pen.fill_each("{} {}", &[state, outcome.word()]),
+            None => self.pen.push(state),
         }
         if let Some(failure) = change.failure {
-            self.fill(" {}", failure.word());
-        }
-    }
-
-    fn outcome(&mut self, state: NodeState, outcome: &str) {
-        if state != NodeState::Finished {
-            self.fill("{} ", state.word());
-        }
-        self.push(outcome);
-    }
-}
-
-impl Change {
-    // The class of how a node stands.
-    fn class(&self) -> &'static str {
-        match self.outcome {
-            Some(outcome) if self.state == NodeState::Finished => outcome.word(),
-            _ => "faint",
+            self.pen.fill(" {}", failure.word());
         }
     }
 }

@@ -32,6 +32,6 @@ impl Drawing {
         self.columns(&recording.columns);
         self.rows(&recording.rows, &recording.again);
         self.numbers_again(&recording.columns, rows);
-        self.push("</svg>\n");
+        self.pen.push("</svg>\n");
     }
 }

@@ -2,56 +2,40 @@
 use crate::draw::Drawing;
 
 impl Drawing {
-    /// Writes a piece of SVG.
-    pub fn push(&mut self, piece: &str) {
-        self.pen.push(piece);
+    /// Begins an element of a class, with these measures, in turn, in place of the `{}` of its attributes.
+    pub fn begin(&mut self, element: &str, class: &str, attributes: &str, measures: &[u32]) {
+        self.pen.fill_each("<{} class=\"{}\"", &[element, class]);
+        self.pen.fill_each(attributes, measures);
     }
 
-    /// Writes a piece of SVG with this word in place of its `{}`.
-    pub fn fill(&mut self, piece: &str, word: &str) {
-        self.pen.fill(piece, word);
+    /// Begins a shape, from the middle of its left edge; `</path>` ends it.
+    pub fn begin_shape(&mut self, class: &str, form: &str, x: u32, y: u32) {
+        self.begin("path", class, " transform=\"translate({} {})\"", &[x, y]);
+        self.pen.fill(" d=\"{}\">", form);
     }
 
-    /// Writes a piece of SVG with these measures, in turn, in place of its `{}`.
-    pub fn measure(&mut self, piece: &str, measures: &[u32]) {
-        self.pen.fill_each(piece, measures);
+    /// Begins what is told where the mouse points at, of a node with this path; `</title>` ends it.
+    pub fn begin_title(&mut self, path: &str) {
+        self.pen.push("<title>");
+        self.spell(path);
+        self.pen.push(": ");
+    }
+
+    /// Draws words.
+    pub fn words(&mut self, class: &str, x: u32, y: u32, words: &str) {
+        self.begin("text", class, " x=\"{}\" y=\"{}\">", &[x, y]);
+        self.spell(words);
+        self.pen.push("</text>\n");
     }
 
     /// Writes a text in which no character is markup, and none that SVG may not have.
     pub fn spell(&mut self, text: &str) {
         for c in text.chars() {
             match spelled(c) {
-                Some(spelled) => self.push(spelled),
+                Some(spelled) => self.pen.push(spelled),
                 None => self.pen.push_char(c),
             }
         }
-    }
-
-    /// Draws words.
-    pub fn words(&mut self, class: &str, x: u32, y: u32, words: &str) {
-        self.begin_text(class, x, y);
-        self.spell(words);
-        self.push("</text>\n");
-    }
-
-    /// Begins a text; `</text>` ends it.
-    pub fn begin_text(&mut self, class: &str, x: u32, y: u32) {
-        self.fill("<text class=\"{}\"", class);
-        self.measure(" x=\"{}\" y=\"{}\">", &[x, y]);
-    }
-
-    /// Begins a shape, from the middle of its left edge; `</path>` ends it.
-    pub fn begin_shape(&mut self, class: &str, form: &str, x: u32, y: u32) {
-        self.fill("<path class=\"{}\"", class);
-        self.measure(" transform=\"translate({} {})\"", &[x, y]);
-        self.fill(" d=\"{}\">", form);
-    }
-
-    /// Begins what is told where the mouse points at, of a node with this path; `</title>` ends it.
-    pub fn begin_title(&mut self, path: &str) {
-        self.push("<title>");
-        self.spell(path);
-        self.push(": ");
     }
 }
 

@@ -1,5 +1,5 @@
 // The columns: a line where each begins, and what was posted at its head.
-use crate::columns::{Column, Fate};
+use crate::columns::Column;
 use crate::draw::Drawing;
 use crate::frame::CROSS;
 use crate::layout::{NUMBERS, NUMBERS_EVERY};
@@ -10,32 +10,30 @@ const FOOT: u32 = 6;
 impl Drawing {
     /// Draws the columns.
     pub fn columns(&mut self, columns: &[Column]) {
-        let top = self.layout.top;
         for column in columns {
-            self.line(column.begin);
-            self.head(column);
+            self.column(column);
         }
+        let top = self.layout.top;
         self.numbers(columns, top);
     }
 
-    fn line(&mut self, slot: u32) {
-        let x = self.layout.x(slot);
-        let top = self.layout.top.saturating_sub(NUMBERS);
-        let bottom = self.layout.height;
-        let piece = "<path class=\"line\" d=\"M{} {} V{}\"/>\n";
-        self.measure(piece, &[x, top, bottom]);
-    }
-
-    // The label rises from the foot of the head.
-    fn head(&mut self, column: &Column) {
-        let x = self.layout.x(column.begin).saturating_add(14);
+    // Draws the line and the label, which rises from the foot of the head.
+    fn column(&mut self, column: &Column) {
+        let x = self.layout.x(column.begin);
         let y = self.layout.top.saturating_sub(NUMBERS);
-        self.push("<g><title>");
+        let bottom = self.layout.height;
+        self.begin("path", "line", " d=\"M{} {} V{}\"/>\n", &[x, y, bottom]);
+        self.pen.push("<g><title>");
         self.spell(column.title.as_str());
-        self.fill("</title><text class=\"{}\"", column.fate.class());
-        self.measure(" transform=\"translate({} {}) rotate(-90)\">", &[x, y]);
+        self.pen.push("</title>");
+        let class = match column.refused {
+            Some(_) => "refused",
+            None => "label",
+        };
+        let attributes = " transform=\"translate({} {}) rotate(-90)\">";
+        self.begin("text", class, attributes, &[x.saturating_add(14), y]);
         self.spell(column.label.as_str());
-        self.push("</text></g>\n");
+        self.pen.push("</text></g>\n");
     }
 
     /// Draws the events' numbers again and again where the picture is high, so that they are always in sight.
@@ -53,33 +51,14 @@ impl Drawing {
         let mut number: u32 = 0;
         for column in columns {
             let x = self.layout.x(column.begin).saturating_add(4);
-            match column.fate {
-                Fate::Accepted => {
-                    self.number(number, x, y.saturating_sub(FOOT));
-                    number = number.saturating_add(1);
-                }
-                Fate::Refused(_) => self.cross(x, y.saturating_sub(10)),
+            if column.refused.is_some() {
+                self.begin_shape("cross", CROSS, x, y.saturating_sub(10));
+                self.pen.push("</path>\n");
+            } else {
+                let measures = [x, y.saturating_sub(FOOT), number];
+                self.begin("text", "faint", " x=\"{}\" y=\"{}\">{}</text>\n", &measures);
+                number = number.saturating_add(1);
             }
-        }
-    }
-
-    fn number(&mut self, number: u32, x: u32, y: u32) {
-        let piece = "<text class=\"faint\" x=\"{}\" y=\"{}\">{}</text>\n";
-        self.measure(piece, &[x, y, number]);
-    }
-
-    fn cross(&mut self, x: u32, y: u32) {
-        self.begin_shape("cross", CROSS, x, y);
-        self.push("</path>\n");
-    }
-}
-
-impl Fate {
-    // The class of a label.
-    fn class(self) -> &'static str {
-        match self {
-            Fate::Accepted => "label",
-            Fate::Refused(_) => "refused",
         }
     }
 }

@@ -11,12 +11,12 @@ use std::alloc::Global;
 const LABEL: usize = 36;
 
 /// What stands at the head of an event's column: the event with the last name of its node, of a long one the front.
-pub fn event_label(alloc: Global, event: &Event) -> Result<String, NoMemory> {
+pub fn event_label(alloc: Global, event: &Event) -> Pen {
     let mut whole = Pen::new(alloc);
     push_label(event, &mut whole);
     let mut label = Pen::new(alloc);
     label.append_front(&whole, LABEL, "..");
-    label.written()
+    label
 }
 
 fn push_label(event: &Event, pen: &mut Pen) {

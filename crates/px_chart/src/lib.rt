@@ -23,6 +23,6 @@ mod values;
 
 pub use draw::picture_of;
 pub use paths::{NodePath, last_name, paths_of};
-pub use record::{RecordFault, run_of};
+pub use record::record_run;
 pub use recording::Recording;
 pub use values::push_value;

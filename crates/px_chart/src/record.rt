@@ -2,10 +2,8 @@
 ghost use Rattle.std.specs.Prelude.{◌≡◌, false, IsTrue, IfOk, OnOk};
 ghost use Rattle.px_core.specs.Fit.{IsFit};
 ghost use Rattle.px_core.specs.Plan.{tree_of};
-ghost use Rattle.px_sem.specs.Conflicts.{is_quiet};
 ghost use Rattle.px_sem.specs.Stepper.{Pending, is_pending};
 
-use crate::columns::Fate;
 use crate::recording::Recording;
 use px_core::Plan;
 use px_event::{Entry, Event, Reply};
@@ -16,48 +14,20 @@ use std::alloc::Global;
 /// How many events a history has at most.
 const EVENT_LIMIT: u32 = 100_000;
 
-/// Why a run was not recorded.
-#[derive(Clone, Copy)]
-pub enum RecordFault {
-    /// The start doesn't settle.
-    Runaway,
-    /// Memory has run out.
-    NoMemory,
-}
-
-impl From<NoMemory> for RecordFault {
-    fn from(_: NoMemory) -> Self {
-        RecordFault::NoMemory
-    }
-}
-
-/// The run of a plan to which these entries are posted in their order.
-pub fn run_of<S: Stepper>(
-    alloc: Global,
-    plan: &Plan,
-    entries: &[Entry],
-) -> Result<Recording, RecordFault>
-    requires fit { IsFit (tree_of plan.now) }
-{
-    let mut recording = Recording::new(alloc, plan)?;
-    match run::<S>(alloc, plan, entries, &mut recording) {
-        Ok(()) => Ok(recording),
-        Err(fault) => Err(fault),
-    }
-}
-
-fn run<S: Stepper>(
+/// Records the run of a plan to which these entries are posted in their order, and answers whether its start settles;
+/// where it doesn't, nothing is posted.
+pub fn record_run<S: Stepper>(
     alloc: Global,
     plan: &Plan,
     entries: &[Entry],
     recording: &mut Recording,
-) -> Result<(), RecordFault>
+) -> Result<bool, NoMemory>
     requires fit { IsFit (tree_of plan.now) }
 {
     let mut stepper = S::fresh(alloc, plan)?;
-    let ran = start_and_post(alloc, &mut stepper, entries, recording);
+    let recorded = start_and_post(alloc, &mut stepper, entries, recording);
     drop(stepper);
-    ran
+    recorded
 }
 
 fn start_and_post<S: Stepper>(
@@ -65,14 +35,15 @@ fn start_and_post<S: Stepper>(
     stepper: &mut S,
     entries: &[Entry],
     recording: &mut Recording,
-) -> Result<(), RecordFault>
+) -> Result<bool, NoMemory>
     requires pending { IsTrue (is_pending (S.state stepper.old).pending) }
 {
     if !settles(alloc, stepper, recording)? {
-        return Err(RecordFault::Runaway);
+        return Ok(false);
     }
-    recording.end_start();
-    Ok(post_each(alloc, stepper, entries, recording)?)
+    recording.end_start()?;
+    post_each(alloc, stepper, entries, recording)?;
+    Ok(true)
 }
 
 // Steps until the world is quiet and settles it, and answers whether it does so; each step is kept.
@@ -90,7 +61,7 @@ fn settles<S: Stepper>(
             stepper.settle();
             return Ok(true);
         }
-        recording.step(stepper.moves());
+        recording.step(stepper.moves())?;
     }
     Ok(false)
 }
@@ -106,47 +77,47 @@ fn post_each<S: Stepper>(
 {
     let mut count: u32 = 0;
     for entry in entries {
-        let fate = post(alloc, stepper, count, &entry.event, recording)?;
-        if fate.is_accepted() {
+        let refused = post(alloc, stepper, count, &entry.event, recording)?;
+        if refused.is_none() {
             count = count.saturating_add(1);
         }
-        recording.end_entry(entry, fate);
+        recording.end_entry(entry, refused)?;
     }
-    recording.whole()
+    Ok(())
 }
 
-// Posts an event, and answers what becomes of it. One that settles is taken once more, step by step.
+// Posts an event, and answers why it is refused. One that settles is taken once more, step by step.
 fn post<S: Stepper>(
     alloc: Global,
     stepper: &mut S,
     count: u32,
     event: &Event,
     recording: &mut Recording,
-) -> Result<Fate, NoMemory>
+) -> Result<Option<&'static str>, NoMemory>
     requires nothing { (S.state stepper.old).pending ≡ Pending.Nothing }
     ensures rest { OnOk result ((S.state stepper.new).pending ≡ Pending.Nothing) }
 {
     if !event.is_fit() {
-        return Ok(Fate::Refused("no event"));
+        return Ok(Some("no event"));
     }
     match offer(stepper, alloc, EVENT_LIMIT, count, event)? {
-        Offered::Refused(reply) => Ok(fate_by(reply)),
+        Offered::Refused(reply) => Ok(why_refused(reply)),
         Offered::Pending { .. } => {
             stepper.give_up();
             stepper.begin(alloc, event)?;
             if !settles(alloc, stepper, recording)? {
                 stepper.give_up();
             }
-            Ok(Fate::Accepted)
+            Ok(None)
         }
     }
 }
 
-fn fate_by(reply: Reply) -> Fate {
+fn why_refused(reply: Reply) -> Option<&'static str> {
     match reply {
-        Reply::Accepted { .. } => Fate::Accepted,
-        Reply::PlanFinished => Fate::Refused("the plan has finished"),
-        Reply::Full => Fate::Refused("the history is full"),
-        Reply::Runaway => Fate::Refused("it doesn't settle"),
+        Reply::Accepted { .. } => None,
+        Reply::PlanFinished => Some("the plan has finished"),
+        Reply::Full => Some("the history is full"),
+        Reply::Runaway => Some("it doesn't settle"),
     }
 }

@@ -1,12 +1,14 @@
 // What is kept of a run: its rows and its columns.
-use crate::columns::{Column, Fate};
+use crate::columns::{Column, title_of};
+use crate::labels::event_label;
 use crate::layout::name_slots;
 use crate::rows::{Rows, add_rows};
 use px_core::Plan;
 use px_event::Entry;
+use px_pen::Pen;
 use px_sem::Move;
 use px_value::NoMemory;
-use std::alloc::{AllocError, Global};
+use std::alloc::Global;
 
 /// The least slots of a column, so that its head has room.
 const LEAST_SLOTS: u32 = 3;
@@ -29,92 +31,82 @@ pub struct Recording {
     begin: u32,
     /// The slot of the next step.
     pub(crate) slot: u32,
-    /// Whether memory has run out, so that something is missing.
-    has_failed: bool,
 }
 
 impl Recording {
-    /// A recording of nothing.
-    pub(crate) fn new(alloc: Global, plan: &Plan) -> Result<Recording, NoMemory> {
-        let rows = Box::new(alloc, Rows::new(alloc))?;
-        let mut recording = Recording {
+    /// A recording in which the nodes of a plan did nothing yet.
+    pub fn new(alloc: Global, plan: &Plan) -> Result<Recording, NoMemory> {
+        let mut rows = Box::new(alloc, Rows::new(alloc))?;
+        add_rows(alloc, plan, &mut rows)?;
+        let name_slots = name_slots(&rows);
+        Ok(Recording {
             alloc,
             rows,
             columns: Vec::new(alloc),
             again: Vec::new(alloc),
-            name_slots: 0,
+            name_slots,
             begin: 0,
             slot: 0,
-            has_failed: false,
-        };
-        recording.begin_rows(plan);
-        Ok(recording)
-    }
-
-    fn begin_rows(&mut self, plan: &Plan) {
-        self.has_failed = add_rows(self.alloc, plan, &mut self.rows).is_err();
-        self.name_slots = name_slots(&self.rows);
-    }
-
-    /// `NoMemory` where memory has run out meanwhile.
-    pub(crate) fn whole(&self) -> Result<(), NoMemory> {
-        if self.has_failed {
-            Err(AllocError)
-        } else {
-            Ok(())
-        }
+        })
     }
 
     /// Keeps a micro step.
-    pub(crate) fn step(&mut self, moves: &[Move]) {
+    pub(crate) fn step(&mut self, moves: &[Move]) -> Result<(), NoMemory> {
         for moved in moves {
-            self.keep(moved);
+            if let Some(row) = self.rows.get_mut(&moved.node) {
+                row.keep(self.alloc, self.slot, moved)?;
+            }
         }
         self.slot = self.slot.saturating_add(1);
-    }
-
-    fn keep(&mut self, moved: &Move) {
-        if let Some(row) = self.rows.get_mut(&moved.node) {
-            let kept = row.keep(self.alloc, self.slot, moved);
-            self.has_failed = self.has_failed || kept.is_err();
-        }
+        Ok(())
     }
 
     /// Ends the column of the start.
-    pub(crate) fn end_start(&mut self) {
-        let column = Column::of_start(self.alloc, self.begin);
-        self.end_column(column);
+    pub(crate) fn end_start(&mut self) -> Result<(), NoMemory> {
+        let mut label = Pen::new(self.alloc);
+        label.push("start");
+        let mut title = Pen::new(self.alloc);
+        title.push("event 0: start");
+        self.end_column(label, title, None)
     }
 
-    /// Ends the column of an entry.
-    pub(crate) fn end_entry(&mut self, entry: &Entry, fate: Fate) {
-        let column = Column::of_entry(self.alloc, self.begin, entry, fate);
-        self.end_column(column);
+    /// Ends the column of an entry, which was refused for this reason, or accepted.
+    pub(crate) fn end_entry(
+        &mut self,
+        entry: &Entry,
+        refused: Option<&'static str>,
+    ) -> Result<(), NoMemory> {
+        let label = event_label(self.alloc, &entry.event);
+        let title = title_of(self.alloc, entry, refused);
+        self.end_column(label, title, refused)
     }
 
-    fn end_column(&mut self, column: Result<Column, NoMemory>) {
-        match column {
-            Ok(column) => self.add_column(column),
-            Err(_) => self.has_failed = true,
-        }
+    fn end_column(
+        &mut self,
+        label: Pen,
+        title: Pen,
+        refused: Option<&'static str>,
+    ) -> Result<(), NoMemory> {
+        self.columns.push(Column {
+            begin: self.begin,
+            label: label.written()?,
+            title: title.written()?,
+            refused,
+        })?;
         let least = self.begin.saturating_add(LEAST_SLOTS);
         self.slot = self.slot.saturating_add(1).max(least);
-        self.leave_room();
+        self.leave_room()?;
         self.begin = self.slot;
-    }
-
-    fn add_column(&mut self, column: Column) {
-        let added = self.columns.push(column);
-        self.has_failed = self.has_failed || added.is_err();
+        Ok(())
     }
 
     // Leaves room for the names, where they last stood far to the left.
-    fn leave_room(&mut self) {
+    fn leave_room(&mut self) -> Result<(), NoMemory> {
         let last = self.again.last().copied().unwrap_or(0);
         if self.slot.saturating_sub(last) >= NAMES_EVERY {
-            let added = self.again.push(self.slot);
-            self.has_failed = self.has_failed || added.is_err();
+            self.again.push(self.slot)?;
             self.slot = self.slot.saturating_add(self.name_slots);
         }
+        Ok(())
     }
 }

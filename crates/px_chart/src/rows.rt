@@ -17,27 +17,34 @@ pub struct Change {
     pub failure: Option<Failure>,
 }
 
-/// What a node does besides.
+/// What a node does besides, as a picture marks it.
 #[derive(Clone, Copy)]
-pub enum Deed {
-    Command,
-    Abort,
-    Update,
-    Write,
+pub struct Deed {
+    /// In the legend.
+    pub word: &'static str,
+    /// The outline of its mark, from the middle of the mark's left edge.
+    pub form: &'static str,
 }
 
-impl Deed {
-    /// What an effect does; None where it writes nothing.
-    fn of(effect: &Effect) -> Option<Deed> {
-        match effect {
-            Effect::Sent { .. } => Some(Deed::Command),
-            Effect::Aborted { .. } => Some(Deed::Abort),
-            Effect::Updated { .. } => Some(Deed::Update),
-            Effect::Wrote { .. } => Some(Deed::Write),
-            Effect::NoWrite => None,
-        }
-    }
-}
+pub const COMMAND: Deed = Deed {
+    word: "command",
+    form: "M0 -5 L9 0 L0 5 Z",
+};
+
+pub const ABORT: Deed = Deed {
+    word: "abort",
+    form: "M0 -4 H8 V4 H0 Z",
+};
+
+pub const UPDATE: Deed = Deed {
+    word: "update",
+    form: "M4 -5 L9 0 L4 5 L-1 0 Z",
+};
+
+pub const WRITE: Deed = Deed {
+    word: "write",
+    form: "M4 -3 A3 3 0 1 1 3.9 -3 Z",
+};
 
 /// A thing that a node does in one slot.
 #[derive(Drop)]
@@ -85,8 +92,12 @@ impl Row {
     }
 
     fn keep_effect(&mut self, alloc: Global, slot: u32, effect: &Effect) -> Result<(), NoMemory> {
-        let Some(deed) = Deed::of(effect) else {
-            return Ok(());
+        let deed = match effect {
+            Effect::Sent { .. } => COMMAND,
+            Effect::Aborted { .. } => ABORT,
+            Effect::Updated { .. } => UPDATE,
+            Effect::Wrote { .. } => WRITE,
+            Effect::NoWrite => return Ok(()),
         };
         let says = effect_label(alloc, effect)?;
         self.marks.push(Mark { slot, deed, says })?;
@@ -97,11 +108,7 @@ impl Row {
 /// Adds a row for each node of a plan, each before those below it, without anything that they did.
 pub fn add_rows(alloc: Global, plan: &Plan, rows: &mut Rows) -> Result<(), NoMemory> {
     let nodes = paths_of(alloc, plan)?;
-    add_each(alloc, &nodes, rows)
-}
-
-fn add_each(alloc: Global, nodes: &[NodePath<'_>], rows: &mut Rows) -> Result<(), NoMemory> {
-    for node in nodes {
+    for node in &nodes {
         add_row(alloc, node, rows)?;
     }
     Ok(())

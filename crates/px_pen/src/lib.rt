@@ -93,6 +93,11 @@ impl Pen {
         }
     }
 
+    /// Notes that memory has run out for what was to be written.
+    pub fn fail(&mut self) {
+        self.has_failed = true;
+    }
+
     /// Whether nothing was to be written yet.
     pub fn is_empty(&self) -> bool {
         !self.has_failed && self.text.is_empty()

@@ -12,17 +12,13 @@ const BEFORE_ENTRY: usize = 3;
 /// The most records.
 const RECORDS: usize = 100_000;
 
-/// The number that these bytes spell, the highest first.
-fn number(bytes: &[u8]) -> usize {
+// The number that so many bytes at a place spell, the highest first.
+fn number_at(bytes: &[u8], at: usize, width: usize) -> Option<usize> {
     let mut number: usize = 0;
-    for byte in bytes {
+    for byte in bytes.get(at..at.saturating_add(width))? {
         number = number.saturating_mul(256).saturating_add(*byte as usize);
     }
-    number
-}
-
-fn number_at(bytes: &[u8], at: usize, width: usize) -> Option<usize> {
-    Some(number(bytes.get(at..at.saturating_add(width))?))
+    Some(number)
 }
 
 // The gate behind the record whose gate this is; None where it is closed or the record has no length.

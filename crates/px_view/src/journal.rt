@@ -3,11 +3,10 @@ ghost use Rattle.std.specs.Prelude.{IfOk, IsTrue};
 
 use crate::answer::{JOURNAL_REFUSED, Stop};
 use crate::gates::last_gate;
-use crate::reading::fetch;
 use px_event::Entry;
 use px_journal::{Journal, RecoverWhy, Recovered};
 use px_pen::Pen;
-use px_ports::{Disk, Host, MemDisk};
+use px_ports::{Disk, MemDisk};
 use px_trace::push_heading;
 use px_value::NoMemory;
 use std::alloc::Global;
@@ -16,21 +15,10 @@ use std::str::from_utf8;
 /// The most bytes of a journal's file that is read.
 pub const JOURNAL_LIMIT: usize = 1_000_000_000;
 
-/// Says what the journal in a file holds.
-pub fn journal_file<H: Host>(
-    alloc: Global,
-    name: &str,
-    host: &mut H,
-    out: &mut Pen,
-) -> Result<(), Stop> {
-    let bytes = fetch(alloc, name, JOURNAL_LIMIT, host, out)?;
-    list_journal(alloc, name, bytes, out)
-}
-
 /// Says what the bytes of a journal's file hold.
 pub fn list_journal(alloc: Global, name: &str, bytes: Vec<u8>, out: &mut Pen) -> Result<(), Stop> {
     match recovered(alloc, &bytes) {
-        Ok(read) => whole(alloc, name, &bytes, read, out),
+        Ok(read) => whole(alloc, name, &bytes, &read, out),
         Err(RecoverWhy::NoJournal) => Err(nothing(name, bytes.len(), out)),
         Err(RecoverWhy::Damaged { at }) => damaged(alloc, name, bytes, at as usize, out),
         Err(RecoverWhy::DiskFault | RecoverWhy::NoMemory) => Err(Stop::NoMemory),
@@ -82,34 +70,33 @@ fn attached(mut disk: MemDisk) -> Result<MemDisk, RecoverWhy>
     }
 }
 
-fn whole(alloc: Global, name: &str, bytes: &[u8], read: Held, out: &mut Pen) -> Result<(), Stop> {
-    push_sizes(name, bytes.len(), read.text.len(), out);
-    push_history(alloc, &read.history, out)?;
-    push_end(bytes, out);
-    Ok(())
-}
-
-fn push_sizes(name: &str, length: usize, text: usize, out: &mut Pen) {
-    out.fill("{}: a journal of ", name);
-    out.fill_each("{} bytes, {} of them the plan's text\n", &[length, text]);
-}
-
-fn push_end(bytes: &[u8], out: &mut Pen) {
+fn whole(alloc: Global, name: &str, bytes: &[u8], read: &Held, out: &mut Pen) -> Result<(), Stop> {
     let length = bytes.len();
+    out.fill("{}: a journal of ", name);
+    out.fill_each(
+        "{} bytes, {} of them the plan's text\n",
+        &[length, read.text.len()],
+    );
+    push_history(alloc, &read.history, out)?;
     let end = last_gate(bytes, length).saturating_add(1);
     out.fill_each(
         "the history ends at byte {}; {} bytes behind it are nobody's\n",
         &[end, length.saturating_sub(end)],
     );
+    Ok(())
 }
 
 fn push_history(alloc: Global, history: &[Entry], out: &mut Pen) -> Result<(), NoMemory> {
     let mut lines = Vec::new(alloc);
     push_headings(alloc, history, &mut lines)?;
     out.push(from_utf8(&lines).unwrap_or("(a text of the history is no UTF-8)\n"));
-    let count = history.len();
-    out.show(&count);
-    out.push(if count == 1 { " event\n" } else { " events\n" });
+    let events = history.len();
+    let count = if events == 1 {
+        "{} event\n"
+    } else {
+        "{} events\n"
+    };
+    out.fill_each(count, &[events]);
     Ok(())
 }
 
@@ -136,15 +123,11 @@ fn damaged(
     out: &mut Pen,
 ) -> Result<(), Stop> {
     let gate = last_gate(&bytes, at);
-    push_damage(name, at, bytes.len(), out);
+    out.fill("{}: damaged at byte ", name);
+    out.fill_each("{} of {}: ", &[at, bytes.len()]);
     out.fill("{}\n", why_at(at, gate));
     push_before(alloc, bytes, gate, out)?;
     Err(Stop::Refused(JOURNAL_REFUSED))
-}
-
-fn push_damage(name: &str, at: usize, length: usize, out: &mut Pen) {
-    out.fill("{}: damaged at byte ", name);
-    out.fill_each("{} of {}: ", &[at, length]);
 }
 
 fn why_at(at: usize, gate: usize) -> &'static str {

@@ -2,14 +2,14 @@
 ghost use Rattle.px_core.specs.Fit.{IsFit};
 ghost use Rattle.px_core.specs.Plan.{tree_of};
 
+use crate::answer::{SCRIPT_REFUSED, Stop};
 use px_chart::{NodePath, last_name, paths_of};
 use px_core::Plan;
 use px_event::Entry;
 use px_pen::Pen;
 use px_script::{SCRIPT_LIMIT, ScriptFault, read_script};
-use px_value::NoMemory;
 use px_why::{Nearest, Place, Words, push_fault, push_meant, push_whole};
-use std::alloc::{AllocError, Global};
+use std::alloc::Global;
 use std::str::from_utf8;
 
 /// How many paths are told behind the first.
@@ -38,46 +38,30 @@ const SHAPES: [(&str, &str); 7] = [
     ),
 ];
 
-/// Writes why the bytes of a file are no script for a plan, in words, and answers whether there is a reason: the first
-/// faulty line.
-pub fn why_script(
+/// What the lines of a script for a plan post, by rising numbers. Where its bytes are no script, its first faulty line is
+/// explained.
+pub fn entries_in(
     alloc: Global,
     name: &str,
     bytes: &[u8],
     plan: &Plan,
     out: &mut Pen,
-) -> Result<bool, NoMemory>
+) -> Result<Vec<Entry>, Stop>
     requires fit { IsFit (tree_of plan.now) }
 {
     if bytes.len() > SCRIPT_LIMIT {
-        let mut words = Words::new(alloc);
-        words
-            .message
-            .push("the file is no script: it has over 16,777,216 bytes");
-        push_whole(out, name, &words);
-        return Ok(true);
+        out.push("error: the file is no script: it has over 16,777,216 bytes");
+        push_whole(out, name, "");
+        return Err(Stop::Refused(SCRIPT_REFUSED));
     }
     match read_script(alloc, bytes, plan) {
-        Ok(script) => {
-            drop(script);
-            Ok(false)
-        }
+        Ok(script) => Ok(script.into_entries(alloc)?),
         Err(ScriptFault::Fault { line, kind }) => {
-            push_line(alloc, name, bytes, line, kind, plan, out)?;
-            Ok(true)
+            push_line(alloc, name, bytes, line, kind, plan, out);
+            Err(Stop::Refused(SCRIPT_REFUSED))
         }
-        Err(ScriptFault::NoMemory) => Err(AllocError),
+        Err(ScriptFault::NoMemory) => Err(Stop::NoMemory),
     }
-}
-
-/// What the lines of a script for a plan post, by rising numbers.
-pub fn entries_in(alloc: Global, bytes: &[u8], plan: &Plan) -> Result<Vec<Entry>, ScriptFault>
-    requires fit { IsFit (tree_of plan.now) }
-{
-    if bytes.len() > SCRIPT_LIMIT {
-        return Err(ScriptFault::Fault { line: 1, kind: 1 });
-    }
-    Ok(read_script(alloc, bytes, plan)?.into_entries(alloc)?)
 }
 
 // The bytes of a line, by its number from 1.
@@ -96,38 +80,19 @@ fn push_line(
     kind: u8,
     plan: &Plan,
     out: &mut Pen,
-) -> Result<(), NoMemory> {
+) {
     match from_utf8(line_of(bytes, line)) {
-        Ok(content) => push_content(alloc, name, content, line, kind, plan, out),
+        Ok(content) => {
+            let content = content.strip_suffix('\r').unwrap_or(content);
+            let mut words = Words::new(alloc);
+            explain(alloc, content, kind, plan, &mut words);
+            push_fault(out, name, &place_of(content, line, kind), &words);
+        }
         Err(_) => {
-            no_text(alloc, name, line, out);
-            Ok(())
+            out.fill_each("error: line {} is no text (UTF-8)", &[line]);
+            push_whole(out, name, "");
         }
     }
-}
-
-fn no_text(alloc: Global, name: &str, line: u32, out: &mut Pen) {
-    let mut words = Words::new(alloc);
-    words
-        .message
-        .fill_each("line {} is no text (UTF-8)", &[line]);
-    push_whole(out, name, &words);
-}
-
-fn push_content(
-    alloc: Global,
-    name: &str,
-    content: &str,
-    line: u32,
-    kind: u8,
-    plan: &Plan,
-    out: &mut Pen,
-) -> Result<(), NoMemory> {
-    let content = content.strip_suffix('\r').unwrap_or(content);
-    let mut words = Words::new(alloc);
-    explain(alloc, content, kind, plan, &mut words)?;
-    push_fault(out, name, &place_of(content, line, kind), &words);
-    Ok(())
 }
 
 // The place of what is wrong in a line.
@@ -172,16 +137,13 @@ fn before_word(content: &str, number: usize) -> usize {
     0
 }
 
-fn explain(
-    alloc: Global,
-    content: &str,
-    kind: u8,
-    plan: &Plan,
-    words: &mut Words,
-) -> Result<(), NoMemory> {
+fn explain(alloc: Global, content: &str, kind: u8, plan: &Plan, words: &mut Words) {
     match kind {
-        1 => return no_shape(alloc, word(content, 0), words),
-        2 => return no_node(alloc, content, plan, words),
+        1 => no_shape(alloc, word(content, 0), words),
+        2 => match paths_of(alloc, plan) {
+            Ok(nodes) => no_node(alloc, content, &nodes, words),
+            Err(_) => words.help.fail(),
+        },
         3 => words.say(
             "a VALUE of this line is none",
             "a VALUE is `true`, `false`, an Integer from -2147483648 to 2147483647, a String in double quotes, or `UNKNOWN`, which is no argument",
@@ -196,50 +158,38 @@ fn explain(
             "",
         ),
     }
-    Ok(())
 }
 
 // Of a line that begins with this word.
-fn no_shape(alloc: Global, first: &str, words: &mut Words) -> Result<(), NoMemory> {
+fn no_shape(alloc: Global, first: &str, words: &mut Words) {
+    let mut nearest = Nearest::to(first);
     for line in &SHAPES {
         let (known, shape) = *line;
         if first == known {
             words.message.fill("this is no `{}` line", first);
-            words.help.fill("it is {}", shape);
-            return Ok(());
+            return words.help.fill("it is {}", shape);
         }
-    }
-    no_first_word(alloc, first, words)
-}
-
-fn no_first_word(alloc: Global, first: &str, words: &mut Words) -> Result<(), NoMemory> {
-    let mut nearest = Nearest::to(first);
-    for line in &SHAPES {
-        let (word, _) = *line;
-        nearest.look_at(alloc, word);
+        nearest.look_at(alloc, known);
     }
     words
         .message
         .fill("no line of a script begins with `{}`", first);
-    match nearest.found()? {
+    match nearest.found(&mut words.help) {
         Some(near) => push_meant(near, &mut words.help),
         None => words.help.push(
             "a line begins with `set`, `handle`, `return`, `abort`, `ack`, `wait` or `thread`, a comment with `#`",
         ),
     }
-    Ok(())
 }
 
-fn no_node(alloc: Global, content: &str, plan: &Plan, words: &mut Words) -> Result<(), NoMemory> {
+fn no_node(alloc: Global, content: &str, nodes: &[NodePath<'_>], words: &mut Words) {
     let path = word(content, word_meant(content, 2));
-    let nodes = paths_of(alloc, plan)?;
-    for node in &nodes {
+    for node in nodes {
         if node.path.as_str() == path {
-            of_other_kind(&nodes, node, word(content, 0), words);
-            return Ok(());
+            return of_other_kind(nodes, node, word(content, 0), words);
         }
     }
-    no_path(alloc, &nodes, path, words)
+    no_path(alloc, nodes, path, words);
 }
 
 // Of a line that isn't for nodes of this one's kind.
@@ -256,40 +206,28 @@ fn of_other_kind(nodes: &[NodePath<'_>], node: &NodePath<'_>, first: &str, words
     push_below(nodes, path, wanted, &mut words.help);
 }
 
-fn no_path(
-    alloc: Global,
-    nodes: &[NodePath<'_>],
-    path: &str,
-    words: &mut Words,
-) -> Result<(), NoMemory> {
+fn no_path(alloc: Global, nodes: &[NodePath<'_>], path: &str, words: &mut Words) {
     words.message.fill("the plan has no node `{}`", path);
     let mut nearest = Nearest::to(path);
     for node in nodes {
         nearest.look_at(alloc, node.path.as_str());
     }
-    match nearest.found()? {
+    match nearest.found(&mut words.help) {
         Some(near) => push_meant(near, &mut words.help),
-        None => alike_at_last(alloc, nodes, last_name(path), &mut words.help)?,
+        None => alike_at_last(alloc, nodes, last_name(path), &mut words.help),
     }
-    Ok(())
 }
 
 // Writes the nodes with the last name that is nearest to this one.
-fn alike_at_last(
-    alloc: Global,
-    nodes: &[NodePath<'_>],
-    last: &str,
-    help: &mut Pen,
-) -> Result<(), NoMemory> {
+fn alike_at_last(alloc: Global, nodes: &[NodePath<'_>], last: &str, help: &mut Pen) {
     let mut nearest = Nearest::to(last);
     for node in nodes {
         nearest.look_at(alloc, last_name(node.path.as_str()));
     }
-    match nearest.found()? {
+    match nearest.found(help) {
         Some(last) => push_named(nodes, last, help),
         None => help.push("`plexil-view nodes PLAN` prints the paths of a plan"),
     }
-    Ok(())
 }
 
 // Writes the nodes of the kind that is wanted below a path.

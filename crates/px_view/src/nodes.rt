@@ -1,48 +1,40 @@
 // The command `nodes`.
 use crate::answer::Stop;
-use crate::reading::{fetch, plan_in};
+use crate::reading::plan_in;
 use crate::terms::{push_args, push_expr, push_index};
 use px_chart::{NodePath, paths_of};
-use px_compile::TEXT_LIMIT;
-use px_core::{BinaryOp, Body, Expr, Pair, Plan, Target, UnaryOp};
+use px_core::{BinaryOp, Body, Expr, Plan, Target, UnaryOp};
 use px_pen::Pen;
-use px_ports::Host;
 use px_value::{CompareOp, NoMemory, Value};
 use std::alloc::Global;
 
 /// How many characters of a condition are shown.
 const SHOWN: usize = 240;
 
-/// Lists the nodes of the plan in a file whose paths have a word in them.
-pub fn nodes_file<H: Host>(
+/// Lists the nodes of a plan whose paths have a word in them.
+pub fn list_nodes(
     alloc: Global,
     name: &str,
+    bytes: &[u8],
     like: &str,
-    host: &mut H,
     out: &mut Pen,
 ) -> Result<(), Stop> {
-    let bytes = fetch(alloc, name, TEXT_LIMIT, host, out)?;
-    let plan = plan_in(alloc, name, &bytes, out)?;
+    let plan = plan_in(alloc, name, bytes, out)?;
     let listed = push_plan(alloc, &plan, like, out);
     drop(plan);
     Ok(listed?)
 }
 
 fn push_plan(alloc: Global, plan: &Plan, like: &str, out: &mut Pen) -> Result<(), NoMemory> {
-    let nodes = paths_of(alloc, plan)?;
-    push_nodes(alloc, &nodes, like, out);
-    if out.is_empty() {
-        out.fill("no path has `{}` in it\n", like);
-    }
-    Ok(())
-}
-
-fn push_nodes(alloc: Global, nodes: &[NodePath<'_>], like: &str, out: &mut Pen) {
-    for node in nodes {
+    for node in &paths_of(alloc, plan)? {
         if node.path.as_str().contains(like) {
             push_node(alloc, node, out);
         }
     }
+    if out.is_empty() {
+        out.fill("no path has `{}` in it\n", like);
+    }
+    Ok(())
 }
 
 fn push_node(alloc: Global, node: &NodePath<'_>, out: &mut Pen) {
@@ -77,15 +69,13 @@ fn push_body(body: &Body, out: &mut Pen) {
             out.push(name.as_str());
             push_args(args, out);
         }
-        Body::Update { pairs } => push_pairs(pairs, out),
-    }
-}
-
-fn push_pairs(pairs: &[Pair], out: &mut Pen) {
-    for (place, pair) in pairs.iter().enumerate() {
-        out.push(if place == 0 { " of " } else { ", " });
-        out.fill("{} = ", pair.name.as_str());
-        push_expr(&pair.value, out);
+        Body::Update { pairs } => {
+            for (place, pair) in pairs.iter().enumerate() {
+                out.push(if place == 0 { " of " } else { ", " });
+                out.fill("{} = ", pair.name.as_str());
+                push_expr(&pair.value, out);
+            }
+        }
     }
 }
 

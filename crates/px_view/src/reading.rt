@@ -9,7 +9,7 @@ use px_core::Plan;
 use px_pen::Pen;
 use px_ports::{Fetched, Host, HostFault};
 use px_syntax::{ExpandFault, PlanFault};
-use px_why::{Words, push_whole, why_plan};
+use px_why::{push_whole, why_plan};
 use std::alloc::Global;
 
 /// The bytes of a file, which has at most `limit`.
@@ -22,21 +22,17 @@ pub fn fetch<H: Host>(
 ) -> Result<Vec<u8>, Stop> {
     match host.fetch(alloc, name, limit) {
         Ok(Fetched::Whole(bytes)) => Ok(bytes),
-        Ok(Fetched::Longer) => Err(too_long(name, limit, out)),
-        Err(HostFault::Failed) => Err(unread(name, out)),
+        Ok(Fetched::Longer) => {
+            out.fill("{}: the file has over ", name);
+            out.fill_each("{} bytes\n", &[limit]);
+            Err(Stop::Refused(READ_FAULT))
+        }
+        Err(HostFault::Failed) => {
+            out.fill("{}: the file can't be read\n", name);
+            Err(Stop::Refused(READ_FAULT))
+        }
         Err(HostFault::NoMemory) => Err(Stop::NoMemory),
     }
-}
-
-fn too_long(name: &str, limit: usize, out: &mut Pen) -> Stop {
-    out.fill("{}: the file has over ", name);
-    out.fill_each("{} bytes\n", &[limit]);
-    Stop::Refused(READ_FAULT)
-}
-
-fn unread(name: &str, out: &mut Pen) -> Stop {
-    out.fill("{}: the file can't be read\n", name);
-    Stop::Refused(READ_FAULT)
 }
 
 /// Why bytes spell no plan that can be run.
@@ -62,14 +58,14 @@ pub fn plan_in(alloc: Global, name: &str, bytes: &[u8], out: &mut Pen) -> Result
     ensures fit { IfOk result (λ plan. IsFit (tree_of plan)) }
 {
     if bytes.len() > TEXT_LIMIT {
-        return Err(too_large(alloc, name, out));
+        out.push("error: the file is no plan: it has over 1,048,576 bytes");
+        push_whole(out, name, "");
+        return Err(NoPlan::Refused(1));
     }
     match compile(alloc, bytes) {
         Ok(plan) => Ok(plan),
         Err(PlanFault::NoMemory) => Err(NoPlan::NoMemory),
-        Err(PlanFault::Expand(ExpandFault::TooMany { nodes })) => {
-            Err(too_many(alloc, name, nodes, out))
-        }
+        Err(PlanFault::Expand(ExpandFault::TooMany { nodes })) => Err(too_many(name, nodes, out)),
         Err(_) => Err(no_plan(alloc, name, bytes, out)),
     }
 }
@@ -81,24 +77,11 @@ fn no_plan(alloc: Global, name: &str, bytes: &[u8], out: &mut Pen) -> NoPlan {
     }
 }
 
-fn too_large(alloc: Global, name: &str, out: &mut Pen) -> NoPlan {
-    let mut words = Words::new(alloc);
-    words
-        .message
-        .push("the file is no plan: it has over 1,048,576 bytes");
-    push_whole(out, name, &words);
-    NoPlan::Refused(1)
-}
-
-fn too_many(alloc: Global, name: &str, nodes: u32, out: &mut Pen) -> NoPlan {
-    let mut words = Words::new(alloc);
-    words.message.fill_each(
-        "the plan has {} nodes, of at most 4,096, or one of them a path of over 5,000 bytes",
+fn too_many(name: &str, nodes: u32, out: &mut Pen) -> NoPlan {
+    out.fill_each(
+        "error: the plan has {} nodes, of at most 4,096, or one of them a path of over 5,000 bytes",
         &[nodes],
     );
-    words
-        .help
-        .push("make it of fewer nodes, or nest them less deep");
-    push_whole(out, name, &words);
+    push_whole(out, name, "make it of fewer nodes, or nest them less deep");
     NoPlan::Refused(1)
 }

@@ -1,12 +1,14 @@
 // Whether a plan's start settles, and which nodes go on where it doesn't.
+ghost use Rattle.std.specs.Prelude.{IsTrue};
 ghost use Rattle.px_core.specs.Fit.{IsFit};
 ghost use Rattle.px_core.specs.Plan.{tree_of};
+ghost use Rattle.px_sem.specs.Stepper.{is_pending};
 
 use px_core::Plan;
 use px_pen::Pen;
 use px_sem::{Move, STEP_LIMIT, Stepper};
 use px_value::NoMemory;
-use px_why::{Words, push_whole};
+use px_why::push_whole;
 use std::alloc::Global;
 
 /// How many nodes are told.
@@ -22,24 +24,38 @@ pub fn why_start<S: Stepper>(
     requires fit { IsFit (tree_of plan.now) }
 {
     let mut stepper = S::fresh(alloc, plan)?;
+    let settles = settles_or_tells(alloc, name, &mut stepper, out);
+    drop(stepper);
+    settles
+}
+
+fn settles_or_tells<S: Stepper>(
+    alloc: Global,
+    name: &str,
+    stepper: &mut S,
+    out: &mut Pen,
+) -> Result<bool, NoMemory>
+    requires pending { IsTrue (is_pending (S.state stepper.old).pending) }
+{
     for _ in 0..STEP_LIMIT + 1 {
         if !stepper.step(alloc)? {
             return Ok(true);
         }
     }
-    let mut words = Words::new(alloc);
-    push_going(stepper.moves(), &mut words);
-    drop(stepper);
-    push_whole(out, name, &words);
+    push_going(name, stepper.moves(), out);
     Ok(false)
 }
 
-fn push_going(moves: &[Move], words: &mut Words) {
-    words.say(
-        "the start doesn't settle within 100,000 steps: these nodes go on without an event from outside:",
-        "let a node that repeats wait for the outside, as by `Start Lookup(go);`, or give it a Repeat that becomes false",
+fn push_going(name: &str, moves: &[Move], out: &mut Pen) {
+    out.push(
+        "error: the start doesn't settle within 100,000 steps: these nodes go on without an event from outside:",
     );
     for moved in moves.iter().take(TOLD) {
-        words.message.fill(" {}", moved.node.as_str());
+        out.fill(" {}", moved.node.as_str());
     }
+    push_whole(
+        out,
+        name,
+        "let a node that repeats wait for the outside, as by `Start Lookup(go);`, or give it a Repeat that becomes false",
+    );
 }

@@ -2,7 +2,7 @@
 use px_chart::push_value;
 use px_core::{BinaryOp, Expr, LookWord, UnaryOp};
 use px_pen::Pen;
-use px_value::{ArithOp, CompareOp, Name, Path};
+use px_value::{ArithOp, CompareOp};
 
 /// Writes an expression.
 #[cycle(terms)]
@@ -14,58 +14,42 @@ pub fn push_expr(expr: &Expr, out: &mut Pen) {
             out.push(name.as_str());
             push_index(index, out);
         }
-        Expr::StateOf(path) => push_attribute(path, ".state", out),
-        Expr::OutcomeOf(path) => push_attribute(path, ".outcome", out),
-        Expr::FailureOf(path) => push_attribute(path, ".failure", out),
-        Expr::HandleOf(path) => push_attribute(path, ".command_handle", out),
-        Expr::Acknowledged(path) => push_attribute(path, " is acknowledged", out),
+        Expr::StateOf(path) => out.fill("{}.state", path.as_str()),
+        Expr::OutcomeOf(path) => out.fill("{}.outcome", path.as_str()),
+        Expr::FailureOf(path) => out.fill("{}.failure", path.as_str()),
+        Expr::HandleOf(path) => out.fill("{}.command_handle", path.as_str()),
+        Expr::Acknowledged(path) => out.fill("{} is acknowledged", path.as_str()),
         Expr::Look {
             word,
             name,
             args,
             tolerance,
         } => {
-            push_look(*word, name, out);
+            out.push(look_word(*word));
+            out.fill("({}", name.as_str());
             if !args.is_empty() {
                 push_args(args, out);
             }
-            push_tolerance(*tolerance, out);
+            if let Some(tolerance) = tolerance {
+                out.fill_each(", {}", &[*tolerance]);
+            }
             out.push(")");
         }
-        Expr::Unary { op, arg } => push_unary(*op, arg, out),
-        Expr::Binary { op, left, right } => match binary_function(*op) {
-            Some(function) => {
-                out.push(function);
-                push_expr(left, out);
-                out.push(", ");
-                push_expr(right, out);
-                out.push(")");
-            }
-            None => {
-                push_operand(left, out);
-                out.push(binary_sign(*op));
-                push_operand(right, out);
-            }
-        },
+        Expr::Unary { op, arg } => {
+            let (open, close) = unary_form(*op);
+            out.push(open);
+            push_operand(arg, close, out);
+            out.push(close);
+        }
+        Expr::Binary { op, left, right } => {
+            let (open, between, close) = binary_form(*op);
+            out.push(open);
+            push_operand(left, close, out);
+            out.push(between);
+            push_operand(right, close, out);
+            out.push(close);
+        }
     }
-}
-
-fn push_look(word: LookWord, name: &Name, out: &mut Pen) {
-    out.push(look_word(word));
-    out.push("(");
-    out.push(name.as_str());
-}
-
-fn push_tolerance(tolerance: Option<u32>, out: &mut Pen) {
-    if let Some(tolerance) = tolerance {
-        out.push(", ");
-        out.show(&tolerance);
-    }
-}
-
-fn push_attribute(path: &Path, says: &str, out: &mut Pen) {
-    out.push(path.as_str());
-    out.push(says);
 }
 
 /// Writes an index in brackets.
@@ -76,32 +60,16 @@ pub fn push_index(index: &Expr, out: &mut Pen) {
     out.push("]");
 }
 
+// Writes an operand of what ends so: in parentheses where it is an operation and stands in none yet.
 #[cycle(terms)]
-fn push_unary(op: UnaryOp, arg: &Expr, out: &mut Pen) {
-    match unary_function(op) {
-        Some(function) => {
-            out.push(function);
-            push_expr(arg, out);
-            out.push(")");
-        }
-        None => {
-            out.push(unary_sign(op));
-            push_operand(arg, out);
-        }
-    }
-}
-
-// Writes an operand, in parentheses where it is an operation.
-#[cycle(terms)]
-fn push_operand(operand: &Expr, out: &mut Pen) {
-    let (open, close) = if is_operation(operand) {
-        ("(", ")")
+fn push_operand(operand: &Expr, close: &str, out: &mut Pen) {
+    if close.is_empty() && is_operation(operand) {
+        out.push("(");
+        push_expr(operand, out);
+        out.push(")");
     } else {
-        ("", "")
-    };
-    out.push(open);
-    push_expr(operand, out);
-    out.push(close);
+        push_expr(operand, out);
+    }
 }
 
 /// Writes expressions in parentheses.
@@ -117,36 +85,37 @@ pub fn push_args(args: &[Expr], out: &mut Pen) {
     out.push(")");
 }
 
-fn unary_function(op: UnaryOp) -> Option<&'static str> {
+// What stands before an operand and behind it.
+fn unary_form(op: UnaryOp) -> (&'static str, &'static str) {
     match op {
-        UnaryOp::Not | UnaryOp::Minus => None,
-        UnaryOp::IsKnown => Some("isKnown("),
-        UnaryOp::Abs => Some("abs("),
-        UnaryOp::Length => Some("strlen("),
+        UnaryOp::Not => ("!", ""),
+        UnaryOp::Minus => ("-", ""),
+        UnaryOp::IsKnown => ("isKnown(", ")"),
+        UnaryOp::Abs => ("abs(", ")"),
+        UnaryOp::Length => ("strlen(", ")"),
     }
 }
 
-fn unary_sign(op: UnaryOp) -> &'static str {
+// What stands before two operands, between them and behind them.
+fn binary_form(op: BinaryOp) -> (&'static str, &'static str, &'static str) {
     match op {
-        UnaryOp::Minus => "-",
-        _ => "!",
+        BinaryOp::Arith(ArithOp::Min) => ("min(", ", ", ")"),
+        BinaryOp::Arith(ArithOp::Max) => ("max(", ", ", ")"),
+        _ => ("", sign_of(op), ""),
     }
 }
 
-fn binary_function(op: BinaryOp) -> Option<&'static str> {
-    match op {
-        BinaryOp::Arith(ArithOp::Min) => Some("min("),
-        BinaryOp::Arith(ArithOp::Max) => Some("max("),
-        _ => None,
-    }
-}
-
-fn binary_sign(op: BinaryOp) -> &'static str {
+fn sign_of(op: BinaryOp) -> &'static str {
     match op {
         BinaryOp::And => " && ",
         BinaryOp::Or => " || ",
         BinaryOp::Xor => " XOR ",
-        BinaryOp::Compare(op) => compare_sign(op),
+        BinaryOp::Compare(CompareOp::Equal) => " == ",
+        BinaryOp::Compare(CompareOp::Differs) => " != ",
+        BinaryOp::Compare(CompareOp::Less) => " < ",
+        BinaryOp::Compare(CompareOp::AtMost) => " <= ",
+        BinaryOp::Compare(CompareOp::Greater) => " > ",
+        BinaryOp::Compare(CompareOp::AtLeast) => " >= ",
         BinaryOp::Add => " + ",
         BinaryOp::Arith(ArithOp::Minus) => " - ",
         BinaryOp::Arith(ArithOp::Times) => " * ",
@@ -160,17 +129,6 @@ fn is_operation(expr: &Expr) -> bool {
         Expr::Unary { op, .. } => matches!(op, UnaryOp::Not | UnaryOp::Minus),
         Expr::Binary { op, .. } => !matches!(op, BinaryOp::Arith(ArithOp::Min | ArithOp::Max)),
         _ => false,
-    }
-}
-
-fn compare_sign(op: CompareOp) -> &'static str {
-    match op {
-        CompareOp::Equal => " == ",
-        CompareOp::Differs => " != ",
-        CompareOp::Less => " < ",
-        CompareOp::AtMost => " <= ",
-        CompareOp::Greater => " > ",
-        CompareOp::AtLeast => " >= ",
     }
 }
 

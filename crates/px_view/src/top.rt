@@ -1,12 +1,14 @@
 // The program over a host.
 use crate::answer::{Answer, DONE, Stop, USAGE, WANT_OF_MEMORY};
 use crate::chart::{chart_journal, chart_script};
-use crate::journal::journal_file;
-use crate::nodes::nodes_file;
-use crate::why::{why_plan_file, why_script_file};
+use crate::journal::list_journal;
+use crate::nodes::list_nodes;
+use crate::reading::fetch;
+use crate::why::{why_plan, why_script};
 use crate::words::{Task, task_in};
 use px_pen::Pen;
 use px_ports::Host;
+use px_script::SCRIPT_LIMIT;
 use px_sem::Stepper;
 use px_value::NoMemory;
 use std::alloc::{AllocError, Global};
@@ -31,7 +33,8 @@ fn answer<H: Host, S: Stepper>(
 ) -> Result<Answer, NoMemory> {
     let mut out = Pen::new(alloc);
     match asked::<H, S>(alloc, words, host, &mut out) {
-        Ok(file) => sent_to(alloc, file, out),
+        Ok(Some(name)) => sent_to(String::from_str(alloc, name)?, out),
+        Ok(None) => shown(DONE, out),
         Err(Stop::Refused(status)) => shown(status, out),
         Err(Stop::NoMemory) => Err(AllocError),
     }
@@ -45,37 +48,17 @@ fn asked<'a, H: Host, S: Stepper>(
     out: &mut Pen,
 ) -> Result<Option<&'a str>, Stop> {
     let task = task_in(alloc, words, out)?;
-    carry_out::<H, S>(alloc, task, host, out)?;
+    spare(task, out)?;
+    let (file, limit) = task.source();
+    let bytes = fetch(alloc, file, limit, host, out)?;
+    carry_out::<H, S>(alloc, task, bytes, host, out)?;
     Ok(task.file())
 }
 
-fn carry_out<H: Host, S: Stepper>(
-    alloc: Global,
-    task: Task<'_>,
-    host: &mut H,
-    out: &mut Pen,
-) -> Result<(), Stop> {
-    match task {
-        Task::WhyPlan { plan } => why_plan_file::<H, S>(alloc, plan, host, out),
-        Task::WhyScript { script, plan } => why_script_file(alloc, script, plan, host, out),
-        Task::Nodes { plan, like } => nodes_file(alloc, plan, like, host, out),
-        Task::Journal { journal } => journal_file(alloc, journal, host, out),
-        Task::ChartScript { plan, script, to } => {
-            spare(to, plan, out)?;
-            spare(to, script, out)?;
-            chart_script::<H, S>(alloc, plan, script, host, out)
-        }
-        Task::ChartJournal { journal, to } => {
-            spare(to, journal, out)?;
-            chart_journal::<H, S>(alloc, journal, host, out)
-        }
-    }
-}
-
 // A picture doesn't take the place of a file that it is made of.
-fn spare(to: Option<&str>, source: &str, out: &mut Pen) -> Result<(), Stop> {
-    match to {
-        Some(name) if name == source => {
+fn spare(task: Task<'_>, out: &mut Pen) -> Result<(), Stop> {
+    match task.file() {
+        Some(name) if task.is_made_of(name) => {
             let why = "{}: the picture is made of this file, and can't take its place\n";
             out.fill(why, name);
             Err(Stop::Refused(USAGE))
@@ -84,15 +67,32 @@ fn spare(to: Option<&str>, source: &str, out: &mut Pen) -> Result<(), Stop> {
     }
 }
 
-// The answer of a command that was carried out to its end.
-fn sent_to(alloc: Global, file: Option<&str>, out: Pen) -> Result<Answer, NoMemory> {
-    match file {
-        Some(name) => sent_to_file(String::from_str(alloc, name)?, out),
-        None => shown(DONE, out),
+// Does a task over the bytes of its source.
+fn carry_out<H: Host, S: Stepper>(
+    alloc: Global,
+    task: Task<'_>,
+    bytes: Vec<u8>,
+    host: &mut H,
+    out: &mut Pen,
+) -> Result<(), Stop> {
+    match task {
+        Task::WhyPlan { plan } => why_plan::<S>(alloc, plan, &bytes, out),
+        Task::WhyScript { script, plan } => {
+            let lines = fetch(alloc, script, SCRIPT_LIMIT, host, out)?;
+            why_script(alloc, script, &lines, plan, &bytes, out)
+        }
+        Task::Nodes { plan, like } => list_nodes(alloc, plan, &bytes, like, out),
+        Task::Journal { journal } => list_journal(alloc, journal, bytes, out),
+        Task::ChartScript { plan, script, .. } => {
+            let lines = fetch(alloc, script, SCRIPT_LIMIT, host, out)?;
+            chart_script::<S>(alloc, script, &lines, plan, &bytes, out)
+        }
+        Task::ChartJournal { journal, .. } => chart_journal::<S>(alloc, journal, bytes, out),
     }
 }
 
-fn sent_to_file(name: String, out: Pen) -> Result<Answer, NoMemory> {
+// The answer that goes to a file.
+fn sent_to(name: String, out: Pen) -> Result<Answer, NoMemory> {
     Ok(Answer {
         status: DONE,
         text: out.written()?,

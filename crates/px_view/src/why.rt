@@ -2,29 +2,24 @@
 ghost use Rattle.px_core.specs.Fit.{IsFit};
 ghost use Rattle.px_core.specs.Plan.{tree_of};
 
-use crate::answer::{PLAN_REFUSED, RUNAWAY, SCRIPT_REFUSED, Stop};
-use crate::lines::why_script;
-use crate::reading::{NoPlan, fetch, plan_in};
+use crate::answer::{PLAN_REFUSED, RUNAWAY, Stop};
+use crate::lines::entries_in;
+use crate::reading::{NoPlan, plan_in};
 use crate::runaway::why_start;
 use px_chart::paths_of;
-use px_compile::TEXT_LIMIT;
 use px_core::Plan;
 use px_pen::Pen;
-use px_ports::Host;
-use px_script::SCRIPT_LIMIT;
 use px_sem::Stepper;
-use px_value::NoMemory;
 use std::alloc::Global;
 
-/// Says what the plan in a file is refused for, or that it has no fault and its start settles.
-pub fn why_plan_file<H: Host, S: Stepper>(
+/// Says what a plan is refused for, or that it has no fault and its start settles.
+pub fn why_plan<S: Stepper>(
     alloc: Global,
     name: &str,
-    host: &mut H,
+    bytes: &[u8],
     out: &mut Pen,
 ) -> Result<(), Stop> {
-    let bytes = fetch(alloc, name, TEXT_LIMIT, host, out)?;
-    match plan_in(alloc, name, &bytes, out) {
+    match plan_in(alloc, name, bytes, out) {
         Ok(plan) => {
             let told = why_settling::<S>(alloc, name, &plan, out);
             drop(plan);
@@ -37,9 +32,13 @@ pub fn why_plan_file<H: Host, S: Stepper>(
 
 // Writes how many faults there are.
 fn refused(name: &str, faults: u32, status: u8, out: &mut Pen) -> Stop {
+    let count = if faults == 1 {
+        "{} fault\n"
+    } else {
+        "{} faults\n"
+    };
     out.fill("{}: ", name);
-    out.show(&faults);
-    out.push(if faults == 1 { " fault\n" } else { " faults\n" });
+    out.fill_each(count, &[faults]);
     Stop::Refused(status)
 }
 
@@ -55,29 +54,28 @@ fn why_settling<S: Stepper>(
     if !why_start::<S>(alloc, name, plan, out)? {
         return Err(refused(name, 1, RUNAWAY, out));
     }
-    let nodes = count_of_nodes(alloc, plan)?;
+    let nodes = paths_of(alloc, plan)?.len();
+    let count = if nodes == 1 {
+        "{} node\n"
+    } else {
+        "{} nodes\n"
+    };
     out.fill("{}: no fault, ", name);
-    out.show(&nodes);
-    out.push(if nodes == 1 { " node\n" } else { " nodes\n" });
+    out.fill_each(count, &[nodes]);
     Ok(())
 }
 
-fn count_of_nodes(alloc: Global, plan: &Plan) -> Result<usize, NoMemory> {
-    Ok(paths_of(alloc, plan)?.len())
-}
-
-/// Says what the script in a file is refused for, over the plan in another, or that it has no fault.
-pub fn why_script_file<H: Host>(
+/// Says what a script is refused for, over the plan in a file of this name, or that it has no fault.
+pub fn why_script(
     alloc: Global,
     script: &str,
+    lines: &[u8],
     plan: &str,
-    host: &mut H,
+    bytes: &[u8],
     out: &mut Pen,
 ) -> Result<(), Stop> {
-    let bytes = fetch(alloc, plan, TEXT_LIMIT, host, out)?;
-    let lines = fetch(alloc, script, SCRIPT_LIMIT, host, out)?;
-    let plan = plan_in(alloc, plan, &bytes, out)?;
-    let told = why_lines(alloc, script, &lines, &plan, out);
+    let plan = plan_in(alloc, plan, bytes, out)?;
+    let told = why_lines(alloc, script, lines, &plan, out);
     drop(plan);
     told
 }
@@ -91,9 +89,12 @@ fn why_lines(
 ) -> Result<(), Stop>
     requires fit { IsFit (tree_of plan.now) }
 {
-    if why_script(alloc, name, lines, plan, out)? {
-        return Err(refused(name, 1, SCRIPT_REFUSED, out));
+    match entries_in(alloc, name, lines, plan, out) {
+        Ok(_) => {
+            out.fill("{}: no fault\n", name);
+            Ok(())
+        }
+        Err(Stop::Refused(status)) => Err(refused(name, 1, status, out)),
+        Err(Stop::NoMemory) => Err(Stop::NoMemory),
     }
-    out.fill("{}: no fault\n", name);
-    Ok(())
 }

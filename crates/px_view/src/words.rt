@@ -1,7 +1,9 @@
 // The command words.
 use crate::answer::{DONE, Stop, USAGE};
+use crate::journal::JOURNAL_LIMIT;
 use clap::error::{Error, ErrorKind};
-use clap::{Arg, ArgMatches, Command};
+use clap::{ArgMatches, Command, arg};
+use px_compile::TEXT_LIMIT;
 use px_pen::Pen;
 use px_value::NoMemory;
 use std::alloc::Global;
@@ -41,6 +43,28 @@ pub enum Task<'a> {
 }
 
 impl<'a> Task<'a> {
+    /// The file that is read first, and the most bytes that it may have.
+    pub fn source(self) -> (&'a str, usize) {
+        match self {
+            Task::WhyPlan { plan }
+            | Task::WhyScript { plan, .. }
+            | Task::Nodes { plan, .. }
+            | Task::ChartScript { plan, .. } => (plan, TEXT_LIMIT),
+            Task::Journal { journal } | Task::ChartJournal { journal, .. } => {
+                (journal, JOURNAL_LIMIT)
+            }
+        }
+    }
+
+    /// Whether its picture is made of this file.
+    pub fn is_made_of(self, name: &str) -> bool {
+        match self {
+            Task::ChartScript { plan, script, .. } => plan == name || script == name,
+            Task::ChartJournal { journal, .. } => journal == name,
+            _ => false,
+        }
+    }
+
     /// The file where its picture goes, if it draws one and a file is named.
     pub fn file(self) -> Option<&'a str> {
         match self {
@@ -80,24 +104,18 @@ fn task_of<'a>(found: &ArgMatches<'a>) -> Option<Task<'a>> {
     let (name, rest) = found.subcommand()?;
     let file = rest.get_str("FILE")?;
     match name {
-        "why" => Some(why_of(file, rest)),
-        "nodes" => Some(nodes_of(file, rest)),
+        "why" => Some(match rest.get_str("plan") {
+            Some(plan) => Task::WhyScript { script: file, plan },
+            None => Task::WhyPlan { plan: file },
+        }),
+        "nodes" => Some(Task::Nodes {
+            plan: file,
+            like: rest.get_str("like").unwrap_or(""),
+        }),
         "journal" => Some(Task::Journal { journal: file }),
         "chart" => Some(chart_of(file, rest)),
         _ => None,
     }
-}
-
-fn why_of<'a>(file: &'a str, found: &ArgMatches<'a>) -> Task<'a> {
-    match found.get_str("plan") {
-        Some(plan) => Task::WhyScript { script: file, plan },
-        None => Task::WhyPlan { plan: file },
-    }
-}
-
-fn nodes_of<'a>(file: &'a str, found: &ArgMatches<'a>) -> Task<'a> {
-    let like = found.get_str("like").unwrap_or("");
-    Task::Nodes { plan: file, like }
 }
 
 fn chart_of<'a>(file: &'a str, found: &ArgMatches<'a>) -> Task<'a> {
@@ -137,69 +155,34 @@ fn add<T: Drop>(item: Result<T, NoMemory>, list: &mut Vec<T>) -> Result<(), NoMe
     Ok(())
 }
 
-fn command<'a>(alloc: Global, name: &'a str, about: &'a str) -> Command<'a> {
-    Command::new(alloc, name).about(about)
-}
-
-// The file that a command is for.
-fn file<'a>(alloc: Global, name: &'a str, help: &'a str) -> Arg<'a> {
-    Arg::new(alloc, "FILE")
-        .value_name(name)
-        .help(help)
-        .required(true)
-}
-
-// An option with a value.
-fn option<'a>(alloc: Global, name: &'a str, value: &'a str, help: &'a str) -> Arg<'a> {
-    Arg::new(alloc, name)
-        .long(name)
-        .value_name(value)
-        .help(help)
-}
-
 fn why<'a>(alloc: Global) -> Result<Command<'a>, NoMemory> {
-    let about = "Says what a plan or a script is refused for, and where";
-    command(alloc, "why", about)
-        .arg(file(alloc, "FILE", "A plan, or with --plan a script"))?
-        .arg(option(alloc, "plan", "PLAN", "The file is a script for this plan"))
+    Command::new(alloc, "why")
+        .about("Says what a plan or a script is refused for, and where")
+        .arg(arg!(in alloc; FILE: <FILE> "A plan, or with --plan a script"))?
+        .arg(arg!(in alloc; --plan <PLAN> "The file is a script for this plan"))
 }
 
 fn nodes<'a>(alloc: Global) -> Result<Command<'a>, NoMemory> {
-    let about =
-        "Lists the nodes of a plan, what each waits for, and which lines a script may have for it";
-    command(alloc, "nodes", about)
-        .arg(file(alloc, "PLAN", "A plan"))?
-        .arg(option(
-            alloc,
-            "like",
-            "WORD",
-            "Only nodes whose paths have this in them",
-        ))
+    Command::new(alloc, "nodes")
+        .about(
+            "Lists the nodes of a plan, what each waits for, and which lines a script may have for it",
+        )
+        .arg(arg!(in alloc; FILE: <PLAN> "A plan"))?
+        .arg(arg!(in alloc; --like <WORD> "Only nodes whose paths have this in them"))
 }
 
 fn journal<'a>(alloc: Global) -> Result<Command<'a>, NoMemory> {
-    let about = "Says what a journal holds, entry by entry, and where it is damaged";
-    command(alloc, "journal", about).arg(file(alloc, "JOURNAL", "A journal"))
+    Command::new(alloc, "journal")
+        .about("Says what a journal holds, entry by entry, and where it is damaged")
+        .arg(arg!(in alloc; FILE: <JOURNAL> "A journal"))
 }
 
 fn chart<'a>(alloc: Global) -> Result<Command<'a>, NoMemory> {
-    let about = "Draws a run as SVG: that of a plan and a script, or that of a journal";
-    command(alloc, "chart", about)
-        .arg(file(alloc, "FILE", "A plan, or without a script a journal"))?
-        .arg(script(alloc))?
-        .arg(output(alloc))
-}
-
-fn script<'a>(alloc: Global) -> Arg<'a> {
-    Arg::new(alloc, "SCRIPT").help("A script for the plan")
-}
-
-fn output<'a>(alloc: Global) -> Arg<'a> {
-    option(
-        alloc,
-        "output",
-        "FILE",
-        "Where the picture goes, in place of standard output",
-    )
-    .short('o')
+    Command::new(alloc, "chart")
+        .about("Draws a run as SVG: that of a plan and a script, or that of a journal")
+        .arg(arg!(in alloc; FILE: <FILE> "A plan, or without a script a journal"))?
+        .arg(arg!(in alloc; [SCRIPT] "A script for the plan"))?
+        .arg(
+            arg!(in alloc; -o --output <FILE> "Where the picture goes, in place of standard output"),
+        )
 }

@@ -1,9 +1,9 @@
 // Tokens that are tried in place of one that can't stand where it does.
 use px_lex::{LexFault, Token, lex};
+use px_pen::Pen;
 use px_plan_parse::parse;
 use px_syntax::ParseFault;
-use px_value::NoMemory;
-use std::alloc::{AllocError, Global};
+use std::alloc::Global;
 
 /// The tokens of a plan, or those up to one that can't stand there.
 #[derive(Drop)]
@@ -34,18 +34,16 @@ impl Front {
         self.tokens.truncate(token);
     }
 
-    /// `NoMemory` where memory has run out in a try.
-    pub fn tried(&self) -> Result<(), NoMemory> {
-        if self.has_failed {
-            Err(AllocError)
-        } else {
-            Ok(())
-        }
-    }
-
     /// Leaves the last token away.
     pub fn leave_last(&mut self) {
         self.tokens.truncate(self.tokens.len().saturating_sub(1));
+    }
+
+    /// Where memory has run out in a try, it counts in what is written of the tries.
+    pub fn end_tries(&self, out: &mut Pen) {
+        if self.has_failed {
+            out.fail();
+        }
     }
 
     /// Whether the tokens are a plan.
@@ -56,42 +54,23 @@ impl Front {
     /// Whether a plan goes on with the token that is spelled so.
     pub fn takes(&mut self, spelling: &str) -> bool {
         match lex(self.alloc, spelling) {
-            Ok(tokens) => self.takes_last(tokens),
+            Ok(tokens) => self.goes_on_with(tokens),
             Err(fault) => self.fails(matches!(fault, LexFault::NoMemory)),
         }
     }
 
-    /// The spelling, if a plan goes on with its token.
-    pub fn takes_meant<'a>(&mut self, spelling: &'a str) -> Result<Option<&'a str>, NoMemory> {
-        let is_taken = self.takes(spelling);
-        self.tried()?;
-        Ok(if is_taken { Some(spelling) } else { None })
-    }
-
-    // Whether a plan goes on with the last of these tokens.
-    fn takes_last(&mut self, mut tokens: Vec<Token>) -> bool {
-        match tokens.pop() {
-            Some(token) => self.takes_token(token),
-            None => false,
-        }
-    }
-
-    fn takes_token(&mut self, token: Token) -> bool {
+    // Whether a plan goes on with these tokens.
+    fn goes_on_with(&mut self, mut tokens: Vec<Token>) -> bool {
         let end = self.tokens.len();
-        if self.tokens.push(token).is_err() {
+        if self.tokens.append(&mut tokens).is_err() {
             return self.fails(true);
         }
-        let goes_on = self.goes_beyond(end);
-        self.tokens.truncate(end);
-        goes_on
-    }
-
-    // Whether a plan goes on with the token of this number.
-    fn goes_beyond(&mut self, end: usize) -> bool {
-        match self.fault_at() {
+        let goes_on = match self.fault_at() {
             Some(token) => token > end,
             None => true,
-        }
+        };
+        self.tokens.truncate(end);
+        goes_on
     }
 
     // The token with which no plan goes on; None where the tokens are a plan.

@@ -1,7 +1,5 @@
 // The names that a tree declares: variables, nodes, commands and lookups.
-use px_syntax::{
-    Action, Block, Body, Branch, Declaration, Guarded, Identifier, Item, Surface, TypeName,
-};
+use px_syntax::{Block, Body, Branch, Declaration, Identifier, Item, Surface, TypeName};
 use px_value::NoMemory;
 use std::alloc::{AllocError, Global};
 
@@ -14,47 +12,17 @@ pub enum Sort {
     Lookup,
 }
 
-/// What a name is declared as.
-#[derive(Clone, Copy)]
-pub enum What {
-    Variable,
-    Node,
-    Command {
-        answer: Option<TypeName>,
-        parameters: usize,
-    },
-    Lookup {
-        parameters: usize,
-    },
-}
-
-impl What {
-    /// Its sort. No two names of one sort may be the same in one place.
-    pub fn sort(self) -> Sort {
-        match self {
-            What::Variable => Sort::Variable,
-            What::Node => Sort::Node,
-            What::Command { .. } => Sort::Command,
-            What::Lookup { .. } => Sort::Lookup,
-        }
-    }
-
-    /// How many arguments it takes.
-    pub fn parameters(self) -> usize {
-        match self {
-            What::Command { parameters, .. } | What::Lookup { parameters } => parameters,
-            What::Variable | What::Node => 0,
-        }
-    }
-}
-
 /// A name that is declared.
 #[derive(Clone, Copy)]
 pub struct Declared<'a> {
     pub name: &'a str,
     /// The number of its token.
     pub token: usize,
-    pub what: What,
+    pub sort: Sort,
+    /// How many arguments it takes.
+    pub parameters: usize,
+    /// The type of what it returns or gives.
+    pub answer: Option<TypeName>,
     /// The number of the place, in which no two names of one sort are the same.
     pub place: usize,
 }
@@ -75,43 +43,29 @@ pub fn names_in(alloc: Global, tree: &Surface) -> Result<Vec<Declared<'_>>, NoMe
         places: 0,
         has_failed: false,
     };
-    names.tree(tree);
-    names.listed()
+    names.globals(&tree.declarations);
+    let place = names.new_place();
+    names.label(&tree.label, place);
+    names.block(&tree.root);
+    let Names {
+        list,
+        has_failed,
+        ..
+    } = names;
+    if has_failed {
+        Err(AllocError)
+    } else {
+        Ok(list)
+    }
 }
 
 impl<'a> Names<'a> {
-    fn listed(self) -> Result<Vec<Declared<'a>>, NoMemory> {
-        let Names {
-            list,
-            has_failed,
-            ..
-        } = self;
-        if has_failed {
-            Err(AllocError)
-        } else {
-            Ok(list)
-        }
-    }
-
-    fn tree(&mut self, tree: &'a Surface) {
-        self.globals(&tree.declarations);
-        let place = self.new_place();
-        self.label(&tree.label, place);
-        self.block(&tree.root);
-    }
-
     fn new_place(&mut self) -> usize {
         self.places = self.places.saturating_add(1);
         self.places
     }
 
-    fn add(&mut self, identifier: &'a Identifier, what: What, place: usize) {
-        let declared = Declared {
-            name: identifier.name.as_str(),
-            token: identifier.token,
-            what,
-            place,
-        };
+    fn add(&mut self, declared: Declared<'a>) {
         if !self.has_failed {
             self.has_failed = self.list.push(declared).is_err();
         }
@@ -120,35 +74,44 @@ impl<'a> Names<'a> {
     fn globals(&mut self, declarations: &'a [Declaration]) {
         let place = self.new_place();
         for declaration in declarations {
-            match declaration {
+            let (sort, answer, name, parameters) = match declaration {
                 Declaration::Command {
                     answer,
                     name,
                     parameters,
-                } => {
-                    let what = What::Command {
-                        answer: *answer,
-                        parameters: parameters.len(),
-                    };
-                    self.add(name, what, place);
-                }
+                } => (Sort::Command, *answer, name, parameters.len()),
                 Declaration::Lookup {
+                    answer,
                     name,
                     parameters,
-                    ..
-                } => {
-                    let what = What::Lookup {
-                        parameters: parameters.len(),
-                    };
-                    self.add(name, what, place);
-                }
-            }
+                } => (Sort::Lookup, Some(*answer), name, parameters.len()),
+            };
+            self.add(Declared {
+                name: name.name.as_str(),
+                token: name.token,
+                sort,
+                parameters,
+                answer,
+                place,
+            });
         }
+    }
+
+    // Adds a variable or a node.
+    fn add_plain(&mut self, sort: Sort, identifier: &'a Identifier, place: usize) {
+        self.add(Declared {
+            name: identifier.name.as_str(),
+            token: identifier.token,
+            sort,
+            parameters: 0,
+            answer: None,
+            place,
+        });
     }
 
     fn label(&mut self, label: &'a Option<Identifier>, place: usize) {
         if let Some(identifier) = label {
-            self.add(identifier, What::Node, place);
+            self.add_plain(Sort::Node, identifier, place);
         }
     }
 
@@ -156,7 +119,7 @@ impl<'a> Names<'a> {
         for item in items {
             if let Item::Variables { variables, .. } = item {
                 for variable in variables {
-                    self.add(&variable.name, What::Variable, place);
+                    self.add_plain(Sort::Variable, &variable.name, place);
                 }
             }
         }
@@ -167,14 +130,9 @@ impl<'a> Names<'a> {
         let place = self.new_place();
         self.items(&block.items, place);
         for action in &block.actions {
-            self.action(action, place);
+            self.label(&action.label, place);
+            self.body(&action.body);
         }
-    }
-
-    #[cycle(names)]
-    fn action(&mut self, action: &'a Action, place: usize) {
-        self.label(&action.label, place);
-        self.body(&action.body)
     }
 
     #[cycle(names)]
@@ -188,7 +146,9 @@ impl<'a> Names<'a> {
                 otherwise,
             } => {
                 self.branch(&first.branch, place);
-                self.else_ifs(others, place);
+                for guarded in others {
+                    self.branch(&guarded.branch, place);
+                }
                 if let Some(branch) = otherwise {
                     self.branch(branch, place);
                 }
@@ -199,17 +159,10 @@ impl<'a> Names<'a> {
                 branch,
                 ..
             } => {
-                self.add(variable, What::Variable, place);
+                self.add_plain(Sort::Variable, variable, place);
                 self.branch(branch, place)
             }
             Body::Assign { .. } | Body::CallInto { .. } | Body::Call(_) | Body::Update { .. } => {}
-        }
-    }
-
-    #[cycle(names)]
-    fn else_ifs(&mut self, others: &'a [Guarded], place: usize) {
-        for guarded in others {
-            self.branch(&guarded.branch, place);
         }
     }
 

@@ -5,7 +5,6 @@ use crate::nearest::push_meant;
 use crate::spellings::keyword_meant;
 use crate::wanted::Wanted;
 use px_pen::Pen;
-use px_value::NoMemory;
 use std::alloc::Global;
 
 /// Writes what helps at a cut behind a front more than what may stand there, and answers whether there is such a thing.
@@ -15,49 +14,31 @@ pub fn push_hint(
     wanted: &Wanted,
     front: &mut Front,
     out: &mut Pen,
-) -> Result<bool, NoMemory> {
+) -> bool {
     let before = cut.before.spelled();
     let found = cut.place.spelled();
-    match rule_broken(before, found, wanted) {
-        Some(rule) => {
-            out.push(rule);
-            Ok(true)
-        }
-        None => push_keyword(alloc, before, found, front, out),
+    if let Some(rule) = rule_broken(before, found, wanted) {
+        out.push(rule);
+        return true;
     }
-}
-
-// Writes the keyword that is meant here, or else by the word before.
-fn push_keyword(
-    alloc: Global,
-    before: &str,
-    found: &str,
-    front: &mut Front,
-    out: &mut Pen,
-) -> Result<bool, NoMemory> {
-    match keyword_taken(alloc, front, found)? {
+    match keyword_taken(alloc, front, found, out) {
         Some(keyword) => {
             push_meant(keyword, out);
-            Ok(true)
+            true
         }
         None => push_keyword_before(alloc, before, front, out),
     }
 }
 
-fn push_keyword_before(
-    alloc: Global,
-    word: &str,
-    front: &mut Front,
-    out: &mut Pen,
-) -> Result<bool, NoMemory> {
+// Writes the keyword that is meant by the word before.
+fn push_keyword_before(alloc: Global, word: &str, front: &mut Front, out: &mut Pen) -> bool {
     front.leave_last();
-    match keyword_taken(alloc, front, word)? {
+    match keyword_taken(alloc, front, word, out) {
         Some(keyword) if keyword != word => {
-            out.fill("is `{}` meant", keyword);
-            out.fill(" in place of `{}`?", word);
-            Ok(true)
+            out.fill_each("is `{}` meant in place of `{}`?", &[keyword, word]);
+            true
         }
-        _ => Ok(false),
+        _ => false,
     }
 }
 
@@ -66,10 +47,13 @@ fn keyword_taken<'a>(
     alloc: Global,
     front: &mut Front,
     word: &'a str,
-) -> Result<Option<&'a str>, NoMemory> {
-    match keyword_meant(alloc, word)? {
-        Some(keyword) => front.takes_meant(keyword),
-        None => Ok(None),
+    out: &mut Pen,
+) -> Option<&'a str> {
+    let keyword = keyword_meant(alloc, word, out)?;
+    if front.takes(keyword) {
+        Some(keyword)
+    } else {
+        None
     }
 }
 
@@ -97,17 +81,13 @@ fn rule_of_order(found: &str, wanted: &Wanted) -> Option<&'static str> {
         Some(
             "a list of values stands in a declaration alone: write the elements one by one, as `x[0] = 1`",
         )
-    } else if wanted.is_complete && is_declaring(found) {
+    } else if wanted.is_complete && (found == "Command" || is_type(found)) {
         Some("declarations stand before the plan")
     } else if wanted.action {
         rule_of_block(found)
     } else {
         None
     }
-}
-
-fn is_declaring(word: &str) -> bool {
-    word == "Command" || is_type(word)
 }
 
 fn is_type(word: &str) -> bool {

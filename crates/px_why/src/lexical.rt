@@ -13,35 +13,43 @@ pub fn byte_of(fault: &LexFault) -> Option<usize> {
 
 /// Says of a piece of text that it is no token.
 pub fn not_a_token(fault: &LexFault, place: &Place<'_>, words: &mut Words) {
-    let first = place.first().unwrap_or(' ');
-    match fault {
-        LexFault::Bad { .. } => of_bad(first, words),
-        LexFault::Real { .. } => of_real(first, words),
-        LexFault::TooLong { .. } => of_too_long(first, words),
-        LexFault::NoMemory => {}
-    }
+    let (message, help) = told(fault, place.first().unwrap_or(' '));
+    words.say_of(place.spelled(), message, help);
 }
 
-fn of_bad(first: char, words: &mut Words) {
-    match first {
-        '"' => words.say(
+// What is wrong where a piece of text begins with this character, and what helps.
+fn told(fault: &LexFault, first: char) -> (&'static str, &'static str) {
+    match (fault, first) {
+        (LexFault::Bad { .. }, '"') => (
             "a String begins here that isn't closed in its line, or has a `\\` that stands for nothing",
             "end it by `\"`; `\\\"`, `\\\\`, `\\n` and `\\t` stand for a quote, a `\\`, a line end and a tab",
         ),
-        '/' => words.say("a comment begins here that isn't closed", "end it by `*/`"),
-        '0'..='9' => words.say(
+        (LexFault::Bad { .. }, '/') => {
+            ("a comment begins here that isn't closed", "end it by `*/`")
+        }
+        (LexFault::Bad { .. }, '0'..='9') => (
             "a number begins here that goes on with a letter",
             "a name begins with a letter or `_`; numbers are decimal, or hexadecimal as `0x1f`",
         ),
-        _ => of_foreign(first, words),
+        (LexFault::Real { .. }, '0'..='9') => (
+            "a number with a point stands here, and the language has none",
+            "use an Integer, as thousandths in place of units",
+        ),
+        (LexFault::Real { .. }, _) => (
+            "the language has no such type",
+            "variables are Integer, Boolean or String",
+        ),
+        (LexFault::TooLong { .. }, '"') => (
+            "a String of over 1,024 bytes begins here",
+            "join two shorter ones by `+`",
+        ),
+        (LexFault::TooLong { .. }, '0'..='9') => (
+            "this number is too large",
+            "the greatest is 2147483647; -2147483648 is written `-2147483647 - 1`",
+        ),
+        (LexFault::TooLong { .. }, _) => ("this name has over 64 bytes", "choose a shorter one"),
+        _ => ("nothing in a plan begins with `{}`", in_place_of(first)),
     }
-}
-
-fn of_foreign(first: char, words: &mut Words) {
-    words.message.push("nothing in a plan begins with `");
-    words.message.push_char(first);
-    words.message.push("`");
-    words.help.push(in_place_of(first));
 }
 
 // What helps where a plan has a character that other languages have.
@@ -52,32 +60,5 @@ fn in_place_of(first: char) -> &'static str {
         '#' => "a list of values is `#(1 2 3)`; comments begin with `//`",
         '\'' => "a String stands between double quotes, as `\"a\"`",
         _ => "leave it away, or put it into a String or a comment",
-    }
-}
-
-fn of_real(first: char, words: &mut Words) {
-    match first {
-        '0'..='9' => words.say(
-            "a number with a point stands here, and the language has none",
-            "use an Integer, as thousandths in place of units",
-        ),
-        _ => words.say(
-            "the language has no such type",
-            "variables are Integer, Boolean or String",
-        ),
-    }
-}
-
-fn of_too_long(first: char, words: &mut Words) {
-    match first {
-        '"' => words.say(
-            "a String of over 1,024 bytes begins here",
-            "join two shorter ones by `+`",
-        ),
-        '0'..='9' => words.say(
-            "this number is too large",
-            "the greatest is 2147483647; -2147483648 is written `-2147483647 - 1`",
-        ),
-        _ => words.say("this name has over 64 bytes", "choose a shorter one"),
     }
 }

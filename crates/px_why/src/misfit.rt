@@ -1,12 +1,12 @@
 // Faults of types: what stands at a place, and what is wanted there.
-use crate::declared::{Sort, What};
+use crate::declared::Sort;
 use crate::naming::{a_declared, a_value, an_allowed};
 use crate::report::Words;
 use crate::seen::Seen;
 use px_check::{Allowed, Misfit};
 use px_lex::{Keyword, Sign};
 use px_pen::Pen;
-use px_syntax::ValueType;
+use px_syntax::{TypeName, ValueType};
 
 impl<'a> Seen<'a> {
     /// Says of a place that something of another type is wanted there.
@@ -16,12 +16,13 @@ impl<'a> Seen<'a> {
         let name = self.name(token);
         let is_named = !name.is_empty() && self.is_alone(token, misfit.given);
         if is_named {
-            words.message.fill("`{}` is ", name);
+            words.message.fill("`{}`", name);
         } else {
-            words.message.push("what begins here is ");
+            words.message.push("what begins here");
         }
-        words.message.push(given);
-        words.message.fill("; {} is wanted here", wanted);
+        words
+            .message
+            .fill_each(" is {}; {} is wanted here", &[given, wanted]);
         words.help.push(help_for(misfit, is_named));
     }
 
@@ -93,7 +94,7 @@ impl<'a> Seen<'a> {
     fn no_result(&self, name: &str, words: &mut Words) {
         words.message.fill("`{}` ", name);
         match self.first_of(Sort::Command, name) {
-            Some(declared) => push_answer(declared.what, &mut words.message),
+            Some(declared) => push_answer(declared.answer, &mut words.message),
             None => words.message.push("has no result that fits the variable"),
         }
         words.help.fill(
@@ -103,69 +104,53 @@ impl<'a> Seen<'a> {
     }
 }
 
-// Of a command as it is declared.
-fn push_answer(what: What, message: &mut Pen) {
-    match what {
-        What::Command {
-            answer: Some(answer),
-            ..
-        } => message.fill(
+// Of a command that is declared with this result.
+fn push_answer(answer: Option<TypeName>, message: &mut Pen) {
+    match answer {
+        Some(answer) => message.fill(
             "returns {}, and the variable is of another type",
             a_declared(answer),
         ),
-        _ => message.push("is declared without a result, and one is put into a variable"),
+        None => message.push("is declared without a result, and one is put into a variable"),
     }
 }
 
 // What helps; empty where nothing is known to.
 fn help_for(misfit: Misfit, is_named: bool) -> &'static str {
-    match misfit.wanted {
-        Allowed::Only(ValueType::Boolean) => help_for_test(misfit.given),
-        Allowed::Only(ValueType::Integer) if misfit.given == ValueType::String => {
+    let Allowed::Only(wanted) = misfit.wanted else {
+        return "";
+    };
+    match (wanted, misfit.given) {
+        (ValueType::Boolean, ValueType::Integer) => "make a comparison of it, as `x > 0`",
+        (ValueType::Boolean, ValueType::String) => "make a comparison of it, as `x == \"a\"`",
+        (ValueType::Boolean, ValueType::State) => {
+            "compare it with a state, as `A.state == FINISHED`"
+        }
+        (ValueType::Boolean, ValueType::Outcome) => {
+            "compare it with an outcome, as `A.outcome == SUCCESS`"
+        }
+        (ValueType::Boolean, _) => "",
+        (ValueType::Integer, ValueType::String) => {
             "Strings stand between quotes and Integers don't; `strlen(x)` is the length of a String"
         }
-        Allowed::Only(ValueType::String) if is_named => {
+        (ValueType::String, _) if is_named => {
             "nothing makes a String of another value: write the String itself"
         }
-        Allowed::Only(ValueType::String) => { "a String stands between double quotes, as `\"x\"`" }
-        Allowed::Only(wanted) => help_for_word(wanted, misfit.given),
-        _ => "",
-    }
-}
-
-// What stands beside the attribute of a node.
-fn help_for_word(wanted: ValueType, given: ValueType) -> &'static str {
-    match given {
-        ValueType::State => "it is compared with `.state`, as in `A.state == FINISHED`",
-        ValueType::Outcome => "it is compared with `.outcome`, as in `A.outcome == SUCCESS`",
-        ValueType::Failure => "it is compared with `.failure`, as in `A.failure == PARENT_FAILED`",
-        ValueType::Handle => {
+        (ValueType::String, _) => "a String stands between double quotes, as `\"x\"`",
+        (_, ValueType::State) => "it is compared with `.state`, as in `A.state == FINISHED`",
+        (_, ValueType::Outcome) => "it is compared with `.outcome`, as in `A.outcome == SUCCESS`",
+        (_, ValueType::Failure) => {
+            "it is compared with `.failure`, as in `A.failure == PARENT_FAILED`"
+        }
+        (_, ValueType::Handle) => {
             "it is compared with `.command_handle`, as in `A.command_handle == COMMAND_SUCCESS`"
         }
-        _ => help_for_attribute(wanted),
-    }
-}
-
-// What is compared with the attribute of a node.
-fn help_for_attribute(wanted: ValueType) -> &'static str {
-    match wanted {
-        ValueType::State => "write it without quotes, as in `A.state == FINISHED`",
-        ValueType::Outcome => "write it without quotes, as in `A.outcome == SUCCESS`",
-        ValueType::Failure => "write it without quotes, as in `A.failure == PARENT_FAILED`",
-        ValueType::Handle => {
+        (ValueType::State, _) => "write it without quotes, as in `A.state == FINISHED`",
+        (ValueType::Outcome, _) => "write it without quotes, as in `A.outcome == SUCCESS`",
+        (ValueType::Failure, _) => "write it without quotes, as in `A.failure == PARENT_FAILED`",
+        (ValueType::Handle, _) => {
             "write it without quotes, as in `A.command_handle == COMMAND_SUCCESS`"
         }
-        _ => "",
-    }
-}
-
-// What makes a test of a value.
-fn help_for_test(given: ValueType) -> &'static str {
-    match given {
-        ValueType::Integer => "make a comparison of it, as `x > 0`",
-        ValueType::String => "make a comparison of it, as `x == \"a\"`",
-        ValueType::State => "compare it with a state, as `A.state == FINISHED`",
-        ValueType::Outcome => "compare it with an outcome, as `A.outcome == SUCCESS`",
         _ => "",
     }
 }

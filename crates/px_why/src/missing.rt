@@ -6,56 +6,44 @@ use crate::seen::Seen;
 use crate::spellings::value_meant;
 use px_lex::{Keyword, Sign};
 use px_pen::Pen;
-use px_value::NoMemory;
 use std::alloc::Global;
 
 impl<'a> Seen<'a> {
     /// Says of a variable that it isn't declared.
-    pub fn undeclared(
-        &self,
-        alloc: Global,
-        token: usize,
-        words: &mut Words,
-    ) -> Result<(), NoMemory> {
+    pub fn undeclared(&self, alloc: Global, token: usize, words: &mut Words) {
         let name = self.name(token);
         words
             .message
             .fill("no variable `{}` is declared here", name);
         match self.first_of(Sort::Variable, name) {
             Some(other) => {
-                seen_elsewhere(name, self.line(other.token), &mut words.help);
-                Ok(())
+                words.help.fill("the `{}` of line ", name);
+                words.help.fill_each(
+                    "{} is seen in its own block alone: declare it in a block round both places",
+                    &[self.line(other.token)],
+                );
             }
             None => self.variable_meant(alloc, name, &mut words.help),
         }
     }
 
-    fn variable_meant(&self, alloc: Global, name: &'a str, help: &mut Pen) -> Result<(), NoMemory> {
+    fn variable_meant(&self, alloc: Global, name: &'a str, help: &mut Pen) {
         if self.first_of(Sort::Lookup, name).is_some() {
-            help.fill("`{}` is a state of the outside: write `Lookup({})`", name);
-            return Ok(());
+            return help.fill("`{}` is a state of the outside: write `Lookup({})`", name);
         }
-        match self.nearest(alloc, Sort::Variable, name)? {
-            Some(near) => {
-                push_meant(near, help);
-                Ok(())
-            }
+        match self.nearest(alloc, Sort::Variable, name, help) {
+            Some(near) => push_meant(near, help),
             None => self.other_meant(alloc, name, help),
         }
     }
 
     // What is meant by the name of no variable that is near to none either.
-    fn other_meant(&self, alloc: Global, name: &'a str, help: &mut Pen) -> Result<(), NoMemory> {
-        match value_meant(alloc, name)? {
+    fn other_meant(&self, alloc: Global, name: &'a str, help: &mut Pen) {
+        match value_meant(alloc, name, help) {
             Some(value) => push_meant(value, help),
-            None => self.not_near(name, help),
-        }
-        Ok(())
-    }
-
-    fn not_near(&self, name: &str, help: &mut Pen) {
-        match self.first_of(Sort::Node, name) {
-            Some(_) => help.fill("`{}` is a node: write `{}.state` or `{}.outcome`", name),
+            None if self.first_of(Sort::Node, name).is_some() => {
+                help.fill("`{}` is a node: write `{}.state` or `{}.outcome`", name)
+            }
             None => help.fill(
                 "declare it in this block or in one round it, as in `Integer {};`; a state of the outside is read by `Lookup({})`",
                 name,
@@ -64,19 +52,11 @@ impl<'a> Seen<'a> {
     }
 
     /// Says of a node that it isn't there, or that it is no command where its handle is asked for.
-    pub fn no_such_node(
-        &self,
-        alloc: Global,
-        token: usize,
-        words: &mut Words,
-    ) -> Result<(), NoMemory> {
+    pub fn no_such_node(&self, alloc: Global, token: usize, words: &mut Words) {
+        let asks_for_handle = self.asks_for_handle(token);
         match self.keyword(token) {
-            Some(keyword) => {
-                let asks_for_handle = self.asks_for_handle(token);
-                words.message.push(no_related(keyword, asks_for_handle));
-                Ok(())
-            }
-            None => self.no_named_node(alloc, token, words),
+            Some(keyword) => words.message.push(no_related(keyword, asks_for_handle)),
+            None => self.no_named_node(alloc, token, asks_for_handle, words),
         }
     }
 
@@ -89,45 +69,34 @@ impl<'a> Seen<'a> {
         self.name(dot.saturating_add(1)) == "command_handle"
     }
 
-    fn no_named_node(
-        &self,
-        alloc: Global,
-        token: usize,
-        words: &mut Words,
-    ) -> Result<(), NoMemory> {
+    fn no_named_node(&self, alloc: Global, token: usize, asks_for_handle: bool, words: &mut Words) {
         let name = self.name(token);
         match self.first_of(Sort::Node, name) {
-            Some(_) if self.asks_for_handle(token) => words.say_of(
+            Some(_) if asks_for_handle => words.say_of(
                 name,
                 "`{}` is no command here, and has no `command_handle`",
                 "only a node that is one command has one; `{}.state` and `{}.outcome` every node has",
             ),
-            Some(other) => stands_elsewhere(name, self.line(other.token), words),
-            None => return self.node_meant(alloc, name, words),
+            Some(other) => {
+                words.say_of(name, "no node `{}` is seen from here", "the `{}` of line ");
+                words.help.fill_each(
+                    "{} stands elsewhere: a node sees its children, itself, and the nodes round it with their children",
+                    &[self.line(other.token)],
+                );
+            }
+            None => self.node_meant(alloc, name, words),
         }
-        Ok(())
     }
 
-    fn node_meant(&self, alloc: Global, name: &'a str, words: &mut Words) -> Result<(), NoMemory> {
-        not_seen(name, &mut words.message);
-        match self.nearest(alloc, Sort::Node, name)? {
+    fn node_meant(&self, alloc: Global, name: &'a str, words: &mut Words) {
+        words.message.fill("no node `{}` is seen from here", name);
+        match self.nearest(alloc, Sort::Node, name, &mut words.help) {
             Some(near) => push_meant(near, &mut words.help),
             None => words
                 .help
                 .fill("give the node that is meant the label `{}:`", name),
         }
-        Ok(())
     }
-}
-
-fn seen_elsewhere(name: &str, line: usize, help: &mut Pen) {
-    push_line(name, line, help);
-    help.push(" is seen in its own block alone: declare it in a block round both places");
-}
-
-fn push_line(name: &str, line: usize, help: &mut Pen) {
-    help.fill("the `{}` of line ", name);
-    help.show(&line);
 }
 
 // Of a node that is named by how it is related.
@@ -141,16 +110,4 @@ fn no_related(keyword: Keyword, asks_for_handle: bool) -> &'static str {
             "there is no such command here: only a node that is one command has a `command_handle`"
         }
     }
-}
-
-fn not_seen(name: &str, message: &mut Pen) {
-    message.fill("no node `{}` is seen from here", name);
-}
-
-fn stands_elsewhere(name: &str, line: usize, words: &mut Words) {
-    not_seen(name, &mut words.message);
-    push_line(name, line, &mut words.help);
-    words.help.push(
-        " stands elsewhere: a node sees its children, itself, and the nodes round it with their children",
-    );
 }

@@ -1,7 +1,6 @@
 // The name that is meant where another one is written.
 use px_pen::Pen;
-use px_value::NoMemory;
-use std::alloc::{AllocError, Global};
+use std::alloc::Global;
 use strsim::levenshtein;
 
 /// The best of the names that were looked at so far.
@@ -42,13 +41,12 @@ impl<'a> Nearest<'a> {
         }
     }
 
-    /// The nearest name, if one is near; `NoMemory` where memory ran out at one of them.
-    pub fn found(&self) -> Result<Option<&'a str>, NoMemory> {
+    /// The nearest name, if one is near. Where memory ran out at one of them, it counts in what is written with it.
+    pub fn found(&self, out: &mut Pen) -> Option<&'a str> {
         if self.has_failed {
-            Err(AllocError)
-        } else {
-            Ok(self.found)
+            out.fail();
         }
+        self.found
     }
 }
 

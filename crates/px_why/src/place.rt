@@ -65,11 +65,6 @@ fn is_of_word(c: char) -> bool {
 }
 
 impl<'a> Place<'a> {
-    /// The column, from 1, in characters.
-    pub fn column(&self) -> usize {
-        self.before.saturating_add(1)
-    }
-
     /// The place behind what stands here.
     pub fn behind(self) -> Place<'a> {
         let before = self.before.saturating_add(self.width);

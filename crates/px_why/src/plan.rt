@@ -25,20 +25,18 @@ pub fn why_plan(alloc: Global, name: &str, bytes: &[u8], out: &mut Pen) -> Resul
     match from_utf8(bytes) {
         Ok(text) => why_text(alloc, name, text, out),
         Err(error) => {
-            not_text(alloc, name, bytes, error.valid_up_to(), out);
+            not_text(name, bytes, error.valid_up_to(), out);
             Ok(1)
         }
     }
 }
 
-fn not_text(alloc: Global, name: &str, bytes: &[u8], at: usize, out: &mut Pen) {
-    let mut words = Words::new(alloc);
-    words.message.fill_each(
-        "the byte {} of the file, in line {}, is no text (UTF-8)",
+fn not_text(name: &str, bytes: &[u8], at: usize, out: &mut Pen) {
+    out.fill_each(
+        "error: the byte {} of the file, in line {}, is no text (UTF-8)",
         &[at, line_at(bytes, at)],
     );
-    words.help.push("save the plan as UTF-8");
-    push_whole(out, name, &words);
+    push_whole(out, name, "save the plan as UTF-8");
 }
 
 // The number of the line in which a byte stands.
@@ -54,7 +52,12 @@ fn line_at(bytes: &[u8], at: usize) -> usize {
 
 fn why_text(alloc: Global, name: &str, text: &str, out: &mut Pen) -> Result<u32, NoMemory> {
     match lex(alloc, text) {
-        Ok(tokens) => why_all(alloc, name, text, Front::of(alloc, tokens), out),
+        Ok(tokens) => {
+            let mut front = Front::of(alloc, tokens);
+            let told = why_tokens(alloc, name, text, &mut front, out);
+            drop(front);
+            told
+        }
         Err(fault) => no_token(alloc, name, text, &fault, out),
     }
 }
@@ -74,18 +77,6 @@ fn no_token(
     Ok(1)
 }
 
-fn why_all(
-    alloc: Global,
-    name: &str,
-    text: &str,
-    mut tokens: Front,
-    out: &mut Pen,
-) -> Result<u32, NoMemory> {
-    let told = why_tokens(alloc, name, text, &mut tokens, out);
-    drop(tokens);
-    told
-}
-
 fn why_tokens(
     alloc: Global,
     name: &str,
@@ -99,7 +90,10 @@ fn why_tokens(
             drop(tree);
             found
         }
-        Err(ParseFault::SyntaxFault { token }) => no_syntax(alloc, name, text, front, token, out),
+        Err(ParseFault::SyntaxFault { token }) => {
+            no_syntax(alloc, name, text, front, token, out);
+            Ok(1)
+        }
         Err(ParseFault::Deep { token }) => {
             deep(alloc, name, text, front.tokens(), token, out);
             Ok(1)
@@ -115,13 +109,12 @@ fn no_syntax(
     front: &mut Front,
     token: usize,
     out: &mut Pen,
-) -> Result<u32, NoMemory> {
+) {
     let cut = Cut::at(text, front.tokens(), token);
     front.end_before(token);
     let mut words = Words::new(alloc);
-    cut_short(alloc, &cut, front, &mut words)?;
+    cut_short(alloc, &cut, front, &mut words);
     push_fault(out, name, &cut.place, &words);
-    Ok(1)
 }
 
 fn deep(alloc: Global, name: &str, text: &str, tokens: &[Token], token: usize, out: &mut Pen) {
@@ -159,22 +152,15 @@ fn each_fault(
         let Some(spot) = first_behind(alloc, tree, floor)? else {
             return Ok(told);
         };
-        one_fault(alloc, name, seen, spot, out)?;
+        one_fault(alloc, name, seen, spot, out);
         floor = Some(spot);
     }
     out.push("these are the first 1,000 faults\n\n");
     Ok(FAULT_LIMIT)
 }
 
-fn one_fault(
-    alloc: Global,
-    name: &str,
-    seen: &Seen<'_>,
-    spot: Spot,
-    out: &mut Pen,
-) -> Result<(), NoMemory> {
+fn one_fault(alloc: Global, name: &str, seen: &Seen<'_>, spot: Spot, out: &mut Pen) {
     let mut words = Words::new(alloc);
-    seen.explain(alloc, spot, &mut words)?;
+    seen.explain(alloc, spot, &mut words);
     push_fault(out, name, &seen.place(spot.token), &words);
-    Ok(())
 }

@@ -38,24 +38,21 @@ pub fn push_fault(out: &mut Pen, name: &str, place: &Place<'_>, words: &Words) {
     out.push("error: ");
     out.append(&words.message);
     out.fill("\n  --> {}:", name);
-    out.fill_each("{}:{}\n", &[place.line, place.column()]);
+    out.fill_each("{}:{}\n", &[place.line, place.before.saturating_add(1)]);
     push_excerpt(out, place);
-    push_help(out, words);
-}
-
-/// Writes a fault that has no place in a file.
-pub fn push_whole(out: &mut Pen, name: &str, words: &Words) {
-    out.push("error: ");
-    out.append(&words.message);
-    out.fill("\n  --> {}\n", name);
-    push_help(out, words);
-}
-
-fn push_help(out: &mut Pen, words: &Words) {
     if !words.help.is_empty() {
         out.push("   = help: ");
         out.append(&words.help);
         out.push("\n");
+    }
+    out.push("\n");
+}
+
+/// Ends a fault that has no place in a file, behind what is wrong; the help is empty where there is nothing to say.
+pub fn push_whole(out: &mut Pen, name: &str, help: &str) {
+    out.fill("\n  --> {}\n", name);
+    if !help.is_empty() {
+        out.fill("   = help: {}\n", help);
     }
     out.push("\n");
 }

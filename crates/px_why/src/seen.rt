@@ -3,7 +3,7 @@ use crate::declared::{Declared, Sort};
 use crate::nearest::Nearest;
 use crate::place::{Place, place_of};
 use px_lex::{Keyword, Sign, Token, TokenKind};
-use px_value::NoMemory;
+use px_pen::Pen;
 use std::alloc::Global;
 
 /// A plan's text with its tokens and names.
@@ -66,49 +66,49 @@ impl<'a> Seen<'a> {
     }
 
     /// The first declaration of a name that is of this sort.
-    pub fn first_of(&self, sort: Sort, name: &str) -> Option<Declared<'a>> {
+    pub fn first_of(&self, sort: Sort, name: &str) -> Option<&'a Declared<'a>> {
         for one in self.names {
-            if one.what.sort() == sort && one.name == name {
-                return Some(*one);
+            if one.sort == sort && one.name == name {
+                return Some(one);
             }
         }
         None
     }
 
     /// What is declared at a token.
-    pub fn declared_at(&self, token: usize) -> Option<Declared<'a>> {
+    pub fn declared_at(&self, token: usize) -> Option<&'a Declared<'a>> {
         for one in self.names {
             if one.token == token {
-                return Some(*one);
+                return Some(one);
             }
         }
         None
     }
 
-    /// The first declaration of the same sort, name and place.
-    pub fn first_like(&self, other: Declared<'a>) -> Option<Declared<'a>> {
-        let sort = other.what.sort();
+    /// The token of the first declaration of the same sort, name and place.
+    pub fn first_like(&self, other: &Declared<'a>) -> usize {
         for one in self.names {
-            if one.place == other.place && one.what.sort() == sort && one.name == other.name {
-                return Some(*one);
+            if one.place == other.place && one.sort == other.sort && one.name == other.name {
+                return one.token;
             }
         }
-        None
+        other.token
     }
 
-    /// The declared name of this sort that is nearest to one, if one is near.
+    /// The declared name of this sort that is nearest to one that is written, if one is near.
     pub fn nearest(
         &self,
         alloc: Global,
         sort: Sort,
         name: &'a str,
-    ) -> Result<Option<&'a str>, NoMemory> {
+        out: &mut Pen,
+    ) -> Option<&'a str> {
         let mut nearest = Nearest::to(name);
         for one in self.names {
-            if one.what.sort() == sort {
+            if one.sort == sort {
                 nearest.look_at(alloc, one.name);
             }
         }
-        nearest.found()
+        nearest.found(out)
     }
 }

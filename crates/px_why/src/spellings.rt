@@ -1,6 +1,6 @@
 // The words of the language that are meant where another one is written.
 use crate::nearest::Nearest;
-use px_value::NoMemory;
+use px_pen::Pen;
 use std::alloc::Global;
 
 /// The values that have names.
@@ -76,27 +76,19 @@ const KEYWORDS: [&str; 36] = [
 const LEAST: usize = 3;
 
 /// The value that is meant by a word, if one is near.
-pub fn value_meant<'a>(alloc: Global, word: &'a str) -> Result<Option<&'a str>, NoMemory> {
-    nearest_of(alloc, &VALUES, word)
+pub fn value_meant<'a>(alloc: Global, word: &'a str, out: &mut Pen) -> Option<&'a str> {
+    nearest_of(alloc, &VALUES, word, out)
 }
 
-/// The keyword that is meant by a word, if one is near.
-pub fn keyword_meant<'a>(alloc: Global, word: &'a str) -> Result<Option<&'a str>, NoMemory> {
-    if let Some(keyword) = for_foreign(word) {
-        return Ok(Some(keyword));
-    }
-    match value_meant(alloc, word)? {
-        Some(value) => Ok(Some(value)),
-        None => nearest_of(alloc, &KEYWORDS, word),
-    }
-}
-
-// What is written here for a word of another language.
-fn for_foreign(word: &str) -> Option<&'static str> {
+/// The keyword that is meant by a word, if one is near, or the one for a word of another language.
+pub fn keyword_meant<'a>(alloc: Global, word: &'a str, out: &mut Pen) -> Option<&'a str> {
     match word {
         "int" => Some("Integer"),
         "bool" => Some("Boolean"),
-        _ => None,
+        _ => match value_meant(alloc, word, out) {
+            Some(value) => Some(value),
+            None => nearest_of(alloc, &KEYWORDS, word, out),
+        },
     }
 }
 
@@ -104,15 +96,16 @@ fn nearest_of<'a>(
     alloc: Global,
     spellings: &[&'a str],
     word: &'a str,
-) -> Result<Option<&'a str>, NoMemory> {
+    out: &mut Pen,
+) -> Option<&'a str> {
     let mut nearest = Nearest::to(word);
     for spelling in spellings {
         if spelling.eq_ignore_ascii_case(word) {
-            return Ok(Some(*spelling));
+            return Some(*spelling);
         }
         if word.len() >= LEAST {
             nearest.look_at(alloc, *spelling);
         }
     }
-    nearest.found()
+    nearest.found(out)
 }

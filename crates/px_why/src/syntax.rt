@@ -7,38 +7,21 @@ use crate::report::Words;
 use crate::wanted::Wanted;
 use px_lex::Token;
 use px_pen::Pen;
-use px_value::NoMemory;
 use std::alloc::Global;
 
 /// Says why a plan can't go on at a cut behind a front, or that it ends too early.
-pub fn cut_short(
-    alloc: Global,
-    cut: &Cut<'_>,
-    front: &mut Front,
-    words: &mut Words,
-) -> Result<(), NoMemory> {
-    push_message(cut, &mut words.message);
-    push_hints(alloc, cut, front, &mut words.help)
-}
-
-fn push_message(cut: &Cut<'_>, out: &mut Pen) {
+pub fn cut_short(alloc: Global, cut: &Cut<'_>, front: &mut Front, words: &mut Words) {
     match cut.place.spelled() {
-        "" => out.push("the plan ends here, and something is missing"),
-        found => out.fill("`{}` can't stand here", found),
+        "" => words
+            .message
+            .push("the plan ends here, and something is missing"),
+        found => words.message.fill("`{}` can't stand here", found),
     }
-}
-
-fn push_hints(
-    alloc: Global,
-    cut: &Cut<'_>,
-    front: &mut Front,
-    out: &mut Pen,
-) -> Result<(), NoMemory> {
-    let wanted = Wanted::behind(alloc, front)?;
-    if !push_hint(alloc, cut, &wanted, front, out)? {
-        push_wanted(cut, &wanted, out);
+    let wanted = Wanted::behind(alloc, front);
+    if !push_hint(alloc, cut, &wanted, front, &mut words.help) {
+        push_wanted(cut, &wanted, &mut words.help);
     }
-    Ok(())
+    front.end_tries(&mut words.help);
 }
 
 fn push_wanted(cut: &Cut<'_>, wanted: &Wanted, out: &mut Pen) {
@@ -59,20 +42,15 @@ fn push_wanted(cut: &Cut<'_>, wanted: &Wanted, out: &mut Pen) {
 
 /// Says of a bracket or an operator that it is too deep.
 pub fn too_deep(tokens: &[Token], token: usize, words: &mut Words) {
-    let is_bracket = match tokens.get(token) {
-        Some(token) => is_opening(token),
-        None => false,
-    };
-    if is_bracket {
-        words.say(
+    match tokens.get(token) {
+        Some(token) if is_opening(token) => words.say(
             "64 brackets are open before this one",
             "close some, or put what stands inside into a plan of fewer levels",
-        );
-    } else {
-        words.say(
+        ),
+        _ => words.say(
             "the statement has 64 operators before this one",
             "put a part of it into a variable first",
-        );
+        ),
     }
 }
 

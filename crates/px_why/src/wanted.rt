@@ -1,14 +1,13 @@
 // What may stand where a plan can't go on: each sort of token that the grammar takes there, by trying it.
 use crate::candidates::Front;
 use px_pen::Pen;
-use px_value::NoMemory;
-use std::alloc::{AllocError, Global};
+use std::alloc::Global;
 
-/// How a token of a sort is spelled, and how the sort is told.
-type Sort = (&'static str, &'static str);
+/// A token as it is spelled, and how those of its sort are told.
+type Sample = (&'static str, &'static str);
 
 // Signs that are told by themselves.
-const SIGNS: [Sort; 10] = [
+const SIGNS: [Sample; 10] = [
     (";", "`;`"),
     (",", "`,`"),
     (":", "`:`"),
@@ -22,7 +21,7 @@ const SIGNS: [Sort; 10] = [
 ];
 
 // What is a part of what is told otherwise, where that is wanted.
-const SMALLER: [Sort; 11] = [
+const SMALLER: [Sample; 11] = [
     ("1", "a number"),
     ("\"\"", "a String"),
     ("(", "`(`"),
@@ -53,7 +52,7 @@ pub struct Wanted {
 
 impl Wanted {
     /// What may stand behind the front of a plan.
-    pub fn behind(alloc: Global, front: &mut Front) -> Result<Wanted, NoMemory> {
+    pub fn behind(alloc: Global, front: &mut Front) -> Wanted {
         let mut wanted = Wanted {
             sorts: Vec::new(alloc),
             has_failed: false,
@@ -65,15 +64,7 @@ impl Wanted {
         if !wanted.add_larger(front) {
             wanted.add_smaller(front);
         }
-        wanted.tried(front)
-    }
-
-    // `NoMemory` where memory has run out for a sort or in a try.
-    fn tried(self, front: &Front) -> Result<Wanted, NoMemory> {
-        match front.tried() {
-            Ok(()) if !self.has_failed => Ok(self),
-            _ => Err(AllocError),
-        }
+        wanted
     }
 
     // Adds a sort if the token of this spelling is taken, and answers whether it is.
@@ -85,8 +76,8 @@ impl Wanted {
         is_taken
     }
 
-    fn add_each(&mut self, sorts: &[Sort], front: &mut Front) {
-        for (spelling, sort) in sorts {
+    fn add_each(&mut self, samples: &[Sample], front: &mut Front) {
+        for (spelling, sort) in samples {
             self.add(*spelling, *sort, front);
         }
     }
@@ -98,18 +89,11 @@ impl Wanted {
         let action = self.add("if", "an action", front);
         self.add("Start", "a condition", front);
         let block = action || self.add("Concurrence", "a block in `{ }`", front);
-        self.add_type(front);
-        value || block
-    }
-
-    fn add_type(&mut self, front: &mut Front) {
-        if !self.add(
-            "Boolean",
-            "a type (`Integer`, `Boolean` or `String`)",
-            front,
-        ) {
+        let any_type = "a type (`Integer`, `Boolean` or `String`)";
+        if !self.add("Boolean", any_type, front) {
             self.add("Integer", "`Integer`", front);
         }
+        value || block
     }
 
     fn add_smaller(&mut self, front: &mut Front) {
@@ -122,6 +106,9 @@ impl Wanted {
 
     /// Writes the sorts as one phrase.
     pub fn push_phrase(&self, out: &mut Pen) {
+        if self.has_failed {
+            out.fail();
+        }
         for (place, sort) in self.sorts.iter().enumerate() {
             let left = self.sorts.len().saturating_sub(place);
             match (place, left) {
