@@ -1,5 +1,5 @@
 -- Truths on the way up: each joined part agrees with those in it, but for the one above the last that was set.
-use Rattle.std.proofs.Common.{◌≡◌, ◌≢◌, ℕ, ◌+◌, ◌<◌, ◌≤◌, Bool, List, [], ◌∷◌, length, set, Option, Some, None, inl, inr, refl, ap, sym, ◌∙◌, subst, arith}
+use Rattle.std.proofs.Common.{◌≡◌, ◌≢◌, ℕ, ◌+◌, ◌<◌, ◌≤◌, Bool, List, [], ◌∷◌, length, set, Option, None, inl, inr, refl, ap, sym, ◌∙◌, subst, arith}
 use Rattle.std.proofs.lemmas.Bool.Decides.{eqb_tells}
 use Rattle.std.proofs.lemmas.List.{get_or-set_same, get_or-set_other, length-set, set-get_or}
 use Rattle.px_cached.specs.declared.part.Above.{Above}
@@ -94,36 +94,7 @@ module _ (network : List Part) (above : List Above) (is : IsNetwork network abov
       way = λ way up. (way, (up, omega arith));
     }
 
-    -- nothing changed at all
-    pub never : truth_at first from ≡ given → IsCarried network above first (set first from given) from given None 1
-    never same =
-        let stays : set first from given ≡ first = ap (set first from) (sym same) ∙ set-get_or first from None in
-        subst (λ new. IsCarried network above first new from given None 1) (sym stays) (record {
-          agree = agree;
-          set = same;
-          wholes = λ part other. kept_by first first part (part_at network part) refl;
-          changed = λ part node top. inl refl;
-          looks = λ way up. omega arith;
-        })
-
   module _ (truths : List (Option Bool)) (at looks : ℕ) (so_far : IsUpTo network above first from given truths at looks) where
-    -- it is a whole condition
-    pub ended : (node : ℕ) → above_at above at ≡ aboves.Condition node
-        → IsCarried network above first truths from given (Some node) looks
-    ended node top = record {
-      agree = λ part inside. so_far.agree part inside (λ up. cc);
-      set = so_far.set;
-      wholes = so_far.wholes;
-      changed = λ part other other_top. elim (eqb_tells part at) [
-        | inl same ↦
-            let is_same : aboves.Condition node ≡ aboves.Condition other = sym top ∙ ap (above_at above) (sym same.1) ∙ other_top in
-            let node_is : node ≡ other = cc in
-            inr (ap Some node_is)
-        | inr apart ↦ inl (so_far.changed part other apart.1 other_top)
-      ];
-      looks = λ way up. let rest = so_far.way way up in omega (arith, rest.1.1);
-    }
-
     module _ (next : ℕ) (up : above_at above at ≡ aboves.Part next) where
       pub under : (at < next) × (next < length network)
       under = subst (IsUnder (length network) at) up (is.under at so_far.inside)

@@ -2,7 +2,7 @@
 use Rattle.std.proofs.Common.{◌≡◌, ◌≢◌, ℕ, ◌+◌, ◌<◌, ◌≤◌, ◌^◌, List, [], ◌∷◌, ◌++◌, length, set, Result, Ok, Err, IfOk, OnOk, inl, inr, refl, ap, sym, ◌∙◌, subst, arith, append_assoc}
 use Rattle.std.proofs.lemmas.Bool.{cases_lt}
 use Rattle.std.proofs.lemmas.Bool.Decides.{eqb_tells}
-use Rattle.std.proofs.lemmas.List.{get_or_append_left, get_or-set_same, get_or-set_other, append-nil, length-append, length-set}
+use Rattle.std.proofs.lemmas.List.{get_or_append_left, get_or-set_same, get_or-set_other, append-nil, length-append, length-set, length_push}
 use Rattle.std.proofs.Math.Seq.{get_or-append_seam}
 use Rattle.px_core.specs.Plan.{Site}
 use Rattle.px_flat.specs.declared.numbered.NumberedExpr.{NumberedExpr}
@@ -50,9 +50,6 @@ stands_on old new longer same from last expr (Two joint left right a b inside be
     (stands_on old new longer same from left a one) (stands_on old new longer same (left + 1) right b other)
 
 module _ (old : List Part) (part : Part) where
-  pub pushed_long : length (old ++ part ∷ []) ≡ length old + 1
-  pushed_long = length-append old (part ∷ [])
-
   pub pushed_same : (k : ℕ) → k < length old → part_at (old ++ part ∷ []) k ≡ part_at old k
   pushed_same k inside = get_or_append_left old (part ∷ []) no_part k inside
 
@@ -71,18 +68,18 @@ network_more : (old : List Part) (part : Part) (above new_above : List Above) �
     → ((k : ℕ) → k < length old + 1 → IsUnder (length old + 1) k (above_at new_above k))
     → IsNetwork (old ++ part ∷ []) new_above
 network_more old part above new_above is long few links over under = record {
-  few = omega (arith, few, pushed_long old part);
-  sized = long ∙ sym (pushed_long old part);
+  few = omega (arith, few, length_push old part);
+  sized = long ∙ sym (length_push old part);
   over = λ k inside. elim (cases_lt k (length old)) [
     | inl below ↦ subst (IsOver new_above k) (sym (pushed_same old part k below))
         (stays k below (part_at old k) (is.over k below))
     | inr past ↦
-        let last : k ≡ length old = omega (arith, past, inside, pushed_long old part) in
+        let last : k ≡ length old = omega (arith, past, inside, length_push old part) in
         subst (λ k. IsOver new_above k (part_at (old ++ part ∷ []) k)) (sym last)
         (subst (IsOver new_above (length old)) (sym (pushed_at old part)) over)
   ];
-  under = λ k inside. subst (λ count. IsUnder count k (above_at new_above k)) (sym (pushed_long old part))
-      (under k (omega (arith, inside, pushed_long old part)));
+  under = λ k inside. subst (λ count. IsUnder count k (above_at new_above k)) (sym (length_push old part))
+      (under k (omega (arith, inside, length_push old part)));
 }
   where
     stays : (k : ℕ) → k < length old → (p : Part) → IsOver above k p → IsOver new_above k p
@@ -136,13 +133,13 @@ module _ (plan : List Site) (node : ℕ) (expr : Numbered) (of : NumberedExpr) (
   whole_top = ap (above_at whole_above) (sym network.sized) ∙ get_or-append_seam above (aboves.Condition node) [] no_above
 
   whole_last : (k : ℕ) → length old ≤ k → k < length whole_new → k ≡ length old
-  whole_last k past inside = omega (arith, past, inside, pushed_long old (parts.Whole of))
+  whole_last k past inside = omega (arith, past, inside, length_push old (parts.Whole of))
 
   pub whole_laid : IsLaid plan node expr old whole_new above whole_above (length old)
   whole_laid = record {
     network = network_more old (parts.Whole of) above whole_above network
         (omega (arith, length-append above (aboves.Condition node ∷ []), network.sized))
-        (omega (arith, few, pushed_long old (parts.Whole of)))
+        (omega (arith, few, length_push old (parts.Whole of)))
         (λ k over inside up. whole_stays k inside ∙ up)
         tt
         (λ k inside. elim (cases_lt k (length old)) [
@@ -152,13 +149,13 @@ module _ (plan : List Site) (node : ℕ) (expr : Numbered) (of : NumberedExpr) (
               let last : k ≡ length old = omega (arith, past, inside) in
               subst (IsUnder (length old + 1) k) (sym (ap (above_at whole_above) last ∙ whole_top)) tt
         ]);
-    longer = omega (arith, pushed_long old (parts.Whole of));
+    longer = omega (arith, length_push old (parts.Whole of));
     same = pushed_same old (parts.Whole of);
     same_above = whole_stays;
     behind = omega arith;
-    spells = Whole of (omega (arith, pushed_long old (parts.Whole of))) (pushed_at old (parts.Whole of)) (sym is);
-    stands = One of (omega (arith, pushed_long old (parts.Whole of))) refl (pushed_at old (parts.Whole of)) (sym is);
-    end = pushed_long old (parts.Whole of);
+    spells = Whole of (omega (arith, length_push old (parts.Whole of))) (pushed_at old (parts.Whole of)) (sym is);
+    stands = One of (omega (arith, length_push old (parts.Whole of))) refl (pushed_at old (parts.Whole of)) (sym is);
+    end = length_push old (parts.Whole of);
     top = whole_top;
     named = λ k other past inside top.
         let same : aboves.Condition other ≡ aboves.Condition node =
@@ -293,7 +290,7 @@ module _ (plan : List Site) (node : ℕ) (joint : Joint) (a b : Numbered) (old o
           | inr second ↦ right_laid.named k other second below (sym (at_old k below not_left.1 not_right.1) ∙ top)
         ]
         | inr beyond ↦
-            let last : k ≡ length two = omega (arith, beyond, inside, pushed_long two joined_part) in
+            let last : k ≡ length two = omega (arith, beyond, inside, length_push two joined_part) in
             let both : aboves.Condition other ≡ aboves.Condition node = sym top ∙ ap (above_at joined_above) last ∙ at_new in
             let other_is : other ≡ node = cc in
             other_is
@@ -312,7 +309,7 @@ module _ (plan : List Site) (node : ℕ) (joint : Joint) (a b : Numbered) (old o
           | inr second ↦ read_right plan (sources_in plan b) (sources_in plan a) (part_at two k) (right_laid.read k second below)
         ]))
     | inr beyond ↦
-        let last : k ≡ length two = omega (arith, beyond, inside, pushed_long two joined_part) in
+        let last : k ≡ length two = omega (arith, beyond, inside, length_push two joined_part) in
         subst (IsReadIn plan (sources_in plan joined_expr)) (sym (ap (part_at joined_new) last ∙ pushed_at two joined_part)) tt
   ]
 
@@ -321,12 +318,12 @@ module _ (plan : List Site) (node : ℕ) (joint : Joint) (a b : Numbered) (old o
     network = network_more two joined_part two_above joined_above right_laid.network
         (length-set (set pushed_above left (aboves.Part (length two))) right (aboves.Part (length two))
         ∙ length-set pushed_above left (aboves.Part (length two)) ∙ sized)
-        (omega (arith, few, pushed_long two joined_part))
+        (omega (arith, few, length_push two joined_part))
         (λ k over inside linked. at_old k inside (not_linked left over left_free k linked)
         (not_linked right over right_laid.top k linked) ∙ linked)
         (omega (arith, left_there, right_laid.longer), (right_there, (at_left, at_right)))
         joined_under;
-    longer = omega (arith, left_laid.longer, right_laid.longer, pushed_long two joined_part);
+    longer = omega (arith, left_laid.longer, right_laid.longer, length_push two joined_part);
     same = λ k inside.
         pushed_same two joined_part k (omega (arith, inside, left_laid.longer, right_laid.longer))
         ∙ right_laid.same k (omega (arith, inside, left_laid.longer)) ∙ left_laid.same k inside;
@@ -336,17 +333,17 @@ module _ (plan : List Site) (node : ℕ) (joint : Joint) (a b : Numbered) (old o
         (λ same. omega (arith, same, inside, left_laid.longer, right_laid.behind))
         ∙ right_laid.same_above k (omega (arith, inside, left_laid.longer)) ∙ left_laid.same_above k inside;
     behind = omega (arith, left_laid.longer, right_laid.longer);
-    spells = Joined joint left right a b (omega (arith, pushed_long two joined_part)) (pushed_at two joined_part) refl
-        (spells_on two joined_new (omega (arith, pushed_long two joined_part)) (pushed_same two joined_part) left a
+    spells = Joined joint left right a b (omega (arith, length_push two joined_part)) (pushed_at two joined_part) refl
+        (spells_on two joined_new (omega (arith, length_push two joined_part)) (pushed_same two joined_part) left a
         (spells_on one two right_laid.longer right_laid.same left a left_laid.spells))
-        (spells_on two joined_new (omega (arith, pushed_long two joined_part)) (pushed_same two joined_part) right b
+        (spells_on two joined_new (omega (arith, length_push two joined_part)) (pushed_same two joined_part) right b
         right_laid.spells);
-    stands = Two joint left right a b (omega (arith, pushed_long two joined_part)) right_laid.end (pushed_at two joined_part) refl
-        (stands_on two joined_new (omega (arith, pushed_long two joined_part)) (pushed_same two joined_part) (length old) left a
+    stands = Two joint left right a b (omega (arith, length_push two joined_part)) right_laid.end (pushed_at two joined_part) refl
+        (stands_on two joined_new (omega (arith, length_push two joined_part)) (pushed_same two joined_part) (length old) left a
         (stands_on one two right_laid.longer right_laid.same (length old) left a left_laid.stands))
-        (stands_on two joined_new (omega (arith, pushed_long two joined_part)) (pushed_same two joined_part) (left + 1) right b
+        (stands_on two joined_new (omega (arith, length_push two joined_part)) (pushed_same two joined_part) (left + 1) right b
         (subst (λ from. Stands two from right b) left_laid.end right_laid.stands));
-    end = pushed_long two joined_part;
+    end = length_push two joined_part;
     top = at_new;
     named = joined_named;
     read = joined_read;

@@ -97,13 +97,6 @@ module _ (plan : List Site) (network : List Part) where
   abbrev IsOfPart : Reader → Type 0
   IsOfPart reader = has_source plan reader.source (sources_at plan (part_at network reader.part)) ≡ true
 
-  pub none_below : AreReadersBelow plan network [] 0
-  none_below = record {
-    each = λ part below. absurd (omega (arith, below));
-    within = All-nil IsFine;
-    only = All-nil IsOfPart;
-  }
-
   pub more_below : (readers : List Reader) (part : ℕ) → part < length network → IsRead plan (part_at network part)
       → AreReadersBelow plan network readers part
       → AreReadersBelow plan network (readers ++ readers_of plan part (sources_at plan (part_at network part))) (part + 1)

@@ -1,14 +1,13 @@
 -- What is to be looked at, while touched sources are gone through.
-use Rattle.std.proofs.Common.{◌≡◌, ℕ, ◌+◌, ◌≤◌, true, false, nat_eq, List, [], ◌∷◌, length, subst, ◌⊎◌, inl, inr, refl, ap, sym, ◌∙◌, All, None, Some, sum_by, arith}
+use Rattle.std.proofs.Common.{◌≡◌, ℕ, ◌+◌, ◌≤◌, true, false, nat_eq, List, [], ◌∷◌, subst, ◌⊎◌, inl, inr, ap, sym, ◌∙◌, All, None, Some, sum_by, arith}
 use Rattle.std.specs.List.{list_any}
 use Rattle.std.proofs.lemmas.Bool.Decides.{eqb_tells}
 use Rattle.std.proofs.lemmas.List.Elements.{All-tail}
 use Rattle.px_links.specs.Links.{LinksData, HoldsOthersAsBefore, first_of, is_absent, popped, SameCounts}
 use Rattle.px_listen.specs.Listening.{ListenData, dependents_of, is_dependent}
 use Rattle.px_cached.specs.Costs.{in_all}
-use Rattle.px_cached.specs.Noticing.{IsNoticed}
-use Rattle.px_cached.proofs.OneList.{none_noted, noted_then}
-use Rattle.px_cached.proofs.Owing.{in_all-none, in_all-popped}
+use Rattle.px_cached.proofs.OneList.{noted_then}
+use Rattle.px_cached.proofs.Owing.{in_all-popped}
 
 -- what holds of all of a list holds of what is in it
 pub of_one : (P : ℕ → Type 0) (numbers : List ℕ) (number : ℕ) → All P numbers → list_any (nat_eq number) numbers ≡ true → P number
@@ -32,15 +31,6 @@ pub record IsSoFar (Stays : ℕ → Type 0) (listeners : ListenData) (first_touc
   pub stale_counts : SameCounts first_stale stale
 
 module _ (Stays : ℕ → Type 0) (listeners : ListenData) (first_touched first_stale : LinksData) where
-  pub starts : IsSoFar Stays listeners first_touched first_touched first_stale first_stale
-  starts = record {
-    marked = λ source part noted depends. inl noted;
-    still = λ part noted. noted;
-    owed = λ cost. omega arith;
-    touched_counts = (refl, refl);
-    stale_counts = (refl, refl);
-  }
-
   module _ (touched stale : LinksData) (so_far : IsSoFar Stays listeners first_touched touched first_stale stale) where
     pub goes_on : (source : ℕ) (then_touched then_stale : LinksData) → HoldsOthersAsBefore touched then_touched source None
         → first_of touched 0 ≡ Some source → then_touched ≡ popped touched 0 → SameCounts touched then_touched
@@ -71,20 +61,4 @@ module _ (Stays : ℕ → Type 0) (listeners : ListenData) (first_touched first_
       );
       touched_counts = (counts.0 ∙ so_far.touched_counts.0, counts.1 ∙ so_far.touched_counts.1);
       stale_counts = (stale_counts.0 ∙ so_far.stale_counts.0, stale_counts.1 ∙ so_far.stale_counts.1);
-    }
-
-    pub ends : length touched.lists ≡ 1 → first_of touched 0 ≡ None → IsNoticed Stays listeners first_touched touched first_stale stale
-    ends one none = record {
-      none = none_noted touched one none;
-      marked = λ source part was depends. elim (so_far.marked source part was depends) [
-        | inr marked ↦ marked
-        | inl left ↦
-            let absent : is_absent touched source ≡ true = none_noted touched one none source in
-            absurd (cc)
-      ];
-      still = so_far.still;
-      paid = λ cost. in_all-none cost touched none;
-      owed = λ cost. omega (arith, so_far.owed cost);
-      touched_counts = so_far.touched_counts;
-      stale_counts = so_far.stale_counts;
     }

@@ -1,29 +1,9 @@
 -- Numbers that are noted in linked cells of one list.
-use Rattle.std.proofs.Common.{◌≡◌, ℕ, ◌<◌, Bool, true, false, nat_eq, [], length, Option, Some, None, ◌⊎◌, inl, inr, refl, ap, sym, ◌∙◌, subst, arith, if◌then◌else◌}
+use Rattle.std.proofs.Common.{◌≡◌, ℕ, Bool, true, false, nat_eq, Some, None, ◌⊎◌, inl, inr, refl, ap, sym, ◌∙◌, subst, if◌then◌else◌}
 use Rattle.std.specs.Prelude.{is_none}
 use Rattle.std.proofs.lemmas.Bool.{eq-eqb}
 use Rattle.std.proofs.lemmas.Bool.Decides.{eqb_tells}
-use Rattle.std.proofs.lemmas.List.Quantifiers.{position-Some}
-use Rattle.px_links.specs.Links.{LinksData, HoldsOthersAsBefore, first_of, holder_of, is_absent, popped}
-use Rattle.px_links.specs.Lists.{has, nth}
-use Rattle.px_links.proofs.Popping.{nobody_in, shorter_at}
-
--- where the list is empty nothing is noted
-pub none_noted : (links : LinksData) → length links.lists ≡ 1 → first_of links 0 ≡ None
-    → (cell : ℕ) → is_absent links cell ≡ true
-none_noted links long none cell = by (holder_of links cell) refl
-  where
-    by : (held : Option ℕ) → holder_of links cell ≡ held → is_absent links cell ≡ true
-    by None is = ap is_none is
-    by (Some list) is =
-        let inside : list < length links.lists = (position-Some (λ cells. has cells cell) links.lists list [] is).0 in
-        let first : list ≡ 0 = omega (arith, inside, long) in
-        absurd (nobody_in links 0 none cell (is ∙ ap Some first))
-
--- without its first one it is shorter
-pub shorter : (links : LinksData) (cell : ℕ) → first_of links 0 ≡ Some cell
-    → length (nth (popped links 0).lists 0) < length (nth links.lists 0)
-shorter links cell first = shorter_at links 0 cell first
+use Rattle.px_links.specs.Links.{LinksData, HoldsOthersAsBefore, holder_of, is_absent}
 
 -- ---- one is noted
 
@@ -34,7 +14,7 @@ module _ (old new : LinksData) (cell list : ℕ)
       ∙ ap (λ b. if b then (if is_absent old cell then Some list else holder_of old cell) else holder_of old cell)
       (eq-eqb cell cell refl)
 
-  elsewhere : (other : ℕ) → nat_eq cell other ≡ false → holder_of new other ≡ holder_of old other
+  pub elsewhere : (other : ℕ) → nat_eq cell other ≡ false → holder_of new other ≡ holder_of old other
   elsewhere other apart = holders other
       ∙ ap (λ b. if b then (if is_absent old cell then Some list else holder_of old cell) else holder_of old other) apart
 
@@ -69,12 +49,6 @@ module _ (old new : LinksData) (cell list : ℕ)
 module _ (old new : LinksData) (cell : ℕ) (holders : HoldsOthersAsBefore old new cell None) where
   others_stay : (other : ℕ) → nat_eq cell other ≡ false → is_absent new other ≡ is_absent old other
   others_stay other apart = ap is_none (holders other ∙ ap (λ b. if b then None else holder_of old other) apart)
-
-  pub absent_then : (other : ℕ) → is_absent new other ≡ true → (other ≡ cell) ⊎ (is_absent old other ≡ true)
-  absent_then other absent = elim (eqb_tells cell other) [
-    | inl same ↦ inl (sym same.1)
-    | inr apart ↦ inr (sym (others_stay other apart.0) ∙ absent)
-  ]
 
   pub noted_then : (other : ℕ) → is_absent old other ≡ false → (other ≡ cell) ⊎ (is_absent new other ≡ false)
   noted_then other noted = elim (eqb_tells cell other) [

@@ -1,5 +1,5 @@
 -- What all that is noted costs, with one more and one less.
-use Rattle.std.proofs.Common.{◌≡◌, ℕ, ◌+◌, ◌<◌, ◌≤◌, Bool, true, false, List, [], ◌∷◌, ◌++◌, length, set, drop, slice_get, Some, None, sum_by, refl, ap, ◌∙◌, arith, if◌then◌else◌}
+use Rattle.std.proofs.Common.{◌≡◌, ℕ, ◌+◌, ◌<◌, ◌≤◌, Bool, true, false, List, [], ◌∷◌, ◌++◌, length, set, drop, slice_get, Some, sum_by, ap, ◌∙◌, arith, if◌then◌else◌}
 use Rattle.std.proofs.lemmas.List.{get_or-set_same}
 use Rattle.std.proofs.lemmas.List.Sums.{sum_by-cons, sum_by_push}
 use Rattle.px_links.specs.Links.{LinksData, first_of, popped, pushed}
@@ -29,11 +29,3 @@ module _ (cost : ℕ → ℕ) where
   pub in_all-popped : (links : LinksData) (cell : ℕ) → first_of links 0 ≡ Some cell
       → in_all cost links ≡ cost cell + in_all cost (popped links 0)
   in_all-popped links cell first = popped_in links.lists cell first
-
-  none_in : (lists : List (List ℕ)) → slice_get (nth lists 0) 0 ≡ None → sum_by cost (nth lists 0) ≡ 0
-  none_in [] none = refl
-  none_in ([] ∷ lists) none = refl
-  none_in ((head ∷ list) ∷ lists) none = absurd (cc)
-
-  pub in_all-none : (links : LinksData) → first_of links 0 ≡ None → in_all cost links ≡ 0
-  in_all-none links none = none_in links.lists none

@@ -1,6 +1,6 @@
 -- The numbers of what is reported.
-use Rattle.std.proofs.Common.{◌≡◌, ℕ, ◌+◌, ◌*◌, ◌<◌, ◌≤◌, Bool, true, false, not, cond, nat_eq, List, [], ◌∷◌, length, Option, Some, None, sym, subst, arith, mul-le-mul_left, mul-le-mul_right, add-mul, mul-one, one-mul}
-use Rattle.std.specs.List.{position_or_len}
+use Rattle.std.proofs.Common.{◌≡◌, ℕ, ◌+◌, ◌*◌, ◌<◌, ◌≤◌, not, nat_eq, List, length, Option, Some, None, sym, subst, arith, mul-le-mul_left, mul-le-mul_right, add-mul, mul-one, one-mul}
+use Rattle.std.proofs.lemmas.List.Sums.{prefix_len-le-length}
 use Rattle.px_core.specs.Plan.{Site}
 use Rattle.px_sem.specs.Tolerances.{tolerances}
 use Rattle.px_flat.specs.Layout.{all_cells}
@@ -8,18 +8,9 @@ use Rattle.px_flat.specs.Lookups.{lookups_of}
 use Rattle.px_flat.specs.Sources.{Reports}
 use Rattle.px_cached.specs.Conditions.{all_sources, place_among, source_number}
 
-first_within : {X : Type 0} (p : X → Bool) (xs : List X) → position_or_len p xs ≤ length xs
-first_within p [] = omega arith
-first_within p (x ∷ xs) = by (p x) (first_within p xs)
-  where
-    by : (passes : Bool) → position_or_len p xs ≤ length xs
-        → cond (not passes) (1 + position_or_len p xs) 0 ≤ length (x ∷ xs)
-    by true rest = omega arith
-    by false rest = omega (arith, rest)
-
 pub place_within : (tolerances : List ℕ) (tolerance : Option ℕ) → place_among tolerances tolerance ≤ length tolerances
 place_within tolerances None = omega arith
-place_within tolerances (Some tolerance) = first_within (nat_eq tolerance) tolerances
+place_within tolerances (Some tolerance) = prefix_len-le-length (λ other. not (nat_eq tolerance other)) tolerances
 
 -- of so many blocks of so many the one at this place has this number
 pub in_block : (blocks size place at : ℕ) → place ≤ blocks → at < size → place * size + at < (blocks + 1) * size

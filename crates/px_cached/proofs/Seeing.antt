@@ -1,6 +1,6 @@
 -- What is kept is sound in what is present, where what was not touched is as it was seen; and then it is fresh.
 use Rattle.std.proofs.Common.{◌≡◌, ℕ, ◌+◌, ◌/◌, ◌<◌, Bool, true, false, not, List, [], ◌∷◌, ◌++◌, length, map, get_or, Option, None, ◌⊎◌, inl, inr, refl, ap, sym, ◌∙◌, subst, arith, All}
-use Rattle.std.proofs.lemmas.Bool.{cases_Bool}
+use Rattle.std.proofs.lemmas.Bool.{cases_Bool, false_from_ne_true, false≢true}
 use Rattle.std.proofs.lemmas.List.Elements.{All-cons, All-tail}
 use Rattle.std.proofs.lemmas.List.{get_or_append_left, get_or-append-add, get_or-map, length-append}
 use Rattle.px_value.specs.Truth.{truth_of}
@@ -16,6 +16,7 @@ use Rattle.px_cached.specs.declared.part.Part.{Part}
 use Rattle.px_cached.specs.declared.part.Part.TheVariants as parts
 use Rattle.px_cached.specs.declared.part.Root.{Root}
 use Rattle.px_cached.specs.declared.part.Root.TheVariants as root
+use Rattle.px_cached.specs.Cached.{CachedData, is_touched}
 use Rattle.px_cached.specs.Conditions.{condition_at, condition_in, number_of, source_number, truth_in}
 use Rattle.px_cached.specs.Laying.{IsRead, IsRoot, IsStretch, root_at}
 use Rattle.px_cached.specs.Looking.{AreRight, IsRight, IsSound, Tells}
@@ -25,6 +26,13 @@ use Rattle.px_cached.specs.Reading.{AreListening, sources_at}
 use Rattle.px_cached.proofs.Conditions.{condition_back, node_back, number_below}
 use Rattle.px_cached.proofs.Freshness.{fresh_part}
 use Rattle.px_cached.proofs.Layers.{spells_inside}
+
+-- what is untouched was so before
+pub was_untouched : (old new : CachedData) (source : ℕ)
+    → ((source : ℕ) → is_touched old source ≡ true → is_touched new source ≡ true)
+    → is_touched new source ≡ false → is_touched old source ≡ false
+was_untouched old new source others untouched =
+    false_from_ne_true (is_touched old source) (λ was. false≢true (sym untouched ∙ others source was))
 
 -- what is true of all sources is true of a stretch of them
 all_in_stretch : (P : Source → Type 0) (some all : List Source) → IsStretch some all → All P all → All P some

@@ -4,7 +4,7 @@ use denote.Struct.Declared.{shape}
 use denote.Param.Send.{IsSend, sendable, view_send, recorded_send, struct_send}
 use denote.Param.SendFields.{as_row_send, variants_send}
 use Rattle.px_value.proofs.text.Text.TheSendSync as texts
-use Rattle.px_flat.proofs.numbered.NumberedExpr.TheLaws.TheKnot.{send-NumberedExpr}
+use Rattle.px_flat.proofs.Sending.{numbered_send}
 use Rattle.px_flat.specs.contracts.numbered.NumberedExpr as numbered
 use Rattle.px_links.proofs.links.Links.TheSendSync as links
 use Rattle.px_listen.specs.contracts.listeners.Listeners as listeners
@@ -16,12 +16,6 @@ use Rattle.px_cached.specs.contracts.laying.Network as networks
 use Rattle.px_cached.specs.contracts.looking.Kept as truths
 use Rattle.px_cached.specs.contracts.cached.Cached as cached
 use Rattle.px_cached.specs.contracts.cached.Cached.TheInside as cached_inside
-
--- expressions, which refer to themselves
-numbered_send : IsSend (numbered.the_field.row)
-numbered_send =
-    send-NumberedExpr (search (sendable, texts.the_send) depth 20) (search sendable depth 12) (λ h s. search (sendable, crosses))
-    (λ h s. search (sendable, crosses)) (search (sendable, crosses)) (search sendable depth 12) (search sendable depth 20)
 
 part_send : IsSend parts.the_row
 part_send = variants_send parts.enum (search (sendable, crosses, as_row_send, numbered_send, joints.the_field_send) depth 20)

@@ -2,11 +2,9 @@
 use Rattle.std.proofs.Common.{◌≡◌, ℕ, Option, Global, map, ap, sym, ◌∙◌}
 use Rattle.std.specs.declared.boxed.Box.{Box}
 use Rattle.std.specs.declared.vec.Vec.{Vec}
-use Rattle.px_syntax.specs.declared.expr.Attribute.{Attribute as AttributeWord}
 use Rattle.px_syntax.specs.declared.expr.Enumerated.{Enumerated as EnumeratedValue}
 use Rattle.px_syntax.specs.declared.expr.Identifier.{Identifier}
 use Rattle.px_syntax.specs.declared.expr.Literal.{Literal as LiteralValue}
-use Rattle.px_syntax.specs.declared.expr.NodeReference.{NodeReference}
 use Rattle.px_syntax.specs.declared.expr.SurfaceExpr.{SurfaceExpr}
 use Rattle.px_syntax.specs.declared.expr.SurfaceExpr.TheFolds.{fold-roll-SurfaceExpr}
 use Rattle.px_syntax.specs.declared.expr.SurfaceExpr.TheOpen.{SurfaceExpr-F}
@@ -32,23 +30,11 @@ enumerated value token =
     ap term_of (sym (exprs.rolls-Enumerated value token))
     ∙ fold-roll-SurfaceExpr Term term_step (SurfaceExpr-F.Enumerated value token)
 
-pub variable : (name : Identifier)
-    → term_of (exprs.Variable name) ≡ terms.Variable name
-variable name =
-    ap term_of (sym (exprs.rolls-Variable name))
-    ∙ fold-roll-SurfaceExpr Term term_step (SurfaceExpr-F.Variable name)
-
 pub element : (array : Identifier) (index : Box SurfaceExpr Global)
     → term_of (exprs.Element array index) ≡ terms.Element array (term_of index.value)
 element array index =
     ap term_of (sym (exprs.rolls-Element array index))
     ∙ fold-roll-SurfaceExpr Term term_step (SurfaceExpr-F.Element array index)
-
-pub attribute : (node : NodeReference) (word : AttributeWord)
-    → term_of (exprs.Attribute node word) ≡ terms.Attribute node word
-attribute node word =
-    ap term_of (sym (exprs.rolls-Attribute node word))
-    ∙ fold-roll-SurfaceExpr Term term_step (SurfaceExpr-F.Attribute node word)
 
 pub look : (word : LookWord) (token : ℕ) (name : Identifier) (args : Vec SurfaceExpr Global) (tolerance : Option Tolerance)
     → term_of (exprs.Look word token name args tolerance) ≡ terms.Look word token name (terms.in_turn (map term_of args.items)) tolerance

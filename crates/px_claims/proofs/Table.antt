@@ -1,9 +1,9 @@
 -- What a table of claims keeps, as one node wants or holds.
-use Rattle.std.proofs.Common.{◌≡◌, ◌≢◌, ℕ, Bool, true, false, List, [], ◌∷◌, length, get_or, Some, None, IfSome, refl, sym, ◌∙◌, subst, arith}
+use Rattle.std.proofs.Common.{◌≡◌, ◌≢◌, ℕ, Bool, List, [], ◌∷◌, length, get_or, Some, None, sym, ◌∙◌, arith}
 use Rattle.std.specs.List.{concat}
 use Rattle.std.proofs.lemmas.List.{append-nil, length-set}
 use Rattle.std.proofs.lemmas.Option.{none-some, same_Some}
-use Rattle.px_links.specs.Links.{LinksData, holder_of, HoldsOthersAsBefore}
+use Rattle.px_links.specs.Links.{LinksData, HoldsOthersAsBefore}
 use Rattle.px_links.specs.Lists.{nth}
 use Rattle.px_tally.specs.Tally.{TallyData, marked}
 use Rattle.px_claims.specs.Keeping.{AreTallies, HoldsContested, is_contested}
@@ -14,16 +14,6 @@ pub only_list : (lists : List (List ℕ)) → length lists ≡ 1 → concat list
 only_list [] long = absurd (omega (arith, long))
 only_list (list ∷ []) long = append-nil list
 only_list (list ∷ other ∷ lists) long = absurd (omega (arith, long))
-
--- a variable that a list has is in the first
-pub one_list : (wanting holding : TallyData) (links : LinksData) → HoldsContested wanting holding links → (variable : ℕ)
-    → IfSome (holder_of links variable) (λ list. list ≡ 0)
-one_list wanting holding links kept variable =
-    subst (λ holder. IfSome holder (λ list. list ≡ 0)) (sym (kept variable)) (by (is_contested wanting holding variable))
-  where
-    by : (contested : Bool) → IfSome (holder_for contested) (λ list. list ≡ 0)
-    by true = refl
-    by false = tt
 
 -- a member's group alone is concerned as it is marked
 other_group : (old : TallyData) (node variable other : ℕ) → get_or old.group_of node None ≡ Some variable

@@ -15,7 +15,7 @@ use Rattle.px_sem.specs.Effects.{as_kind, write_at, cell_of}
 use Rattle.px_sem.specs.Events.{with_write, returned, result_place, body_at, has_result, changed, take}
 use Rattle.px_sem.specs.Guards.{is_executing, is_finishing}
 use Rattle.px_sem.specs.World as world
-use Rattle.px_sem.specs.World.{LookState, Report, Action, variable_at}
+use Rattle.px_sem.specs.World.{LookState, Report}
 use Rattle.px_flat.specs.declared.act.Act.{Act}
 use Rattle.px_flat.specs.declared.act.Act.TheVariants as under_way
 use Rattle.px_flat.specs.declared.flat.Flat.{Flat}

@@ -96,6 +96,11 @@ pub some_of : {A : Type 0} (xs : List A) (i : ℕ) → i < length xs → A
 some_of [] i within = absurd (omega arith)
 some_of (x ∷ xs) i within = x
 
+-- the place of one of the workers
+pub place_at : {S : Type 0} (workers : List (Worker S)) (i : ℕ) (e : Worker S) → i < length workers
+    → get_or (places_of workers) i 0 ≡ (get_or workers i e).at
+place_at {S} workers i e within = get_or-map (λ (worker : Worker S). worker.at) workers i e 0 within
+
 -- ---- all seats
 
 module _ {S : Type 0} (start : Start) (fits : S → Type 0) (seating : S → Seating) (threads : List Todo) (olds news : List (Worker S))
@@ -105,9 +110,6 @@ module _ {S : Type 0} (start : Start) (fits : S → Type 0) (seating : S → Sea
     (list : List Listing) (w : IsOneHistory first (map (λ worker. seating worker.seat) news) list) where
   new_same : length news ≡ length threads
   new_same = worked.same ∙ same
-
-  seat_of : Worker S → Seating
-  seat_of worker = seating worker.seat
 
   -- what holds of each seat
   of_seat : (P : Seating → Type 0) → All P (map (λ worker. seating worker.seat) news) → (i : ℕ) (e : Worker S) → i < length threads → P (seating (get_or news i e).seat)
@@ -171,9 +173,6 @@ module _ {S : Type 0} (start : Start) (fits : S → Type 0) (seating : S → Sea
       (own_thread (get_or threads j d).thread (drop (get_or olds j e).at (take (get_or news j e).at (get_or threads j d).lines))))
 
   module _ (at : AreAt start.plan start.first (log_in first) threads (places_of olds)) where
-    place_at : (workers : List (Worker S)) (i : ℕ) (e : Worker S) → i < length workers → get_or (places_of workers) i 0 ≡ (get_or workers i e).at
-    place_at workers i e within = get_or-map (λ (worker : Worker S). worker.at) workers i e 0 within
-
     goes_at : (i : ℕ) (d : Todo) (e : Worker S) → i < length threads → GoesThrough start.plan start.first (log_in list) (get_or threads i d) (get_or news i e).at
     goes_at i d e within =
         let todo = get_or threads i d in

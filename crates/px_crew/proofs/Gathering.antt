@@ -3,7 +3,7 @@ use Rattle.std.proofs.Common.{◌≡◌, ◌≢◌, ℕ, suc, ◌+◌, ◌<◌, 
 use Rattle.std.specs.List.{All, Contains, slice_get, filter_map, sum_by}
 use Rattle.std.specs.Option.{option_and_then, option_to_list}
 use Rattle.std.proofs.lemmas.Bool.{cases_eq}
-use Rattle.std.proofs.lemmas.List.{append-nil, length-set, get_or-map, get_or-set_same, get_or-set_other, take_more}
+use Rattle.std.proofs.lemmas.List.{append-nil, length-set, get_or-set_same, get_or-set_other, take_more}
 use Rattle.std.proofs.lemmas.Option.{same_Some, slice_get_read, slice_get_within, get_or_from_slice_get}
 use Rattle.std.proofs.lemmas.List.Elements.{Contains-get_or, filter_map-append}
 use Rattle.px_core.specs.Plan.{Site}
@@ -37,7 +37,7 @@ use Rattle.px_crew.specs.Crew.{AreAt, IsWait, IsWaiting, AreWaiting, IsOver, Com
 use Rattle.px_crew.specs.Seat.{entry_in}
 use Rattle.px_crew.specs.Standstill.{wait_of, wait_at, waits_of, IsHeld}
 use Rattle.px_crew.specs.Work.{board, places_of, HaveWorked, AreHeld, ComesTo}
-use Rattle.px_crew.proofs.Composing.{some_of, composed, unbroken_at, broken_one, seen_failed}
+use Rattle.px_crew.proofs.Composing.{some_of, place_at, composed, unbroken_at, broken_one, seen_failed}
 use Rattle.px_crew.proofs.Further.{seen_at, next_at, going_on}
 use Rattle.px_crew.proofs.Further.{unbroken_at as walk_unbroken}
 use Rattle.px_crew.proofs.Passing.{walks_same}
@@ -72,17 +72,11 @@ module _ {S : Type 0} (start : Start) (fits : S → Type 0) (seating : S → Sea
     (first : List Listing) (came : (i : ℕ) (e : Worker S) → i < length threads → seating (get_or olds i e).seat ≡ newcomer first i)
     (list : List Listing) (w : IsOneHistory first (map (λ worker. seating worker.seat) news) list)
     (at : AreAt start.plan start.first (log_in first) threads (places_of olds)) (clear : failed_in first ≡ None) where
-  new_length : length news ≡ length threads
-  new_length = worked.same ∙ same
-
   one_new : (i : ℕ) → i < length threads → Worker S
-  one_new i within = some_of news i (omega (arith, new_length))
+  one_new i within = some_of news i (omega (arith, worked.same, same))
 
   are : AreAt start.plan start.first (log_in list) threads (places_of news)
   are = composed start fits seating threads olds news differ same worked first came list w at
-
-  place_of : (i : ℕ) (e : Worker S) → i < length threads → get_or (places_of news) i 0 ≡ (get_or news i e).at
-  place_of i e within = get_or-map (λ (worker : Worker S). worker.at) news i e 0 (omega (arith, new_length))
 
   -- where no worker has met a failed append, there is none
   none_failed : All (λ (worker : Worker S). worker.end ≢ works.Disk) news → entry_in (failed_in list) ≡ None
@@ -98,7 +92,7 @@ module _ {S : Type 0} (start : Start) (fits : S → Type 0) (seating : S → Sea
           let e = one_new i within in
           let one = worked.each i d e within in
           let whole = walk_unbroken (get_or threads i d) (get_or news i e).at (board start fits seating (get_or olds i e)) (board start fits seating (get_or news i e)) one.end one.walked.ends
-          (λ is. unbroken i e (omega (arith, new_length)) (one.says ∙ is)) in
+          (λ is. unbroken i e (omega (arith, worked.same, same)) (one.says ∙ is)) in
           let was = unbroken_at start fits seating threads olds news differ same worked first came list w i d e within in
           absurd (some_none failed.entry (sym broken.1.1 ∙ whole ∙ was))
         where
@@ -109,7 +103,7 @@ module _ {S : Type 0} (start : Start) (fits : S → Type 0) (seating : S → Sea
   one_failed : (worker : Worker S) → Contains news worker → worker.end ≡ works.Disk → (failed : Failed) × (failed_in list ≡ Some failed)
   one_failed worker (k, within, is) broken =
       let d : Todo = record { thread = 0; lines = [] } in
-      let below : k < length threads = omega (arith, within, new_length) in
+      let below : k < length threads = omega (arith, within, worked.same, same) in
       let one = worked.each k d worker below in
       let seen = some_entry (failed_in (items (seating (get_or news k worker).seat).seen))
       (seen_at (get_or threads k d) (get_or news k worker).at (board start fits seating (get_or olds k worker)) (board start fits seating (get_or news k worker)) one.end one.walked.ends
@@ -132,7 +126,7 @@ module _ {S : Type 0} (start : Start) (fits : S → Type 0) (seating : S → Sea
         one_of = Contains-get_or threads i d within;
         thread = next.0;
         count = (get_or news i e).at;
-        before = subst (λ (place : ℕ). GoesThrough start.plan start.first (log_in list) (get_or threads i d) place) (place_of i e within) (are.each i d within);
+        before = subst (λ (place : ℕ). GoesThrough start.plan start.first (log_in list) (get_or threads i d) place) (place_at news i e (omega (arith, within, worked.same, same))) (are.each i d within);
         line = next.1;
       }
 
@@ -140,7 +134,7 @@ module _ {S : Type 0} (start : Start) (fits : S → Type 0) (seating : S → Sea
   waiting : AreHeld start fits seating threads news → AreWaiting threads (places_of news)
   waiting held i d within =
       let e = one_new i within in
-      subst (IsWaiting (get_or threads i d)) (sym (place_of i e within)) (waits_at start.plan start.first (board start fits seating (get_or news i e)).log (get_or threads i d) (get_or news i e).at (held i d e within))
+      subst (IsWaiting (get_or threads i d)) (sym (place_at news i e (omega (arith, within, worked.same, same)))) (waits_at start.plan start.first (board start fits seating (get_or news i e)).log (get_or threads i d) (get_or news i e).at (held i d e within))
 
   pub comes_whole : (end : CrewEnd) → ComesTo start fits seating threads news end
       → Comes start.plan start.first (log_in list) threads (places_of news) (entry_in (failed_in list)) end
@@ -149,7 +143,7 @@ module _ {S : Type 0} (start : Start) (fits : S → Type 0) (seating : S → Sea
     record {
       each = λ k d within.
           let e = one_new k within in
-          subst (λ (place : ℕ). GoesThrough start.plan start.first (log_in list) (get_or threads k d) place) (place_of k e within ∙ comes.1 k d e within) (are.each k d within);
+          subst (λ (place : ℕ). GoesThrough start.plan start.first (log_in list) (get_or threads k d) place) (place_at news k e (omega (arith, within, worked.same, same)) ∙ comes.1 k d e within) (are.each k d within);
       only = are.only;
     },
   )

@@ -75,13 +75,6 @@ module _ (threads : List Todo) where
             (ap (λ (maker : Option ℕ). is_number maker one.0) one.1 ∙ eq-eqb one.0 one.0 refl);
       }
 
-  -- whether it carries a number
-  carries : (e : Stamped Listing) (made : IsMadeFor e) (i : ℕ) → made.number ≡ i → is_number e.maker i ≡ true
-  carries e made i same = ap (λ (maker : Option ℕ). is_number maker i) made.maker ∙ eq-eqb made.number i same
-
-  carries_other : (e : Stamped Listing) (made : IsMadeFor e) (i : ℕ) → made.number ≢ i → is_number e.maker i ≡ false
-  carries_other e made i differ = ap (λ (maker : Option ℕ). is_number maker i) made.maker ∙ ne_eqb made.number i differ
-
   -- ---- the entries of a thread are those of its seat
 
   module _ (differ : (i j : ℕ) (d : Todo) → i < length threads → j < length threads → j ≢ i → (get_or threads i d).thread ≢ (get_or threads j d).thread) where

@@ -1,5 +1,5 @@
 -- A walk that has come so far, and how it goes on.
-use Rattle.std.proofs.Common.{◌≡◌, ℕ, ◌+◌, ◌<◌, ◌≤◌, List, [], ◌∷◌, ◌++◌, length, get_or, take, drop, Ok, Err, inl, inr, refl, sym, ap, ◌∙◌, subst, arith}
+use Rattle.std.proofs.Common.{◌≡◌, ℕ, ◌+◌, ◌<◌, ◌≤◌, List, [], ◌∷◌, ◌++◌, length, get_or, take, drop, Err, inl, inr, refl, sym, ap, ◌∙◌, subst, arith}
 use Rattle.std.specs.List.{filter_map}
 use Rattle.std.proofs.lemmas.List.{append-nil, append_assoc, length-take, drop_all, take_more, drop-append-le}
 use Rattle.std.proofs.lemmas.List.Elements.{filter_map-append}
@@ -131,17 +131,6 @@ walking_on todo from at old mid new line w before within is passes = by line.wha
     by (whats.Wait cond) is passes = walking_wait todo from at old mid new line.number cond w before within is passes.0 passes.1
 
 -- ---- the end of a walk
-
-pub walked_all : (todo : Todo) (from at : ℕ) (old new : Board) → Walking todo from at old new → from ≤ at → at ≡ length todo.lines
-    → Walked todo from old new (record { at = at; end = Ok tt })
-walked_all todo from at old new w before all = record {
-  further = before;
-  within = w.within;
-  later = w.later;
-  made = w.made;
-  walks = w.walks;
-  ends = (all, w.broke);
-}
 
 -- a line that stops the walk posts nothing
 stopped_later : (thread : ℕ) (line : Line) (mid new : Board) (stop : Stop) → StopsAt thread line mid new stop → IsLater mid new

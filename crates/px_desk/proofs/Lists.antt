@@ -122,18 +122,6 @@ module _ {S D : Type 0} (runs : Stepper.Ghosts S) (members : Disk.Ghosts D) (old
 -- ---- answers, as they are told of a list and of a seat
 
 module _ (start : Start) (entry : Entry) where
-  -- an answer that is in the list tells of one entry more
-  pub one_more : (old new after : List Listing) (answer : Result Receipt PostFault) → is_listed answer ≡ true
-      → Answers start (λ item. new ≡ old ++ item ∷ []) (new ≡ old) after entry answer
-      → (item : Listing) × (new ≡ old ++ item ∷ [])
-  one_more old new after (Ok receipt) is h = (_, h.0)
-  one_more old new after (Err faults.PlanFinished) is h = (_, h)
-  one_more old new after (Err (faults.Full limit)) is h = (_, h.0)
-  one_more old new after (Err faults.Runaway) is h = (_, h)
-  one_more old new after (Err faults.DiskFault) is h = (_, h.1)
-  one_more old new after (Err (faults.Closed count)) is h = absurd (cc)
-  one_more old new after (Err faults.NoMemory) is h = absurd (cc)
-
   -- and one that isn't tells of none
   pub none_more : (old new after : List Listing) (answer : Result Receipt PostFault) → is_listed answer ≡ false
       → Answers start (λ item. new ≡ old ++ item ∷ []) (new ≡ old) after entry answer → new ≡ old

@@ -1,9 +1,8 @@
 -- How a run grows by one post, from any history on.
-use Rattle.std.proofs.Common.{◌≡◌, List, [], ◌∷◌, ◌++◌, ℕ, length, Some, IsSome, refl, ap, sym, ◌∙◌}
+use Rattle.std.proofs.Common.{◌≡◌, List, [], ◌∷◌, ◌++◌, ℕ, length, Some, ap, sym, ◌∙◌}
 use Rattle.std.proofs.lemmas.List.{length-map, map-append}
 use Rattle.px_core.specs.Plan.{Site}
 use Rattle.px_event.specs.declared.entry.Entry.{Entry}
-use Rattle.px_event.specs.declared.event.Event.{Event}
 use Rattle.px_event.specs.declared.reply.Reply.{Reply}
 use Rattle.px_sem.specs.World.{World}
 use Rattle.px_sem.specs.Run.{run}
@@ -19,6 +18,3 @@ run_after plan limit history world entry reply runs is =
     let counted = ap (λ count. answer plan limit count world entry.event) (sym (length-map history (λ e. e.event))) in
     ap (run plan) (map-append (λ e. e.event) history (accepted (logged entry reply ∷ [])))
     ∙ (follows plan limit (events_of history) world entry reply runs (is ∙ counted)).runs
-
-pub some_run : (plan : List Site) (events : List Event) (world : World) → run plan events ≡ Some world → IsSome (run plan events)
-some_run plan events world is = rw is refl

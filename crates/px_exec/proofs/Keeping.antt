@@ -1,6 +1,7 @@
 -- What an executive keeps, at its opening and after each answer of a post.
 use Rattle.std.proofs.Common.{◌≡◌, ◌≤◌, ◌<◌, ◌+◌, ◌^◌, ℕ, List, [], ◌∷◌, ◌++◌, Option, Some, None, IsSome, length, refl, sym, ◌∙◌, ap, subst, arith, append_assoc, append-nil, IsTrue, IsFalse}
 use Rattle.std.proofs.lemmas.List.{length-map, map-append}
+use Rattle.px_value.proofs.General.{is_some_at}
 use Rattle.px_core.specs.Plan.{Site}
 use Rattle.px_event.specs.Fit.{is_fit_entry}
 use Rattle.px_event.specs.declared.entry.Entry.{Entry}
@@ -19,9 +20,9 @@ use Rattle.px_sem.specs.declared.stepper.Stepper
 use Rattle.px_exec.specs.declared.closing.Failed.{Failed}
 use Rattle.px_exec.specs.Answers.{answer_now, logged}
 use Rattle.px_exec.specs.Crash.{AddsAtMost}
-use Rattle.px_exec.specs.Executive.{Opening, Executive, Keeps, KeepsDisk, IsOpen, IsClosed, KeepsNaming, KeepsSinceOpening, TellsBytes, failed_entries, plan_of, world_of}
+use Rattle.px_exec.specs.Executive.{Opening, Executive, Keeps, KeepsDisk, IsOpen, KeepsNaming, KeepsSinceOpening, TellsBytes, failed_entries, plan_of, world_of}
 use Rattle.px_sem.proofs.Logs.{accepted_by, accepted_more, answers_more}
-use Rattle.px_exec.proofs.Growing.{run_after, some_run}
+use Rattle.px_exec.proofs.Growing.{run_after}
 pub use Rattle.px_exec.proofs.Images.{told_of}
 use Rattle.px_exec.proofs.Images.{ready_leaves, within_at_once, within_more}
 use Rattle.px_exec.proofs.Naming.{with_parts, naming_at_once, naming_more, naming_still}
@@ -42,9 +43,6 @@ opening_of {S} {D} {stepper} {first} {kept} {journal} {front} {history} limit s 
 module _ {S D : Type 0} (runs : Stepper.Ghosts S) (members : Disk.Ghosts D) where
   pub open_of : (exec : Executive S D) → Keeps runs members exec → exec.failed ≡ None → IsOpen members exec
   open_of exec keeps unfailed = subst (KeepsDisk runs members exec) unfailed keeps.disk
-
-  pub closed_of : (exec : Executive S D) (failed : Failed) → Keeps runs members exec → exec.failed ≡ Some failed → IsClosed runs members exec failed
-  closed_of exec failed keeps closed = subst (KeepsDisk runs members exec) closed keeps.disk
 
   none_failed : (exec : Executive S D) → exec.failed ≡ None → ¬ IsSome exec.failed
   none_failed exec unfailed some = absurd (let none = subst IsSome unfailed some in cc)
@@ -173,10 +171,10 @@ module _ {S D : Type 0} (runs : Stepper.Ghosts S) (members : Disk.Ghosts D) wher
     disk = record {
       fit = fit;
       due = record {
-        runs = some_run (plan_of runs old) (events_of old.history) (world_of runs old) keeps.runs_to;
+        runs = is_some_at (run (plan_of runs old) (events_of old.history)) (world_of runs old) keeps.runs_to;
         answers = ((world_of runs old, keeps.runs_to, now_due), tt);
       };
-      settles = some_run (plan_of runs old) (events_of (old.history ++ entry ∷ [])) _
+      settles = is_some_at (run (plan_of runs old) (events_of (old.history ++ entry ∷ []))) _
           (run_after (plan_of runs old) old.opening.limit old.history (world_of runs old) entry (replies.Accepted position) keeps.runs_to (sym due));
       rose = rose_on _ _ _ keeps.goes.faults.later (adds.goes.faults.rose failed);
       counted = omega arith;
@@ -251,7 +249,7 @@ module _ {S D : Type 0} (runs : Stepper.Ghosts S) (members : Disk.Ghosts D) wher
     text = ready;
     least = least;
     most = most;
-    legal = record { runs = some_run (runs.state first).nodes (events_of history) _ runs_to; answers = tt };
+    legal = record { runs = is_some_at (run (runs.state first).nodes (events_of history)) _ runs_to; answers = tt };
     grown = sym (append-nil history);
     few = omega arith;
     settled = settled;

@@ -2,6 +2,7 @@
 use Rattle.std.proofs.Common.{◌≡◌, ◌≤◌, ◌<◌, ◌+◌, ℕ, List, [], ◌∷◌, ◌++◌, Some, None, length, take, drop, sym, ◌∙◌, ap, arith, append_assoc}
 use Rattle.std.specs.Prelude.{slice_index_or}
 use Rattle.std.proofs.lemmas.List.{length-take, map-append, take_all, take_more, take-append-drop}
+use Rattle.px_value.proofs.General.{is_some_at}
 use Rattle.px_core.specs.Plan.{Site}
 use Rattle.px_event.specs.declared.entry.Entry.{Entry}
 use Rattle.px_sem.specs.Log.{events_of}
@@ -10,7 +11,6 @@ use Rattle.px_sem.specs.Stepper.{State, Nothing, settled_state}
 use Rattle.px_sem.specs.World.{World}
 use Rattle.px_sem.proofs.Logs.{run_more}
 use Rattle.px_exec.specs.Opening.{RunsAwayAt}
-use Rattle.px_exec.proofs.Growing.{some_run}
 
 -- so many entries of the history were taken, and the last has settled
 pub record HasRun (plan : List Site) (history : List Entry) (at : ℕ) (now : State) : Type 0 where
@@ -56,6 +56,6 @@ module _ (plan : List Site) (history : List Entry) (at : ℕ) (now : State) (ent
     parts = sym (take-append-drop (at + 1) history) ∙ ap (λ front. front ++ drop (at + 1) history) front_more
         ∙ append_assoc (take at history) (entry ∷ []) (drop (at + 1) history);
     place = omega (arith, length-take at history);
-    settles = some_run plan (events_of (take at history)) now.world ran.runs;
+    settles = is_some_at (run plan (events_of (take at history))) now.world ran.runs;
     runs_away = next_run ∙ ap settled_world none;
   }

@@ -104,9 +104,6 @@ module _ (whole : List Site) where
     more,
   )
 
-  pub one_child : (branch : BranchTree) → branch_child branch ++ [] ≡ branch_child branch
-  one_child branch = append-nil (branch_child branch)
-
   branch_there : (path unlabelled : List ℕ) (above : List (List ℕ)) (scope : Scope) (added : Added) (branch : BranchTree)
       (rest : Tree)
       → IsWithin (sites_under (path ∷ above)
@@ -285,7 +282,7 @@ module _ (whole : List Site) where
         let all : IsSeen whole (path ∷ above) entered inner =
         entered_seen whole above name path outer label false scope (branch_child branch) (branch_name body_name branch ∷ []) [] []
         place.seen place.named (list_has path label own)
-        (subst (λ heads. NamedHeads whole (below path) heads (branch_name body_name branch ∷ [])) (one_child branch) heads)
+        (subst (λ heads. NamedHeads whole (below path) heads (branch_name body_name branch ∷ [])) (append-nil (branch_child branch)) heads)
         tt (none_declares whole path) in
         tested_fits whole above name added given term paths (alone part) within place.more (repeat_speaks path keeps)
         (judged_there whole (path ∷ above) entered inner all (Boolean ∷ []) test faults.0)
@@ -325,7 +322,7 @@ module _ (whole : List Site) where
         entered_seen whole above name loop outer label false scope (branch_child branch) (branch_name body_name branch ∷ [])
         (record { name = variable.name; of_type = Integer; is_array = false } ∷ []) (counter variable.name first ∷ [])
         place.seen place.named (list_has path label (own (λ site. true) refl))
-        (subst (λ heads. NamedHeads whole (below loop) heads (branch_name body_name branch ∷ [])) (one_child branch) heads)
+        (subst (λ heads. NamedHeads whole (below loop) heads (branch_name body_name branch ∷ [])) (append-nil (branch_child branch)) heads)
         (refl, refl, tt)
         (λ text as_array declares. own (λ site. declares_in as_array text site.head.variables) declares) in
         let body_is = branch_there loop body_name below_it inner (where_found loop) branch (alone last) in_it in
@@ -457,7 +454,7 @@ module _ (whole : List Site) where
           λ above inner path within.
           record {
             named =
-                subst (λ heads. NamedHeads whole (below path) heads (branch_name else_name branch ∷ [])) (one_child branch)
+                subst (λ heads. NamedHeads whole (below path) heads (branch_name else_name branch ∷ [])) (append-nil (branch_child branch))
                 (branch_heads path else_name above inner (where_not_found path) branch NoNode [] [] refl labels within tt);
             there =
                 and_from _ _

@@ -1,9 +1,9 @@
 -- The variables of a block without faults: they differ in name, and each has a right size and values of its type.
-use Rattle.std.proofs.Common.{◌≡◌, ℕ, true, false, ◌&&◌, ◌||◌, List, [], ◌∷◌, ◌++◌, map, length, Option, Some, None, refl, sym, ap, ◌∙◌, arith}
+use Rattle.std.proofs.Common.{◌≡◌, ℕ, true, false, ◌&&◌, ◌||◌, List, [], ◌∷◌, ◌++◌, map, length, Option, Some, None, refl, sym, ap, ◌∙◌}
 use Rattle.std.specs.Prelude.{nat_lt, nat_le}
 use Rattle.std.specs.List.{list_all, flat_map}
 use Rattle.std.proofs.lemmas.Bool.{and_from, or_parts, ltb-false, le-leb}
-use Rattle.std.proofs.lemmas.List.{map-append}
+use Rattle.std.proofs.lemmas.List.{length-map, map-append}
 use Rattle.std.proofs.lemmas.List.Folds.{list_all-append}
 use Rattle.px_value.proofs.General.{neither}
 use Rattle.px_syntax.specs.declared.block.ListedLiteral.{ListedLiteral}
@@ -50,10 +50,6 @@ listed_typed of_type (first ∷ rest) none =
     let parts = neither (literal_fault (named_type of_type) first.value first.token) _ none in
     and_from _ _ (literal_typed of_type first.value first.token parts.0) (listed_typed of_type rest parts.1)
 
-length-listed : (values : List ListedLiteral) → length (map (λ listed. literal_value listed.value) values) ≡ length values
-length-listed [] = refl
-length-listed (first ∷ rest) = omega (arith, length-listed rest)
-
 -- a variable has a right size and as many values at most as cells, which are of its type
 record IsRight (variable : VariableData) : Type 0 where
   pub cells : has_right_cells variable ≡ true
@@ -94,7 +90,7 @@ parts_right of_type name (Some size) (Some (Listed values token)) none =
     let right = where_none (is_too_large variable) TooLarge name.token parts.0 in
     record {
       cells =
-          ap (λ count. (nat_le 1 size && nat_le size 256) && nat_le count size) (length-listed values)
+          ap (λ count. (nat_le 1 size && nat_le size 256) && nat_le count size) (length-map values (λ (listed : ListedLiteral). literal_value listed.value))
           ∙ size_right size (length values) right;
       values = listed_typed of_type values parts.1;
     }

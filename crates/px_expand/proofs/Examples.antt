@@ -1,5 +1,5 @@
 -- Plans with their core plans, both written by hand.
-use Rattle.std.proofs.Common.{◌≡◌, refl, ℕ, ℤ, pos, List, [], ◌∷◌, Option, Some, None, codes}
+use Rattle.std.proofs.Common.{◌≡◌, refl, ℕ, pos, List, [], ◌∷◌, Option, Some, None, codes}
 use Rattle.std.specs.Prelude.{true, false}
 use Rattle.std.specs.Fmt.{digits}
 use Rattle.px_value.specs.declared.comparison.CompareOp.TheVariants as compare
@@ -303,9 +303,6 @@ a_while :
 unfolding joined digits
 a_while = refl
 
-abbrev number : ℤ → Term
-number n = Literal (values.Integer n)
-
 -- R: Concurrence { F: for (Integer i = 3; i; Self) A: { Start Parent.state; } }, though no test is a number
 a_for :
     core (the (codes "R") (block forms.Concurrence []
@@ -320,8 +317,6 @@ a_for :
     (assigns (codes "R.F") (codes "i") (StateOf (codes "R.F.#loop.A")))) NoNode NoNode))) NoNode) NoNode) NoNode
 unfolding joined digits
 a_for = refl
-
--- ---- names
 
 -- ---- names of nodes
 

@@ -14,7 +14,7 @@ use Rattle.px_syntax.specs.declared.word.LookWord.{LookWord}
 use Rattle.px_syntax.specs.Expr.{Literal, NoTerms}
 use Rattle.px_syntax.specs.ExprGrammar.{attribute_word, expression, look_end, operand, tolerance_number}
 use Rattle.px_syntax.specs.Form.{Form, identifier, kind_at, one, ◌then◌}
-use Rattle.px_expr_parse.specs.Tail.{attribute, closed, closed_arguments, look_rest, named}
+use Rattle.px_expr_parse.specs.Tail.{attribute, closed, closed_arguments, look_rest}
 use Rattle.px_expr_parse.specs.Verdict.{Agree, AgreeBefore, Stand, IsBegun, BeginsExpression}
 use Rattle.px_expr_parse.proofs.Spans.{IsLocal}
 
@@ -182,9 +182,6 @@ short_word = in_one (kinds.Identifier (attribute_word attributes.State)) (λ oth
 
 pub short_attribute : Shortest attribute
 short_attribute = short_behind (kinds.Sign signs.Dot) short_word
-
-pub short_named : Shortest named
-short_named = short_behind (kinds.Sign signs.OpenParen) (short_before (kinds.Sign signs.CloseParen) short_name)
 
 pub short_arguments : Shortest closed_arguments
 short_arguments = in_one (kinds.Sign signs.CloseParen) (λ others place has. (NoTerms, (place, refl, (has, refl))))

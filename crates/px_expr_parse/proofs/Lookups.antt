@@ -1,5 +1,5 @@
 -- What stands behind the name of a lookup: arguments, which may be left out, a tolerance, and the parenthesis.
-use Rattle.std.proofs.Common.{◌≡◌, ℕ, ◌+◌, ◌≤◌, ◌<◌, inl, inr, refl, sym, subst, ◌∙◌, pos, List, length, Option, Some, None, arith}
+use Rattle.std.proofs.Common.{◌≡◌, ℕ, ◌≤◌, inl, inr, refl, sym, subst, ◌∙◌, pos, List, length, Option, Some, None, arith}
 use Rattle.px_lex.specs.declared.sign.Sign.TheVariants as signs
 use Rattle.px_lex.specs.declared.token.Token.{Token}
 use Rattle.px_lex.specs.declared.token.TokenKind.TheVariants as kinds
@@ -12,7 +12,7 @@ use Rattle.px_syntax.specs.Expr.{Terms, NoTerms, More}
 use Rattle.px_syntax.specs.ExprGrammar.{look_end, tolerance_number}
 use Rattle.px_syntax.specs.Form.{Form, kind_at}
 use Rattle.px_expr_parse.specs.Tail.{closed_arguments, look_rest}
-use Rattle.px_expr_parse.specs.Verdict.{Agree, AgreeBefore, IsFound, IsMissing, HasSign, LacksSign}
+use Rattle.px_expr_parse.specs.Verdict.{Agree, AgreeBefore, IsMissing, HasSign, LacksSign}
 use Rattle.px_expr_parse.proofs.Closed.{not_both}
 use Rattle.px_expr_parse.proofs.Completions.{begun_here, short_look_end, short_tolerance}
 use Rattle.px_expr_parse.proofs.Parts.{before_sign, behind_sign, both, EndsWith}
@@ -31,25 +31,6 @@ no_tolerance tokens at within none = (
 -- ---- what closes a lookup
 
 module _ (word : LookWord) (tokens : List Token) (from : ℕ) where
-  -- the parenthesis alone
-  pub found_close : from < length tokens → HasSign tokens from signs.CloseParen → IsFound (look_end word) tokens from None (from + 1)
-  found_close inside close =
-      record {
-        advances = omega arith;
-        within = omega (arith, inside);
-        only = λ others agree.
-            let there : HasSign others from signs.CloseParen = agree from (omega arith) ∙ close in
-            record { spelled = (there, refl); only = only word others there };
-      }
-    where
-      only :
-          (which : LookWord) (others : List Token) → HasSign others from signs.CloseParen → (other : Option Tolerance) (end : ℕ)
-          → look_end which other others from end → (other ≡ None) × (end ≡ from + 1)
-      only which others there None end o = (refl, o.1)
-      only looks.Lookup others there (Some tolerance) end o = absurd o
-      only looks.LookupNow others there (Some tolerance) end o = absurd o
-      only looks.LookupOnChange others there (Some tolerance) end o = absurd (not_both others from signs.CloseParen signs.Comma (λ e. cc) there o.1.0)
-
   -- neither a tolerance nor the parenthesis
   pub missing_close :
       (fault : ParseFault) → from ≤ length tokens → (word ≡ looks.LookupOnChange → HasSign tokens from signs.Comma → ⊥)

@@ -12,6 +12,7 @@ pub mod NumberedCodes
 pub mod NumberedTerms
 pub mod NumberedValues
 pub mod Numbers
+pub mod Sending
 pub mod Sites
 pub mod Slotted
 pub mod Sources

@@ -1,5 +1,5 @@
 -- What isn't touched is still as it was seen: where all was just seen, where a cell is written, and where something is reported.
-use Rattle.std.proofs.Common.{◌≡◌, ℕ, ◌+◌, ◌<◌, ◌≤◌, Bool, true, false, List, length, set, get_or, refl, ap, sym, ◌∙◌, subst, arith, All}
+use Rattle.std.proofs.Common.{◌≡◌, ℕ, ◌+◌, ◌<◌, ◌≤◌, true, false, List, length, set, get_or, refl, sym, ◌∙◌, subst, arith, All}
 use Rattle.px_value.specs.declared.value.Value.{Value}
 use Rattle.px_value.specs.declared.value.Value.TheVariants.{Unknown}
 use Rattle.std.proofs.lemmas.Bool.{false≢true}
@@ -22,6 +22,7 @@ use Rattle.px_cached.specs.Firsts.{HasCell}
 use Rattle.px_cached.proofs.Conditions.{kind_of_node, within_kind}
 use Rattle.px_cached.proofs.Listening.{IsThere, sources_there}
 use Rattle.px_cached.proofs.Reported.{report_behind, report_there}
+use Rattle.px_cached.proofs.Seeing.{was_untouched}
 
 abbrev sources_of : List Site → ℕ → ConditionKind → List Source
 sources_of plan node kind = sources_in plan (condition_in plan node kind)
@@ -55,15 +56,6 @@ was_seen old new before flat seen was =
     → All (λ source. is_touched old (source_number (plan_of flat) source) ≡ false → IsSame (plan_of flat) old.seen before source)
     (sources_of (plan_of flat) node kind)) (sym flat) was)
 
--- what is untouched was so before
-untouched_before : (old new : CachedData) → ((source : ℕ) → is_touched old source ≡ true → is_touched new source ≡ true)
-    → (source : ℕ) → is_touched new source ≡ false → is_touched old source ≡ false
-untouched_before old new others source none = by (is_touched old source) refl
-  where
-    by : (was : Bool) → is_touched old source ≡ was → was ≡ false
-    by true is = absurd (false≢true (sym none ∙ others source is))
-    by false is = refl
-
 -- ---- a cell is written
 
 module _ (old new : CachedData) (values : List Value) (reports : List (LookState × Report)) (cell : ℕ) (value : Value)
@@ -90,7 +82,7 @@ module _ (old new : CachedData) (values : List Value) (reports : List (LookState
       elsewhere source
       (λ has. false≢true (sym untouched ∙ touched.this node kind there k d inside has))
       (was_seen old new before touched.flat touched.seen seen node kind there k d inside
-      (untouched_before old new touched.others number untouched))
+      (was_untouched old new number touched.others untouched))
 
 -- ---- something is reported
 
@@ -131,4 +123,4 @@ module _ (old new : CachedData) (values : List Value) (reports later : List (Loo
       cells_alone source
       (sources_there plan (condition_in plan node kind) (there_in new.flat node kind there) k d inside) untouched
       (was_seen old new was touched.flat touched.seen seen node kind there k d inside
-      (untouched_before old new touched.others (source_number plan source) untouched))
+      (was_untouched old new (source_number plan source) touched.others untouched))

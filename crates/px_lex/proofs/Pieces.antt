@@ -3,7 +3,7 @@ use Rattle.std.proofs.Common.{◌≡◌, ℕ, ◌+◌, ◌-◌, List, [], ◌∷
 use Rattle.px_lex.specs.declared.fault.LexFault.{LexFault}
 use Rattle.px_lex.specs.declared.token.Token.{Token}
 use Rattle.px_lex.specs.declared.token.TokenKind.{TokenKind}
-use Rattle.px_lex.specs.Lexer.{Piece, Stands, Begins, spelled, AllStand, token_at, tokens_from, Splits, IsFault, FirstFault}
+use Rattle.px_lex.specs.Lexer.{Piece, Stands, Begins, spelled, AllStand, token_at, tokens_from, IsFault, FirstFault}
 
 -- the text is pieces and a rest, and the tokens are theirs
 pub record SoFar (text rest : List ℕ) (tokens : List Token) : Type 0 where
@@ -31,9 +31,6 @@ tokens_from-push at (q ∷ qs) p =
     ap (λ ts. token_at at q.kind ++ ts) (tokens_from-push (at + length q.spelling) qs p ∙ ap (λ n. tokens_from (at + length q.spelling) qs ++ token_at n p.kind) later)
     ∙ sym (append_assoc (token_at at q.kind) (tokens_from (at + length q.spelling) qs) (token_at (at + length (q.spelling ++ spelled qs)) p.kind))
 
-pub begin : (text : List ℕ) → SoFar text text []
-begin text = record { pieces = []; whole = refl; stand = tt; listed = refl }
-
 pub place : (text rest : List ℕ) (tokens : List Token) (s : SoFar text rest tokens) → length text - length rest ≡ length (spelled s.pieces)
 place text rest tokens s = omega (arith, ap length s.whole, length-append (spelled s.pieces) rest)
 
@@ -48,9 +45,6 @@ step text rest behind tokens kind s b =
       stand = stand-append s.pieces (p ∷ []) behind (subst (AllStand s.pieces) (b.split ∙ ap (λ t. t ++ behind) (sym spelling)) s.stand) (b.stands, tt);
       listed = ap (λ ts. ts ++ token_at (length text - length rest) kind) s.listed ∙ ap (λ n. tokens_from 0 s.pieces ++ token_at n kind) there ∙ sym (tokens_from-push 0 s.pieces p);
     }
-
-pub finish : (text : List ℕ) (tokens : List Token) → SoFar text [] tokens → Splits text tokens
-finish text tokens s = record { pieces = s.pieces; whole = s.whole ∙ append-nil (spelled s.pieces); stand = s.stand; listed = s.listed }
 
 pub fail : (text rest : List ℕ) (tokens : List Token) (fault : LexFault) → SoFar text rest tokens → IsFault fault (length text - length rest) rest → FirstFault text fault
 fail text rest tokens fault s f = record { pieces = s.pieces; rest = rest; whole = s.whole; stand = s.stand; there = subst (λ n. IsFault fault n rest) (place text rest tokens s) f }

@@ -1,9 +1,8 @@
 -- Words and numbers: the run of letters, digits and _ at the front of a text.
-use Rattle.std.proofs.Common.{◌≡◌, ℕ, ◌<◌, ◌≤◌, true, false, ◌||◌, List, [], ◌∷◌, ◌++◌, length, sym, ◌∙◌, arith, le-leb}
-use Rattle.std.specs.Prelude.{nat_le}
+use Rattle.std.proofs.Common.{◌≡◌, ℕ, ◌<◌, ◌≤◌, true, false, List, [], ◌∷◌, ◌++◌, length, sym, ◌∙◌}
 use Rattle.std.specs.List.{list_all}
-use Rattle.std.proofs.lemmas.Bool.{and_parts, and_from, or_left, or_right, false≢true, lt-ltb, le-ltb}
-use Rattle.px_value.specs.Name.{begins_identifier, continues_identifier, is_digit, is_identifier, is_generated, is_name}
+use Rattle.std.proofs.lemmas.Bool.{and_parts, and_from, or_right, false≢true, lt-ltb, le-ltb}
+use Rattle.px_value.specs.Name.{begins_identifier, continues_identifier, is_digit}
 use Rattle.px_lex.specs.Gap.{begins}
 use Rattle.px_lex.specs.Word.{IsWord}
 use Rattle.px_lex.specs.Number.{IsNumber}
@@ -22,14 +21,6 @@ number_of_run text [] [] first e pass stop = cc
 number_of_run text [] (c ∷ cs) first e pass stop = let here : is_digit c ≡ true = rw e at first in
     absurd (false≢true (sym stop ∙ or_right (begins_identifier c) (is_digit c) here))
 number_of_run text (c ∷ cs) rest first e pass stop = record { first = rw e at first; going_on = pass; longest = stop }
-
-pub word_is_some : (word rest : List ℕ) → IsWord word rest → 0 < length word
-word_is_some [] rest w = absurd (false≢true w.word)
-word_is_some (c ∷ cs) rest w = omega arith
-
-pub word_is_name : (word rest : List ℕ) → IsWord word rest → length word ≤ 64 → is_name word ≡ true
-word_is_name word rest w short =
-    and_from (is_identifier word || is_generated word) (nat_le (length word) 64) (or_left (is_identifier word) (is_generated word) w.word) (le-leb (length word) 64 short)
 
 -- ---- the faults of a word
 

@@ -3,7 +3,6 @@ pub mod Handing
 pub mod Holding
 pub mod Linking
 pub mod Once
-pub mod Popping
 pub mod Pushing
 pub mod Reading
 pub mod Tables

@@ -1,5 +1,5 @@
 -- A cell is linked in behind the others of a list.
-use Rattle.std.proofs.Common.{◌≡◌, ◌≢◌, ℕ, ◌<◌, true, false, nat_eq, List, [], ◌∷◌, ◌++◌, length, set, Option, Some, None, IfSome, AllPairs, ap, sym, ◌∙◌, arith, inl, inr, subst, rules}
+use Rattle.std.proofs.Common.{◌≡◌, ◌≢◌, ℕ, ◌<◌, true, false, nat_eq, List, [], ◌∷◌, ◌++◌, length, set, Option, Some, None, AllPairs, ap, sym, ◌∙◌, arith, inl, inr, subst, rules}
 use Rattle.std.specs.Prelude.{if◌then◌else◌}
 use Rattle.std.specs.List.{position}
 use Rattle.std.specs.Option.{option_or}
@@ -14,9 +14,9 @@ use Rattle.px_links.specs.declared.cell.Ends.{Ends}
 use Rattle.px_links.specs.Lists.{has, nth, with_last}
 use Rattle.px_links.specs.Keeping.{cell_at, ends_at, AreLinked, is_number, IsTable}
 use Rattle.px_links.specs.Relinking.{with_next}
-use Rattle.px_links.proofs.Linking.{linked_same, linked_push, number_here, if_some}
+use Rattle.px_links.proofs.Linking.{linked_same, linked_push, number_here}
 use Rattle.px_links.proofs.Reading.{holder-read}
-use Rattle.px_links.proofs.Tables.{next_in, before_in, no_ends, leads_on_in, last_in, within, one_holder, next-set, length-next}
+use Rattle.px_links.proofs.Tables.{next_in, before_in, no_ends, leads_on_in, last_in, last_within, one_holder, next-set, length-next}
 
 -- the links of the table with the cell
 abbrev pub cells_with : List Cell → List Ends → ℕ → ℕ → List Cell
@@ -45,9 +45,6 @@ module _ (cells : List Cell) (ends : List Ends) (lists : List (List ℕ)) (table
   end_has : (cell : ℕ) → end ≡ Some cell → (has (nth lists list) cell ≡ true) × (next_in cells cell ≡ None)
   end_has cell is = last_in cells ends lists table list cell is
 
-  pub end_within : IfSome (ends_at ends list).last (λ at. at < length cells)
-  end_within = if_some end (λ at is. within cells ends lists table list at (end_has at is).0)
-
   abbrev cells_then : List Cell
   cells_then = cells_with cells ends list new
 
@@ -61,7 +58,7 @@ module _ (cells : List Cell) (ends : List Ends) (lists : List (List ℕ)) (table
     holder = (cell_at cells cell).holder;
   }
   at_old cell apart = get_or-set_other (with_next end (Some new) cells) new cell _ _ apart
-      ∙ next-set end (Some new) cells cell end_within
+      ∙ next-set end (Some new) cells cell (last_within cells ends lists table list)
 
   -- what was the last leads on to the new cell
   leads_then : (cell : ℕ) → has (nth lists list) cell ≡ true

@@ -2,7 +2,7 @@
 use Rattle.std.proofs.Common.{◌≡◌, ℕ, ◌+◌, ◌*◌, ◌<◌, true, false, nat_eq, List, [], length, get_or, Option, Some, None, ap, sym, ◌∙◌, subst, arith, inl, inr}
 use Rattle.std.specs.List.{position_or_len}
 use Rattle.std.specs.Option.{unwrap_or}
-use Rattle.std.proofs.lemmas.Bool.{cases_lt, eqb-true, false_from_ne_true, false≢true}
+use Rattle.std.proofs.lemmas.Bool.{cases_lt, eqb-true, false≢true}
 use Rattle.std.proofs.lemmas.List.Sums.{passes_at_first}
 use Rattle.px_core.specs.Plan.{Site}
 use Rattle.px_sem.specs.Tolerances.{tolerances}
@@ -13,17 +13,12 @@ use Rattle.px_lookup.specs.Reports.{HasStayed}
 use Rattle.px_cached.specs.Cached.{CachedData, is_touched}
 use Rattle.px_cached.specs.Conditions.{source_number}
 use Rattle.px_cached.proofs.Reported.{place_within}
+use Rattle.px_cached.proofs.Seeing.{was_untouched}
 use Rattle.px_parts.specs.declared.parts.Parts.{Parts}
 use Rattle.px_parts.specs.Parts.{plan_in}
 use Rattle.px_machine.specs.Hearing.{HasHeard, HasHeardLatched}
 use Rattle.px_machine.specs.Seen.{IsSameReport}
 use Rattle.px_machine.proofs.Hearing.{stayed_reads}
-
-was_untouched : (old new : CachedData) (source : ℕ)
-    → ((source : ℕ) → is_touched old source ≡ true → is_touched new source ≡ true)
-    → is_touched new source ≡ false → is_touched old source ≡ false
-was_untouched old new source others untouched =
-    false_from_ne_true (is_touched old source) (λ was. false≢true (sym untouched ∙ others source was))
 
 module _ (parts : Parts) (lookup : ℕ) where
   abbrev plan : List Site

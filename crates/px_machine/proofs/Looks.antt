@@ -272,8 +272,3 @@ simulation parts kept going stand right now looked = record {
       looked.marked node here ∙ claims_are parts kept node stand right now here
       ∙ writer_loses (plan_in parts) (world_in parts) node loses;
 }
-
--- ---- from one to the next
-
-pub some_holds : (held : Option ℕ) (list : ℕ) → held ≡ Some list → IsSome held
-some_holds held list is = subst IsSome (sym is) refl

@@ -1,5 +1,5 @@
 -- News that is noted: what isn't noted is as it was seen.
-use Rattle.std.proofs.Common.{◌≡◌, ◌⊎◌, ℕ, ◌+◌, ◌/◌, ◌<◌, Bool, true, false, [], ◌∷◌, ◌++◌, length, List, Contains, All, get_or, None, slice_get, nat_eq, refl, ap, sym, ◌∙◌, subst, arith, inl, inr}
+use Rattle.std.proofs.Common.{◌≡◌, ◌⊎◌, ℕ, ◌+◌, ◌<◌, Bool, true, false, [], ◌∷◌, ◌++◌, length, List, Contains, All, get_or, None, slice_get, nat_eq, refl, ap, sym, ◌∙◌, subst, arith, inl, inr}
 use Rattle.std.specs.Cmp.{nat_eq_equiv}
 use Rattle.std.specs.List.{list_any}
 use Rattle.std.specs.Option.{unwrap_or}
@@ -13,12 +13,12 @@ use Rattle.px_core.specs.Plan.{Site}
 use Rattle.px_flat.specs.declared.act.Act.TheVariants as under_way
 use Rattle.px_flat.specs.declared.flat.Flat.{Flat}
 use Rattle.px_flat.specs.Flat.{plan_of}
-use Rattle.px_flat.specs.Layout.{acknowledgement_cell, all_cells, failure_cell, handle_cell, outcome_cell, state_cell, variable_cells}
+use Rattle.px_flat.specs.Layout.{acknowledgement_cell, failure_cell, handle_cell, outcome_cell, state_cell}
 use Rattle.px_flat.specs.Lookups.{lookups_of}
 use Rattle.px_flat.specs.Numbered.{Numbered, held, numbered_node, reported_of}
 use Rattle.px_flat.specs.Parts.{action_in, failure_in, outcome_in, state_in}
 use Rattle.px_flat.specs.Row.{site_in}
-use Rattle.px_flat.specs.Sources.{Cells, IsSame, Present, Reports, Source, sources_in}
+use Rattle.px_flat.specs.Sources.{Cells, IsSame, Reports, Source, sources_in}
 use Rattle.px_flat.specs.Within.{IsWithin}
 use Rattle.px_flat.proofs.Tables.{flat_sound}
 use Rattle.px_flat.proofs.Withins.{node_is_within}
@@ -41,11 +41,6 @@ use Rattle.px_machine.specs.Right.{IsRight}
 use Rattle.px_machine.specs.Seen.{IsSeen}
 use Rattle.px_machine.proofs.Framing.{IsFramed, right_framed}
 use Rattle.px_machine.proofs.Waiting.{falls_both, in_one_of_two, none_woken, still_behind, still_waits, was_absent}
-
--- the node of a cell behind those of variables
-pub node_of_cell : (plan : List Site) (cell behind : ℕ) → cell ≡ variable_cells plan + behind → cell < all_cells plan
-    → IsCellOf plan (behind / 5) cell × (behind / 5 < length plan)
-node_of_cell plan cell behind is within = ((omega (arith, is), omega (arith, is)), omega (arith, is, within))
 
 -- where nobody is woken, whoever waits at all is behind
 pub all_behind : (kept : Kept) (node : ℕ) → length kept.queue.lists ≡ 2 → NobodyIsWoken kept.queue
@@ -84,10 +79,6 @@ still_touched : (old new : CachedData) (cell : ℕ) → new.flat ≡ old.flat
 still_touched old new cell flat others touched =
     subst (λ (flat : Flat). TouchedIn (plan_of flat) new cell) (sym flat)
     (λ node kind here k d inside own. others _ (touched node kind here k d inside own))
-
-pub same_none : (kept : Kept) → IsSameBut kept kept
-same_none kept =
-    record { flat = refl; truths = refl; seen = refl; states = refl; told = refl; busy = refl; claims = refl }
 
 same_both : (first middle last : Kept) → IsSameBut first middle → IsSameBut middle last → IsSameBut first last
 same_both first middle last one two = record {
@@ -332,12 +323,3 @@ refreshed parts old new noticed same plan seen tells = record {
       own = λ node here apart. refl;
       truths = truth_same;
     }
-
--- What was refreshed is seen, as the stepper keeps it: nothing is touched, and what the conditions saw is the present.
-pub seen_again : (parts : Parts) (kept : Kept) → AreAllSeen parts → cached.IsSeen kept.conditions (present_in parts.cells parts.reports)
-    → IsSeen parts kept.conditions
-seen_again parts kept all seen = record {
-  cells = ap (λ (present : Present). present.cells) seen.seen ∙ sym all.cells.0;
-  reports = λ lookup tolerance within untouched args.
-      ap (λ (present : Present). reported_of present.reports (get_or (lookups_of (plan_in parts)) lookup []) args tolerance) seen.seen;
-}

@@ -1,5 +1,5 @@
 -- What is kept, with another queue: what speaks of no queue stays.
-use Rattle.std.proofs.Common.{◌≡◌, ℕ, ◌<◌, Bool, true, false, List, [], length, is_none, refl, ap, sym, ◌∙◌, subst, arith, inl, inr}
+use Rattle.std.proofs.Common.{◌≡◌, ℕ, ◌<◌, true, List, [], length, is_none, ap, sym, ◌∙◌, subst, arith, inl, inr}
 use Rattle.std.proofs.lemmas.Bool.{cases_eq}
 use Rattle.px_core.specs.Plan.{Site}
 use Rattle.px_links.specs.Links.{LinksData, is_absent, SameCounts}
@@ -8,12 +8,12 @@ use Rattle.px_parts.specs.Parts.{plan_in}
 use Rattle.px_micro.specs.declared.sight.Going.{Going}
 use Rattle.px_machine.specs.declared.kept.Kept.{Kept}
 use Rattle.px_machine.specs.Kept.{IsOfPlan}
-use Rattle.px_machine.specs.Queue.{HasPassed, HaveGone, HaveRested, HaveTheSame, IsBehind, NobodyIsWoken}
+use Rattle.px_machine.specs.Queue.{HasPassed, HaveGone, HaveRested, IsBehind}
 use Rattle.px_machine.specs.Right.{IsRight}
 use Rattle.px_machine.specs.Stepping.{HasChosen}
 use Rattle.px_machine.specs.Still.{IsStill}
 use Rattle.px_machine.specs.Told.{Agrees, IsCaughtUp}
-use Rattle.px_machine.proofs.Waiting.{in_one_of_two, not_both}
+use Rattle.px_machine.proofs.Waiting.{not_both}
 
 abbrev pub with_queue : Kept → LinksData → Kept
 with_queue kept queue = record kept { queue = queue }
@@ -56,23 +56,6 @@ requeued parts kept queue right counts caught stays = record {
   caught_up = λ node here apart. caught_with parts kept queue node (caught node here apart);
   still = λ node here absent. still_with parts kept queue node (stays node here absent);
 }
-
--- ---- recall
-
-pub right_after_recall : (parts : Parts) (kept : Kept) (queue : LinksData) → IsRight parts kept → NobodyIsWoken queue
-    → HaveTheSame kept.queue queue → SameCounts kept.queue queue → IsRight parts (with_queue kept queue)
-right_after_recall parts kept queue right nobody same counts =
-    requeued parts kept queue right counts (λ node here apart. by node here apart (is_absent queue node) refl)
-    (λ node here absent. right.still node here (sym (same node) ∙ absent))
-  where
-    by : (node : ℕ) → node < length (plan_in parts) → (IsBehind queue node → ⊥) → (absent : Bool)
-        → is_absent queue node ≡ absent → IsCaughtUp parts kept node
-    by node here apart true is =
-        right.caught_up node here (λ behind. not_both kept.queue node 0 behind (sym (same node) ∙ is))
-    by node here apart false is = elim (in_one_of_two queue node (counts.1 ∙ right.of_plan.lists) is) [
-      | inl behind ↦ absurd (apart behind)
-      | inr woken ↦ absurd (nobody node woken)
-    ]
 
 -- ---- a node was caught up, and is woken
 

@@ -9,7 +9,7 @@ use Rattle.std.proofs.lemmas.List.Quantifiers.{position-Some}
 use Rattle.std.proofs.lemmas.Map.Views.{Contains-from_any, list_any-from_Contains}
 use Rattle.px_links.specs.Links.{LinksData, HoldsOthersAsBefore, SameCounts, holder_of, is_absent, pushed}
 use Rattle.px_links.specs.Lists.{has}
-use Rattle.px_cached.proofs.OneList.{holders_then, now_noted}
+use Rattle.px_cached.proofs.OneList.{elsewhere, holders_then, now_noted}
 use Rattle.px_micro.specs.declared.sight.Going.{Going}
 use Rattle.px_machine.specs.Queue.{AddsTo, FallBehind, HaveGone, IsBehind, IsWoken, NobodyIsWoken, Wakes, behind_in}
 
@@ -83,9 +83,6 @@ adds_both list first middle last one two node = elim (two node) [
   ]
 ]
 
-pub falls_none : (queue : LinksData) → FallBehind queue queue
-falls_none queue = record { added = λ node. inl refl; counts = (refl, refl) }
-
 pub falls_both : (first middle last : LinksData) → FallBehind first middle → FallBehind middle last → FallBehind first last
 falls_both first middle last one two = record {
   added = adds_both 0 first middle last one.added two.added;
@@ -111,9 +108,6 @@ module _ (old new : LinksData) (cell list : ℕ)
 
   pub kept_here : is_absent old cell ≡ false → holder_of new cell ≡ holder_of old cell
   kept_here waits = rw (eq-eqb cell cell refl, waits) at (holders cell)
-
-  pub pushed_elsewhere : (other : ℕ) → cell ≢ other → holder_of new other ≡ holder_of old other
-  pushed_elsewhere other apart = rw (ne_eqb cell other apart) at (holders other)
 
 -- so it adds to that list
 pub push_adds : (list : ℕ) (old new : LinksData) (cell : ℕ)
@@ -168,7 +162,7 @@ module _ (first old new : LinksData) (some : List Going) (one : Going) (gone : H
     gone = λ node goes. elim (cases_eq one.node node) [
       | inl same ↦ subst (IsBehind new) same (behind_now (is_absent old one.node) refl)
       | inr apart ↦
-          pushed_elsewhere old new one.node 0 holders node apart
+          elsewhere old new one.node 0 holders node (ne_eqb one.node node apart)
           ∙ elim (Contains-append_cases (nodes_of some) (one.node ∷ []) node
           (subst (λ nodes. Contains nodes node) (map-append (λ (one : Going). one.node) some (one ∷ [])) goes)) [
             | inl before ↦ gone.gone node before
@@ -179,7 +173,7 @@ module _ (first old new : LinksData) (some : List Going) (one : Going) (gone : H
         let differs : one.node ≢ node = λ same. apart (subst (λ nodes. Contains nodes node)
         (sym (map-append (λ (one : Going). one.node) some (one ∷ [])))
         (Contains-append_right (nodes_of some) (one.node ∷ []) node (0, omega arith, same))) in
-        ap is_none (pushed_elsewhere old new one.node 0 holders node differs)
+        ap is_none (elsewhere old new one.node 0 holders node (ne_eqb one.node node differs))
         ∙ gone.others node (λ goes. apart (subst (λ nodes. Contains nodes node)
         (sym (map-append (λ (one : Going). one.node) some (one ∷ [])))
         (Contains-append_left (nodes_of some) (one.node ∷ []) node goes)));

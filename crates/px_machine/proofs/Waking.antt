@@ -1,5 +1,5 @@
 -- How far a walk over a node's children has come, each of whom is woken.
-use Rattle.std.proofs.Common.{◌≡◌, ℕ, ◌+◌, ◌<◌, ◌≤◌, false, List, length, Some, refl, sym, subst, arith, inl, inr}
+use Rattle.std.proofs.Common.{◌≡◌, ℕ, ◌<◌, ◌≤◌, false, List, length, Some, refl, sym, subst, arith, inl, inr}
 use Rattle.px_core.specs.Plan.{Site}
 use Rattle.px_flat.specs.declared.flat.Flat.{Flat}
 use Rattle.px_flat.specs.Flat.{plan_of}
@@ -7,9 +7,9 @@ use Rattle.px_flat.specs.Row.{after_last, parent_number}
 use Rattle.px_flat.proofs.Tables.{flat_sound}
 use Rattle.px_links.specs.Links.{LinksData, is_absent}
 use Rattle.px_micro.proofs.Families.{behind, child_below, is_child}
-use Rattle.px_micro.proofs.Passing.{HavePassed, passed_child, passed_first, passed_more}
+use Rattle.px_micro.proofs.Passing.{HavePassed, passed_child, passed_more}
 use Rattle.px_machine.specs.Queue.{Wakes}
-use Rattle.px_machine.proofs.Waiting.{still_waits, wakes_both, wakes_none}
+use Rattle.px_machine.proofs.Waiting.{still_waits, wakes_both}
 
 -- the children among those passed wait
 pub record HasWokenBefore (plan : List Site) (node next : ℕ) (old new : LinksData) : Type 0 where
@@ -17,13 +17,6 @@ pub record HasWokenBefore (plan : List Site) (node next : ℕ) (old new : LinksD
   pub waits : (child : ℕ) → node < child → child < next → child < length plan → parent_number plan child ≡ Some node
       → is_absent new child ≡ false
   pub wakes : Wakes old new
-
-pub woken_first : (plan : List Site) (node : ℕ) (queue : LinksData) → HasWokenBefore plan node (node + 1) queue queue
-woken_first plan node queue = record {
-  passed = passed_first plan node;
-  waits = λ child after before inside is. absurd (omega (arith, after, before));
-  wakes = wakes_none queue;
-}
 
 -- behind the last descendant of the next
 pub woken_more : (flat : Flat) (node next : ℕ) (old middle new : LinksData) → node < length (plan_of flat) → next < length (plan_of flat)

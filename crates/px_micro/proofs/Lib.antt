@@ -22,5 +22,4 @@ pub mod Slots
 pub mod Targets
 pub mod Telling
 pub mod Turning
-pub mod UnderWay
 pub mod Writing

@@ -1,5 +1,5 @@
 -- Numbers that rise, and what is kept of lists.
-use Rattle.std.proofs.Common.{◌≡◌, ℕ, ◌+◌, ◌<◌, ◌≤◌, Bool, true, List, [], ◌∷◌, ◌++◌, length, get_or, filter, is_ok, refl, ap, sym, ◌∙◌, arith, inl, inr, if◌then◌else◌, Result, Ok, Err, IfOk, AllPairs, nat_eq}
+use Rattle.std.proofs.Common.{◌≡◌, ℕ, ◌+◌, ◌<◌, ◌≤◌, Bool, true, List, [], ◌∷◌, ◌++◌, length, get_or, filter, is_ok, refl, ap, sym, ◌∙◌, arith, inl, inr, if◌then◌else◌, Result, Ok, Err, AllPairs, nat_eq}
 use Rattle.std.specs.Cmp.{nat_eq_equiv}
 use Rattle.std.specs.List.{list_any, range_with_len}
 use Rattle.std.specs.List.Sorted.{IsBinarySearchResult}

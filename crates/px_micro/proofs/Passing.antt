@@ -15,12 +15,6 @@ pub record HavePassed (plan : List Site) (node next : ℕ) : Type 0 where
   pub first : node < next
   pub done : (k o : ℕ) → node < k → k < next → o < length plan → IsBelow plan k o → o < next
 
-pub passed_first : (plan : List Site) (node : ℕ) → HavePassed plan node (node + 1)
-passed_first plan node = record {
-  first = omega arith;
-  done = λ k o after before inside below. absurd (omega (arith, after, before));
-}
-
 -- one number stands before another, is it, or stands behind it
 data Side (k n : ℕ) : Type 0 where
   Before : k < n → Side k n

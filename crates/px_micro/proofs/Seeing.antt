@@ -4,8 +4,7 @@ use Rattle.std.proofs.lemmas.Grind.{common_steps}
 use Rattle.px_value.specs.declared.enums.NodeState.TheVariants as states
 use Rattle.px_value.specs.declared.value.Value.{Value}
 use Rattle.px_value.specs.Truth.{truth_of}
-use Rattle.px_core.specs.Plan.{Site, ConditionTerms, no_term}
-use Rattle.px_sem.specs.Expressions.{value}
+use Rattle.px_core.specs.Plan.{Site, no_term}
 use Rattle.px_sem.specs.World.{World, NodeRecord, record_at, parent_state}
 use Rattle.px_flat.specs.Numbered.{Numbered, ConditionsNumbered, numbered_conditions}
 use Rattle.px_flat.specs.Row.{site_in}
@@ -14,7 +13,6 @@ use Rattle.px_flat.proofs.Sites.{found_site}
 use Rattle.px_flat.proofs.Tables.{flat_sound}
 use Rattle.px_flat.proofs.Worlds.{record_at-world_of}
 use Rattle.px_parts.specs.declared.parts.Parts.{Parts}
-use Rattle.px_told.specs.declared.asks.Asks.{Asks}
 use Rattle.px_told.specs.Asking.{either}
 use Rattle.px_micro.specs.Above.{asked_by, asked_of, asked_below, asks_at, asks_in}
 use Rattle.px_parts.specs.Parts.{plan_in, world_in, record_of, value_in, AreStanding}
@@ -60,12 +58,6 @@ truths_are parts node conditions stand here are =
       post = truth_of (have.conditions 6 no_term (omega arith) i);
       invariant = truth_of (have.conditions 7 no_term (omega arith) i);
     })
-
--- what a node asks
-abbrev asks_of : List Site → World → NodeRecord → ConditionTerms → Asks
-asks_of plan now r conditions =
-    asks_in r (truth_of (value plan now conditions.exit)) (truth_of (value plan now conditions.invariant))
-    (truth_of (value plan now conditions.end))
 
 pub asks_are : (parts : Parts) (node : ℕ) (truths : Truths) → node < length (plan_in parts)
     → truths ≡ truths_in (plan_in parts) (world_in parts) (site_in (plan_in parts) node).head.conditions

@@ -1,6 +1,6 @@
 -- The text of a log, part by part: the trace of its history, the line of each post, and how the plan stands; and the line of
 -- a stalled thread.
-use Rattle.std.proofs.Common.{◌≡◌, ℕ, List, ◌++◌, Option, Some, None, IsSome, Result, refl, ap, subst, sym, ◌∙◌, append_assoc}
+use Rattle.std.proofs.Common.{◌≡◌, ℕ, List, ◌++◌, Option, Some, None, IsSome, Result, refl, ap, subst, sym, ◌∙◌}
 use Rattle.px_core.specs.Plan.{Site}
 use Rattle.px_event.specs.declared.entry.Entry.{Entry}
 use Rattle.px_script.specs.declared.stall.Stall.{Stall}
@@ -16,11 +16,6 @@ use Rattle.px_output.specs.View.{View}
 
 abbrev pub log_text : List Site → List Entry → Log → World → List ℕ
 log_text plan history log world = trace plan history ++ (log_lines log ++ standing_text (standing_of plan world))
-
--- the same behind the trace and the lines
-pub standing_behind : (plan : List Site) (history : List Entry) (log : Log) (world : World)
-    → log_text plan history log world ≡ (trace plan history ++ log_lines log) ++ standing_text (standing_of plan world)
-standing_behind plan history log world = sym (append_assoc (trace plan history) (log_lines log) (standing_text (standing_of plan world)))
 
 -- the text of the log, from that of the world after the history
 pub prints_text : (plan : List Site) (history : List Entry) (log : Log) (old new : View) (p q : List ℕ) (r : Result Unit PrintFault)

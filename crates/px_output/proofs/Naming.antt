@@ -1,6 +1,6 @@
 -- The lines of names on their way to the sink.
-use Rattle.std.proofs.Common.{◌≡◌, ◌≤◌, ◌-◌, take, drop, get_or, length, arith, ℕ, ◌+◌, List, [], ◌∷◌, ◌++◌, Option, map, refl, ap, sym, ◌∙◌, append_assoc, append-nil}
-use Rattle.std.proofs.Math.Seq.{take-length}
+use Rattle.std.proofs.Common.{◌≡◌, ◌≤◌, ◌-◌, take, drop, get_or, length, arith, ℕ, ◌+◌, List, [], ◌∷◌, ◌++◌, Option, map, refl, ap, sym, ◌∙◌, append_assoc}
+use Rattle.px_value.proofs.General.{first_and_rest}
 use Rattle.px_event.specs.declared.entry.Entry.{Entry}
 use Rattle.px_event.specs.declared.named.NamedEntry.{NamedEntry}
 use Rattle.px_trace.specs.Names.{name_line, name_lines}
@@ -46,20 +46,13 @@ first_of (x ∷ behind) entry later name others are =
     }
 
 -- a list that has a first item, and what is behind it
-pub parted : {X : Type 0} (xs : List X) (x : X) → 1 ≤ length xs → x ≡ get_or xs 0 x → xs ≡ x ∷ take (length xs - 1) (drop 1 xs)
-parted [] x some is = absurd (omega (arith, some))
-parted {X} (y ∷ ys) x some is =
-    let count : length (y ∷ ys) - 1 ≡ length ys = omega arith in
-    let first : y ≡ x = sym is in
-    ap (λ (z : X). z ∷ ys) first ∙ ap (λ (rest : List X). x ∷ rest) (sym (ap (λ n. take n ys) count ∙ take-length ys))
-
 pub parted_as : {X : Type 0} (xs : List X) (x y : X) → 1 ≤ length xs → x ≡ get_or xs 0 x → y ≡ x → xs ≡ y ∷ take (length xs - 1) (drop 1 xs)
-parted_as {X} xs x y some is same = parted xs x some is ∙ ap (λ (z : X). z ∷ take (length xs - 1) (drop 1 xs)) (sym same)
+parted_as {X} xs x y some is same = first_and_rest xs x (omega (arith, some)) is ∙ ap (λ (z : X). z ∷ take (length xs - 1) (drop 1 xs)) (sym same)
 
 pub counted_more : {X : Type 0} (position : ℕ) (xs : List X) (x : X) (all : ℕ) → 1 ≤ length xs → x ≡ get_or xs 0 x → position + length xs ≡ all
     → position + 1 + length (take (length xs - 1) (drop 1 xs)) ≡ all
 counted_more position xs x all some is counted =
-    let whole : length xs ≡ length (x ∷ take (length xs - 1) (drop 1 xs)) = ap length (parted xs x some is) in
+    let whole : length xs ≡ length (x ∷ take (length xs - 1) (drop 1 xs)) = ap length (first_and_rest xs x (omega (arith, some)) is) in
     omega (arith, whole, counted)
 
 module _ (named : List NamedEntry) (old mid new : View) (p q r : List ℕ) (position : ℕ) (history : List Entry)
@@ -84,14 +77,3 @@ module _ (named : List NamedEntry) (old mid new : View) (p q r : List ℕ) (posi
     whole = line_left ∙ sym (append_assoc naming.told (name_line (position + 1) here) (name_lines (position + 1 + 1) first.behind));
     buffers = goes_on old mid new p q r naming.told (name_line (position + 1) here) naming.buffers buffers;
   }
-
--- with nothing left, all lines are told
-pub naming_ends : (named : List NamedEntry) (old new : View) (p q : List ℕ) (position : ℕ) (names : List (Option (List ℕ)))
-    → IsNaming named old p position [] names new q → Buffers old p new q (name_lines 1 named)
-naming_ends named old new p q position names naming =
-    let none : naming.left ≡ [] = nothing naming.left naming.are.entries_are in
-    rw (naming.whole ∙ ap (λ left. naming.told ++ name_lines (position + 1) left) none ∙ append-nil naming.told) naming.buffers
-  where
-    nothing : (left : List NamedEntry) → map (λ (it : NamedEntry). it.entry) left ≡ [] → left ≡ []
-    nothing [] is = refl
-    nothing (x ∷ more) is = cc

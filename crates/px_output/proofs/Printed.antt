@@ -35,9 +35,6 @@ faulted_later a b c one (inr h) = inr (omega arith)
 
 -- ---- what is printed, one text behind another
 
-pub buffers_all : (v : View) (buffer text : List ℕ) → Buffers v buffer v (buffer ++ text) text
-buffers_all v buffer text = ([], refl, emits_nothing v.emitted)
-
 pub buffers_none : (v : View) (buffer : List ℕ) → Buffers v buffer v buffer []
 buffers_none v buffer = ([], append-nil buffer, emits_nothing v.emitted)
 

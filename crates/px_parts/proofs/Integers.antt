@@ -1,10 +1,8 @@
 -- The Integers that scalars hold.
-use Rattle.std.proofs.Common.{◌≡◌, ℕ, zero, suc, ◌+◌, ◌<◌, ◌≤◌, Bool, true, false, cond, List, [], ◌∷◌, length, map, sum, take, drop, refl, ap, sym, ◌∙◌, subst, arith, Option, Some, None, is_some, slice_get, if◌then◌else◌}
-use Rattle.std.specs.List.{find, position_from}
+use Rattle.std.proofs.Common.{◌≡◌, ℕ, ◌+◌, ◌<◌, ◌≤◌, Bool, true, false, cond, List, [], ◌∷◌, length, map, sum, take, drop, refl, ap, sym, ◌∙◌, subst, arith, Option, Some, None, is_some, if◌then◌else◌}
+use Rattle.std.specs.List.{find}
 use Rattle.std.specs.Option.{option_and_then, unwrap_or}
 use Rattle.std.proofs.Math.Seq.{drop-cons}
-use Rattle.std.proofs.lemmas.Cmp.{nat_list_eq_equiv}
-use Rattle.std.proofs.lemmas.Iterator.Adapters.{position_from-zero}
 use Rattle.std.proofs.lemmas.List.{drop-drop}
 use Rattle.px_value.specs.declared.value.Value.{Value}
 use Rattle.px_value.specs.declared.value.Value.TheVariants as values
@@ -19,7 +17,7 @@ use Rattle.px_flat.specs.Extents.{extent_of}
 use Rattle.px_flat.specs.Layout.{first_cell, variable_cells}
 use Rattle.px_flat.specs.Numbered.{held}
 use Rattle.px_flat.specs.Parts.{values_in}
-use Rattle.px_flat.specs.Row.{head_data, site_in, paths_of, number_at}
+use Rattle.px_flat.specs.Row.{head_data, site_in, number_at}
 use Rattle.px_flat.proofs.Sites.{found_site}
 use Rattle.px_flat.proofs.Sums.{sum_rest}
 use Rattle.px_flat.proofs.Tables.{flat_sound}

@@ -36,7 +36,7 @@ use Rattle.px_command.specs.contracts.actions.Actions.TheInside as actions_insid
 use Rattle.px_flat.proofs.act.Act.TheSendSync as acts
 use Rattle.px_flat.proofs.row.Extent.TheSendSync as extents
 use Rattle.px_flat.proofs.slots.Slots.TheSendSync as slots
-use Rattle.px_flat.proofs.numbered.NumberedExpr.TheLaws.TheKnot.{send-NumberedExpr}
+use Rattle.px_flat.proofs.Sending.{numbered_send}
 use Rattle.px_flat.specs.contracts.row.Head as heads
 use Rattle.px_flat.specs.contracts.row.Row as rows
 use Rattle.px_flat.specs.contracts.names.Names as tables
@@ -83,11 +83,6 @@ row_send : IsSend rows.the_row
 row_send = declared_send rows.the_type (search (sendable, crosses, as_row_send, paths.the_send, head_send) depth 20)
 
 -- ---- with numbers in place of names
-
-pub numbered_send : IsSend (numbered.the_field.row)
-numbered_send =
-    send-NumberedExpr (search (sendable, texts.the_send) depth 20) (search sendable depth 12) (λ h s. search (sendable, crosses))
-    (λ h s. search (sendable, crosses)) (search (sendable, crosses)) (search sendable depth 12) (search sendable depth 20)
 
 numbered_target_send : IsSend numbered_targets.the_row
 numbered_target_send =

@@ -11,7 +11,7 @@ use Rattle.px_plan_parse.specs.Part.{Follow, Anything, IsPart, IsLacking}
 use Rattle.px_plan_parse.specs.Tail.{Only}
 use Rattle.px_expr_parse.proofs.Completions.{short_nothing}
 use Rattle.px_expr_parse.proofs.Spans.{IsLocal, local_sign, local_then, local_never}
-use Rattle.px_plan_parse.proofs.Parts.{IsFront, Begins, HasKind, Joins, LacksKind, Makes, Splits, behind, before, both, front_begins, front_ends, front_lacks, front_more, joins_both, lack_before, lack_behind, lack_first, lack_joined, lack_made, lack_token, local_each, makes_by, part_before, part_behind, part_joined, part_made}
+use Rattle.px_plan_parse.proofs.Parts.{IsFront, Begins, HasKind, Joins, LacksKind, Makes, Splits, behind, before, both, front_ends, front_lacks, front_more, joins_both, lack_before, lack_behind, lack_first, lack_joined, lack_made, lack_token, local_each, makes_by, part_before, part_behind, part_joined, part_made}
 
 abbrev pub further : {A : Type 0} → (A → Form) → A → Form
 further form = behind (kinds.Sign signs.Comma) form
@@ -57,11 +57,6 @@ module _ {A : Type 0} {form : A → Form} {Next : Follow} {close : Sign} (separa
 
   pub commas_lack_first : {fault : ParseFault} → IsLacking form Next tokens from fault → IsLacking (closed_commas form close) Anything tokens from fault
   commas_lack_first f = lack_before (λ others place has. has) (lack_made as_pair (lack_first (rest_begins separates) (short_nothing (λ others place. ([], refl))) f))
-
-  pub commas_begin :
-      {part : A} {to : ℕ} → IsPart form Next tokens from part to → HasCommas form Next (Only close) tokens from (part ∷ []) to
-  commas_begin {part = part} {to = to} f =
-      record { first = part; others = []; middle = to; are = refl; begun = f; front = front_begins f.within }
 
   module _ {done : List A} {at : ℕ} (so_far : HasCommas form Next (Only close) tokens from done at) where
     -- the first, and those behind it

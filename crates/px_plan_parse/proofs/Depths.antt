@@ -257,10 +257,6 @@ widened : {tokens : List Token} {at : ℕ} (inside bound wider : ℕ) (stack : L
 widened inside bound wider [] le st = empty
 widened inside bound wider (place ∷ rest) le (within before op st) = within (omega (arith, before, le)) op st
 
--- the brackets behind a token, by those before it
-abbrev stack_behind : List ℕ → ℕ → TokenKind → List ℕ
-stack_behind stack at kind = cond (is_opening kind) (at ∷ stack) (cond (is_closing kind) (drop 1 stack) stack)
-
 module _ (tokens : List Token) (at : ℕ) (t : Token) (is : slice_get tokens at ≡ Some t) (stack : List ℕ) (st : IsStack tokens at stack) where
   stack_opens : is_opening t.kind ≡ true → IsStack tokens (at + 1) (at ∷ stack)
   stack_opens opens =

@@ -185,9 +185,6 @@ assign_begins tokens part from end o next = λ has. let h = o.1.0 in cc
 
 -- ---- updates
 
-abbrev as_pair : Identifier → Term → PairData
-as_pair name value = record { name = name; value = value }
-
 pub makes_pair :
     (tokens : List Token) (from : ℕ)
     → Makes pair (both identifier (behind (kinds.Sign signs.Assign) expression))

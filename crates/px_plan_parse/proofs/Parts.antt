@@ -424,15 +424,6 @@ pub record IsFront {A : Type 0} (form : A → Form) (Last : Follow) (tokens : Li
       → HasRest form done at others all end
 
 module _ {A : Type 0} {form : A → Form} {Last : Follow} {tokens : List Token} {from : ℕ} where
-  pub front_begins : from ≤ length tokens → IsFront form Last tokens from [] from
-  front_begins within =
-      record {
-        advances = omega arith;
-        within = within;
-        builds = λ others agree rest end o. o;
-        splits = λ others agree all end o last. (all, refl, o);
-      }
-
   module _ {done : List A} {at : ℕ} (front : IsFront form Last tokens from done at) where
     all_done : (others : List Token) → Agree tokens others at → each form done others from at
     all_done others agree =

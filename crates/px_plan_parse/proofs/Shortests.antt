@@ -18,7 +18,7 @@ use Rattle.px_expr_parse.specs.Tail.{closed}
 use Rattle.px_expr_parse.proofs.Completions.{Shortest, in_one, short_as, short_before, short_behind, short_both, short_closed, short_expression, short_name, short_nothing}
 use Rattle.px_plan_parse.specs.Named.{written}
 use Rattle.px_plan_parse.specs.Named as named_parts
-use Rattle.px_plan_parse.specs.Tail.{array_size, closed_actions, closed_parameters, declared_parameters, end_if, first_value, list_word, signature}
+use Rattle.px_plan_parse.specs.Tail.{array_size, closed_actions, declared_parameters, end_if, first_value, list_word, signature}
 use Rattle.px_plan_parse.proofs.Blocks.{block_tail}
 use Rattle.px_plan_parse.proofs.Globals.{worded}
 use Rattle.px_plan_parse.proofs.Parts.{before, behind, both, each_of}
@@ -121,9 +121,6 @@ pub short_parameter : Shortest parameter
 short_parameter =
     in_one (kinds.Keyword words.Integer)
     (λ others place has. (record { of_type = types.Integer; name = None }, (place + 1, (has, refl), refl)))
-
-pub short_closed_parameters : Shortest closed_parameters
-short_closed_parameters = in_one (kinds.Sign signs.CloseParen) (λ others place has. ([], (has, refl)))
 
 pub short_declared : Shortest declared_parameters
 short_declared = in_one (kinds.Sign signs.Semicolon) (λ others place has. ([], (place, inl refl, (has, refl))))

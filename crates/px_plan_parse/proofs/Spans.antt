@@ -17,13 +17,13 @@ use Rattle.px_syntax.specs.declared.word.TypeName.{TypeName}
 use Rattle.px_syntax.specs.declared.word.TypeName.TheVariants as types
 use Rattle.px_syntax.specs.Block.{InitialData, Value, Listed, VariableData, ItemData, Variables, Conditions, Priority, TargetData, CallData, PairData, BlockTree, Braces, Actions, NoActions, More, ActionTree, Labelled, BranchTree, Branch, GuardedTree, Guarded, ElseIfs, NoElseIfs, ElseIf, ElseTree, NoElse, Else, BodyTree, Inner, Assign, CallInto, Call, Update, If, While, For}
 use Rattle.px_syntax.specs.BlockGrammar.{action, block, body, branch, call, condition_word, each_action, else_ifs, form_word, guarded, initial, item, label, listed, literal, negative, node_list_word, otherwise, pair, signed, target, type_word, variable}
-use Rattle.px_syntax.specs.Expr.{Term, Terms}
+use Rattle.px_syntax.specs.Expr.{Term}
 use Rattle.px_syntax.specs.ExprGrammar.{literal_kind}
 use Rattle.px_syntax.specs.Form.{Form, each, keyword, maybe, optional, sign, ◌then◌, number}
 use Rattle.px_syntax.specs.Plan.{DeclarationData, Command, Lookup, PlanTree}
 use Rattle.px_syntax.specs.PlanGrammar.{declaration, parameter, parameters, plan}
 use Rattle.px_expr_parse.proofs.Spans.{IsLocal, local_arguments, local_between, local_either, local_expression, local_identifier, local_never, local_nothing, local_numbered, local_one, local_sign, local_then}
-use Rattle.px_plan_parse.specs.Named.{called, optional_index}
+use Rattle.px_plan_parse.specs.Named.{optional_index}
 use Rattle.px_plan_parse.specs.Tail.{array_size, closed_parameters, counter, head, list_word, test}
 use Rattle.px_plan_parse.proofs.Commas.{local_commas}
 use Rattle.px_plan_parse.proofs.Parts.{local_each}
@@ -223,9 +223,6 @@ pub local_plan : (tree : PlanTree) → IsLocal (plan tree)
 local_plan tree = local_then (local_declarations tree.declarations) (local_then (local_label tree.label) (local_block tree.root))
 
 -- ---- parts that the readers tell apart
-
-pub local_called : (args : Terms) → IsLocal (called args)
-local_called args = local_then (local_between signs.OpenParen signs.CloseParen (local_arguments args)) (local_sign signs.Semicolon)
 
 pub local_closed_parameters : (parts : List Parameter) → IsLocal (closed_parameters parts)
 local_closed_parameters [] = local_sign signs.CloseParen

@@ -1,11 +1,9 @@
 -- Texts that are appended one behind another are those of the layout.
-use Rattle.std.proofs.Common.{◌≡◌, ℕ, ℤ, ◌-◌, ◌<◌, List, ◌∷◌, ◌++◌, codes, map, take, drop, length, get_or, Option, option_map, Global, sym, ap, ◌∙◌, append_assoc}
+use Rattle.std.proofs.Common.{◌≡◌, ℕ, ℤ, ◌-◌, List, ◌∷◌, ◌++◌, codes, map, take, length, Option, option_map, Global, sym, ap, ◌∙◌, append_assoc}
 use Rattle.std.specs.Fmt.{signed_decimal}
 use Rattle.std.specs.List.{flat_map}
 use Rattle.std.specs.declared.vec.Vec.{Vec}
 use Rattle.std.proofs.Math.Seq.{take-append_seam}
-use Rattle.std.proofs.lemmas.List.{take_rest}
-use Rattle.px_value.proofs.General.{cut_at}
 use Rattle.px_syntax.specs.declared.block.Action.{Action}
 use Rattle.px_syntax.specs.declared.block.Block.{Block, out-Block}
 use Rattle.px_syntax.specs.declared.block.Body.{Body}
@@ -38,17 +36,10 @@ joined_four : (out a b c d o1 o2 o3 new : List ℕ) → o1 ≡ out ++ a → o2 �
     → new ≡ out ++ (a then b then c then d)
 joined_four out a b c d o1 o2 o3 new e1 e2 e3 e4 = rw (e4, e3, e2, e1) (simp append_assoc)
 
-joined_three : (out a b c o1 o2 new : List ℕ) → o1 ≡ out ++ a → o2 ≡ o1 ++ b → new ≡ o2 ++ c → new ≡ out ++ (a then b then c)
-joined_three out a b c o1 o2 new e1 e2 e3 = rw (e3, e2, e1) (simp append_assoc)
-
 joined_two : (out a b o1 new : List ℕ) → o1 ≡ out ++ a → new ≡ o1 ++ b → new ≡ out ++ (a ++ b)
 joined_two out a b o1 new e1 e2 = rw (e2, e1) (simp append_assoc)
 
 -- ---- parameters, and what a `for` counts
-
--- a list is its first part and the rest
-pub first_and_rest : {X : Type 0} (xs : List X) (x : X) → 0 < length xs → x ≡ get_or xs 0 x → xs ≡ x ∷ take (length xs - 1) (drop 1 xs)
-first_and_rest xs x some is = cut_at xs 0 x some is ∙ ap (λ rest. x ∷ rest) (sym (take_rest xs 1))
 
 pub parameters_laid : (parameters rest : List Parameter) (first : Parameter) (out o1 o2 o3 new : List ℕ)
     → parameters ≡ first ∷ rest → o1 ≡ out ++ codes "(" → o2 ≡ o1 ++ parameter_text first

@@ -8,7 +8,7 @@ use Rattle.px_core.specs.Plan.{Site, Tree, sites}
 use Rattle.px_event.specs.declared.entry.Entry.{Entry}
 use Rattle.px_event.specs.declared.event.Event.{Event}
 use Rattle.px_compile.specs.Compiled.{IsCompiled}
-use Rattle.px_compile.proofs.Refusals.{one_plan}
+use Rattle.px_compile.proofs.Refusals.{no_refusal, one_plan}
 use Rattle.px_exec.specs.Opening.{RunsAwayAt}
 use Rattle.px_journal.specs.Layout.{is_nothing, Stands}
 use Rattle.px_journal.proofs.Meaning.{one_meaning_text, one_meaning_history}
@@ -20,7 +20,6 @@ use Rattle.px_sem.specs.Run.{posted, started, settled_world, run_on, run}
 use Rattle.px_sem.specs.World.{World}
 use Rattle.px_run.specs.Ending.{Ending, no_journal, journal_damaged, journal_plan, journal_runaway}
 use Rattle.px_run.specs.Journaled.{JournalRefuses, HasNoJournal, CannotRun}
-use Rattle.px_run.proofs.FileKinds.{no_refused_plan}
 
 -- ---- runs
 
@@ -88,7 +87,7 @@ module _ {D : Type 0} (members : Disk.Ghosts D) (disk : D) (bytes text : List �
   pub only_runs_away : (ending : Ending) → JournalRefuses members disk ending → RunsAway tree first ending
   only_runs_away ending (inl none) = absurd (never_none members disk bytes text first told stands ending none)
   only_runs_away _ (inr (other, others, so, CannotRun.no_plan fault some refused)) =
-      absurd (no_refused_plan other tree fault (subst (λ t. IsCompiled t tree) (sym (same_text other others so)) compiled) some refused)
+      absurd (no_refusal other tree fault some (subst (λ t. IsCompiled t tree) (sym (same_text other others so)) compiled) refused)
   only_runs_away _ (inr (other, others, so, CannotRun.start_runs_away found spells is)) =
       RunsAway.start refl (ap (λ t. started (sites t)) (sym (same_tree other others found so spells)) ∙ is)
   only_runs_away _ (inr (other, others, so, CannotRun.event_runs_away found at spells away)) =

@@ -1,6 +1,5 @@
 -- What every kind of files keeps, and what becomes of a file that a host tells.
-use Rattle.std.proofs.Common.{◌≡◌, ◌≢◌, ℕ, ◌<◌, inl, inr, List, Some, None, length, refl, arith, ap, subst, sym, ◌∙◌}
-use Rattle.px_compile.specs.Compiled.{IsCompiled, IsRefused}
+use Rattle.std.proofs.Common.{◌≡◌, ℕ, ◌<◌, inl, inr, List, Some, None, length, refl, arith, ap, subst, sym, ◌∙◌}
 use Rattle.px_compile.proofs.Refusals.{one_plan, no_refusal}
 use Rattle.px_core.specs.Plan.{Site, Tree}
 use Rattle.px_output.specs.View.{View}
@@ -9,8 +8,6 @@ use Rattle.px_script.specs.Script.{Threads, Fault, script}
 use Rattle.px_event.specs.declared.names.ThreadName.{ThreadName}
 use Rattle.px_script.specs.declared.script.Script.{Script}
 use Rattle.px_script.specs.declared.todo.Todo.{Todo}
-use Rattle.px_syntax.specs.declared.fault.PlanFault.{PlanFault}
-use Rattle.px_syntax.specs.declared.fault.PlanFault.TheVariants.{NoMemory}
 use Rattle.px_run.specs.Ending.{Ending}
 use Rattle.px_run.specs.Course.{Course, Due, AfterFile}
 use Rattle.px_run.specs.Reading.{FileKind, Seen, Content, Longer, Unreadable, Shows, Spells, Refuses, with_text, Holds, HoldsNone}
@@ -24,16 +21,12 @@ pub record IsKind (A : Type 0) (kind : FileKind A) (status : ℕ) : Type 0 where
   pub one : (bytes : List ℕ) (a b : A) → kind.Spells bytes a → kind.Spells bytes b → a ≡ b
   pub never : (bytes : List ℕ) (a : A) (ending : Ending) → kind.Spells bytes a → kind.Refuses bytes ending → ⊥
 
--- bytes that spell a plan have no fault
-pub no_refused_plan : (bytes : List ℕ) (tree : Tree) (fault : PlanFault) → IsCompiled bytes tree → fault ≢ NoMemory → IsRefused bytes fault → ⊥
-no_refused_plan bytes tree fault spells some refused = no_refusal bytes tree fault some spells refused
-
 pub plan_kind : IsKind Tree plan_file 3
 plan_kind = record {
   too_long = refl;
   refused = λ bytes ending r. ap (λ e. e.status) r.3;
   one = λ bytes a b s t. one_plan bytes a b s t;
-  never = λ bytes a ending s r. no_refused_plan bytes a r.0 s r.1 r.2;
+  never = λ bytes a ending s r. no_refusal bytes a r.0 r.1 s r.2;
 }
 
 pub script_kind : (plan : List Site) → IsKind Script (script_file plan) 4

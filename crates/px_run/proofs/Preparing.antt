@@ -1,8 +1,7 @@
 -- The reading of a plan and its script, and the start of the plan, ahead of a new journal.
 use Rattle.std.proofs.Common.{◌≡◌, ◌≤◌, inr, ℕ, List, [], Some, None, IsErrAnd, Result, Err, IfErr, length, refl, sym, ap, subst}
-use Rattle.px_value.proofs.General.{handed_on}
+use Rattle.px_value.proofs.General.{handed_on, is_some_at}
 use Rattle.px_core.specs.Plan.{Site, Tree, sites}
-use Rattle.px_exec.proofs.Growing.{some_run}
 use Rattle.px_output.specs.View.{View, OnlyReads, KeepsFiles}
 use Rattle.px_ports.specs.declared.disk.Disk
 use Rattle.px_script.specs.Fit.{IsFitScript}
@@ -112,7 +111,7 @@ prepared runs old mid new plan name tree ready source first second short read fi
 
 -- a world that was run has settled
 pub start_settles : (plan : List Site) (world : World) → run plan [] ≡ Some world → (found : World × ℕ) × (started plan ≡ Some found)
-start_settles plan world is = some_start plan (some_run plan [] world is)
+start_settles plan world is = some_start plan (is_some_at (run plan []) world is)
 
 -- ---- the command
 

@@ -1,10 +1,10 @@
 -- Files that were read, seen from further off, and what stops the reading of one.
-use Rattle.std.proofs.Common.{◌≡◌, ℕ, ◌≤◌, List, Some, None, Result, Ok, Err, IfErr, IsErrAnd, refl, ap, ◌∙◌, arith}
+use Rattle.std.proofs.Common.{◌≡◌, ℕ, ◌≤◌, List, Some, None, Result, Ok, Err, IfErr, IsErrAnd, refl, ap, arith}
 use Rattle.px_compile.specs.Compiled.{IsRefused}
 use Rattle.px_core.specs.Plan.{Tree}
 use Rattle.px_syntax.specs.declared.fault.PlanFault.{PlanFault}
 use Rattle.px_syntax.specs.declared.fault.PlanFault.TheVariants as plans
-use Rattle.px_output.specs.View.{View, OnlyPrints, OnlyReads, KeepsFiles}
+use Rattle.px_output.specs.View.{View, OnlyPrints, OnlyReads}
 use Rattle.px_run.specs.Course.{Course, Due, AfterFile}
 use Rattle.px_run.specs.Ending.{Ending}
 use Rattle.px_run.specs.Reading.{FileKind, Seen, Content, Longer, Unreadable, Shows, Reads, with_text}
@@ -78,30 +78,6 @@ reads_at_once now = record { files = refl; emitted = refl; read_faults = λ name
 
 pub reads_kept : (mid new : View) → OnlyPrints mid new → (other : List ℕ) → mid.read_faults other ≤ new.read_faults other
 reads_kept mid new only other = let same = ap (λ count. count other) only.read_faults in omega arith
-
-pub keeps_more : (old mid new : View) → OnlyReads old mid → OnlyPrints mid new → KeepsFiles old new
-keeps_more old mid new reads prints = record {
-  files = prints.files ∙ reads.files;
-  read_faults = λ other. let one = reads.read_faults other in let two = reads_kept mid new prints other in omega arith;
-  write_faults = omega (arith, reads.write_faults, prints.write_faults);
-  idle = omega (arith, reads.idle, prints.idle);
-}
-
-pub keeps_since : (old mid new : View) → OnlyReads old mid → KeepsFiles mid new → KeepsFiles old new
-keeps_since old mid new reads keeps = record {
-  files = keeps.files ∙ reads.files;
-  read_faults = λ other. let one = reads.read_faults other in let two = keeps.read_faults other in omega arith;
-  write_faults = omega (arith, reads.write_faults, keeps.write_faults);
-  idle = omega (arith, reads.idle, keeps.idle);
-}
-
-pub keeps_reads : (old new : View) → OnlyReads old new → KeepsFiles old new
-keeps_reads old new reads = record {
-  files = reads.files;
-  read_faults = reads.read_faults;
-  write_faults = omega (arith, reads.write_faults);
-  idle = omega (arith, reads.idle);
-}
 
 -- ---- what stops the reading
 

@@ -16,7 +16,7 @@ use Rattle.px_sem.specs.declared.standing.Standing.TheVariants.{Running, Finishe
 use Rattle.px_sem.specs.World.{World, standing_of}
 use Rattle.px_sem.specs.Run.{posted, started, settled_world, run_on, run}
 use Rattle.px_sem.specs.Log.{Log, events_of, is_accepted, accepted, answer_by, answer, world_after, AnswersEach, PostsPart, IsLegal}
-use Rattle.px_sem.specs.Stepper.{State, Nothing, settled_state}
+use Rattle.px_sem.specs.Stepper.{State, settled_state}
 
 pub run_on_none : (plan : List Site) (now : Option World) → run_on plan now [] ≡ now
 unfolding run_on
@@ -107,19 +107,6 @@ pub record IsPosting (plan : List Site) (limit : ℕ) (entries : List Entry) (lo
   pub rest : now ≡ settled_state plan now.world
   pub counted : count ≡ length (history_of log)
   pub within : count ≤ limit
-
-pub posting_at_once : (plan : List Site) (limit : ℕ) (now : State) → now.nodes ≡ plan → now.pending ≡ Nothing → run plan [] ≡ Some now.world
-    → IsPosting plan limit [] [] [] now 0
-posting_at_once plan limit now nodes pending runs = record {
-  each = refl;
-  answers = tt;
-  accepts = refl;
-  runs = runs;
-  rest = ap (λ plan. let s : State = record { nodes = plan; world = now.world; pending = now.pending } in s) nodes
-      ∙ ap (λ pending. let s : State = record { nodes = plan; world = now.world; pending = pending } in s) pending;
-  counted = refl;
-  within = omega arith;
-}
 
 -- what was posted so far is a front of all entries
 pub posts_part : (plan : List Site) (limit : ℕ) (entries posted rest : List Entry) (log : Log) (history : List Entry) (now : State) (count : ℕ)
@@ -277,14 +264,6 @@ history_other history entry (replies.Accepted position) other = absurd (other po
 history_other history entry replies.PlanFinished other = refl
 history_other history entry replies.Full other = refl
 history_other history entry replies.Runaway other = refl
-
--- who was not accepted adds nothing to the history
-pub none_accepted : (entry : Entry) (reply : Reply) → ((position : ℕ) → reply ≢ replies.Accepted position)
-    → accepted (logged_as entry reply ∷ []) ≡ []
-none_accepted entry (replies.Accepted position) other = absurd (other position refl)
-none_accepted entry replies.PlanFinished other = refl
-none_accepted entry replies.Full other = refl
-none_accepted entry replies.Runaway other = refl
 
 -- one entry more with its reply, where the count is that of the history
 pub posting_then : (plan : List Site) (limit : ℕ) (entries : List Entry) (log next_log : Log) (history next_history : List Entry) (now next : State)

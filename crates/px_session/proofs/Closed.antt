@@ -8,6 +8,7 @@ use Rattle.px_event.specs.declared.entry.Entry.{Entry}
 use Rattle.px_event.specs.declared.named.NamedEntry.{NamedEntry}
 use Rattle.px_exec.specs.Executive.{Opening, Executive, Keeps, KeepsDisk, IsOpen, IsClosed, IsTextOf, TellsBytes, StandsNamed, StandsWithin, WasNamed, failed_entries, moments_now, moments_then, plan_of}
 use Rattle.px_exec.specs.declared.closing.Failed.{Failed}
+use Rattle.px_exec.proofs.Tellings.{ready_now}
 use Rattle.px_journal.proofs.Going.{goes_told}
 use Rattle.px_journal.proofs.Ready.{ready_few, ready_fit, ready_stands, ready_synced}
 use Rattle.px_journal.proofs.Moments.{left_now}
@@ -44,9 +45,6 @@ module _ {S D : Type 0} (runs : Stepper.Ghosts S) (members : Disk.Ghosts D) (exe
     whole : (text : List ℕ) → exec.history ≡ longest_of (session_of text exec)
     whole text = keeps.grown ∙ sym (ap (λ (f : Option Entry). (exec.opening.history ++ accepted exec.log) ++ unsure f) no_entry
         ∙ append-nil (exec.opening.history ++ accepted exec.log))
-
-    pub ready_now : IsReady members exec.journal (keeps.text.0) exec.history
-    ready_now = open_now.stands (keeps.text.0) (keeps.text.1)
 
     leaves_open : TellsBytes members exec.opening.journal.disk → (text : List ℕ) → IsTextOf members exec text
         → LeavesSession members (session_of text exec) exec.opening.journal.disk exec.journal.disk

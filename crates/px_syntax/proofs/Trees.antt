@@ -1,5 +1,5 @@
 -- The trees of blocks, actions, branches and bodies from those of their parts.
-use Rattle.std.proofs.Common.{◌≡◌, ℕ, ℤ, Option, Some, None, Global, map, option_map, ap, sym, ◌∙◌}
+use Rattle.std.proofs.Common.{◌≡◌, ℤ, Option, Some, None, Global, map, option_map, ap, sym, ◌∙◌}
 use Rattle.std.specs.declared.vec.Vec.{Vec}
 use Rattle.px_syntax.specs.declared.block.Action.{Action, out-Action, fold_out-Action}
 use Rattle.px_syntax.specs.declared.block.Block.{Block, out-Block, fold_out-Block}
@@ -7,14 +7,11 @@ use Rattle.px_syntax.specs.declared.block.Body.TheFolds.{fold-roll-Body}
 use Rattle.px_syntax.specs.declared.block.Body.TheOpen.{Body-F}
 use Rattle.px_syntax.specs.declared.block.Body.TheVariants as bodies
 use Rattle.px_syntax.specs.declared.block.Branch.{Branch, out-Branch, fold_out-Branch}
-use Rattle.px_syntax.specs.declared.block.Call.{Call as CallParts}
 use Rattle.px_syntax.specs.declared.block.Guarded.{Guarded, out-Guarded, fold_out-Guarded}
-use Rattle.px_syntax.specs.declared.block.Pair.{Pair}
-use Rattle.px_syntax.specs.declared.block.Target.{Target}
 use Rattle.px_syntax.specs.declared.expr.Identifier.{Identifier}
 use Rattle.px_syntax.specs.declared.expr.SurfaceExpr.{SurfaceExpr}
 use Rattle.px_syntax.specs.Block as trees
-use Rattle.px_syntax.specs.Block.{BlockTree, ActionTree, BranchTree, GuardedTree, BodyTree, item_data, target_data, call_data, pair_data, actions_in_turn, else_ifs_in_turn, else_of, block_of, body_of, action_of, branch_of, guarded_of, body_step, action_step, block_step, branch_step, guarded_step}
+use Rattle.px_syntax.specs.Block.{BlockTree, ActionTree, BranchTree, GuardedTree, BodyTree, item_data, actions_in_turn, else_ifs_in_turn, else_of, block_of, body_of, action_of, branch_of, guarded_of, body_step, action_step, block_step, branch_step, guarded_step}
 use Rattle.px_syntax.specs.Expr.{term_of}
 
 pub block_is : (block : Block) → block_of block
@@ -38,27 +35,6 @@ inner block =
     ap body_of (sym (bodies.rolls-Block block))
     ∙ fold-roll-Body BodyTree ActionTree BlockTree BranchTree GuardedTree body_step action_step block_step branch_step guarded_step
     (Body-F.Block block)
-
-pub assign : (target : Target) (value : SurfaceExpr)
-    → body_of (bodies.Assign target value) ≡ trees.Assign (target_data target) (term_of value)
-assign target value =
-    ap body_of (sym (bodies.rolls-Assign target value))
-    ∙ fold-roll-Body BodyTree ActionTree BlockTree BranchTree GuardedTree body_step action_step block_step branch_step guarded_step
-    (Body-F.Assign target value)
-
-pub call_into : (target : Target) (call : CallParts)
-    → body_of (bodies.CallInto target call) ≡ trees.CallInto (target_data target) (call_data call)
-call_into target call =
-    ap body_of (sym (bodies.rolls-CallInto target call))
-    ∙ fold-roll-Body BodyTree ActionTree BlockTree BranchTree GuardedTree body_step action_step block_step branch_step guarded_step
-    (Body-F.CallInto target call)
-
-pub update : (token : ℕ) (pairs : Vec Pair Global)
-    → body_of (bodies.Update token pairs) ≡ trees.Update token (map pair_data pairs.items)
-update token pairs =
-    ap body_of (sym (bodies.rolls-Update token pairs))
-    ∙ fold-roll-Body BodyTree ActionTree BlockTree BranchTree GuardedTree body_step action_step block_step branch_step guarded_step
-    (Body-F.Update token pairs)
 
 pub if_chain : (first : Guarded) (others : Vec Guarded Global) (otherwise : Option Branch)
     → body_of (bodies.If first others otherwise)

@@ -48,11 +48,6 @@ row plan world under_way Fails (Assign target right) = writes_back target under_
 row plan world under_way Fails (Command name args result) = aborts name under_way
 row plan world under_way move body = silent under_way
 
-in_rows : (plan : List Site) (world : World) (site : Site) (arrival : Arrival)
-    → effects_of plan world site arrival
-    ≡ row plan world (record_at world site.path).action (move_kind (record_at world site.path).state arrival.to) site.head.body
-in_rows plan world site arrival = refl
-
 -- ---- writes
 
 abbrev WritesSuit : List Site → Effects → Type 0

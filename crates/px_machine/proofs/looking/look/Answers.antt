@@ -1,9 +1,9 @@
 use Rattle.std.proofs.Common.{◌≡◌, ◌≢◌, ℕ, ◌<◌, [], ◌∷◌, length, AllPairs, Option, Some, IfSome, refl, ap, sym, ◌∙◌, subst, arith}
-use Rattle.px_value.proofs.General.{none_from}
+use Rattle.px_value.proofs.General.{is_some_at, none_from}
 use Rattle.px_links.specs.Links.{LinksData, holder_of, rest_of}
 use Rattle.px_parts.specs.Parts.{plan_in}
 use Rattle.px_machine.specs.Queue.{IsWoken}
-use Rattle.px_machine.proofs.Looks.{HaveLookedBut, looked_at_all, looked_at_none, looked_at_one, not_again, now_with_mark, others_once, right_with_mark, simulation, some_holds, woken_once}
+use Rattle.px_machine.proofs.Looks.{HaveLookedBut, looked_at_all, looked_at_none, looked_at_one, not_again, now_with_mark, others_once, right_with_mark, simulation, woken_once}
 use Rattle.px_machine.proofs.looking.look.Goals as goal
 
 pub woken-init : goal.woken-init
@@ -46,7 +46,7 @@ woken-preserved c =
     let still : IsWoken new.queue node = subst (λ (queue : LinksData). IsWoken queue node) (sym queue) woken in
     let rest : rest_of old.queue c.woken.at ≡ node ∷ ahead =
     ap (rest_of old.queue) is ∙ ap (λ (queue : LinksData). rest_of queue (Some node)) (sym queue)
-    ∙ next.walk (some_holds (holder_of new.queue node) 1 still) in
+    ∙ next.walk (is_some_at (holder_of new.queue node) 1 still) in
     let once : AllPairs (λ a b. a ≢ b) (node ∷ ahead) = subst (AllPairs (λ a b. a ≢ b)) rest so_far.once in
     record {
       looked =

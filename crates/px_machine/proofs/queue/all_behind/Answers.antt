@@ -1,7 +1,8 @@
 use Rattle.std.proofs.Common.{is_none, ap, ◌∙◌, subst, arith, inl, inr}
-use Rattle.std.proofs.lemmas.Bool.{cases_eq}
+use Rattle.std.proofs.lemmas.Bool.{cases_eq, ne_eqb}
+use Rattle.px_cached.proofs.OneList.{elsewhere}
 use Rattle.px_machine.specs.Queue.{IsBehind}
-use Rattle.px_machine.proofs.Waiting.{pushed_elsewhere, pushed_here}
+use Rattle.px_machine.proofs.Waiting.{pushed_here}
 use Rattle.px_machine.proofs.queue.all_behind.Goals as goal
 
 pub loop-node-preserved : goal.loop-node-preserved
@@ -17,9 +18,9 @@ loop-node-preserved c =
         | inl same ↦
             subst (IsBehind new) same (pushed_here old new at 0 held (ap is_none (c.loop-node.invariant.none at (omega arith))))
         | inr apart ↦
-            pushed_elsewhere old new at 0 held node apart ∙ c.loop-node.invariant.all node (omega (arith, few, apart))
+            elsewhere old new at 0 held node (ne_eqb at node apart) ∙ c.loop-node.invariant.all node (omega (arith, few, apart))
       ];
       none = λ node past.
-          pushed_elsewhere old new at 0 held node (λ same. absurd (omega (arith, same, past)))
+          elsewhere old new at 0 held node (ne_eqb at node (λ same. absurd (omega (arith, same, past))))
           ∙ c.loop-node.invariant.none node (omega (arith, past));
     }

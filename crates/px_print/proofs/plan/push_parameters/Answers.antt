@@ -1,6 +1,7 @@
 use Rattle.std.proofs.Common.{arith}
 use Rattle.std.proofs.lemmas.Result.{on_ok_weaker}
-use Rattle.px_print.proofs.Laid.{first_and_rest, parameters_laid}
+use Rattle.px_value.proofs.General.{first_and_rest}
+use Rattle.px_print.proofs.Laid.{parameters_laid}
 use Rattle.px_print.proofs.plan.push_parameters.Goals as goal
 
 pub returns-in_ok-push_further-in-len1-up : goal.returns-in_ok-push_further-in-len1-up

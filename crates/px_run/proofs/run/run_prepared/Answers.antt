@@ -1,6 +1,6 @@
-use Rattle.std.proofs.Common.{ℕ, List, [], refl, subst}
+use Rattle.std.proofs.Common.{ℕ, List, refl, subst}
+use Rattle.px_value.proofs.General.{is_some_at}
 use Rattle.px_event.specs.declared.names.ThreadName.{ThreadName}
-use Rattle.px_exec.proofs.Growing.{some_run}
 use Rattle.px_output.specs.View.{view}
 use Rattle.px_script.proofs.Remainders.{rest_whole}
 use Rattle.px_script.specs.declared.todo.Todo.{Todo}
@@ -30,7 +30,7 @@ returns-clause-runs g c =
     let fault = c.in-Err.field-0 in
     not_made_runs g.D.Disk c.args.telling (g.S.Stepper.state ready.stepper).nodes ready.text.items c.args.journal.now c.args.limit ready.script before before c.args.disk
     (rest_whole ready.script.threads c.requires.lines.lines) fault.why fault.disk c.into.result
-    (some_run _ [] _ c.requires.started)
+    (is_some_at _ _ c.requires.started)
     c.into.ensures
     (subst (λ (names : List ThreadName). IsNotCreated g.D.Disk c.args.journal.now ready.text.items names c.args.disk fault) c.without_names-script.ensures.names
     (subst (λ (text : List ℕ). IsNotCreated g.D.Disk c.args.journal.now text c.without_names-script.result.1 c.args.disk fault) c.deref.ensures.value c.in-Err.ensures.refused))
