@@ -1,4 +1,5 @@
--- The conditions of a node where its plan gives none (PLEXIL reference manual, "Node Conditions").
+-- The conditions and the priority of a node where its plan gives none (PLEXIL reference manual, "Node Conditions" and
+-- "Assignment Nodes").
 use Rattle.std.specs.Prelude.{ℕ, true, false, List, map}
 use Rattle.px_value.specs.declared.comparison.CompareOp.TheVariants as compare
 use Rattle.px_value.specs.declared.enums.NodeState.TheVariants as states
@@ -39,3 +40,6 @@ default_conditions kind path children =
       post = truth true;
       invariant = truth true;
     }
+
+abbrev pub default_priority : ℕ
+default_priority = 100000

@@ -1,5 +1,6 @@
 -- An expression with a list in place of the vector of a lookup's arguments.
 use Rattle.std.specs.Prelude.{ℕ, List, [], ◌∷◌, Option}
+use Rattle.std.specs.Global.{Box}
 use Rattle.px_value.specs.declared.value.Value.{Value}
 use Rattle.px_core.specs.declared.expr.LookWord.{LookWord}
 use Rattle.px_core.specs.declared.expr.UnaryOp.{UnaryOp}
@@ -47,3 +48,7 @@ term_step (Expr-F.Binary op left right) = Binary op left.value right.value
 
 abbrev pub term_of : Expr → Term
 term_of = fold-Expr Term term_step
+
+-- what is in a box
+abbrev pub term_in : Box Expr → Term
+term_in boxed = term_of boxed.value

@@ -1,4 +1,4 @@
-// The conditions that a node has where its plan gives none.
+// The conditions and the priority that a node has where its plan gives none.
 ghost use Rattle.std.specs.Prelude.{◌≡◌, IfOk};
 ghost use Rattle.px_core.specs.Defaults.{is_finished, each_finished, default_end, default_conditions};
 ghost use Rattle.px_core.specs.Joined.{truth};
@@ -10,6 +10,9 @@ use crate::expr::{BinaryOp, Expr, UnaryOp};
 use crate::node::Kind;
 use px_value::{CompareOp, NoMemory, NodeState, Path, Value};
 use std::alloc::Global;
+
+/// The priority of a node for which its plan gives none (PLEXIL reference manual, "Assignment Nodes").
+pub const DEFAULT_PRIORITY: u32 = 100000;
 
 impl Conditions {
     /// The conditions of a node for which its plan gives none, by the node's kind, its path and the paths of its

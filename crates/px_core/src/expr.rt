@@ -1,6 +1,6 @@
 // Expressions: what conditions, targets and bodies compute.
 ghost use Rattle.std.specs.Prelude.{◌≡◌, map, IfOk};
-ghost use Rattle.px_core.specs.Expr.{term_of};
+ghost use Rattle.px_core.specs.Expr.{Binary as BinaryTerm, Literal as LiteralTerm, Unary as UnaryTerm, Var as VarTerm, term_in, term_of};
 
 use px_value::{ArithOp, CompareOp, Name, NoMemory, Path, Value};
 use std::alloc::Global;
@@ -86,6 +86,46 @@ pub enum Expr {
     },
 }
 
+// What is often made, in the box that the expression round it holds.
+impl Expr {
+    /// A value.
+    pub fn literal(alloc: Global, value: Value) -> Result<Box<Expr>, NoMemory>
+        ensures { IfOk result (λ made. term_in made ≡ LiteralTerm value) }
+    {
+        Ok(Box::new(alloc, Expr::Literal(value))?)
+    }
+
+    /// The variable that the node at a path declares.
+    pub fn variable(alloc: Global, owner: &Path, name: &Name) -> Result<Box<Expr>, NoMemory>
+        ensures { IfOk result (λ made. term_in made ≡ VarTerm owner.now name.now) }
+    {
+        let variable = Expr::Var {
+            owner: owner.copy(alloc)?,
+            name: name.copy(alloc)?,
+        };
+        Ok(Box::new(alloc, variable)?)
+    }
+
+    /// An operation with one operand.
+    pub fn unary(alloc: Global, op: UnaryOp, arg: Box<Expr>) -> Result<Box<Expr>, NoMemory>
+        ensures { IfOk result (λ made. term_in made ≡ UnaryTerm op (term_in arg)) }
+    {
+        Ok(Box::new(alloc, Expr::Unary { op, arg })?)
+    }
+
+    /// An operation with two operands.
+    pub fn binary(
+        alloc: Global,
+        op: BinaryOp,
+        left: Box<Expr>,
+        right: Box<Expr>,
+    ) -> Result<Box<Expr>, NoMemory>
+        ensures { IfOk result (λ made. term_in made ≡ BinaryTerm op (term_in left) (term_in right)) }
+    {
+        Ok(Box::new(alloc, Expr::Binary { op, left, right })?)
+    }
+}
+
 impl Expr {
     /// An equal expression.
     #[cycle(copy)]
@@ -133,7 +173,7 @@ impl Expr {
 
     /// An equal expression, in a box.
     #[cycle(copy)]
-    fn boxed_copy(&self, alloc: Global) -> Result<Box<Expr>, NoMemory>
+    pub fn boxed_copy(&self, alloc: Global) -> Result<Box<Expr>, NoMemory>
         ensures { IfOk result (λ boxed. term_of boxed.value ≡ term_of self.now) }
     {
         let expr = self.copy(alloc)?;

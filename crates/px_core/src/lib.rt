@@ -16,6 +16,7 @@ mod variable;
 
 pub use body::{Body, Pair, Target};
 pub use conditions::{ConditionKind, Conditions};
+pub use defaults::DEFAULT_PRIORITY;
 pub use expr::{BinaryOp, Expr, LookWord, UnaryOp};
 pub use node::{CoreNode, Kind};
 pub use plan::Plan;

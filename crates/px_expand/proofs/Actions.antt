@@ -12,13 +12,14 @@ use Rattle.px_syntax.proofs.Trees.{action_is}
 use Rattle.px_core.specs.declared.node.CoreNode.{CoreNode}
 use Rattle.px_core.specs.declared.node.CoreNode.TheFolds.{fold-CoreNode}
 use Rattle.px_core.specs.Plan.{Tree, NoNode, branch, is_same, tree_of_node}
-use Rattle.px_expand.specs.Adding.{Added}
+use Rattle.px_forms.specs.Adding.{Added}
 use Rattle.px_expand.specs.Core.{actions_core, actions_seen, action_core, body_core, name_of, follows}
-use Rattle.px_expand.specs.Nodes.{Place, alone, before, child, names_of, paths_of, seen}
-use Rattle.px_expand.specs.Placed.{trees_of}
-use Rattle.px_expand.specs.Scope.{Scope, Table, table}
+use Rattle.px_forms.specs.Nodes.{Place, alone, before, child}
+use Rattle.px_expand.specs.Children.{names_of, paths_of, seen}
+use Rattle.px_forms.specs.Placed.{trees_of}
+use Rattle.px_scope.specs.Scope.{Scope, Table, table}
 use Rattle.px_expand.specs.Size.{through, action_nodes, action_reach, actions_nodes, actions_reach, body_nodes, body_reach}
-use Rattle.px_expand.proofs.Trees.{known_before}
+use Rattle.px_forms.proofs.Trees.{known_before}
 
 abbrev pub in_turn : List Action → Actions
 in_turn actions = actions_in_turn (map action_of actions)

@@ -22,17 +22,19 @@ use Rattle.px_core.specs.Expr.{Binary}
 use Rattle.px_core.specs.Fit.{has_site, is_command}
 use Rattle.px_core.specs.Plan.{Site, Tree, NoNode, Nothing, path_under, sites_under, sites, is_same}
 use Rattle.px_core.proofs.Paths.{same-self}
-use Rattle.px_expand.specs.Adding.{Added, nothing}
-use Rattle.px_expand.specs.Conditions.{Given, none_given}
+use Rattle.px_forms.specs.Adding.{Added, nothing}
+use Rattle.px_forms.specs.Conditions.{Given, none_given}
 use Rattle.px_expand.specs.Core.{Otherwise, branch_name, follows, children_seen, block_scope, if_seen, loop_seen, if_scope, while_scope, for_scope, block_core, actions_core, body_core, if_core, chain_core, else_core, branch_core, core}
-use Rattle.px_expand.specs.Forms.{done, test_of, not_found, set, step as forms_step, counter, conditional, repeated, counted, where_found, where_not_found, loop_path}
-use Rattle.px_expand.specs.Items.{default_priority}
+use Rattle.px_forms.specs.Forms.{done, test_of, not_found, set, step as forms_step, counter, conditional, repeated, counted, where_found, where_not_found, loop_path}
+use Rattle.px_core.specs.Defaults.{default_priority}
 use Rattle.px_expand.specs.Kinds.{shape_of}
 use Rattle.px_expand.specs.Labels.{block_labels, actions_labels, body_labels, guarded_labels, else_if_labels, else_labels, branch_labels, has_identifiers}
-use Rattle.px_expand.specs.Names.{named, root_name, action_name, test_name, then_name, body_name, else_name, step_name, loop_name}
-use Rattle.px_expand.specs.Nodes.{Place, child, alone, before, inside, paths_of, seen as seen_at}
-use Rattle.px_expand.specs.Resolving.{resolved}
-use Rattle.px_expand.specs.Scope.{Scope}
+use Rattle.px_forms.specs.Names.{root_name, action_name, test_name, then_name, body_name, else_name, step_name, loop_name}
+use Rattle.px_expand.specs.Names.{named}
+use Rattle.px_forms.specs.Nodes.{Place, child, alone, before}
+use Rattle.px_expand.specs.Children.{inside, paths_of, seen as seen_at}
+use Rattle.px_scope.specs.Resolving.{resolved}
+use Rattle.px_scope.specs.Scope.{Scope}
 use Rattle.px_expand.proofs.Inside.{leaf_fits, shaped_fits, block_seen, actions_there, children_there}
 use Rattle.px_expand.proofs.Declaring.{each_item_none}
 use Rattle.px_expand.proofs.Fitting.{at, LabelIs, label_is, AllFit, node_is, node_fits, nothing_said, nothing_added, assignment_fits, not_found_speaks, before_fits, KeepsTest, where_found_speaks, where_not_found_speaks, tested_keeps, tested_fits, entered_seen, MayBe, follows_speaks}

@@ -4,11 +4,12 @@ use Rattle.std.proofs.Common.{refl, ap, sym, ◌∙◌, arith, length-append}
 use Rattle.px_syntax.specs.declared.word.BlockForm.{BlockForm}
 use Rattle.px_syntax.specs.Block.{ItemData, BlockTree, Braces}
 use Rattle.px_core.specs.Plan.{Tree}
-use Rattle.px_expand.specs.Adding.{Added}
+use Rattle.px_forms.specs.Adding.{Added}
 use Rattle.px_expand.specs.Core.{actions_core, actions_in, actions_seen, block_core, block_scope, block_seen, children_seen, form_of, shaped, shaped_as}
 use Rattle.px_expand.specs.Kinds.{Shape, Rest, OneAction, Children, shape_of}
-use Rattle.px_expand.specs.Nodes.{Place, child, paths_of}
-use Rattle.px_expand.specs.Scope.{Scope, here}
+use Rattle.px_forms.specs.Nodes.{Place, child}
+use Rattle.px_expand.specs.Children.{paths_of}
+use Rattle.px_scope.specs.Scope.{Scope, here}
 use Rattle.px_expand.specs.Size.{actions_nodes, actions_reach, block_nodes, block_reach, shaped_nodes, shaped_reach, through}
 
 -- the room of a child is that of its parent

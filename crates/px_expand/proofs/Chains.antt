@@ -16,14 +16,16 @@ use Rattle.px_core.specs.Plan.{Tree, NoNode, branch as part, tree_of_node}
 use Rattle.px_expand.specs.declared.opened.OpenIf.{OpenIf}
 use Rattle.px_expand.specs.Chain.{stands, open_scope, closed, all_closed, test_in, branch_in}
 use Rattle.px_expand.specs.Core.{Otherwise, block_core, branch_core, branch_name, chain_core, else_core, if_core, if_scope, if_seen}
-use Rattle.px_expand.specs.Forms.{conditional, where_found, where_not_found}
-use Rattle.px_expand.specs.Names.{else_name, named, then_name}
-use Rattle.px_expand.specs.Nodes.{Place, alone, before, child, paths_of}
-use Rattle.px_expand.specs.Resolving.{resolved}
-use Rattle.px_expand.specs.Scope.{Scope}
+use Rattle.px_forms.specs.Forms.{conditional, where_found, where_not_found}
+use Rattle.px_forms.specs.Names.{else_name, then_name}
+use Rattle.px_expand.specs.Names.{named}
+use Rattle.px_forms.specs.Nodes.{Place, alone, before, child}
+use Rattle.px_expand.specs.Children.{paths_of}
+use Rattle.px_scope.specs.Resolving.{resolved}
+use Rattle.px_scope.specs.Scope.{Scope}
 use Rattle.px_expand.specs.Size.{block_reach, branch_reach, else_if_nodes, else_if_reach, else_nodes, else_reach, guarded_nodes, guarded_reach}
 use Rattle.px_expand.proofs.Loops.{branch_made, guarded_branch}
-use Rattle.px_expand.proofs.Trees.{known_before}
+use Rattle.px_forms.proofs.Trees.{known_before}
 
 abbrev pub ifs : List Guarded → ElseIfs
 ifs guarded = else_ifs_in_turn (map guarded_of guarded)

@@ -6,11 +6,11 @@ use Rattle.px_syntax.specs.Plan.{PlanTree}
 use Rattle.px_value.specs.Path.{below}
 use Rattle.px_core.specs.Plan.{Tree, count_of}
 use Rattle.px_expand.specs.Core.{Otherwise, name_of, branch_name, follows, shaped, block_scope, if_scope, while_scope, for_scope, root_place, block_core, actions_core, action_core, body_core, if_core, chain_core, else_core, branch_core, core}
-use Rattle.px_expand.specs.Forms.{where_found, where_not_found, loop_path}
+use Rattle.px_forms.specs.Forms.{where_found, where_not_found, loop_path}
 use Rattle.px_expand.specs.Kinds.{Shape, Rest, OneAction, Children, shape_of}
-use Rattle.px_expand.specs.Names.{then_name, body_name, else_name}
-use Rattle.px_expand.specs.Nodes.{Place, child, alone}
-use Rattle.px_expand.specs.Scope.{Scope}
+use Rattle.px_forms.specs.Names.{then_name, body_name, else_name}
+use Rattle.px_forms.specs.Nodes.{Place, child, alone}
+use Rattle.px_scope.specs.Scope.{Scope}
 use Rattle.px_expand.specs.Size.{shaped_nodes, block_nodes, actions_nodes, action_nodes, body_nodes, guarded_nodes, else_if_nodes, else_nodes, branch_nodes}
 
 shaped_count :

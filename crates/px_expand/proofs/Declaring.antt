@@ -10,20 +10,19 @@ use Rattle.px_syntax.specs.declared.block.ListedLiteral.{ListedLiteral}
 use Rattle.px_syntax.specs.declared.expr.Identifier.{Identifier}
 use Rattle.px_syntax.specs.declared.expr.Literal.{Literal as LiteralValue}
 use Rattle.px_syntax.specs.declared.expr.Literal.TheVariants as literals
-use Rattle.px_syntax.specs.declared.fault.FaultKind.TheVariants.{TooLarge, TypeDiffers}
+use Rattle.px_syntax.specs.declared.fault.FaultKind.TheVariants.{TooLarge, TypeDiffers, DoubleCondition}
 use Rattle.px_syntax.specs.declared.word.TypeName.{TypeName}
 use Rattle.px_syntax.specs.declared.word.TypeName.TheVariants as types
 use Rattle.px_syntax.specs.Block as text
 use Rattle.px_syntax.specs.Block.{ItemData, Variables, Conditions, Priority, InitialData, Value, Listed}
 use Rattle.px_syntax.specs.BlockFaults.{redeclared, repeated, is_same_once, once_in, literal_fault, initial_faults, is_too_large, variable_faults, identifiers_in, item_faults, items_faults}
-use Rattle.px_syntax.specs.declared.fault.FaultKind.TheVariants.{DoubleCondition}
 use Rattle.px_syntax.specs.Fault.{fault_at, fault_where}
 use Rattle.px_syntax.specs.Scope as seen
 use Rattle.px_syntax.specs.ValueType.{named_type}
 use Rattle.px_core.specs.Fit.{all_differ, has_right_cells}
 use Rattle.px_core.specs.Plan.{VariableData}
-use Rattle.px_expand.specs.Items.{var_kind, variable_of, variables_in, variables_of}
-use Rattle.px_expand.specs.Resolving.{literal_value}
+use Rattle.px_scope.specs.Items.{var_kind, variable_of, variables_in, variables_of}
+use Rattle.px_scope.specs.Resolving.{literal_value}
 use Rattle.px_expand.specs.Typed.{is_of_kind, is_typed}
 use Rattle.px_expand.proofs.Apart.{names, all_apart}
 use Rattle.px_expand.proofs.Faultless.{where_none}

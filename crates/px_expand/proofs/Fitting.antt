@@ -18,21 +18,22 @@ use Rattle.px_core.specs.declared.expr.BinaryOp.TheVariants.{And}
 use Rattle.px_core.specs.declared.expr.UnaryOp.TheVariants.{IsKnown}
 use Rattle.px_core.specs.declared.node.Kind.{Kind}
 use Rattle.px_core.specs.declared.node.Kind.TheVariants as kinds
-use Rattle.px_core.specs.Defaults.{default_end}
+use Rattle.px_core.specs.Defaults.{default_end, default_priority}
 use Rattle.px_core.specs.Expr.{Term, Unary, Binary}
 use Rattle.px_core.specs.Fit.{has_site, references_of_site, owns_its_targets, targets_of}
 use Rattle.px_core.specs.Fit as ref
 use Rattle.px_core.specs.Plan as plan
 use Rattle.px_core.specs.Plan.{BodyData, VariableData, Site, Tree, NoNode, is_same, path_under, sites_under}
 use Rattle.px_core.proofs.Paths.{same-self}
-use Rattle.px_expand.specs.Adding.{Added, nothing}
-use Rattle.px_expand.specs.Conditions.{Given, none_given}
+use Rattle.px_forms.specs.Adding.{Added, nothing}
+use Rattle.px_forms.specs.Conditions.{Given, none_given}
 use Rattle.px_expand.specs.Core.{follows}
-use Rattle.px_expand.specs.Forms.{after, found, not_found, where_found, where_not_found, assignment, set, tested, test_variable}
-use Rattle.px_expand.specs.Items.{default_priority}
-use Rattle.px_expand.specs.Names.{named, test_name, set_name}
-use Rattle.px_expand.specs.Nodes.{Place, Node, before, alone, node_at, seen as seen_at}
-use Rattle.px_expand.specs.Scope.{Scope, table, each_once}
+use Rattle.px_forms.specs.Forms.{after, found, not_found, where_found, where_not_found, assignment, set, tested, test_variable}
+use Rattle.px_forms.specs.Names.{test_name, set_name}
+use Rattle.px_expand.specs.Names.{named}
+use Rattle.px_forms.specs.Nodes.{Place, Node, before, alone, node_at}
+use Rattle.px_expand.specs.Children.{seen as seen_at}
+use Rattle.px_scope.specs.Scope.{Scope, table, each_once}
 use Rattle.px_expand.proofs.Declaring.{names_of_variables}
 use Rattle.px_expand.proofs.Frames.{LabelNamed, NamedHeads, heads_agree}
 use Rattle.px_expand.proofs.Mentions.{is_there, scalar_is}

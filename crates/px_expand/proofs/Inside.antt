@@ -19,13 +19,16 @@ use Rattle.px_core.specs.declared.node.Kind.TheVariants as kinds
 use Rattle.px_core.specs.Fit.{has_site, is_array, is_command, is_update}
 use Rattle.px_core.specs.Plan as plan
 use Rattle.px_core.specs.Plan.{VariableData, Site, Tree, NoNode, path_under, sites_under}
-use Rattle.px_expand.specs.Adding.{Added}
-use Rattle.px_expand.specs.Conditions.{Given}
+use Rattle.px_forms.specs.Adding.{Added}
+use Rattle.px_forms.specs.Conditions.{Given}
 use Rattle.px_expand.specs.Core.{name_of, follows, formed, shaped, actions_seen, children_seen, block_scope, block_core, actions_core, body_core}
-use Rattle.px_expand.specs.Items.{given_by, priority_of, variable_of, variables_in, variables_of}
-use Rattle.px_expand.specs.Kinds.{Shape, Rest, OneAction, Children, shape_of, kind_of, body_of}
-use Rattle.px_expand.specs.Nodes.{Place, child, alone, leaf, paths_of}
-use Rattle.px_expand.specs.Scope.{Scope, table, each_once}
+use Rattle.px_scope.specs.Items.{priority_of, variable_of, variables_in, variables_of}
+use Rattle.px_expand.specs.Items.{given_by}
+use Rattle.px_scope.specs.Actions.{kind_of, body_of}
+use Rattle.px_expand.specs.Kinds.{Shape, Rest, OneAction, Children, shape_of}
+use Rattle.px_forms.specs.Nodes.{Place, child, alone, leaf}
+use Rattle.px_expand.specs.Children.{paths_of}
+use Rattle.px_scope.specs.Scope.{Scope, table, each_once}
 use Rattle.px_expand.proofs.Declaring.{names_of_variables}
 use Rattle.px_expand.proofs.Fitting.{at, LabelIs, AllFit, node_is, node_fits, nothing_said, entered_seen}
 use Rattle.px_expand.proofs.Frames.{View, view, NamedHeads, actions_heads, block_command}

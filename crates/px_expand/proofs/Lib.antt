@@ -11,14 +11,12 @@ pub mod Faultless
 pub mod FitCore
 pub mod Fitting
 pub mod Frames
-pub mod Halves
 pub mod Inside
 pub mod Loops
 pub mod Mentions
 pub mod Naming
 pub mod Reaches
 pub mod Reaching
-pub mod Resolved
 pub mod Seen
 pub mod Shapes
 pub mod ShortPaths
@@ -27,6 +25,5 @@ pub mod Sound
 pub mod SoundSites
 pub mod Speaking
 pub mod Tables
-pub mod Trees
 pub mod Verdicts
 pub mod Within

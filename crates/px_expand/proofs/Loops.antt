@@ -11,18 +11,19 @@ use Rattle.px_syntax.proofs.Trees.{branch_is, guarded_is}
 use Rattle.px_core.specs.declared.node.CoreNode.{CoreNode}
 use Rattle.px_core.specs.Expr.{Term}
 use Rattle.px_core.specs.Plan.{Tree, tree_of_node}
-use Rattle.px_expand.specs.Adding.{Added}
+use Rattle.px_forms.specs.Adding.{Added}
 use Rattle.px_expand.specs.Chain.{test_in, branch_in}
 use Rattle.px_expand.specs.Core.{block_core, body_core, branch_core, branch_name, for_scope, loop_seen, while_scope}
-use Rattle.px_expand.specs.Forms.{counted, loop_path, repeated, where_found}
-use Rattle.px_expand.specs.Names.{body_name}
-use Rattle.px_expand.specs.Nodes.{Node, Place, alone, child, paths_of}
-use Rattle.px_expand.specs.Placed.{node_of}
-use Rattle.px_expand.specs.Resolving.{resolved}
-use Rattle.px_expand.specs.Scope.{Scope}
+use Rattle.px_forms.specs.Forms.{counted, loop_path, repeated, where_found}
+use Rattle.px_forms.specs.Names.{body_name}
+use Rattle.px_forms.specs.Nodes.{Node, Place, alone, child}
+use Rattle.px_expand.specs.Children.{paths_of}
+use Rattle.px_forms.specs.Placed.{node_of}
+use Rattle.px_scope.specs.Resolving.{resolved}
+use Rattle.px_scope.specs.Scope.{Scope}
 use Rattle.px_expand.specs.Size.{block_nodes, block_reach, branch_nodes, branch_reach, guarded_nodes, guarded_reach, through}
 use Rattle.px_expand.proofs.Blocks.{child_room}
-use Rattle.px_expand.proofs.Trees.{known_node}
+use Rattle.px_forms.proofs.Trees.{known_node}
 
 pub while_made : (scope inner : Scope) (place : Place) (guarded : GuardedTree) (test : Term) (paths : List (List ℕ)) (nodes : Tree)
     → inner ≡ while_scope scope place (branch_in guarded)

@@ -29,10 +29,11 @@ use Rattle.px_core.specs.Expr.{Term, in_turn}
 use Rattle.px_core.specs.Fit.{Reference, Scalar, Array, path_is_there, variable_is_there, has_site, references, references_of_each, references_of_target, targets_of}
 use Rattle.px_core.specs.Plan as plan
 use Rattle.px_core.specs.Plan.{BodyData, Site, is_same}
-use Rattle.px_expand.specs.Items.{given_for, given_by}
-use Rattle.px_expand.specs.Kinds.{body_of, target_of, pair_of}
-use Rattle.px_expand.specs.Resolving.{resolved, resolved_each, attribute_term}
-use Rattle.px_expand.specs.Scope.{Scope, owner_of, path_meant}
+use Rattle.px_scope.specs.Items.{given_for}
+use Rattle.px_expand.specs.Items.{given_by}
+use Rattle.px_scope.specs.Actions.{body_of, target_of, pair_of}
+use Rattle.px_scope.specs.Resolving.{resolved, resolved_each, attribute_term}
+use Rattle.px_scope.specs.Scope.{Scope, owner_of, path_meant}
 use Rattle.px_expand.proofs.Faultless.{where_none}
 use Rattle.px_expand.proofs.Seen.{declares_in, HasHead, HasVariable, IsSeen, meant_there, owner_there}
 use Rattle.px_expand.proofs.Speaking.{speaks, MaySpeak, GivenSpeaks, BodySpeaks}

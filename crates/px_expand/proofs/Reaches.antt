@@ -7,11 +7,11 @@ use Rattle.px_value.specs.Path.{below}
 use Rattle.px_core.specs.Plan as plan
 use Rattle.px_core.specs.Plan.{Tree, NoNode}
 use Rattle.px_expand.specs.Core.{Otherwise, name_of, branch_name, follows, shaped, block_scope, if_scope, while_scope, for_scope, root_place, block_core, actions_core, action_core, body_core, if_core, chain_core, else_core, branch_core, core}
-use Rattle.px_expand.specs.Forms.{where_found, where_not_found, loop_path}
+use Rattle.px_forms.specs.Forms.{where_found, where_not_found, loop_path}
 use Rattle.px_expand.specs.Kinds.{Shape, Rest, OneAction, Children, shape_of}
-use Rattle.px_expand.specs.Names.{then_name, body_name, else_name}
-use Rattle.px_expand.specs.Nodes.{Place, child, alone}
-use Rattle.px_expand.specs.Scope.{Scope}
+use Rattle.px_forms.specs.Names.{then_name, body_name, else_name}
+use Rattle.px_forms.specs.Nodes.{Place, child, alone}
+use Rattle.px_scope.specs.Scope.{Scope}
 use Rattle.px_expand.specs.Size.{through, shaped_reach, block_reach, actions_reach, action_reach, body_reach, guarded_reach, else_if_reach, else_reach, branch_reach, longest}
 
 -- how many bytes the longest path of nodes side by side has behind that of their parent

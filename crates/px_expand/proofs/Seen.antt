@@ -15,7 +15,7 @@ use Rattle.px_syntax.specs.Scope.{Visible, Head, is_named, searched, variable_na
 use Rattle.px_core.specs.Fit.{has_site, is_command, is_array}
 use Rattle.px_core.specs.Plan.{VariableData, Site, is_same}
 use Rattle.px_core.proofs.Paths.{same-self}
-use Rattle.px_expand.specs.Scope.{Scope, Frame, here, or_else, declared_in, declared_from, owner_of, child_named, itself_named, named_in, named_from, path_meant}
+use Rattle.px_scope.specs.Scope.{Scope, Frame, here, or_else, declared_in, declared_from, owner_of, child_named, itself_named, named_in, named_from, path_meant}
 use Rattle.px_expand.proofs.Declaring.{names_of_variables}
 
 -- ---- variables of a list

@@ -26,13 +26,15 @@ use Rattle.px_core.specs.Fit.{may_have, names_of, all_differ, is_body_of, has_ri
 use Rattle.px_core.specs.Plan as plan
 use Rattle.px_core.specs.Plan.{VariableData, Tree, NoNode, is_same}
 use Rattle.px_expand.specs.Core.{Otherwise, name_of, branch_name, follows, shaped, block_scope, if_scope, while_scope, for_scope, block_core, actions_core, body_core, if_core, chain_core, else_core, branch_core, root_place, core}
-use Rattle.px_expand.specs.Forms.{where_found, where_not_found, test_variable, counter, loop_path}
-use Rattle.px_expand.specs.Items.{variables_of}
-use Rattle.px_expand.specs.Kinds.{Shape, Rest, OneAction, Children, shape_of, kind_of, body_of}
+use Rattle.px_forms.specs.Forms.{where_found, where_not_found, test_variable, counter, loop_path}
+use Rattle.px_scope.specs.Items.{variables_of}
+use Rattle.px_scope.specs.Actions.{kind_of, body_of}
+use Rattle.px_expand.specs.Kinds.{Shape, Rest, OneAction, Children, shape_of}
 use Rattle.px_expand.specs.Labels.{block_labels, actions_labels, body_labels, guarded_labels, else_if_labels, else_labels, branch_labels, has_identifiers}
-use Rattle.px_expand.specs.Names.{named, then_name, body_name, else_name, set_name, step_name}
-use Rattle.px_expand.specs.Nodes.{Place, child, alone}
-use Rattle.px_expand.specs.Scope.{Scope}
+use Rattle.px_forms.specs.Names.{then_name, body_name, else_name, set_name, step_name}
+use Rattle.px_expand.specs.Names.{named}
+use Rattle.px_forms.specs.Nodes.{Place, child, alone}
+use Rattle.px_scope.specs.Scope.{Scope}
 use Rattle.px_expand.specs.Size.{block_nodes, actions_nodes, body_nodes, guarded_nodes, else_if_nodes, else_nodes, branch_nodes}
 use Rattle.px_expand.specs.Typed.{is_typed}
 use Rattle.px_expand.proofs.Apart.{all_apart}

@@ -17,11 +17,11 @@ use Rattle.px_core.specs.Fit.{Reference, Node, references, references_of_site, r
 use Rattle.px_core.specs.Joined.{Joins, joined}
 use Rattle.px_core.specs.Plan.{BodyData, NoNode, VariableData, site_under}
 use Rattle.px_core.proofs.Halves.{joins}
-use Rattle.px_expand.specs.Adding.{Added, adds, may_add, with_added}
-use Rattle.px_expand.specs.Conditions.{Given, none_given, conditions}
-use Rattle.px_expand.specs.Forms.{done, ended, failed, won, sequence, try}
-use Rattle.px_expand.specs.Joining.{all, some}
-use Rattle.px_expand.specs.Nodes.{Place, node_at}
+use Rattle.px_forms.specs.Adding.{Added, adds, may_add, with_added}
+use Rattle.px_forms.specs.Conditions.{Given, none_given, conditions}
+use Rattle.px_forms.specs.Forms.{done, ended, failed, won, sequence, try}
+use Rattle.px_forms.specs.Joining.{all, some}
+use Rattle.px_forms.specs.Nodes.{Place, node_at}
 
 module _ (there : Reference → Bool) where
   -- all that a term speaks of is there

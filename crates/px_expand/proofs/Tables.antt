@@ -13,8 +13,8 @@ use Rattle.px_syntax.specs.Block.{Actions, NoActions, More}
 use Rattle.px_core.specs.Plan.{is_same}
 use Rattle.px_expand.specs.Core.{name_of, actions_seen, children_seen}
 use Rattle.px_expand.specs.Kinds.{Shape, Rest, OneAction, Children}
-use Rattle.px_expand.specs.Nodes.{seen}
-use Rattle.px_expand.specs.Scope.{table, each_once}
+use Rattle.px_expand.specs.Children.{seen}
+use Rattle.px_scope.specs.Scope.{table, each_once}
 use Rattle.px_expand.proofs.Naming.{names_from}
 
 -- ---- children

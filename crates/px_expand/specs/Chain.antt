@@ -7,11 +7,11 @@ use Rattle.px_core.specs.declared.node.CoreNode.TheFolds.{fold-CoreNode}
 use Rattle.px_core.specs.Plan.{Tree, NoNode, branch}
 use Rattle.px_expand.specs.declared.opened.OpenIf.{OpenIf}
 use Rattle.px_expand.specs.Core.{Otherwise, if_scope}
-use Rattle.px_expand.specs.Forms.{conditional}
-use Rattle.px_expand.specs.Nodes.{Place, alone}
-use Rattle.px_expand.specs.Placed.{place_terms}
-use Rattle.px_expand.specs.Scope.{Scope}
-use Rattle.px_expand.specs.Shown.{term_in}
+use Rattle.px_forms.specs.Forms.{conditional}
+use Rattle.px_forms.specs.Nodes.{Place, alone}
+use Rattle.px_forms.specs.Placed.{place_terms}
+use Rattle.px_scope.specs.Scope.{Scope}
+use Rattle.px_core.specs.Expr.{term_in}
 
 -- a test, and the branch that it guards
 abbrev pub test_in : GuardedTree → Term

@@ -9,15 +9,20 @@ use Rattle.px_syntax.specs.Block.{ItemData, BlockTree, Braces, Actions, NoAction
 use Rattle.px_syntax.specs.Plan.{PlanTree}
 use Rattle.px_core.specs.declared.node.Kind.TheVariants as kinds
 use Rattle.px_core.specs.Plan.{Tree, NoNode, Nothing}
-use Rattle.px_expand.specs.Adding.{Added, nothing}
-use Rattle.px_expand.specs.Conditions.{Given, none_given}
-use Rattle.px_expand.specs.Forms.{after, sequence, try, where_found, where_not_found, conditional, repeated, counted, loop_path}
-use Rattle.px_expand.specs.Items.{default_priority, given_by, priority_of, variables_of}
-use Rattle.px_expand.specs.Kinds.{Shape, Rest, OneAction, Children, shape_of, kind_of, body_of}
-use Rattle.px_expand.specs.Names.{named, root_name, action_name, then_name, body_name, else_name}
-use Rattle.px_expand.specs.Nodes.{Place, Node, child, seen, paths_of, inside, leaf, list, before, alone}
-use Rattle.px_expand.specs.Resolving.{resolved}
-use Rattle.px_expand.specs.Scope.{Scope, Table}
+use Rattle.px_forms.specs.Adding.{Added, nothing}
+use Rattle.px_forms.specs.Conditions.{Given, none_given}
+use Rattle.px_forms.specs.Forms.{after, sequence, try, where_found, where_not_found, conditional, repeated, counted, loop_path}
+use Rattle.px_core.specs.Defaults.{default_priority}
+use Rattle.px_scope.specs.Items.{priority_of, variables_of}
+use Rattle.px_expand.specs.Items.{given_by}
+use Rattle.px_scope.specs.Actions.{kind_of, body_of}
+use Rattle.px_expand.specs.Kinds.{Shape, Rest, OneAction, Children, shape_of}
+use Rattle.px_forms.specs.Names.{root_name, action_name, then_name, body_name, else_name}
+use Rattle.px_expand.specs.Names.{named}
+use Rattle.px_forms.specs.Nodes.{Place, Node, child, leaf, list, before, alone}
+use Rattle.px_expand.specs.Children.{seen, paths_of, inside}
+use Rattle.px_scope.specs.Resolving.{resolved}
+use Rattle.px_scope.specs.Scope.{Scope, Table}
 
 -- ---- blocks
 

@@ -5,7 +5,8 @@ use Rattle.px_syntax.specs.Block.{BlockTree, Braces, Actions, NoActions, More, A
 use Rattle.px_syntax.specs.Plan.{PlanTree}
 use Rattle.px_expand.specs.Core.{name_of}
 use Rattle.px_expand.specs.Kinds.{Shape, Children, shape_of}
-use Rattle.px_expand.specs.Names.{named, root_name, then_name, body_name, else_name, set_name, step_name, loop_name}
+use Rattle.px_forms.specs.Names.{root_name, then_name, body_name, else_name, set_name, step_name, loop_name}
+use Rattle.px_expand.specs.Names.{named}
 
 -- ---- nodes
 

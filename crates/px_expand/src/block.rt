@@ -6,26 +6,27 @@ ghost use Rattle.px_syntax.specs.Block.{action_of, actions_in_turn, For, While, 
 ghost use Rattle.px_syntax.specs.Expr.{term_of as text_of};
 ghost use Rattle.px_expand.specs.Chain.{all_closed, closed, open_scope, stands};
 ghost use Rattle.px_expand.specs.Core.{actions_core, actions_in, block_core, body_core, branch_name, actions_seen, block_seen, chain_core, else_core, follows, form_of, if_core};
-ghost use Rattle.px_expand.specs.Forms.{where_not_found};
+ghost use Rattle.px_forms.specs.Forms.{where_not_found};
 ghost use Rattle.px_expand.specs.Kinds.{Children, shape_of};
-ghost use Rattle.px_expand.specs.Names.{body_name, else_name, then_name};
-ghost use Rattle.px_expand.specs.Nodes.{alone, child, names_of, paths_of};
-ghost use Rattle.px_expand.specs.Placed.{place_terms, tree_in, trees_of};
-ghost use Rattle.px_expand.specs.Scope.{here};
+ghost use Rattle.px_forms.specs.Names.{body_name, else_name, then_name};
+ghost use Rattle.px_forms.specs.Nodes.{alone, child};
+ghost use Rattle.px_expand.specs.Children.{names_of, paths_of};
+ghost use Rattle.px_forms.specs.Placed.{place_terms, tree_in, trees_of};
+ghost use Rattle.px_scope.specs.Scope.{here};
 ghost use Rattle.px_expand.specs.Size.{actions_reach, block_reach, body_reach, branch_reach, else_if_reach, else_reach, guarded_reach};
 
 use crate::branches::{Entered, EnteredFor, into_for, into_if, into_while};
 use crate::children::Listed;
 use crate::closing::close_all;
 use crate::entering::enter_block;
-use crate::forms::{counted, follows, repeated, where_not_found};
-use crate::names::{Generated, named};
+use crate::form::follows;
+use crate::names::named;
 use crate::opened::OpenIf;
-use crate::place::{Place, only, push};
-use crate::scope::Scope;
 use crate::shape::{Shape, shape_of};
 use crate::shaped::{shaped, simple};
 use px_core::CoreNode;
+use px_forms::{Generated, Place, counted, only, push, repeated, where_not_found};
+use px_scope::Scope;
 use px_syntax::{Action, Block, BlockForm, Body, Branch, Guarded, Identifier, SurfaceExpr};
 use px_value::{Name, NoMemory, PATH_LIMIT, Path};
 use std::alloc::Global;
@@ -99,7 +100,7 @@ fn actions(
     let mut behind: Option<&Path> = None;
     for (number, action) in actions.iter().enumerate() {
         let path = &paths[number];
-        let place = action_place(alloc, form, behind, &names[number], path)?;
+        let place = action_place(alloc, form, behind, path, &names[number])?;
         behind = Some(path);
         let node = body(alloc, scope, place, &action.body)?;
         push(&mut nodes, node)?;
@@ -107,19 +108,19 @@ fn actions(
     Ok(nodes)
 }
 
-/// Where an action of this name and this path stands, behind another or as the first.
+/// Where an action of this path and this name stands, behind another or as the first.
 fn action_place(
     alloc: Global,
     form: BlockForm,
     behind: Option<&Path>,
-    name: &Name,
     path: &Path,
+    name: &Name,
 ) -> Result<Place, NoMemory>
     ensures { IfOk result (λ made. place_terms made
         ≡ record { path = path.now; name = name.now; added = follows form (option_copied behind.entry) }) }
 {
     let added = follows(alloc, form, behind)?;
-    Place::of(alloc, name, path, added)
+    Place::of(alloc, path, name, added)
 }
 
 /// What an action does, in its place.

@@ -3,26 +3,24 @@ ghost use Rattle.std.specs.Prelude.{◌≡◌, ◌+◌, ◌<◌, ◌≤◌, get_
 ghost use Rattle.px_core.specs.Plan.{NoNode};
 ghost use Rattle.px_syntax.specs.Block.{branch_of, guarded_of};
 ghost use Rattle.px_syntax.specs.Expr.{term_of as text_of};
-ghost use Rattle.px_expand.specs.Adding.{nothing};
+ghost use Rattle.px_forms.specs.Adding.{nothing};
 ghost use Rattle.px_expand.specs.Chain.{branch_in, open_scope, stands, test_in};
 ghost use Rattle.px_expand.specs.Core.{branch_name, for_scope, if_seen, loop_seen, while_scope};
-ghost use Rattle.px_expand.specs.Forms.{loop_path, where_found};
-ghost use Rattle.px_expand.specs.Names.{body_name, loop_name, then_name};
-ghost use Rattle.px_expand.specs.Nodes.{child, names_of, paths_of};
-ghost use Rattle.px_expand.specs.Placed.{place_terms};
-ghost use Rattle.px_expand.specs.Resolving.{resolved};
-ghost use Rattle.px_expand.specs.Shown.{added_terms, term_in};
+ghost use Rattle.px_forms.specs.Forms.{loop_path, where_found};
+ghost use Rattle.px_forms.specs.Names.{body_name, loop_name, then_name};
+ghost use Rattle.px_forms.specs.Nodes.{child};
+ghost use Rattle.px_expand.specs.Children.{names_of, paths_of};
+ghost use Rattle.px_forms.specs.Placed.{place_terms};
+ghost use Rattle.px_scope.specs.Resolving.{resolved};
+ghost use Rattle.px_core.specs.Expr.{term_in};
+ghost use Rattle.px_forms.specs.Shown.{added_terms};
 ghost use Rattle.px_expand.specs.Size.{branch_reach, guarded_reach, through};
 
 use crate::children::Listed;
-use crate::conditions::Added;
 use crate::entering::{enter_if, enter_loop};
-use crate::forms::{Turn, where_found};
-use crate::names::Generated;
-use crate::place::Place;
-use crate::resolve::resolved;
-use crate::scope::Scope;
 use px_core::Expr;
+use px_forms::{Added, Generated, Place, Turn, where_found};
+use px_scope::{Scope, resolved};
 use px_syntax::{Branch, Guarded, Identifier, SurfaceExpr};
 use px_value::{Name, NoMemory, PATH_LIMIT, Path};
 use std::alloc::Global;
@@ -122,7 +120,7 @@ pub(crate) fn into_for(
         (branch_name body_name (branch_of branch.now)) (where_found (loop_path place.now.path))) }
 {
     let inner = Place::generated(alloc, &place.path, Generated::Loop, Added::nothing(alloc)?)?;
-    let listed = enter_turn(alloc, scope, place, &inner.path, variable, branch)?;
+    let listed = enter_for(alloc, scope, place, &inner.path, variable, branch)?;
     let turn = turn_of(alloc, scope, test, step)?;
     let branch = branch_place(alloc, &inner.path, &listed)?;
     Ok(EnteredFor {
@@ -133,7 +131,7 @@ pub(crate) fn into_for(
 }
 
 /// Goes into a `for` whose loop stands at a path.
-fn enter_turn(
+fn enter_for(
     alloc: Global,
     scope: &mut Scope,
     place: &Place,
@@ -178,5 +176,5 @@ fn branch_place(alloc: Global, path: &Path, children: &Listed) -> Result<Place, 
     ensures added { IfOk result (λ made. added_terms made.added.value ≡ where_found path.now) }
 {
     let added = where_found(alloc, path)?;
-    Place::of(alloc, &children.names[0], &children.paths[0], added)
+    Place::of(alloc, &children.paths[0], &children.names[0], added)
 }

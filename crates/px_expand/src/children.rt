@@ -5,13 +5,14 @@ ghost use Rattle.px_value.specs.Path.{below};
 ghost use Rattle.px_core.specs.Plan.{is_same};
 ghost use Rattle.px_syntax.specs.Block.{action_of, actions_in_turn, branch_of};
 ghost use Rattle.px_expand.specs.Core.{actions_seen, branch_name, name_of};
-ghost use Rattle.px_expand.specs.Names.{generated};
-ghost use Rattle.px_expand.specs.Nodes.{names_of, paths_of, seen};
-ghost use Rattle.px_expand.specs.Scope.{table};
+ghost use Rattle.px_forms.specs.Names.{generated};
+ghost use Rattle.px_expand.specs.Children.{names_of, paths_of, seen};
+ghost use Rattle.px_scope.specs.Scope.{table};
 ghost use Rattle.px_expand.specs.Size.{actions_reach};
 
-use crate::names::{Generated, named};
+use crate::names::named;
 use indexmap::IndexMap;
+use px_forms::Generated;
 use px_syntax::{Action, Branch};
 use px_value::{Name, NoMemory, PATH_LIMIT, Path};
 use std::alloc::{AllocError, Global};
@@ -45,20 +46,15 @@ impl Children {
         }
     }
 
-    /// No children yet, and room for so many.
-    fn with_room(alloc: Global, count: usize) -> Result<Children, NoMemory>
-        ensures by_name { IfOk result (λ made. made.by_name.entries ≡ []) }
-        ensures names { IfOk result (λ made. made.listed.names.items ≡ []) }
-        ensures paths { IfOk result (λ made. made.listed.paths.items ≡ []) }
+    /// Makes room for so many more.
+    fn reserve(&mut self, count: usize) -> Result<(), NoMemory>
+        ensures by_name { OnOk result (self.new.by_name.entries ≡ self.old.by_name.entries) }
+        ensures names { OnOk result (self.new.listed.names.items ≡ self.old.listed.names.items) }
+        ensures paths { OnOk result (self.new.listed.paths.items ≡ self.old.listed.paths.items) }
     {
-        let listed = Listed {
-            names: Vec::with_capacity(alloc, count)?,
-            paths: Vec::with_capacity(alloc, count)?,
-        };
-        Ok(Children {
-            by_name: IndexMap::with_capacity(alloc, count)?,
-            listed,
-        })
+        self.by_name.reserve(count)?;
+        self.listed.names.reserve_exact(count)?;
+        self.listed.paths.reserve_exact(count)
     }
 
     /// A child of this name more. After an error the children are of no use.
@@ -91,7 +87,8 @@ impl Children {
         ensures paths { IfOk result (λ made. made.listed.paths.items
             ≡ paths_of (actions_seen path.now 1 (actions_in_turn (map action_of actions.now)))) }
     {
-        let mut children = Children::with_room(alloc, actions.len())?;
+        let mut children = Children::none(alloc);
+        children.reserve(actions.len())?;
         for (number, action) in actions.iter().enumerate() {
             let name = name_of(alloc, number + 1, action)?;
             children.push(alloc, path, name)?;

@@ -2,13 +2,12 @@
 ghost use Rattle.std.specs.Prelude.{◌≡◌, drop, length, IfOk, OnOk};
 ghost use Rattle.px_core.specs.Plan.{NoNode};
 ghost use Rattle.px_expand.specs.Chain.{all_closed, closed};
-ghost use Rattle.px_expand.specs.Placed.{tree_in};
+ghost use Rattle.px_forms.specs.Placed.{tree_in};
 
-use crate::forms::conditional;
 use crate::opened::OpenIf;
-use crate::place::{both, only};
-use crate::scope::Scope;
 use px_core::CoreNode;
+use px_forms::{both, conditional, only};
+use px_scope::Scope;
 use px_value::NoMemory;
 use std::alloc::Global;
 

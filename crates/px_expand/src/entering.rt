@@ -5,21 +5,19 @@ ghost use Rattle.px_syntax.specs.Block.{block_of, branch_of};
 ghost use Rattle.px_core.specs.Plan.{NoNode, variable_data};
 ghost use Rattle.px_expand.specs.Chain.{stands};
 ghost use Rattle.px_expand.specs.Core.{block_scope, block_seen, branch_name, if_scope, if_seen, items_of, loop_seen};
-ghost use Rattle.px_expand.specs.Items.{variables_of};
-ghost use Rattle.px_expand.specs.Names.{body_name, then_name};
-ghost use Rattle.px_expand.specs.Nodes.{inside, names_of, paths_of};
-ghost use Rattle.px_expand.specs.Placed.{entered, place_terms};
-ghost use Rattle.px_expand.specs.Scope.{each_once, table};
+ghost use Rattle.px_scope.specs.Items.{variables_of};
+ghost use Rattle.px_forms.specs.Names.{body_name, then_name};
+ghost use Rattle.px_expand.specs.Children.{inside, names_of, paths_of, entered};
+ghost use Rattle.px_forms.specs.Placed.{place_terms};
+ghost use Rattle.px_scope.specs.Scope.{each_once, table};
 ghost use Rattle.px_expand.specs.Size.{block_reach};
 
 use crate::children::{Children, Listed};
-use crate::items::variables_of;
-use crate::names::Generated;
-use crate::place::Place;
-use crate::scope::{Frame, Scope};
 use crate::shape::{Shape, shape_of};
 use indexmap::IndexSet;
 use px_core::Variable;
+use px_forms::{Generated, Place};
+use px_scope::{Scope, variables_of};
 use px_syntax::{Block, Branch};
 use px_value::{Name, NoMemory, PATH_LIMIT, Path};
 use std::alloc::Global;
@@ -39,13 +37,7 @@ fn enter(
     let name = place.name.copy(alloc)?;
     let path = place.path.copy(alloc)?;
     let Children { by_name, listed } = children;
-    let frame = Frame {
-        name,
-        path,
-        children: by_name,
-        variables,
-    };
-    scope.enter(frame)?;
+    scope.enter(name, path, by_name, variables)?;
     Ok(listed)
 }
 
@@ -120,7 +112,8 @@ pub(crate) fn enter_simple(alloc: Global, scope: &mut Scope, place: &Place) -> R
     Ok(())
 }
 
-/// Goes into an `if` with this branch; `behind` is the name of what stands behind it. Gives both in turn.
+/// Goes into an `if` with this branch; `behind` is the name of what stands behind it. Gives their names
+/// and paths.
 pub(crate) fn enter_if(
     alloc: Global,
     scope: &mut Scope,
@@ -144,7 +137,8 @@ pub(crate) fn enter_if(
     enter(alloc, scope, place, children, IndexSet::new(alloc))
 }
 
-/// Goes into a `while` or a `for` with this variable, whose branch stands below a path. Gives the branch.
+/// Goes into a `while` or a `for` with this variable, whose branch stands below a path. Gives the branch's name
+/// and path.
 pub(crate) fn enter_loop(
     alloc: Global,
     scope: &mut Scope,

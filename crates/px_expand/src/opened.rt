@@ -1,8 +1,8 @@
 // An `if` that is not closed.
 ghost use Rattle.std.specs.Prelude.{◌+◌, ◌≤◌, length};
 
-use crate::place::Place;
 use px_core::{CoreNode, Expr};
+use px_forms::Place;
 use px_value::Path;
 
 /// An `if` without what stands behind its branch.

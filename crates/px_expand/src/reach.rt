@@ -2,12 +2,13 @@
 ghost use Rattle.std.specs.Prelude.{◌≡◌, ◌≤◌, map, max, min};
 ghost use Rattle.std.specs.Option.{option_map};
 ghost use Rattle.px_syntax.specs.Block.{action_of, actions_in_turn, block_of, body_of, branch_of, else_ifs_in_turn, else_of, guarded_of};
-ghost use Rattle.px_expand.specs.Names.{generated, named, then_name};
-ghost use Rattle.px_expand.specs.Size.{actions_nodes, block_nodes, body_nodes, branch_nodes, else_if_nodes, else_nodes, guarded_nodes};
-ghost use Rattle.px_expand.specs.Size.{actions_reach, block_reach, body_reach, branch_reach, else_if_reach, else_reach, guarded_reach, through};
+ghost use Rattle.px_forms.specs.Names.{generated, then_name};
+ghost use Rattle.px_expand.specs.Names.{named};
+ghost use Rattle.px_expand.specs.Size.{actions_nodes, block_nodes, body_nodes, branch_nodes, else_if_nodes, else_nodes, guarded_nodes, actions_reach, block_reach, body_reach, branch_reach, else_if_reach, else_reach, guarded_reach, through};
 
-use crate::names::{Generated, name_length};
+use crate::names::name_length;
 use crate::shape::{Shape, shape_of};
+use px_forms::Generated;
 use px_syntax::{Action, Block, Body, Branch, Guarded, Identifier};
 use px_value::PATH_LIMIT;
 

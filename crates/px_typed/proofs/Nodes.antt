@@ -16,13 +16,14 @@ use Rattle.px_syntax.specs.PlanGrammar.{Spells}
 use Rattle.px_core.specs.Fit.{has_name}
 use Rattle.px_core.specs.Plan as plan
 use Rattle.px_core.specs.Plan.{Tree, NoNode, path_under, sites_under}
-use Rattle.px_expand.specs.Adding.{Added}
+use Rattle.px_forms.specs.Adding.{Added}
 use Rattle.px_expand.specs.Core.{Otherwise, name_of, branch_name, follows, shaped, block_scope, if_scope, while_scope, for_scope, block_core, actions_core, body_core, if_core, chain_core, else_core, branch_core, root_place, core}
-use Rattle.px_expand.specs.Forms.{where_found, where_not_found, loop_path}
+use Rattle.px_forms.specs.Forms.{where_found, where_not_found, loop_path}
 use Rattle.px_expand.specs.Kinds.{Shape, Rest, OneAction, Children, shape_of}
-use Rattle.px_expand.specs.Names.{named, root_name, then_name, body_name, else_name}
-use Rattle.px_expand.specs.Nodes.{Place, child, alone}
-use Rattle.px_expand.specs.Scope.{Scope}
+use Rattle.px_forms.specs.Names.{root_name, then_name, body_name, else_name}
+use Rattle.px_expand.specs.Names.{named}
+use Rattle.px_forms.specs.Nodes.{Place, child, alone}
+use Rattle.px_scope.specs.Scope.{Scope}
 use Rattle.px_expand.specs.Size.{block_nodes, actions_nodes, body_nodes, guarded_nodes, else_if_nodes, else_nodes, branch_nodes}
 use Rattle.px_expand.proofs.Sizes.{length_of, actions_some, actions_few}
 use Rattle.px_typed.proofs.Names.{AreNames}

@@ -1,10 +1,10 @@
 use Rattle.std.proofs.Common.{◌∙◌, [], length, ap, arith}
 use Rattle.px_syntax.specs.Block.{branch_of}
 use Rattle.px_expand.specs.Core.{branch_name}
-use Rattle.px_expand.specs.Forms.{where_found}
-use Rattle.px_expand.specs.Names.{body_name}
-use Rattle.px_expand.specs.Nodes.{Place, child}
-use Rattle.px_expand.specs.Shown.{added_terms}
+use Rattle.px_forms.specs.Forms.{where_found}
+use Rattle.px_forms.specs.Names.{body_name}
+use Rattle.px_forms.specs.Nodes.{Place, child}
+use Rattle.px_forms.specs.Shown.{added_terms}
 use Rattle.px_expand.proofs.Actions.{stands_first}
 use Rattle.px_expand.proofs.branches.into_for.Goals as goal
 

@@ -3,10 +3,11 @@ use Rattle.std.specs.Option.{option_to_list}
 use Rattle.px_syntax.specs.declared.block.Guarded.{out-Guarded}
 use Rattle.px_syntax.specs.Block.{branch_of}
 use Rattle.px_expand.specs.Core.{branch_name}
-use Rattle.px_expand.specs.Forms.{where_found}
-use Rattle.px_expand.specs.Names.{then_name}
-use Rattle.px_expand.specs.Nodes.{child, seen}
-use Rattle.px_expand.specs.Shown.{added_terms}
+use Rattle.px_forms.specs.Forms.{where_found}
+use Rattle.px_forms.specs.Names.{then_name}
+use Rattle.px_forms.specs.Nodes.{child}
+use Rattle.px_expand.specs.Children.{seen}
+use Rattle.px_forms.specs.Shown.{added_terms}
 use Rattle.px_expand.proofs.Actions.{stands_first}
 use Rattle.px_expand.proofs.Loops.{guarded_branch}
 use Rattle.px_expand.proofs.branches.into_if.Goals as goal

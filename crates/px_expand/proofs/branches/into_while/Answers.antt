@@ -2,10 +2,10 @@ use Rattle.std.proofs.Common.{◌∙◌, [], length, ap, arith}
 use Rattle.px_syntax.specs.declared.block.Guarded.{out-Guarded}
 use Rattle.px_syntax.specs.Block.{branch_of}
 use Rattle.px_expand.specs.Core.{branch_name}
-use Rattle.px_expand.specs.Forms.{where_found}
-use Rattle.px_expand.specs.Names.{body_name}
-use Rattle.px_expand.specs.Nodes.{child}
-use Rattle.px_expand.specs.Shown.{added_terms}
+use Rattle.px_forms.specs.Forms.{where_found}
+use Rattle.px_forms.specs.Names.{body_name}
+use Rattle.px_forms.specs.Nodes.{child}
+use Rattle.px_forms.specs.Shown.{added_terms}
 use Rattle.px_expand.proofs.Actions.{stands_first}
 use Rattle.px_expand.proofs.Loops.{guarded_branch}
 use Rattle.px_expand.proofs.branches.into_while.Goals as goal

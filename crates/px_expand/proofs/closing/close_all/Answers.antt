@@ -1,5 +1,5 @@
 use Rattle.std.proofs.Common.{ap, ◌∙◌, drop, length}
-use Rattle.px_expand.specs.Placed.{tree_in}
+use Rattle.px_forms.specs.Placed.{tree_in}
 use Rattle.px_expand.proofs.Chains.{left_again, closed_again}
 use Rattle.px_expand.proofs.closing.close_all.Goals as goal
 

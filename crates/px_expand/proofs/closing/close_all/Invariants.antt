@@ -1,5 +1,5 @@
 use Rattle.std.proofs.Common.{◌≡◌, drop, length, vec_len}
-use Rattle.px_expand.specs.Placed.{tree_in}
+use Rattle.px_forms.specs.Placed.{tree_in}
 use Rattle.px_expand.specs.Chain.{all_closed}
 use Rattle.px_expand.proofs.closing.close_all.Given as goal
 

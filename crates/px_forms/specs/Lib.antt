@@ -1,0 +1,9 @@
+pub mod Names
+pub mod Joining
+pub mod Conditions
+pub mod Adding
+pub mod Nodes
+pub mod Forms
+pub mod Said
+pub mod Shown
+pub mod Placed

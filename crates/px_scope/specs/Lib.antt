@@ -1,0 +1,4 @@
+pub mod Scope
+pub mod Resolving
+pub mod Items
+pub mod Actions
