@@ -81,6 +81,10 @@ module _ {T : Type 0} where
       ∙ ap (cond (bytes_eq name e.name) (Some (length (reverse items)))) (index name)
       ∙ ap (nearest_of name) (sym turned)
 
+  pub meanings_push : (items news : List (Shadowing T)) (e : Shadowing T) → news ≡ items ++ e ∷ []
+      → meanings (reverse news) ≡ (e.name, e.meaning) ∷ meanings (reverse items)
+  meanings_push items news e is = ap meanings (ap reverse is ∙ reverse-append items (e ∷ []))
+
   -- one entry less
   pub linked_pop : (items olds : List (Shadowing T)) (e : Shadowing T) → olds ≡ items ++ e ∷ [] → IsLinked (reverse olds)
       → (e.shadowed ≡ nearest_of e.name (reverse items)) × IsLinked (reverse items)

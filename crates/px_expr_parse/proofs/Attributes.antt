@@ -11,19 +11,19 @@ use Rattle.px_syntax.specs.Form.{kind_at}
 use Rattle.px_expr_parse.specs.Tail.{attribute}
 use Rattle.px_expr_parse.specs.Verdict.{IsMissing, HasSign, LacksSign}
 use Rattle.px_expr_parse.proofs.Completions.{begun_here, short_word, word}
-use Rattle.px_expr_parse.proofs.Parts.{ends_behind, missing_ending, missing_sign}
+use Rattle.px_expr_parse.proofs.Parts.{ends_behind, missing_ending, missing_kind}
 
 module _ (tokens : List Token) (at : ℕ) where
   pub no_dot :
       (fault : ParseFault) → at ≤ length tokens → LacksSign tokens at signs.Dot fault → IsMissing attribute tokens at fault
-  no_dot fault within lacks = missing_sign signs.Dot tokens at word fault within short_word lacks
+  no_dot fault within lacks = missing_kind (kinds.Sign signs.Dot) tokens at word fault within short_word lacks
 
   pub no_word :
       at < length tokens → HasSign tokens at signs.Dot
       → ((which : AttributeWord) → kind_at tokens (at + 1) ≡ Some (kinds.Identifier (attribute_word which)) → ⊥)
       → IsMissing attribute tokens at (faults.SyntaxFault (at + 1))
   no_word inside dot none =
-      missing_ending (ends_behind signs.Dot tokens at word dot) (faults.SyntaxFault (at + 1)) (
+      missing_ending (ends_behind (kinds.Sign signs.Dot) tokens at word dot) (faults.SyntaxFault (at + 1)) (
         omega arith,
         omega (arith, inside),
         λ others agree which end o. none which (sym (agree (at + 1) (omega arith)) ∙ o.0),

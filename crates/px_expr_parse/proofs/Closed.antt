@@ -7,7 +7,7 @@ use Rattle.px_lex.specs.declared.token.TokenKind.TheVariants as kinds
 use Rattle.px_syntax.specs.Operator.{binary_of}
 use Rattle.px_expr_parse.specs.Tail.{is_closer}
 use Rattle.px_expr_parse.specs.Verdict.{GoesOn, operation, index, attribute, HasSign}
-use Rattle.px_expr_parse.proofs.Parts.{IsClosing, sign_alone}
+use Rattle.px_expr_parse.proofs.Parts.{IsClosing, alone}
 
 -- two signs don't stand at one place
 pub not_both : (tokens : List Token) (place : ℕ) (a b : Sign) → (a ≡ b → ⊥) → HasSign tokens place a → HasSign tokens place b → ⊥
@@ -31,5 +31,5 @@ closer_ends tokens place which closer has (index is) =
 closer_ends tokens place which closer has (attribute is) =
     not_both tokens place which signs.Dot (λ e. let f : false ≡ true = sym (ap is_closer e) ∙ closer in cc) has is
 
-pub closes : (which : Sign) → is_closer which ≡ true → IsClosing (sign_alone which)
+pub closes : (which : Sign) → is_closer which ≡ true → IsClosing (alone (kinds.Sign which))
 closes which closer tokens none from end o = closer_ends tokens from which closer o.0

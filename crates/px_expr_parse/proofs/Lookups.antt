@@ -15,7 +15,7 @@ use Rattle.px_expr_parse.specs.Tail.{closed_arguments, look_rest}
 use Rattle.px_expr_parse.specs.Verdict.{Agree, AgreeBefore, IsMissing, HasSign, LacksSign}
 use Rattle.px_expr_parse.proofs.Closed.{not_both}
 use Rattle.px_expr_parse.proofs.Completions.{begun_here, short_look_end, short_tolerance}
-use Rattle.px_expr_parse.proofs.Parts.{before_sign, behind_sign, both, EndsWith}
+use Rattle.px_expr_parse.proofs.Parts.{before, behind, both, EndsWith}
 
 pub no_tolerance :
     (tokens : List Token) (at : ℕ) → at ≤ length tokens
@@ -51,7 +51,7 @@ module _ (word : LookWord) (tokens : List Token) (from : ℕ) where
 
 -- a comma, a tolerance and the parenthesis
 abbrev pub behind_comma : Tolerance → Form
-behind_comma = behind_sign signs.Comma (before_sign tolerance_number signs.CloseParen)
+behind_comma = behind (kinds.Sign signs.Comma) (before tolerance_number (kinds.Sign signs.CloseParen))
 
 pub ends_comma :
     (tokens : List Token) (from : ℕ) → HasSign tokens from signs.Comma
@@ -81,7 +81,7 @@ closes_nothing looks.LookupOnChange tokens place opening (Some tolerance) end o 
 
 -- arguments in parentheses, and what closes the lookup
 abbrev pub given_rest : LookWord → Terms × Option Tolerance → Form
-given_rest word = behind_sign signs.OpenParen (both closed_arguments (look_end word))
+given_rest word = behind (kinds.Sign signs.OpenParen) (both closed_arguments (look_end word))
 
 module _ (word : LookWord) (tokens : List Token) (from : ℕ) where
   pub ends_left_out :

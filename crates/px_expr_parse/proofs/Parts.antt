@@ -1,15 +1,14 @@
 -- Parts that end by themselves, joined to longer ones.
-use Rattle.std.proofs.Common.{◌≡◌, ℕ, ◌+◌, ◌≤◌, ◌<◌, inl, inr, refl, sym, ap, subst, ◌∙◌, List, length, arith}
-use Rattle.px_lex.specs.declared.sign.Sign.{Sign}
+use Rattle.std.proofs.Common.{◌≡◌, ℕ, ◌+◌, ◌≤◌, ◌<◌, inl, inr, refl, sym, ap, subst, ◌∙◌, List, length, Some, arith}
 use Rattle.px_lex.specs.declared.token.Token.{Token}
+use Rattle.px_lex.specs.declared.token.TokenKind.{TokenKind}
 use Rattle.px_syntax.specs.declared.fault.ParseFault.{ParseFault}
 use Rattle.px_syntax.specs.declared.fault.ParseFault.TheVariants as faults
 use Rattle.px_syntax.specs.Expr.{Term}
 use Rattle.px_syntax.specs.ExprGrammar.{expression}
-use Rattle.px_syntax.specs.Form.{Form, sign, ◌then◌}
-use Rattle.px_expr_parse.specs.Verdict.{Agree, AgreeBefore, GoesOn, IsRead, IsRefused, IsFound, IsMissing, HasSign, LacksSign}
-use Rattle.px_lex.specs.declared.token.TokenKind.TheVariants as kinds
-use Rattle.px_expr_parse.proofs.Completions.{Shortest, before, begun_as, begun_before, begun_here, moved, short_behind, short_token}
+use Rattle.px_syntax.specs.Form.{Form, kind_at, one, ◌then◌}
+use Rattle.px_expr_parse.specs.Verdict.{Agree, AgreeBefore, GoesOn, IsRead, IsRefused, IsFound, IsMissing}
+use Rattle.px_expr_parse.proofs.Completions.{Shortest, before as before_late, begun_as, begun_before, begun_here, moved, short_behind, short_token}
 use Rattle.px_expr_parse.proofs.Spans.{IsLocal, local_expression}
 
 -- tokens that agree up to a place agree up to each one before it
@@ -62,7 +61,7 @@ module _ {A B : Type 0} {whole : A → Form} {inner : B → Form} {build : B →
       g.1,
       λ others agree other end o.
           let s = e.splits others (agree_before tokens others early token g.0 agree) other end o in g.2 others agree s.0 end s.2,
-      begun_as g.3 (λ others agree end b o. (build b, e.builds others (before tokens others early token g.0 agree) b end o)),
+      begun_as g.3 (λ others agree end b o. (build b, e.builds others (before_late tokens others early token g.0 agree) b end o)),
     )
     missing_ending (faults.Deep token) g = g
     missing_ending faults.NoMemory g = g
@@ -149,60 +148,75 @@ module _ {B : Type 0} (second : B → Form) (closing : IsClosing second) where
   missing_closed tokens from (faults.Deep token) short f = f
   missing_closed tokens from faults.NoMemory short f = f
 
--- ---- signs
+-- ---- a token
 
-abbrev pub sign_alone : Sign → Unit {0} → Form
-sign_alone which none = sign which
+abbrev pub HasKind : List Token → ℕ → TokenKind → Type 0
+HasKind tokens place kind = kind_at tokens place ≡ Some kind
 
--- a sign behind a part, and one before it
-abbrev pub before_sign : {A : Type 0} → (A → Form) → Sign → A → Form
-before_sign first which part = first part then sign which
+-- a token is named as missing where it is
+abbrev pub LacksKind : List Token → ℕ → TokenKind → ParseFault → Type 0
+LacksKind tokens place kind fault = (fault ≡ faults.SyntaxFault place) × (HasKind tokens place kind → ⊥)
 
-abbrev pub behind_sign : {B : Type 0} → Sign → (B → Form) → B → Form
-behind_sign which second part = sign which then second part
+abbrev pub alone : TokenKind → Unit {0} → Form
+alone kind none = one kind
 
-module _ (which : Sign) (tokens : List Token) (from : ℕ) where
-  pub found_sign : from < length tokens → HasSign tokens from which → IsFound (sign_alone which) tokens from tt (from + 1)
-  found_sign inside has =
+-- a token behind a part, and one before it
+abbrev pub before : {A : Type 0} → (A → Form) → TokenKind → A → Form
+before first kind part = first part then one kind
+
+abbrev pub behind : {B : Type 0} → TokenKind → (B → Form) → B → Form
+behind kind second part = one kind then second part
+
+module _ (kind : TokenKind) (tokens : List Token) (from : ℕ) where
+  pub found_alone : from < length tokens → HasKind tokens from kind → IsFound (alone kind) tokens from tt (from + 1)
+  found_alone inside has =
       record {
         advances = omega arith;
         within = omega (arith, inside);
         only = λ others agree. record { spelled = (agree from (omega arith) ∙ has, refl); only = λ other end o. (refl, o.1) };
       }
 
-  pub missing_alone : (fault : ParseFault) → from ≤ length tokens → LacksSign tokens from which fault → IsMissing (sign_alone which) tokens from fault
+  pub missing_alone : (fault : ParseFault) → from ≤ length tokens → LacksKind tokens from kind fault → IsMissing (alone kind) tokens from fault
   missing_alone fault within lacks =
-      subst (λ (f : ParseFault). IsMissing (sign_alone which) tokens from f) (sym lacks.0) (
+      subst (λ (f : ParseFault). IsMissing (alone kind) tokens from f) (sym lacks.0) (
         omega arith,
         within,
         λ others agree none end o. lacks.1 (sym (agree from (omega arith)) ∙ o.0),
-        begun_here (short_token (kinds.Sign which)),
+        begun_here (short_token kind),
       )
 
--- a sign before a part
-module _ {B : Type 0} (which : Sign) (tokens : List Token) (from : ℕ) (second : B → Form) where
-  pub ends_behind : HasSign tokens from which → EndsWith (behind_sign which second) second (λ (b : B). b) tokens from (from + 1)
-  ends_behind has =
-      record {
-        begins = omega arith;
-        builds = λ others agree b end o. (from + 1, (agree from (omega arith) ∙ has, refl), o);
-        splits = λ others agree other end o. (other, refl, subst (λ (place : ℕ). second other others place end) o.1.1 o.2);
-      }
+-- a word, which may have more than one spelling, before a part
+pub ends_word :
+    {B : Type 0} (word : Form) (second : B → Form) {tokens : List Token} {from : ℕ}
+    → ((others : List Token) → kind_at others from ≡ kind_at tokens from → word others from (from + 1))
+    → ((others : List Token) (end : ℕ) → word others from end → end ≡ from + 1)
+    → EndsWith (λ (part : B). word then second part) second (λ (part : B). part) tokens from (from + 1)
+ends_word word second {from = from} stands ends =
+    record {
+      begins = omega arith;
+      builds = λ others agree part end o. (from + 1, stands others (agree from (omega arith)), o);
+      splits = λ others agree part end o. (part, refl, subst (λ (place : ℕ). second part others place end) (ends others o.0 o.1) o.2);
+    }
 
-  pub missing_sign :
-      (fault : ParseFault) → from ≤ length tokens → Shortest second → LacksSign tokens from which fault
-      → IsMissing (behind_sign which second) tokens from fault
-  missing_sign fault within short lacks =
-      subst (λ (f : ParseFault). IsMissing (behind_sign which second) tokens from f) (sym lacks.0) (
+-- a token before a part
+module _ {B : Type 0} (kind : TokenKind) (tokens : List Token) (from : ℕ) (second : B → Form) where
+  pub ends_behind : HasKind tokens from kind → EndsWith (behind kind second) second (λ (b : B). b) tokens from (from + 1)
+  ends_behind has = ends_word (one kind) second (λ others same. (same ∙ has, refl)) (λ others end o. o.1)
+
+  pub missing_kind :
+      (fault : ParseFault) → from ≤ length tokens → Shortest second → LacksKind tokens from kind fault
+      → IsMissing (behind kind second) tokens from fault
+  missing_kind fault within short lacks =
+      subst (λ (f : ParseFault). IsMissing (behind kind second) tokens from f) (sym lacks.0) (
         omega arith,
         within,
         λ others agree other end o. lacks.1 (sym (agree from (omega arith)) ∙ o.1.0),
-        begun_here (short_behind (kinds.Sign which) short),
+        begun_here (short_behind kind short),
       )
 
--- a sign behind a part
-module _ {A : Type 0} (which : Sign) (tokens : List Token) (from : ℕ) (first : A → Form) where
-  pub ends_before : EndsWith (before_sign first which) (both first (sign_alone which)) (λ (parts : A × Unit {0}). parts.0) tokens from from
+-- a token behind a part
+module _ {A : Type 0} (kind : TokenKind) (tokens : List Token) (from : ℕ) (first : A → Form) where
+  pub ends_before : EndsWith (before first kind) (both first (alone kind)) (λ (parts : A × Unit {0}). parts.0) tokens from from
   ends_before =
       record {
         begins = omega arith;
@@ -210,13 +224,12 @@ module _ {A : Type 0} (which : Sign) (tokens : List Token) (from : ℕ) (first :
         splits = λ others agree a end o. ((a, tt), refl, o);
       }
 
-  pub missing_before : (fault : ParseFault) → IsMissing first tokens from fault → IsMissing (before_sign first which) tokens from fault
-  missing_before fault f =
-      missing_ending ends_before fault (missing_first first (sign_alone which) tokens from fault (short_token (kinds.Sign which)) f)
+  pub missing_before : (fault : ParseFault) → IsMissing first tokens from fault → IsMissing (before first kind) tokens from fault
+  missing_before fault f = missing_ending ends_before fault (missing_first first (alone kind) tokens from fault (short_token kind) f)
 
   pub missing_behind :
-      {a : A} {middle : ℕ} (fault : ParseFault) → IsLocal (first a) → IsFound first tokens from a middle → LacksSign tokens middle which fault
-      → IsMissing (before_sign first which) tokens from fault
+      {a : A} {middle : ℕ} (fault : ParseFault) → IsLocal (first a) → IsFound first tokens from a middle → LacksKind tokens middle kind fault
+      → IsMissing (before first kind) tokens from fault
   missing_behind {middle = middle} fault l f lacks =
       missing_ending ends_before fault
-      (missing_ending (ends_both first (sign_alone which) l f) fault (missing_alone which tokens middle fault f.within lacks))
+      (missing_ending (ends_both first (alone kind) l f) fault (missing_alone kind tokens middle fault f.within lacks))

@@ -25,6 +25,7 @@ use Rattle.px_flat.specs.Numbered.{reported_of}
 use Rattle.px_flat.specs.Sources.{Reports}
 use Rattle.px_cached.specs.Cached.{CachedData, is_touched}
 use Rattle.px_cached.specs.Conditions.{source_number}
+use Rattle.px_cached.proofs.Seeing.{was_untouched}
 use Rattle.px_lookup.specs.Reports.{HasStayed, ReportsData, reports_after}
 use Rattle.px_parts.specs.declared.parts.Parts.{Parts}
 use Rattle.px_parts.specs.Parts.{plan_in}
@@ -154,10 +155,6 @@ seen_then old new before after seen cells plan same touched others = record {
       (λ number tolerance within untouched args.
       (λ i. reported_of (same i).reports (get_or (lookups_of (plan_in old)) number []) args tolerance)
       ∙ seen.reports number tolerance within
-      (was_untouched (source_number (plan_in old) (Reports number tolerance)) untouched) args
+      (was_untouched before after (source_number (plan_in old) (Reports number tolerance)) touched untouched) args
       ∙ others number tolerance within untouched args);
 }
-  where
-    was_untouched : (source : ℕ) → is_touched after source ≡ false → is_touched before source ≡ false
-    was_untouched source untouched = false_from_ne_true (is_touched before source) (λ was.
-        false≢true (sym untouched ∙ touched source was))

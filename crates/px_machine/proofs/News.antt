@@ -30,6 +30,7 @@ use Rattle.px_cached.specs.Conditions.{condition_in, number_of, source_number}
 use Rattle.px_cached.specs.Firsts.{HasCell}
 use Rattle.px_cached.proofs.Conditions.{kind_of_node, within_kind}
 use Rattle.px_cached.proofs.Listening.{IsThere, sources_there}
+use Rattle.px_cached.proofs.Seeing.{was_untouched}
 use Rattle.px_parts.specs.declared.parts.Parts.{Parts}
 use Rattle.px_parts.specs.Parts.{AreSame, AreStanding, plan_in}
 use Rattle.px_parts.specs.Seen.{AreAllSeen}
@@ -227,12 +228,8 @@ module _ (old new : Parts) (before middle after : Kept) (stand : AreStanding old
   touched_at = subst (λ (sites : List Site). All (TouchedIn sites after.conditions) old.cells.news) plan_is
       (subst (λ conditions. All (IsTouchedAt conditions) old.cells.news) (sym acts.conditions) cells.touched)
 
-  was_untouched : (source : ℕ) → is_touched after.conditions source ≡ false → is_touched before.conditions source ≡ false
-  was_untouched source untouched = by (is_touched before.conditions source) refl
-    where
-      by : (was : Bool) → is_touched before.conditions source ≡ was → is_touched before.conditions source ≡ false
-      by false is = is
-      by true is = absurd (cc (sym ((λ i. is_touched (acts.conditions i) source) ∙ cells.before source is) ∙ untouched))
+  kept_touched : (source : ℕ) → is_touched before.conditions source ≡ true → is_touched after.conditions source ≡ true
+  kept_touched source was = (λ i. is_touched (acts.conditions i) source) ∙ cells.before source was
 
   -- a source that isn't touched holds what it held
   source_same : (source : Source) → IsThere plan source
@@ -251,7 +248,7 @@ module _ (old new : Parts) (before middle after : Kept) (stand : AreStanding old
   source_same (Reports lookup tolerance) there touches untouched = λ args.
       (λ i. reported_of (acts.conditions i).seen.reports (get_or (lookups_of plan) lookup []) args tolerance)
       ∙ (λ i. reported_of (cells.same.seen i).reports (get_or (lookups_of plan) lookup []) args tolerance)
-      ∙ seen.reports lookup tolerance there (was_untouched (source_number plan (Reports lookup tolerance)) untouched) args
+      ∙ seen.reports lookup tolerance there (was_untouched before.conditions after.conditions (source_number plan (Reports lookup tolerance)) kept_touched untouched) args
       ∙ (λ i. reported_of (sym same.reports i).reports (get_or (lookups_of plan) lookup []) args tolerance)
 
   seen_in : SeenIn plan

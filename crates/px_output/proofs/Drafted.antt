@@ -13,7 +13,7 @@ use Rattle.px_sem.specs.Run.{started, posted, settled_world, run_on, run}
 use Rattle.px_sem.specs.Stepper.{State, settled_state}
 use Rattle.px_sem.specs.Text.{start_text, heading_text, settled_text, events_trace, trace}
 use Rattle.px_sem.specs.World.{World, initial_world}
-use Rattle.px_sem.proofs.Logs.{IsPosting, posting_more, logged_as, history_after, counted_after}
+use Rattle.px_sem.proofs.Logs.{IsPosting, posting_more, posting_then, logged_as, history_after, counted_after}
 use Rattle.px_output.specs.Drafts.{Keeps, Holds, post_text}
 
 -- ---- what is kept
@@ -92,9 +92,9 @@ trace_of_start plan =
 -- ---- posts one after another
 
 -- so far, these entries were posted, with this log and this history, whose trace the draft holds
-pub record IsDrafting (plan : List Site) (limit : ℕ) (entries : List Entry) (log : Log) (history : List Entry) (now : State) (count : ℕ)
+pub record IsDrafting (plan : List Site) (limit : ℕ) (entries : List Entry) (log : Log) (history : List Entry) (now : State)
     (draft : Option (List ℕ)) : Type 0 where
-  pub posting : IsPosting plan limit entries log history now count
+  pub posting : IsPosting plan limit entries log history now (length history)
   pub holds : Holds draft (trace plan history)
 
 -- and so it does behind one post more
@@ -112,26 +112,24 @@ holds_more plan history now log count entry replies.PlanFinished behind runs acc
 holds_more plan history now log count entry replies.Full behind runs accepts counted held = subst (Holds behind) (append-nil (trace plan history)) held
 holds_more plan history now log count entry replies.Runaway behind runs accepts counted held = subst (Holds behind) (append-nil (trace plan history)) held
 
-pub drafting_more : (plan : List Site) (limit : ℕ) (entries : List Entry) (log : Log) (history : List Entry) (now next : State) (count : ℕ)
-    (entry : Entry) (reply : Reply) (draft behind : Option (List ℕ)) → IsDrafting plan limit entries log history now count draft
-    → reply ≡ answer now.nodes limit count now.world entry.event
+pub drafting_more : (plan : List Site) (limit : ℕ) (entries : List Entry) (log next_log : Log) (history next_history : List Entry)
+    (now next : State) (entry : Entry) (reply : Reply) (draft behind : Option (List ℕ)) → IsDrafting plan limit entries log history now draft
+    → reply ≡ answer now.nodes limit (length history) now.world entry.event
     → next ≡ settled_state now.nodes (world_after now.nodes now.world entry.event reply)
     → Keeps draft behind (post_text now.nodes now.world entry reply)
-    → IsDrafting plan limit (entries ++ entry ∷ []) (log ++ logged_as entry reply ∷ []) (history_after history entry reply) next
-    (counted_after count reply) behind
-drafting_more plan limit entries log history now next count entry reply draft behind so_far answers moves keeps =
-    let posting = posting_more plan limit entries log history now next count entry reply so_far.posting answers moves in
+    → next_log ≡ log ++ logged_as entry reply ∷ []
+    → next_history ≡ history ++ accepted (logged_as entry reply ∷ [])
+    → IsDrafting plan limit (entries ++ entry ∷ []) next_log next_history next behind
+drafting_more plan limit entries log next_log history next_history now next entry reply draft behind so_far answers moves keeps logs grows =
+    let after = posting_more plan limit entries log history now next (length history) entry reply so_far.posting answers moves in
+    let posting = posting_then plan limit entries log next_log history next_history now next entry reply so_far.posting answers moves logs grows in
+    let shown : history_after history entry reply ≡ next_history = after.accepts ∙ ap accepted (sym logs) ∙ sym posting.accepts in
     let nodes : now.nodes ≡ plan = ap (λ (s : State). s.nodes) so_far.posting.rest in
     let runs : run plan (events_of history) ≡ Some now.world = ap (λ h. run plan (events_of h)) so_far.posting.accepts ∙ so_far.posting.runs in
     record {
       posting = posting;
-      holds = holds_more plan history now (log ++ logged_as entry reply ∷ []) count entry reply behind runs posting.accepts posting.counted
+      holds = subst (λ h. Holds behind (trace plan h)) shown
+          (holds_more plan history now (log ++ logged_as entry reply ∷ []) (length history) entry reply behind runs after.accepts after.counted
           (keeps_more (Some []) draft behind (trace plan history) (post_text plan now.world entry reply) so_far.holds
-          (subst (λ nodes. Keeps draft behind (post_text nodes now.world entry reply)) nodes keeps));
+          (subst (λ nodes. Keeps draft behind (post_text nodes now.world entry reply)) nodes keeps)));
     }
-
--- the same log, history and count by other names
-pub drafting_as : (plan : List Site) (limit : ℕ) (entries : List Entry) (log shown_log : Log) (history shown : List Entry) (now : State)
-    (count shown_count : ℕ) (draft : Option (List ℕ)) → shown_log ≡ log → shown ≡ history → shown_count ≡ count
-    → IsDrafting plan limit entries log history now count draft → IsDrafting plan limit entries shown_log shown now shown_count draft
-drafting_as plan limit entries log shown_log history shown now count shown_count draft l h n drafting = rw (l, h, n) drafting

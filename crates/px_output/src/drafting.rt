@@ -15,7 +15,7 @@ ghost use Rattle.px_output.specs.Drafts.{Keeps, Holds, post_text};
 use crate::draft::Draft;
 use px_core::Plan;
 use px_event::{Entry, Event, Reply};
-use px_sem::{LogEntry, Posted, STEP_LIMIT, Standing, StepFault, Stepper, post};
+use px_sem::{Posted, STEP_LIMIT, Standing, StepFault, Stepper, post};
 use px_value::NoMemory;
 use std::alloc::{AllocError, Global};
 
@@ -64,18 +64,16 @@ pub fn post_each_drafted<S: Stepper>(
         HasRun (S.state stepper.old).nodes posted.history.items (S.state stepper.new)) }
     ensures holds { IfOk result (λ posted. Holds draft.new (trace (S.state stepper.old).nodes posted.history.items)) }
 {
-    let mut history = Vec::new(alloc);
-    let mut log = Vec::with_capacity(alloc, entries.len())?;
-    let mut count = 0;
+    let mut posted = Posted {
+        history: Vec::new(alloc),
+        log: Vec::with_capacity(alloc, entries.len())?,
+    };
     for entry in entries {
+        let count = posted.history.len() as u32;
         let reply = post_drafted(alloc, stepper, limit, count, &entry, draft)?;
-        if let Reply::Accepted { position } = reply {
-            history.push(entry.copy(alloc)?)?;
-            count = position;
-        }
-        log.push(LogEntry { entry, reply })?;
+        posted.note(alloc, entry, reply)?;
     }
-    Ok(Posted { history, log })
+    Ok(posted)
 }
 
 // Posts an entry to a settled stepper that has taken so many events, as `post` of px_sem does; the draft keeps what it adds

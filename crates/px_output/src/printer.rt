@@ -23,7 +23,7 @@ use std::marker::Model;
 const PIECE: usize = 64 * 1024;
 
 /// Why a text was not printed to its end.
-#[derive(Clone, Copy, Debug, PartialEq, Eq)]
+#[derive(Clone, Copy)]
 pub enum PrintFault {
     /// The sink failed, or took nothing.
     SinkFailed,

@@ -13,12 +13,13 @@ use Rattle.px_syntax.specs.declared.word.BlockForm.TheVariants as forms
 use Rattle.px_syntax.specs.Block.{ItemData, BlockTree, Braces, Actions, NoActions, More, ActionTree, Labelled, BodyTree, Inner, Assign, CallInto, Call, Update, If, While, For, actions_in_turn}
 use Rattle.px_syntax.specs.BlockGrammar.{action, block, body, each_action}
 use Rattle.px_syntax.specs.Form.{Form, identifier, maybe, sign, ◌then◌, each}
+use Rattle.px_expr_parse.proofs.Parts.{EndsWith, ends_word}
 use Rattle.px_plan_parse.specs.declared.start.Start.{Start}
 use Rattle.px_plan_parse.specs.declared.start.Start.TheVariants as starts
 use Rattle.px_plan_parse.specs.Part.{Anything, IsLacking, IsPart}
 use Rattle.px_plan_parse.specs.Start.{NoBranch, NoItem, NoListWord, is_action, is_branch, is_item, keyword_start, start_at}
 use Rattle.px_plan_parse.specs.Tail.{closed_actions, every_item, head, list_word, written_form, test}
-use Rattle.px_plan_parse.proofs.Parts.{Begins, HasKind, Joins, LacksKind, Makes, Splits, alone, before, behind, both, both_of, joins_word, lack_alone, lack_behind, lack_joined, lack_made, lack_present, makes_by, part_absent, part_alone, part_behind, part_joined, part_made, part_present, two}
+use Rattle.px_plan_parse.proofs.Parts.{Begins, HasKind, LacksKind, Makes, Splits, alone, before, behind, both, both_of, lack_alone, lack_behind, lack_made, lack_present, makes_by, part_absent, part_alone, part_behind, part_made, part_present, two}
 use Rattle.px_plan_parse.proofs.Sorts as sorts
 use Rattle.px_plan_parse.proofs.Sorts.{sort_of, tree_sort}
 use Rattle.px_plan_parse.proofs.Starts.{HasStart, found, makes_by_start, not_so, start_brace, start_keyword, start_name, start_nothing, start_same, starts_so, token_of}
@@ -73,20 +74,20 @@ module _ (tokens : List Token) (from : ℕ) where
       split others same (Some other) end o = absurd (no_form other (sym same ∙ (form_starts other others from o.0 o.1).0))
 
   module _ (form : BlockForm) (is : start_at tokens from ≡ starts.Form form) where
-    joins_form : Joins (form_brace form) (alone (kinds.Sign signs.OpenBrace)) (λ (none : Unit {0}). none) Anything Anything tokens from (from + 1)
-    joins_form =
-        joins_word (written_form form) (alone (kinds.Sign signs.OpenBrace))
+    ends_form : EndsWith (form_brace form) (alone (kinds.Sign signs.OpenBrace)) (λ (none : Unit {0}). none) tokens from (from + 1)
+    ends_form =
+        ends_word (written_form form) (alone (kinds.Sign signs.OpenBrace))
         (λ others same. form_stands form others from (token_of others from (starts.Form form) (start_same tokens others from same ∙ is) (λ e. cc)))
         (λ others end o. (form_starts form others from end o).1)
 
     pub part_form :
         from + 1 < length tokens → HasKind tokens (from + 1) (kinds.Sign signs.OpenBrace) → IsPart head Anything tokens from (Some form) (from + 2)
-    part_form inside has = rw (two from) (part_made (makes_form form is) (part_joined joins_form (part_alone inside has)))
+    part_form inside has = rw (two from) (part_made (makes_form form is) (part_made ends_form (part_alone inside has)))
 
     pub lack_form :
         {fault : ParseFault} → from + 1 ≤ length tokens → LacksKind tokens (from + 1) (kinds.Sign signs.OpenBrace) fault
         → IsLacking head Anything tokens from fault
-    lack_form within lacks = lack_made (makes_form form is) (lack_joined joins_form (lack_alone within lacks))
+    lack_form within lacks = lack_made (makes_form form is) (lack_made ends_form (lack_alone within lacks))
 
   module _ (no_form : (form : BlockForm) → start_at tokens from ≡ starts.Form form → ⊥) where
     pub part_brace : from < length tokens → HasKind tokens from (kinds.Sign signs.OpenBrace) → IsPart head Anything tokens from None (from + 1)

@@ -14,7 +14,7 @@ use Rattle.px_expr_parse.specs.Tail.{closed}
 use Rattle.px_expr_parse.specs.Verdict.{Agree, AgreeBefore, IsFound}
 use Rattle.px_expr_parse.proofs.Completions.{before as before_late, moved}
 use Rattle.px_expr_parse.proofs.Spans.{local_identifier}
-use Rattle.px_expr_parse.proofs.Parts.{agree_before}
+use Rattle.px_expr_parse.proofs.Parts.{EndsWith, agree_before}
 use Rattle.px_plan_parse.specs.declared.start.Start.{Start}
 use Rattle.px_plan_parse.specs.declared.start.Start.TheVariants as starts
 use Rattle.px_plan_parse.specs.Named.{NamedData, Calls, Writes, Value, Answer, named, named_body}
@@ -281,8 +281,8 @@ module _ (tokens : List Token) (from : ℕ) where
             subst (λ (p : ℕ). body parts others p end) behind_colon o,
           )
 
-      pub joins_labelled : Joins action body (λ (parts : BodyTree). Labelled (Some name) parts) NoBranch NoBranch tokens from (from + 2)
-      joins_labelled =
+      pub ends_labelled : EndsWith action body (λ (parts : BodyTree). Labelled (Some name) parts) tokens from (from + 2)
+      ends_labelled =
           record {
             begins = omega arith;
             builds = λ others agree parts end o. (
@@ -294,8 +294,7 @@ module _ (tokens : List Token) (from : ℕ) where
               ),
               o,
             );
-            splits = λ others agree other end o last.
-                let l = labelled others (agree_before tokens others (from + 1) (from + 2) (omega arith) agree) other end o in (l.0, l.1, l.2, last);
+            splits = λ others agree. labelled others (agree_before tokens others (from + 1) (from + 2) (omega arith) agree);
           }
 
     module _ (no_colon : HasKind tokens (from + 1) (kinds.Sign signs.Colon) → ⊥) where
@@ -317,7 +316,7 @@ module _ (tokens : List Token) (from : ℕ) where
                 let named_is = name_there others agree in (
                   from,
                   refl,
-                  (makes_named others from (ap sort_of (start_name others from name.name named_is.1.0))).builds others (name, inner) end
+                  (makes_named others from (ap sort_of (start_name others from name.name named_is.1.0))).builds others (λ place inside. refl) (name, inner) end
                       (from + 1, named_is, o),
                 );
             splits = λ others agree other end o last. let p = plain others agree other end o in (p.0, p.1, p.2, tt);

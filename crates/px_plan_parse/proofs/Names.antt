@@ -21,9 +21,9 @@ use Rattle.px_plan_parse.specs.Named.{Calls, Writes, WrittenData, Value, Answer,
 use Rattle.px_plan_parse.specs.Part.{Follow, Anything, Ended, IsLacking, IsPart, IsSole, Lacks}
 use Rattle.px_plan_parse.specs.Tail.{closed_pairs, Unless}
 use Rattle.px_plan_parse.proofs.Commas.{Separates}
-use Rattle.px_plan_parse.proofs.Parts.{Begins, HasKind, Joins, Makes, Splits, before, behind, both, lack_memory, makes_by}
+use Rattle.px_plan_parse.proofs.Parts.{Begins, HasKind, Makes, Splits, before, behind, both, lack_memory, makes_by}
 use Rattle.px_plan_parse.proofs.Spans.{local_pair}
-use Rattle.px_expr_parse.proofs.Parts.{agree_before}
+use Rattle.px_expr_parse.proofs.Parts.{EndsWith, agree_before}
 
 -- ---- signs that follow
 
@@ -65,10 +65,10 @@ module _ (tokens : List Token) (from : ℕ) where
   name_missing name has faults.NoMemory missing form Last = lack_memory
 
   -- what a command returns
-  pub joins_answer :
+  pub ends_answer :
       (name : Identifier) → IsFound identifier tokens from name (from + 1) → HasKind tokens (from + 1) (kinds.Sign signs.OpenParen)
-      → Joins written called (λ (args : Terms). Answer (record { name = name; args = args })) Anything Anything tokens from (from + 1)
-  joins_answer name found paren =
+      → EndsWith written called (λ (args : Terms). Answer (record { name = name; args = args })) tokens from (from + 1)
+  ends_answer name found paren =
       record {
         begins = omega arith;
         builds = λ others agree args end o. (
@@ -76,12 +76,12 @@ module _ (tokens : List Token) (from : ℕ) where
           (from + 1, moved tokens (local_identifier name) (λ others agree. (found.only others agree).spelled) others agree, o.1),
           o.2,
         );
-        splits = λ others agree other end o last. splits others agree other end o;
+        splits = splits;
       }
     where
       splits :
           (others : List Token) → Agree tokens others (from + 1) → (other : WrittenData) (end : ℕ) → written other others from end
-          → (args : Terms) × (other ≡ Answer (record { name = name; args = args })) × called args others (from + 1) end × Anything others end
+          → (args : Terms) × (other ≡ Answer (record { name = name; args = args })) × called args others (from + 1) end
       splits others agree (Value tree) end o =
           let name_there = (found.only others agree).spelled in
           let there : HasKind others (from + 1) (kinds.Sign signs.OpenParen) = agree (from + 1) (omega arith) ∙ paren in
@@ -91,7 +91,6 @@ module _ (tokens : List Token) (from : ℕ) where
             parts.args,
             ap (λ (n : Identifier). Answer (record { name = n; args = parts.args })) is.0,
             subst (λ (p : ℕ). called parts.args others p end) is.1 (middle, rest, semicolon),
-            tt,
           )
 
   -- what has no parenthesis behind its name

@@ -8,9 +8,9 @@ use Rattle.px_syntax.specs.Expr.{Term}
 use Rattle.px_syntax.specs.ExprGrammar.{expression}
 use Rattle.px_syntax.specs.Form.{Form, kind_at, one, optional, ◌then◌, maybe, each}
 use Rattle.px_expr_parse.specs.Verdict.{Agree, AgreeBefore, IsBegun, IsRead, IsRefused, IsFound, IsMissing}
-use Rattle.px_expr_parse.proofs.Completions.{Shortest, before as before_late, begun_as, begun_before, begun_here, moved, short_behind, short_token}
-pub use Rattle.px_expr_parse.proofs.Parts.{both, two}
-use Rattle.px_expr_parse.proofs.Parts.{agree_before}
+use Rattle.px_expr_parse.proofs.Completions.{Shortest, before as before_late, begun_as, begun_before, begun_here, moved, short_token}
+pub use Rattle.px_expr_parse.proofs.Parts.{HasKind, LacksKind, alone, before, behind, both, two}
+use Rattle.px_expr_parse.proofs.Parts.{EndsWith, agree_before, ends_behind, found_alone, missing_alone, missing_kind}
 use Rattle.px_expr_parse.proofs.Spans.{IsLocal, local_nothing, local_then}
 use Rattle.px_plan_parse.specs.Part.{Follow, Ended, IsPart, Lacks, IsLacking}
 
@@ -110,10 +110,8 @@ Splits whole inner build tokens from =
     (tree : _) (end : ℕ) → whole tree tokens from end → (part : _) × (tree ≡ build part) × inner part tokens from end
 
 -- the same of all tokens that agree
-pub record Makes {A B : Type 0} (whole : A → Form) (inner : B → Form) (build : B → A) (tokens : List Token) (from : ℕ) : Type 0 where
-  pub builds :
-      (others : List Token) (part : B) (end : ℕ) → inner part others from end → whole (build part) others from end
-  pub splits : (others : List Token) → Agree tokens others from → Splits whole inner build others from
+abbrev pub Makes : {A B : Type 0} → (A → Form) → (B → Form) → (B → A) → List Token → ℕ → Type 0
+Makes whole inner build tokens from = EndsWith whole inner build tokens from from
 
 -- by what stands there
 pub makes_by :
@@ -121,24 +119,26 @@ pub makes_by :
     → ((others : List Token) (part : B) (end : ℕ) → inner part others from end → whole (build part) others from end)
     → ((others : List Token) → kind_at others from ≡ kind_at tokens from → Splits whole inner build others from)
     → Makes whole inner build tokens from
-makes_by {from = from} builds splits = record { builds = builds; splits = λ others agree. splits others (agree from (omega arith)) }
+makes_by {from = from} builds splits =
+    record { begins = omega arith; builds = λ others agree. builds others; splits = λ others agree. splits others (agree from (omega arith)) }
 
-module _ {A B : Type 0} {whole : A → Form} {inner : B → Form} {build : B → A} {Last : Follow} {tokens : List Token} {from : ℕ}
-    (makes : Makes whole inner build tokens from)
+-- whatever follows it
+module _ {A B : Type 0} {whole : A → Form} {inner : B → Form} {build : B → A} {Last : Follow} {tokens : List Token} {from early : ℕ}
+    (e : EndsWith whole inner build tokens from early)
   where
-    joins_made : Joins whole inner build Last Last tokens from from
-    joins_made =
+    joins_ending : Joins whole inner build Last Last tokens from early
+    joins_ending =
         record {
-          begins = omega arith;
-          builds = λ others agree. makes.builds others;
-          splits = λ others agree tree end o last. let s = makes.splits others agree tree end o in (s.0, s.1, s.2, last);
+          begins = e.begins;
+          builds = e.builds;
+          splits = λ others agree tree end o last. let s = e.splits others agree tree end o in (s.0, s.1, s.2, last);
         }
 
-    pub part_made : {part : B} {to : ℕ} → IsPart inner Last tokens from part to → IsPart whole Last tokens from (build part) to
-    part_made = part_joined joins_made
+    pub part_made : {part : B} {to : ℕ} → IsPart inner Last tokens early part to → IsPart whole Last tokens from (build part) to
+    part_made = part_joined joins_ending
 
-    pub lack_made : {fault : ParseFault} → IsLacking inner Last tokens from fault → IsLacking whole Last tokens from fault
-    lack_made = lack_joined joins_made
+    pub lack_made : {fault : ParseFault} → IsLacking inner Last tokens early fault → IsLacking whole Last tokens from fault
+    lack_made = lack_joined joins_ending
 
 -- the same part where fewer may follow
 module _ {A : Type 0} {form : A → Form} {Next Last : Follow} {tokens : List Token} {from : ℕ}
@@ -267,61 +267,27 @@ module _ {A B : Type 0} {first : A → Form} {second : B → Form} {Next Last : 
 
 -- ---- a token before a part
 
-abbrev pub HasKind : List Token → ℕ → TokenKind → Type 0
-HasKind tokens place kind = kind_at tokens place ≡ Some kind
-
--- a token is named as missing where it is
-abbrev pub LacksKind : List Token → ℕ → TokenKind → ParseFault → Type 0
-LacksKind tokens place kind fault = (fault ≡ faults.SyntaxFault place) × (HasKind tokens place kind → ⊥)
-
-abbrev pub behind : {B : Type 0} → TokenKind → (B → Form) → B → Form
-behind kind second part = one kind then second part
-
--- a word, which may have more than one spelling, before a part
-module _ {B : Type 0} (word : Form) (second : B → Form) {Last : Follow} {tokens : List Token} {from : ℕ}
-    (stands : (others : List Token) → kind_at others from ≡ kind_at tokens from → word others from (from + 1))
-    (ends : (others : List Token) (end : ℕ) → word others from end → end ≡ from + 1)
-  where
-    pub joins_word : Joins (λ (part : B). word then second part) second (λ (part : B). part) Last Last tokens from (from + 1)
-    joins_word =
-        record {
-          begins = omega arith;
-          builds = λ others agree part end o. (from + 1, stands others (agree from (omega arith)), o);
-          splits = λ others agree part end o last.
-              (part, refl, subst (λ (place : ℕ). second part others place end) (ends others o.0 o.1) o.2, last);
-        }
-
 module _ {B : Type 0} {kind : TokenKind} {second : B → Form} {Last : Follow} {tokens : List Token} {from : ℕ} where
   module _ (has : HasKind tokens from kind) where
-    joins_behind : Joins (behind kind second) second (λ (part : B). part) Last Last tokens from (from + 1)
-    joins_behind = joins_word (one kind) second (λ others same. (same ∙ has, refl)) (λ others end o. o.1)
-
     pub part_behind : {to : ℕ} {b : B} → IsPart second Last tokens (from + 1) b to → IsPart (behind kind second) Last tokens from b to
-    part_behind = part_joined joins_behind
+    part_behind = part_made (ends_behind kind tokens from second has)
 
     pub lack_behind : {fault : ParseFault} → IsLacking second Last tokens (from + 1) fault → IsLacking (behind kind second) Last tokens from fault
-    lack_behind = lack_joined joins_behind
+    lack_behind = lack_made (ends_behind kind tokens from second has)
 
   pub lack_kind :
       {fault : ParseFault} → from ≤ length tokens → Shortest second → LacksKind tokens from kind fault
       → IsLacking (behind kind second) Last tokens from fault
-  lack_kind within short lacks = lack_here lacks.0 within (short_behind kind short) (λ others same part end o. lacks.1 (sym same ∙ o.1.0))
+  lack_kind {fault = fault} within short lacks =
+      of_missing (behind kind second) tokens from fault Last (missing_kind kind tokens from second fault within short lacks)
 
 -- a token alone
-abbrev pub alone : TokenKind → Unit {0} → Form
-alone kind none = one kind
-
 module _ {kind : TokenKind} {Last : Follow} {tokens : List Token} {from : ℕ} where
   pub part_alone : from < length tokens → HasKind tokens from kind → IsPart (alone kind) Last tokens from tt (from + 1)
-  part_alone inside has =
-      record {
-        advances = omega arith;
-        within = omega (arith, inside);
-        sole = λ others agree. record { spelled = (agree from (omega arith) ∙ has, refl); only = λ other end o next. (refl, o.1) };
-      }
+  part_alone inside has = of_found Last (found_alone kind tokens from inside has)
 
   pub lack_alone : {fault : ParseFault} → from ≤ length tokens → LacksKind tokens from kind fault → IsLacking (alone kind) Last tokens from fault
-  lack_alone within lacks = lack_here lacks.0 within (short_token kind) (λ others same none end o. lacks.1 (sym same ∙ o.0))
+  lack_alone {fault = fault} within lacks = of_missing (alone kind) tokens from fault Last (missing_alone kind tokens from fault within lacks)
 
 -- a token that may be left out, where what follows is none
 abbrev pub optional_alone : TokenKind → Unit {0} → Form
@@ -358,9 +324,6 @@ module _ {kind : TokenKind} {Last : Follow} {tokens : List Token} {from : ℕ} w
       }
 
 -- ---- a token behind a part
-
-abbrev pub before : {A : Type 0} → (A → Form) → TokenKind → A → Form
-before first kind part = first part then one kind
 
 module _ {A : Type 0} {first : A → Form} {kind : TokenKind} {Next Last : Follow} {tokens : List Token} {from : ℕ}
     (follows : (others : List Token) (place : ℕ) → HasKind others place kind → Next others place)

@@ -17,11 +17,11 @@ use Rattle.px_syntax.specs.Block.{ItemData, Variables, Conditions, Priority}
 use Rattle.px_syntax.specs.BlockGrammar.{condition_word, item, type_word}
 use Rattle.px_syntax.specs.Form.{Form, kind_at, ◌then◌}
 use Rattle.px_expr_parse.specs.Verdict.{Agree}
+use Rattle.px_expr_parse.proofs.Parts.{EndsWith, ends_word}
 use Rattle.px_plan_parse.specs.declared.start.Start.{Start}
 use Rattle.px_plan_parse.specs.declared.start.Start.TheVariants as starts
 use Rattle.px_plan_parse.specs.Start.{is_item, keyword_start, start_at, start_of}
-use Rattle.px_plan_parse.specs.Part.{Follow}
-use Rattle.px_plan_parse.proofs.Parts.{HasKind, Joins, Makes, Splits, joins_word, makes_by}
+use Rattle.px_plan_parse.proofs.Parts.{HasKind, Makes, Splits, makes_by}
 use Rattle.px_plan_parse.specs.Tail.{test}
 
 -- the start at a place in other tokens that agree
@@ -249,20 +249,20 @@ module _ (tokens : List Token) (at : ℕ) where
         let f : false ≡ true = sym fails ∙ ap test (sym same) ∙ starts part others at end o in cc
 
 -- a type or a condition is one token before a part
-module _ {A : Type 0} (second : A → Form) {Last : Follow} (tokens : List Token) (from : ℕ) where
-  pub joins_type :
+module _ {A : Type 0} (second : A → Form) (tokens : List Token) (from : ℕ) where
+  pub ends_type :
       (of_type : TypeName) → start_at tokens from ≡ starts.Type of_type
-      → Joins (λ (part : A). type_word of_type then second part) second (λ (part : A). part) Last Last tokens from (from + 1)
-  joins_type of_type is =
-      joins_word (type_word of_type) second
+      → EndsWith (λ (part : A). type_word of_type then second part) second (λ (part : A). part) tokens from (from + 1)
+  ends_type of_type is =
+      ends_word (type_word of_type) second
       (λ others same. type_stands of_type others from (token_of others from (starts.Type of_type) (start_same tokens others from same ∙ is) (λ e. cc)))
       (λ others end o. (type_starts of_type others from end o).1)
 
-  pub joins_condition :
+  pub ends_condition :
       (condition : Condition) → start_at tokens from ≡ starts.Condition condition
-      → Joins (λ (part : A). condition_word condition then second part) second (λ (part : A). part) Last Last tokens from (from + 1)
-  joins_condition condition is =
-      joins_word (condition_word condition) second
+      → EndsWith (λ (part : A). condition_word condition then second part) second (λ (part : A). part) tokens from (from + 1)
+  ends_condition condition is =
+      ends_word (condition_word condition) second
       (λ others same. condition_stands condition others from (token_of others from (starts.Condition condition) (start_same tokens others from same ∙ is) (λ e. cc)))
       (λ others end o. (condition_starts condition others from end o).1)
 

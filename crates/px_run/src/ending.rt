@@ -14,7 +14,7 @@ use px_value::NoMemory;
 use std::alloc::Global;
 
 /// How the program ends. Each has its number.
-#[derive(Clone, Copy, Debug, PartialEq, Eq)]
+#[derive(Clone, Copy)]
 pub enum Status {
     /// The command was carried out to its end.
     Done = 0,
@@ -41,7 +41,7 @@ pub enum Status {
 }
 
 /// How a command ends that is not refused: all of its text is printed.
-#[derive(Clone, Copy, Debug, PartialEq, Eq)]
+#[derive(Clone, Copy)]
 pub enum End {
     /// It was carried out to its end.
     Done,
@@ -64,7 +64,7 @@ impl End {
 }
 
 /// Why a command is not carried out.
-#[derive(Debug, Drop, PartialEq, Eq)]
+#[derive(Drop)]
 pub enum Refusal {
     /// The words are no command.
     Usage,
@@ -95,7 +95,7 @@ pub enum Refusal {
 }
 
 /// Why a command came to no end of its own.
-#[derive(Debug, Drop, PartialEq, Eq)]
+#[derive(Drop)]
 pub enum Stop {
     /// It is refused, and has emitted nothing.
     Refused(Refusal),

@@ -1,16 +1,21 @@
 // The command `run`: reads a plan and a script, makes a journal, lets the script's threads post, and prints the text of the
 // log.
-ghost use Rattle.std.specs.Prelude.{◌≡◌, ◌≤◌, None, [], Some, length, IfOk, IfErr};
-ghost use Rattle.px_output.specs.View.{view, KeepsFiles, OnlyReads};
+ghost use Rattle.std.specs.Prelude.{◌≡◌, ◌≤◌, ℕ, List, None, [], Some, length, IfOk, IfErr};
+ghost use Rattle.px_core.specs.Fit.{IsFit};
+ghost use Rattle.px_core.specs.Plan.{tree_of};
+ghost use Rattle.px_output.specs.View.{View, view, KeepsFiles, OnlyReads};
 ghost use Rattle.px_script.specs.Fit.{IsFitScript};
 ghost use Rattle.px_sem.specs.Run.{run};
 ghost use Rattle.px_sem.specs.Stepper.{Pending};
+ghost use Rattle.px_run.specs.Kinds.{plan_file};
+ghost use Rattle.px_run.specs.Reading.{Reads, with_text};
 ghost use Rattle.px_run.specs.Run.{IsPrepared, IsNotPrepared, RunCarries, PreparedCarries};
 
 use crate::ending::Stop;
 use crate::finishing::{Carried, Telling, finish};
 use crate::naming::without_names;
 use crate::reading::{Source, fetch_script, fetch_source};
+use px_core::Plan;
 use px_journal::CreateFault;
 use px_ports::{Disk, Host};
 use px_script::{Pace, Script};
@@ -78,8 +83,30 @@ fn prepare<H: Host, S: Stepper>(
     ensures only { OnlyReads (view H.Host host.old) (view H.Host host.new) }
 {
     let Source { text, plan } = fetch_source(alloc, plan, host)?;
-    let script = fetch_script(alloc, script, &plan, host)?;
-    let stepper = start(alloc, &plan)?;
+    let prepared = prepare_plan(alloc, text, &plan, script, host);
+    // By name: the proof then has one call to follow, and not each shape that a plan may have.
+    drop(plan);
+    prepared
+}
+
+/// Reads the script for a plan that was read with its text, and starts the plan.
+fn prepare_plan<H: Host, S: Stepper>(
+    alloc: Global,
+    text: Vec<u8>,
+    plan: &Plan,
+    script: &str,
+    host: &mut H,
+) -> Result<Prepared<S>, Stop>
+    requires fit { IsFit (tree_of plan.now) }
+    requires short { length text.items ≤ 1048576 }
+    ensures ok { (name : List ℕ) (before : View) → Reads (with_text plan_file) before (view H.Host host.old) name (text.items, tree_of plan.now)
+        → OnlyReads before (view H.Host host.old) → IfOk result (IsPrepared S.Stepper name script.now before (view H.Host host.new)) }
+    ensures err { (name : List ℕ) (before : View) → Reads (with_text plan_file) before (view H.Host host.old) name (text.items, tree_of plan.now)
+        → OnlyReads before (view H.Host host.old) → IfErr result (IsNotPrepared name script.now before (view H.Host host.new)) }
+    ensures only { OnlyReads (view H.Host host.old) (view H.Host host.new) }
+{
+    let script = fetch_script(alloc, script, plan, host)?;
+    let stepper = start(alloc, plan)?;
     Ok(Prepared {
         text,
         script,

@@ -1,5 +1,5 @@
 -- How a legal log grows by one post.
-use Rattle.std.proofs.Common.{◌≡◌, ◌≢◌, ℕ, nat_le, Bool, true, false, List, [], ◌∷◌, ◌++◌, length, map, filter, Option, Some, None, IsSome, refl, ap, sym, subst, ◌∙◌, arith, ◌+◌, ◌≤◌, length-append, append_assoc, append-nil, if◌then◌else◌}
+use Rattle.std.proofs.Common.{◌≡◌, ℕ, nat_le, Bool, true, false, List, [], ◌∷◌, ◌++◌, length, map, filter, Option, Some, None, IsSome, refl, ap, sym, subst, ◌∙◌, arith, ◌+◌, ◌≤◌, length-append, append_assoc, append-nil, if◌then◌else◌}
 use Rattle.std.specs.List.{list_all}
 use Rattle.std.proofs.lemmas.Bool.{and_parts}
 use Rattle.std.proofs.lemmas.Bool.Decides.{nat_tests}
@@ -251,19 +251,6 @@ posting_more plan limit entries log history now next count entry reply so_far is
 
     world_is : next.world ≡ world_after plan now.world entry.event reply
     world_is = ap (λ (s : State). s.world) moved ∙ ap (λ nodes. world_after nodes now.world entry.event reply) nodes_is
-
-pub counted_other : (count : ℕ) (reply : Reply) → ((position : ℕ) → reply ≢ replies.Accepted position) → count ≡ counted_after count reply
-counted_other count (replies.Accepted position) other = absurd (other position refl)
-counted_other count replies.PlanFinished other = refl
-counted_other count replies.Full other = refl
-counted_other count replies.Runaway other = refl
-
-pub history_other : (history : List Entry) (entry : Entry) (reply : Reply) → ((position : ℕ) → reply ≢ replies.Accepted position)
-    → history ≡ history_after history entry reply
-history_other history entry (replies.Accepted position) other = absurd (other position refl)
-history_other history entry replies.PlanFinished other = refl
-history_other history entry replies.Full other = refl
-history_other history entry replies.Runaway other = refl
 
 -- one entry more with its reply, where the count is that of the history
 pub posting_then : (plan : List Site) (limit : ℕ) (entries : List Entry) (log next_log : Log) (history next_history : List Entry) (now next : State)

@@ -22,8 +22,8 @@ pub struct Posted {
 }
 
 impl Posted {
-    // An entry with its reply goes behind the others, and where it was accepted into the history.
-    fn note(&mut self, alloc: Global, entry: Entry, reply: Reply) -> Result<(), NoMemory>
+    /// Puts an entry with its reply behind the others, and where it was accepted into the history.
+    pub fn note(&mut self, alloc: Global, entry: Entry, reply: Reply) -> Result<(), NoMemory>
         ensures log { OnOk result (self.new.log.items
             ≡ self.old.log.items ++ (record { entry = entry; reply = reply }) ∷ []) }
         ensures history { OnOk result (self.new.history.items

@@ -8,7 +8,7 @@ use px_sem::StepFault;
 use px_syntax::PlanFault;
 
 /// Why a journal was not taken up.
-#[derive(Clone, Copy, Debug, PartialEq, Eq)]
+#[derive(Clone, Copy)]
 pub enum ReopenWhy {
     /// The file has fewer than 13 bytes, or its first byte is 0.
     NoJournal,

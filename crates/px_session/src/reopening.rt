@@ -47,6 +47,13 @@ impl<S: Stepper, D: Disk> Reopened<S, D> {
     }
 }
 
+/// A plan, and a stepper that has settled its start.
+#[derive(Drop)]
+struct Started<S: Stepper> {
+    plan: Plan,
+    stepper: S,
+}
+
 /// Binds the disk to the journal's name, reads the journal there, compiles its plan and runs its history. The history may
 /// grow to `limit` events, from 1 to 100,000. Nothing is written.
 ///
@@ -99,7 +106,7 @@ fn run_recovered<S: Stepper, D: Disk>(
         history,
         ..
     } = recovered;
-    let (plan, stepper) = match start_text(alloc, &text) {
+    let Started { plan, stepper } = match start_text(alloc, &text) {
         Ok(started) => started,
         Err(why) => {
             return Err(ReopenFault {
@@ -122,19 +129,19 @@ fn run_recovered<S: Stepper, D: Disk>(
 }
 
 /// The plan that a text spells, and a stepper that has settled its start.
-fn start_text<S: Stepper>(alloc: Global, text: &[u8]) -> Result<(Plan, S), ReopenWhy>
+fn start_text<S: Stepper>(alloc: Global, text: &[u8]) -> Result<Started<S>, ReopenWhy>
     requires short { length text.now ≤ 1048576 }
 
-    ensures compiled { IfOk result (λ made. IsCompiled text.now (tree_of made.0)) }
-    ensures fit { IfOk result (λ made. IsFit (tree_of made.0)) }
-    ensures nodes { IfOk result (λ made. (S.state made.1).nodes ≡ sites (tree_of made.0)) }
-    ensures nothing { IfOk result (λ made. (S.state made.1).pending ≡ Pending.Nothing) }
-    ensures started { IfOk result (λ made. run (S.state made.1).nodes [] ≡ Some (S.state made.1).world) }
+    ensures compiled { IfOk result (λ made. IsCompiled text.now (tree_of made.plan)) }
+    ensures fit { IfOk result (λ made. IsFit (tree_of made.plan)) }
+    ensures nodes { IfOk result (λ made. (S.state made.stepper).nodes ≡ sites (tree_of made.plan)) }
+    ensures nothing { IfOk result (λ made. (S.state made.stepper).pending ≡ Pending.Nothing) }
+    ensures started { IfOk result (λ made. run (S.state made.stepper).nodes [] ≡ Some (S.state made.stepper).world) }
     ensures why { (history : List Logged) → IfErr result (IsRunWhy text.now history) }
 {
     let plan = compile(alloc, text)?;
     match start(alloc, &plan) {
-        Ok(stepper) => Ok((plan, stepper)),
+        Ok(stepper) => Ok(Started { plan, stepper }),
         Err(fault) => {
             // By name, as above.
             drop(plan);

@@ -18,7 +18,7 @@ use Rattle.px_expr_parse.proofs.Closed.{closer_ends, closes}
 use Rattle.px_expr_parse.proofs.Completions.{Shortest, short_behind, short_both, short_closed, short_expression, short_look_end, short_look_rest, short_name, short_token}
 use Rattle.px_expr_parse.proofs.Lookups.{ends_given, ends_left_out}
 use Rattle.px_expr_parse.proofs.Loops.{loop_begins, loop_ends, loop_goes_on, loop_refused, loop_stops}
-use Rattle.px_expr_parse.proofs.Parts.{IsClosing, both, ends_before, ends_behind, ends_both, ends_closed, found_ending, found_sign, missing_alone, missing_closed, missing_ending, missing_first, missing_sign, sign_alone, three, two}
+use Rattle.px_expr_parse.proofs.Parts.{IsClosing, alone, both, ends_before, ends_behind, ends_both, ends_closed, found_alone, found_ending, missing_alone, missing_closed, missing_ending, missing_first, missing_kind, three, two}
 use Rattle.px_expr_parse.proofs.Primaries.{begins_with, opens_binary_call, opens_look, opens_paren, opens_unary_call, produces_element, produces_named, read_enumerated, read_prefix, read_variable, refuse_end, refuse_name, refuse_nothing, refuse_prefix}
 use Rattle.px_expr_parse.proofs.Productions.{read_opened, read_produced, refuse_opened, refuse_produced}
 use Rattle.px_expr_parse.proofs.Spans.{local_closed_arguments, local_identifier}
@@ -76,22 +76,22 @@ argument::arguments-loop-args-preserved t c =
 pub argument::closed-returns-in_err-tree-clause-fault : goal.argument::closed-returns-in_err-tree-clause-fault
 argument::closed-returns-in_err-tree-clause-fault t c =
     handed_on _ _ _ c.from_residual.ensures.1
-    (missing_ending (ends_before c.args.close c.args.tokens.now c.args.from expression) c.in_err-tree.field-0.0
-    (missing_closed (sign_alone c.args.close) (closes c.args.close c.requires.closer) c.args.tokens.now c.args.from c.in_err-tree.field-0.0
+    (missing_ending (ends_before (kinds.Sign c.args.close) c.args.tokens.now c.args.from expression) c.in_err-tree.field-0.0
+    (missing_closed (alone (kinds.Sign c.args.close)) (closes c.args.close c.requires.closer) c.args.tokens.now c.args.from c.in_err-tree.field-0.0
     (short_token (kinds.Sign c.args.close)) c.in_err-tree.ensures.fault))
 
 pub argument::closed-returns-in_err-expect-clause-fault : goal.argument::closed-returns-in_err-expect-clause-fault
 argument::closed-returns-in_err-expect-clause-fault t c =
     handed_on _ _ _ c.from_residual-in_err-expect.ensures.1
-    (missing_ending (ends_before c.args.close c.args.tokens.now c.args.from expression) c.in_err-expect.field-0.0
-    (missing_ending (ends_closed (sign_alone c.args.close) (closes c.args.close c.requires.closer) c.in_ok-tree.ensures.ok) c.in_err-expect.field-0.0
-    (missing_alone c.args.close c.args.tokens.now c.in_ok-tree.end c.in_err-expect.field-0.0 c.in_ok-tree.ensures.ok.within c.in_err-expect.ensures.fault)))
+    (missing_ending (ends_before (kinds.Sign c.args.close) c.args.tokens.now c.args.from expression) c.in_err-expect.field-0.0
+    (missing_ending (ends_closed (alone (kinds.Sign c.args.close)) (closes c.args.close c.requires.closer) c.in_ok-tree.ensures.ok) c.in_err-expect.field-0.0
+    (missing_alone (kinds.Sign c.args.close) c.args.tokens.now c.in_ok-tree.end c.in_err-expect.field-0.0 c.in_ok-tree.ensures.ok.within c.in_err-expect.ensures.fault)))
 
 pub argument::closed-returns-clause-ok : goal.argument::closed-returns-clause-ok
 argument::closed-returns-clause-ok t c =
-    found_ending (ends_before c.args.close c.args.tokens.now c.args.from expression)
-    (found_ending (ends_closed (sign_alone c.args.close) (closes c.args.close c.requires.closer) c.in_ok-tree.ensures.ok)
-    (found_sign c.args.close c.args.tokens.now c.in_ok-tree.end c.in_ok-expect.ensures.ok.0 c.in_ok-expect.ensures.ok.1))
+    found_ending (ends_before (kinds.Sign c.args.close) c.args.tokens.now c.args.from expression)
+    (found_ending (ends_closed (alone (kinds.Sign c.args.close)) (closes c.args.close c.requires.closer) c.in_ok-tree.ensures.ok)
+    (found_alone (kinds.Sign c.args.close) c.args.tokens.now c.in_ok-tree.end c.in_ok-expect.ensures.ok.0 c.in_ok-expect.ensures.ok.1))
 
 pub lookup::look_rest-returns-in_err-tolerance-clause-fault : goal.lookup::look_rest-returns-in_err-tolerance-clause-fault
 lookup::look_rest-returns-in_err-tolerance-clause-fault t c =
@@ -110,7 +110,7 @@ lookup::look_rest-returns-in_err-args-clause-fault t c =
     let opening = c.if-not-is_sign.ensures.answer.0 refl in
     handed_on _ _ _ c.from_residual-in_err-args.ensures.1
     (missing_ending (ends_given c.args.word c.args.tokens.now c.args.from opening) c.in_err-args.field-0.0
-    (missing_ending (ends_behind signs.OpenParen c.args.tokens.now c.args.from (both closed_arguments (look_end c.args.word)) opening) c.in_err-args.field-0.0
+    (missing_ending (ends_behind (kinds.Sign signs.OpenParen) c.args.tokens.now c.args.from (both closed_arguments (look_end c.args.word)) opening) c.in_err-args.field-0.0
     (missing_first closed_arguments (look_end c.args.word) c.args.tokens.now (c.args.from + 1) c.in_err-args.field-0.0 (short_look_end c.args.word)
     c.in_err-args.ensures.fault)))
 
@@ -119,7 +119,7 @@ lookup::look_rest-returns-in_err-tolerance-2-clause-fault t c =
     let opening = c.if-not-is_sign.ensures.answer.0 refl in
     handed_on _ _ _ c.from_residual-in_err-tolerance-2.ensures.1
     (missing_ending (ends_given c.args.word c.args.tokens.now c.args.from opening) c.in_err-tolerance-2.field-0.0
-    (missing_ending (ends_behind signs.OpenParen c.args.tokens.now c.args.from
+    (missing_ending (ends_behind (kinds.Sign signs.OpenParen) c.args.tokens.now c.args.from
     (both closed_arguments (look_end c.args.word)) opening) c.in_err-tolerance-2.field-0.0
     (missing_ending (ends_both closed_arguments (look_end c.args.word) (local_closed_arguments _) c.in_ok-args.ensures.ok) c.in_err-tolerance-2.field-0.0
     c.in_err-tolerance-2.ensures.fault)))
@@ -128,7 +128,7 @@ pub lookup::look_rest-returns-clause-ok : goal.lookup::look_rest-returns-clause-
 lookup::look_rest-returns-clause-ok t c =
     let opening = c.if-not-is_sign.ensures.answer.0 refl in
     found_ending (ends_given c.args.word c.args.tokens.now c.args.from opening)
-    (found_ending (ends_behind signs.OpenParen c.args.tokens.now c.args.from (both closed_arguments (look_end c.args.word)) opening)
+    (found_ending (ends_behind (kinds.Sign signs.OpenParen) c.args.tokens.now c.args.from (both closed_arguments (look_end c.args.word)) opening)
     (found_ending (ends_both closed_arguments (look_end c.args.word) (local_closed_arguments _) c.in_ok-args.ensures.ok) c.in_ok-tolerance-2.ensures.ok))
 
 pub operation::operand-returns-in_err-tree-clause-fault : goal.operation::operand-returns-in_err-tree-clause-fault
@@ -188,34 +188,34 @@ pub primary::unary_call-returns-in_err-expect-clause-fault : goal.primary::unary
 primary::unary_call-returns-in_err-expect-clause-fault t c =
     handed_on _ _ _ c.from_residual.ensures.1
     (refuse_opened (opens_unary_call c.args.from c.args.function) c.requires.begins c.in_err-expect.field-0.0
-    (missing_sign signs.OpenParen c.args.tokens.now (c.args.from + 1) (closed signs.CloseParen) c.in_err-expect.field-0.0
+    (missing_kind (kinds.Sign signs.OpenParen) c.args.tokens.now (c.args.from + 1) (closed signs.CloseParen) c.in_err-expect.field-0.0
     (omega (arith, c.requires.place)) (short_closed signs.CloseParen) c.in_err-expect.ensures.fault))
 
 pub primary::unary_call-returns-in_err-argument-clause-fault : goal.primary::unary_call-returns-in_err-argument-clause-fault
 primary::unary_call-returns-in_err-argument-clause-fault t c =
     handed_on _ _ _ c.from_residual-in_err-argument.ensures.1
     (refuse_opened (opens_unary_call c.args.from c.args.function) c.requires.begins c.in_err-argument.field-0.0
-    (missing_ending (ends_behind signs.OpenParen c.args.tokens.now (c.args.from + 1) (closed signs.CloseParen) c.in_ok-expect.ensures.ok.1)
+    (missing_ending (ends_behind (kinds.Sign signs.OpenParen) c.args.tokens.now (c.args.from + 1) (closed signs.CloseParen) c.in_ok-expect.ensures.ok.1)
     c.in_err-argument.field-0.0 (rw (two c.args.from) at c.in_err-argument.ensures.fault)))
 
 pub primary::unary_call-returns-clause-ok : goal.primary::unary_call-returns-clause-ok
 primary::unary_call-returns-clause-ok t c =
     rw c.in_ok-unary_call.ensures (read_opened (opens_unary_call c.args.from c.args.function) c.requires.begins
-    (found_ending (ends_behind signs.OpenParen c.args.tokens.now (c.args.from + 1) (closed signs.CloseParen) c.in_ok-expect.ensures.ok.1)
+    (found_ending (ends_behind (kinds.Sign signs.OpenParen) c.args.tokens.now (c.args.from + 1) (closed signs.CloseParen) c.in_ok-expect.ensures.ok.1)
     (rw (two c.args.from) at c.in_ok-argument.ensures.ok)))
 
 pub primary::binary_call-returns-in_err-expect-clause-fault : goal.primary::binary_call-returns-in_err-expect-clause-fault
 primary::binary_call-returns-in_err-expect-clause-fault t c =
     handed_on _ _ _ c.from_residual.ensures.1
     (refuse_opened (opens_binary_call c.args.from c.args.function) c.requires.begins c.in_err-expect.field-0.0
-    (missing_sign signs.OpenParen c.args.tokens.now (c.args.from + 1) (both expression second_argument) c.in_err-expect.field-0.0
+    (missing_kind (kinds.Sign signs.OpenParen) c.args.tokens.now (c.args.from + 1) (both expression second_argument) c.in_err-expect.field-0.0
     (omega (arith, c.requires.place)) short_two c.in_err-expect.ensures.fault))
 
 pub primary::binary_call-returns-in_err-first-clause-fault : goal.primary::binary_call-returns-in_err-first-clause-fault
 primary::binary_call-returns-in_err-first-clause-fault t c =
     handed_on _ _ _ c.from_residual-in_err-first.ensures.1
     (refuse_opened (opens_binary_call c.args.from c.args.function) c.requires.begins c.in_err-first.field-0.0
-    (missing_ending (ends_behind signs.OpenParen c.args.tokens.now (c.args.from + 1) (both expression second_argument) c.in_ok-expect.ensures.ok.1)
+    (missing_ending (ends_behind (kinds.Sign signs.OpenParen) c.args.tokens.now (c.args.from + 1) (both expression second_argument) c.in_ok-expect.ensures.ok.1)
     c.in_err-first.field-0.0
     (missing_closed second_argument second_closes c.args.tokens.now (c.args.from + 1 + 1) c.in_err-first.field-0.0 short_second
     (rw (two c.args.from) at c.in_err-first.ensures.fault))))
@@ -224,42 +224,42 @@ pub primary::binary_call-returns-in_err-expect-2-clause-fault : goal.primary::bi
 primary::binary_call-returns-in_err-expect-2-clause-fault t c =
     handed_on _ _ _ c.from_residual-in_err-expect-2.ensures.1
     (refuse_opened (opens_binary_call c.args.from c.args.function) c.requires.begins c.in_err-expect-2.field-0.0
-    (missing_ending (ends_behind signs.OpenParen c.args.tokens.now (c.args.from + 1) (both expression second_argument) c.in_ok-expect.ensures.ok.1)
+    (missing_ending (ends_behind (kinds.Sign signs.OpenParen) c.args.tokens.now (c.args.from + 1) (both expression second_argument) c.in_ok-expect.ensures.ok.1)
     c.in_err-expect-2.field-0.0
     (missing_ending (ends_closed second_argument second_closes (rw (two c.args.from) at c.in_ok-first.ensures.ok)) c.in_err-expect-2.field-0.0
-    (missing_sign signs.Comma c.args.tokens.now c.in_ok-first.middle (closed signs.CloseParen) c.in_err-expect-2.field-0.0
+    (missing_kind (kinds.Sign signs.Comma) c.args.tokens.now c.in_ok-first.middle (closed signs.CloseParen) c.in_err-expect-2.field-0.0
     c.in_ok-first.ensures.ok.within (short_closed signs.CloseParen) c.in_err-expect-2.ensures.fault))))
 
 pub primary::binary_call-returns-in_err-second-clause-fault : goal.primary::binary_call-returns-in_err-second-clause-fault
 primary::binary_call-returns-in_err-second-clause-fault t c =
     handed_on _ _ _ c.from_residual-in_err-second.ensures.1
     (refuse_opened (opens_binary_call c.args.from c.args.function) c.requires.begins c.in_err-second.field-0.0
-    (missing_ending (ends_behind signs.OpenParen c.args.tokens.now (c.args.from + 1) (both expression second_argument) c.in_ok-expect.ensures.ok.1)
+    (missing_ending (ends_behind (kinds.Sign signs.OpenParen) c.args.tokens.now (c.args.from + 1) (both expression second_argument) c.in_ok-expect.ensures.ok.1)
     c.in_err-second.field-0.0
     (missing_ending (ends_closed second_argument second_closes (rw (two c.args.from) at c.in_ok-first.ensures.ok)) c.in_err-second.field-0.0
-    (missing_ending (ends_behind signs.Comma c.args.tokens.now c.in_ok-first.middle (closed signs.CloseParen) c.in_ok-expect-2.ensures.ok.1)
+    (missing_ending (ends_behind (kinds.Sign signs.Comma) c.args.tokens.now c.in_ok-first.middle (closed signs.CloseParen) c.in_ok-expect-2.ensures.ok.1)
     c.in_err-second.field-0.0 c.in_err-second.ensures.fault))))
 
 pub primary::binary_call-returns-clause-ok : goal.primary::binary_call-returns-clause-ok
 primary::binary_call-returns-clause-ok t c =
     rw c.in_ok-tree.ensures (read_opened (opens_binary_call c.args.from c.args.function) c.requires.begins
-    (found_ending (ends_behind signs.OpenParen c.args.tokens.now (c.args.from + 1) (both expression second_argument) c.in_ok-expect.ensures.ok.1)
+    (found_ending (ends_behind (kinds.Sign signs.OpenParen) c.args.tokens.now (c.args.from + 1) (both expression second_argument) c.in_ok-expect.ensures.ok.1)
     (found_ending (ends_closed second_argument second_closes (rw (two c.args.from) at c.in_ok-first.ensures.ok))
-    (found_ending (ends_behind signs.Comma c.args.tokens.now c.in_ok-first.middle (closed signs.CloseParen) c.in_ok-expect-2.ensures.ok.1)
+    (found_ending (ends_behind (kinds.Sign signs.Comma) c.args.tokens.now c.in_ok-first.middle (closed signs.CloseParen) c.in_ok-expect-2.ensures.ok.1)
     c.in_ok-second.ensures.ok))))
 
 pub primary::look-returns-in_err-expect-clause-fault : goal.primary::look-returns-in_err-expect-clause-fault
 primary::look-returns-in_err-expect-clause-fault t c =
     handed_on _ _ _ c.from_residual.ensures.1
     (refuse_opened (opens_look c.args.from c.args.word) c.requires.begins c.in_err-expect.field-0.0
-    (missing_sign signs.OpenParen c.args.tokens.now (c.args.from + 1) (both identifier (look_rest c.args.word)) c.in_err-expect.field-0.0
+    (missing_kind (kinds.Sign signs.OpenParen) c.args.tokens.now (c.args.from + 1) (both identifier (look_rest c.args.word)) c.in_err-expect.field-0.0
     (omega (arith, c.requires.place)) (short_look c.args.word) c.in_err-expect.ensures.fault))
 
 pub primary::look-returns-in_err-name-clause-fault : goal.primary::look-returns-in_err-name-clause-fault
 primary::look-returns-in_err-name-clause-fault t c =
     handed_on _ _ _ c.from_residual-in_err-name.ensures.1
     (refuse_opened (opens_look c.args.from c.args.word) c.requires.begins c.in_err-name.field-0.0
-    (missing_ending (ends_behind signs.OpenParen c.args.tokens.now (c.args.from + 1) (both identifier (look_rest c.args.word)) c.in_ok-expect.ensures.ok.1)
+    (missing_ending (ends_behind (kinds.Sign signs.OpenParen) c.args.tokens.now (c.args.from + 1) (both identifier (look_rest c.args.word)) c.in_ok-expect.ensures.ok.1)
     c.in_err-name.field-0.0
     (missing_first identifier (look_rest c.args.word) c.args.tokens.now (c.args.from + 1 + 1) c.in_err-name.field-0.0 (short_look_rest c.args.word)
     (rw (two c.args.from) at c.in_err-name.ensures.fault))))
@@ -268,7 +268,7 @@ pub primary::look-returns-in_err-args-clause-fault : goal.primary::look-returns-
 primary::look-returns-in_err-args-clause-fault t c =
     handed_on _ _ _ c.from_residual-in_err-args.ensures.1
     (refuse_opened (opens_look c.args.from c.args.word) c.requires.begins c.in_err-args.field-0.0
-    (missing_ending (ends_behind signs.OpenParen c.args.tokens.now (c.args.from + 1) (both identifier (look_rest c.args.word)) c.in_ok-expect.ensures.ok.1)
+    (missing_ending (ends_behind (kinds.Sign signs.OpenParen) c.args.tokens.now (c.args.from + 1) (both identifier (look_rest c.args.word)) c.in_ok-expect.ensures.ok.1)
     c.in_err-args.field-0.0
     (missing_ending (ends_both identifier (look_rest c.args.word) (local_identifier c.in_ok-name.name) (rw (two c.args.from) at c.in_ok-name.ensures.ok))
     c.in_err-args.field-0.0 (rw (three c.args.from) at c.in_err-args.ensures.fault))))
@@ -276,7 +276,7 @@ primary::look-returns-in_err-args-clause-fault t c =
 pub primary::look-returns-clause-ok : goal.primary::look-returns-clause-ok
 primary::look-returns-clause-ok t c =
     rw c.look.ensures (read_opened (opens_look c.args.from c.args.word) c.requires.begins
-    (found_ending (ends_behind signs.OpenParen c.args.tokens.now (c.args.from + 1) (both identifier (look_rest c.args.word)) c.in_ok-expect.ensures.ok.1)
+    (found_ending (ends_behind (kinds.Sign signs.OpenParen) c.args.tokens.now (c.args.from + 1) (both identifier (look_rest c.args.word)) c.in_ok-expect.ensures.ok.1)
     (found_ending (ends_both identifier (look_rest c.args.word) (local_identifier c.in_ok-name.name) (rw (two c.args.from) at c.in_ok-name.ensures.ok))
     (rw (three c.args.from) at c.in_ok-args.ensures.ok))))
 
@@ -290,7 +290,7 @@ primary::named-returns-in_err-index-clause-fault t c =
     let bracket = c.if-is_sign.ensures.answer.0 refl in
     handed_on _ _ _ c.from_residual-in_err-index.ensures.1
     (refuse_produced (produces_element c.args.tokens.now c.args.from c.in_ok-name.name c.requires.begins c.in_ok-name.ensures.ok bracket) c.in_err-index.field-0.0
-    (missing_ending (ends_behind signs.OpenBracket c.args.tokens.now (c.args.from + 1) (closed signs.CloseBracket) bracket)
+    (missing_ending (ends_behind (kinds.Sign signs.OpenBracket) c.args.tokens.now (c.args.from + 1) (closed signs.CloseBracket) bracket)
     c.in_err-index.field-0.0 (rw (two c.args.from) at c.in_err-index.ensures.fault)))
 
 pub primary::named-returns-then-is_sign-clause-ok : goal.primary::named-returns-then-is_sign-clause-ok
@@ -299,7 +299,7 @@ primary::named-returns-then-is_sign-clause-ok t c =
     rw c.in_ok-element.ensures
     (read_produced (produces_element c.args.tokens.now c.args.from c.in_ok-name.name c.requires.begins c.in_ok-name.ensures.ok bracket)
     (λ others there. omega (arith, c.in_ok-index.ensures.ok.advances))
-    (found_ending (ends_behind signs.OpenBracket c.args.tokens.now (c.args.from + 1) (closed signs.CloseBracket) bracket)
+    (found_ending (ends_behind (kinds.Sign signs.OpenBracket) c.args.tokens.now (c.args.from + 1) (closed signs.CloseBracket) bracket)
     (rw (two c.args.from) at c.in_ok-index.ensures.ok)))
 
 pub primary::named-returns-in_err-attribute-clause-fault : goal.primary::named-returns-in_err-attribute-clause-fault

@@ -18,7 +18,7 @@ use Rattle.px_expr_parse.specs.Tail.{closed}
 use Rattle.px_plan_parse.specs.Part.{Anything, IsPart}
 use Rattle.px_plan_parse.specs.Start.{NoBranch, is_action, keyword_start}
 use Rattle.px_plan_parse.proofs.Blocks.{action_acts, actions_follow, block_tail, closing_no_branch, list_begins, makes_actions, makes_block, brace_closes}
-use Rattle.px_plan_parse.proofs.Bodies.{block_no_name, else_follows, end_follows, makes_branch, makes_else_ifs, makes_for, makes_guarded, makes_if, makes_inner, makes_named, makes_otherwise, makes_unlabelled, makes_update, makes_while, no_body, no_sort, one_else_if, joins_labelled, joins_plain}
+use Rattle.px_plan_parse.proofs.Bodies.{block_no_name, else_follows, end_follows, makes_branch, makes_else_ifs, makes_for, makes_guarded, makes_if, makes_inner, makes_named, makes_otherwise, makes_unlabelled, makes_update, makes_while, no_body, no_sort, one_else_if, ends_labelled, joins_plain}
 use Rattle.px_plan_parse.proofs.Globals.{lacks_here}
 use Rattle.px_plan_parse.proofs.Names.{name_missing}
 use Rattle.px_plan_parse.proofs.Parts.{front_ends, front_lacks, front_more, lack_before, lack_behind, lack_first, lack_first_of, lack_kind, lack_made, lack_narrowed, lack_present, lack_token, local_each, of_found, of_missing, part_absent, part_before, part_behind, part_made, part_narrowed, part_present, behind, joins_both, joins_both_of, lack_joined, part_joined}
@@ -208,12 +208,12 @@ action::action-returns-in_err-name-clause-fault t c =
 pub action::action-returns-in_err-body-2-clause-fault : goal.action::action-returns-in_err-body-2-clause-fault
 action::action-returns-in_err-body-2-clause-fault t c =
     handed_on _ _ _ c.from_residual-in_err-body-2.ensures.1
-    (lack_joined (joins_labelled c.args.tokens.now c.args.from c.in_ok-name.name c.in_ok-name.ensures.ok
+    (lack_made (ends_labelled c.args.tokens.now c.args.from c.in_ok-name.name c.in_ok-name.ensures.ok
     (c.if-is_sign.ensures.answer.0 refl)) c.in_err-body-2.ensures.fault)
 
 pub action::action-returns-then-is_sign-clause-ok : goal.action::action-returns-then-is_sign-clause-ok
 action::action-returns-then-is_sign-clause-ok t c =
-    rw c.action-then-is_sign.ensures (part_joined (joins_labelled c.args.tokens.now c.args.from c.in_ok-name.name c.in_ok-name.ensures.ok
+    rw c.action-then-is_sign.ensures (part_made (ends_labelled c.args.tokens.now c.args.from c.in_ok-name.name c.in_ok-name.ensures.ok
     (c.if-is_sign.ensures.answer.0 refl)) c.in_ok-body-2.ensures.ok)
 
 pub action::action-returns-in_err-body-3-clause-fault : goal.action::action-returns-in_err-body-3-clause-fault

@@ -6,8 +6,8 @@ use Rattle.px_syntax.specs.Expr.{term_of}
 use Rattle.px_expr_parse.specs.Verdict.{IsRefused}
 use Rattle.px_plan_parse.specs.Named.{written}
 use Rattle.px_plan_parse.specs.Part.{Anything}
-use Rattle.px_plan_parse.proofs.Names.{lack_value, later, name_missing, part_value, semicolon_ends, joins_answer}
-use Rattle.px_plan_parse.proofs.Parts.{lack_before, lack_token, of_read, of_refused, part_before, lack_joined, part_joined}
+use Rattle.px_plan_parse.proofs.Names.{lack_value, later, name_missing, part_value, semicolon_ends, ends_answer}
+use Rattle.px_plan_parse.proofs.Parts.{lack_before, lack_made, lack_token, of_read, of_refused, part_before, part_made}
 use Rattle.px_plan_parse.proofs.Starts.{name_here, start_name}
 use Rattle.px_expr_parse.proofs.Spans.{local_expression}
 use Rattle.px_plan_parse.proofs.named.written.Goals as goal
@@ -20,12 +20,12 @@ returns-in_err-name-clause-fault c =
 pub returns-in_err-args-clause-fault : goal.returns-in_err-args-clause-fault
 returns-in_err-args-clause-fault c =
     handed_on _ _ _ c.from_residual-in_err-args.ensures.1
-    (lack_joined (joins_answer c.args.tokens.now c.args.from c.in_ok-name.name c.in_ok-name.ensures.ok
+    (lack_made (ends_answer c.args.tokens.now c.args.from c.in_ok-name.name c.in_ok-name.ensures.ok
     (c.if-calls.ensures.0 refl).1) c.in_err-args.ensures.fault)
 
 pub returns-then-calls-clause-ok : goal.returns-then-calls-clause-ok
 returns-then-calls-clause-ok c =
-    rw c.answer.ensures (part_joined (joins_answer c.args.tokens.now c.args.from c.in_ok-name.name c.in_ok-name.ensures.ok
+    rw c.answer.ensures (part_made (ends_answer c.args.tokens.now c.args.from c.in_ok-name.name c.in_ok-name.ensures.ok
     (c.if-calls.ensures.0 refl).1) c.in_ok-args.ensures.ok)
 
 pub returns-in_err-value-clause-fault : goal.returns-in_err-value-clause-fault

@@ -7,7 +7,7 @@ use Rattle.px_session.proofs.reopening.run_recovered.Goals as goal
 
 pub returns-in-Ok-open-clause-compiled : goal.returns-in-Ok-open-clause-compiled
 returns-in-Ok-open-clause-compiled g c =
-    subst (λ text. IsCompiled text (tree_of c.in-Ok.started.0)) c.deref.ensures.value c.in-Ok.ensures.compiled
+    subst (λ text. IsCompiled text (tree_of c.in-Ok.started.plan)) c.deref.ensures.value c.in-Ok.ensures.compiled
 
 pub returns-in-Err-clause-why : goal.returns-in-Err-clause-why
 returns-in-Err-clause-why g c =
@@ -16,7 +16,7 @@ returns-in-Err-clause-why g c =
 
 pub returns-clause-why : goal.returns-clause-why
 returns-clause-why g c =
-    let tree = tree_of c.in-Ok.started.0 in
-    not_opened c.args.recovered.plan.items c.args.recovered.history.items tree (g.S.Stepper.state c.in-Ok.started.1).nodes c.in-Err-open.field-0.why
+    let tree = tree_of c.in-Ok.started.plan in
+    not_opened c.args.recovered.plan.items c.args.recovered.history.items tree (g.S.Stepper.state c.in-Ok.started.stepper).nodes c.in-Err-open.field-0.why
     c.into.result c.into.ensures (subst (λ text. IsCompiled text tree) c.deref.ensures.value c.in-Ok.ensures.compiled) c.in-Ok.ensures.nodes
     c.in-Err-open.ensures.refused.why

@@ -1,9 +1,9 @@
-use Rattle.std.proofs.Common.{◌≡◌, ℕ, List, ◌++◌, ◌∷◌, [], Some, length, cond, reverse, ap, sym, ◌∙◌, rules}
+use Rattle.std.proofs.Common.{◌≡◌, ℕ, List, ◌++◌, ◌∷◌, [], Some, length, cond, reverse, ap, ap₂, sym, ◌∙◌, rules}
 use Rattle.std.specs.Str.{bytes_eq}
 use Rattle.indexmap.specs.IndexMap.{get}
 use Rattle.px_check.specs.Scoped.{nearest_of}
 use Rattle.px_check.specs.declared.scoped.Shadowing.{Shadowing}
-use Rattle.px_check.proofs.Scoping.{linked_push, index_push}
+use Rattle.px_check.proofs.Scoping.{linked_push, index_push, meanings_push}
 use Rattle.px_check.proofs.scoped.Scoped.push.Goals as goal
 
 pub invariant_of-self-2 : goal.invariant_of-self-2
@@ -25,3 +25,12 @@ invariant_of-self-2 g c =
       linked_push items c.push_in_room.new.items.items entry pushed shadows c.self.invariant.0,
       index_push old c.insert.new.self items c.push_in_room.new.items.items entry pushed c.self.invariant.1 updated,
     )
+
+pub returns-clause-ok : goal.returns-clause-ok
+returns-clause-ok g c =
+    let items = c.self.inside.entries.items in
+    let entry : Shadowing g.row.T.Denot =
+    record { name = c.in_ok-own.own; meaning = c.args.meaning; shadowed = c.in_ok-shadowed.shadowed } in
+    let pushed : c.push_in_room.new.items.items ≡ items ++ entry ∷ [] = search rules in
+    meanings_push items c.push_in_room.new.items.items entry pushed
+    ∙ ap₂ (λ (name : List ℕ) (others : List (List ℕ × g.row.T.Denot)). (name, c.args.meaning) ∷ others) c.in_ok-own.ensures.copy c.self.view_is
