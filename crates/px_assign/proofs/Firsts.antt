@@ -1,6 +1,7 @@
 -- Who goes first of those that want a variable, and so who stays.
 use Rattle.std.proofs.Common.{◌≡◌, ◌≢◌, ℕ, zero, suc, ◌+◌, ◌<◌, length, take, get_or, filter, Bool, true, false, not, ◌&&◌, ◌||◌, List, [], ◌∷◌, ◌++◌, Option, Some, None, refl, ap, sym, ◌∙◌, subst, arith, inl, inr, if◌then◌else◌}
 use Rattle.std.specs.Prelude.{nat_eq}
+use Rattle.std.specs.Cmp.{nat_eq_equiv}
 use Rattle.std.specs.List.{list_any, All}
 use Rattle.std.proofs.lemmas.Bool.{and_parts, and_from, or_parts, or_from, or_cases, or_left, or_right, eqb-true, false_from_ne_true, false≢true}
 use Rattle.std.proofs.lemmas.Bool.Decides.{nat_tests}
@@ -22,9 +23,6 @@ other_way plan a b fails apart = grind (arith, nat_tests)
 
 pub not_itself : (plan : List Site) (a : ℕ) → goes_before plan a a ≡ false
 not_itself plan a = grind (arith, nat_tests)
-
-pub same_itself : (n : ℕ) → nat_eq n n ≡ true
-same_itself n = grind (arith, nat_tests)
 
 -- ---- tests of lists
 
@@ -61,7 +59,7 @@ after plan variable nodes node (Some other) false fails first = record {
       (ap (λ w. w && goes_before plan node other) fails);
 }
 after plan variable nodes node None true passes first = record {
-  among = list_any-append (nat_eq node) nodes (node ∷ []) ∙ or_right (list_any (nat_eq node) nodes) (nat_eq node node || false) (or_left (nat_eq node node) false (same_itself node));
+  among = list_any-append (nat_eq node) nodes (node ∷ []) ∙ or_right (list_any (nat_eq node) nodes) (nat_eq node node || false) (or_left (nat_eq node node) false (nat_eq_equiv.refl node));
   writer = passes;
   before = any_more (λ m. writes plan variable m && goes_before plan m node) nodes node false false
       (none_weaker (λ m. writes plan variable m && goes_before plan m node) (writes plan variable)
@@ -73,7 +71,7 @@ after plan variable nodes node (Some other) true passes first = by (goes_before 
     by : (is : Bool) → goes_before plan node other ≡ is
         → IsFirst plan variable (nodes ++ node ∷ []) (if is then Some node else Some other)
     by true sooner = record {
-      among = list_any-append (nat_eq node) nodes (node ∷ []) ∙ or_right (list_any (nat_eq node) nodes) (nat_eq node node || false) (or_left (nat_eq node node) false (same_itself node));
+      among = list_any-append (nat_eq node) nodes (node ∷ []) ∙ or_right (list_any (nat_eq node) nodes) (nat_eq node node || false) (or_left (nat_eq node node) false (nat_eq_equiv.refl node));
       writer = passes;
       before = any_more (λ m. writes plan variable m && goes_before plan m node) nodes node false false
           (none_weaker (λ m. writes plan variable m && goes_before plan m node) (λ m. writes plan variable m && goes_before plan m other)
@@ -110,7 +108,7 @@ first_or_kept plan variable node wanting (Some first) is among writer = by (nat_
         let later : goes_before plan node first ≡ false = false_from_ne_true (goes_before plan node first) (λ sooner.
         false≢true (sym is.before ∙ found_among (λ other. writes plan variable other && goes_before plan other first) node wanting among
         (and_from (writes plan variable node) (goes_before plan node first) writer sooner))) in
-        let apart : node ≢ first = λ same. false≢true (sym differ ∙ (ap (λ n. nat_eq first n) same ∙ same_itself first)) in
+        let apart : node ≢ first = λ same. false≢true (sym differ ∙ (ap (λ n. nat_eq first n) same ∙ nat_eq_equiv.refl first)) in
         sym (found_among (λ other. writes plan variable other && goes_before plan other node) first wanting is.among
         (and_from (writes plan variable first) (goes_before plan first node) is.writer (other_way plan node first later apart)))
 
@@ -125,7 +123,7 @@ stays_as_loser plan wanting holding held first node holders firsts among = by (v
         → stays held first node variable ≡ of_variable (is_kept_from plan wanting holding node) variable
     by None is = refl
     by (Some variable) is =
-        let writer : writes plan variable node ≡ true = ap (of_variable (nat_eq variable)) is ∙ same_itself variable in
+        let writer : writes plan variable node ≡ true = ap (of_variable (nat_eq variable)) is ∙ nat_eq_equiv.refl variable in
         rw (
           holders variable,
           first_or_kept plan variable node wanting (first variable) (firsts variable) among writer,

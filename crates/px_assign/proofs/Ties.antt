@@ -1,6 +1,7 @@
 -- In a world where just these want to start and hold their variables, losers by number are those of the semantics.
 use Rattle.std.proofs.Common.{◌≡◌, ◌≢◌, ℕ, zero, suc, ◌+◌, ◌<◌, Bool, true, false, not, ◌&&◌, ◌||◌, cond, List, [], ◌∷◌, length, get_or, filter, is_some, refl, ap, sym, ◌∙◌, subst, arith, inl, inr, Option, Some, None}
 use Rattle.std.specs.Prelude.{nat_eq, nat_lt}
+use Rattle.std.specs.Cmp.{nat_eq_equiv}
 use Rattle.std.specs.List.{list_any, position_or_len, All}
 use Rattle.std.specs.Option.{option_map}
 use Rattle.std.specs.Cmp.Lexicographic.{same_text}
@@ -21,7 +22,7 @@ use Rattle.px_flat.specs.Row.{site_in}
 use Rattle.px_flat.proofs.Known.{IsSound}
 use Rattle.px_flat.proofs.Variables.{IsDeclared, target_declared, one_variable}
 use Rattle.px_assign.specs.Conflicts.{written, variable_of, of_variable, writes, goes_before, is_kept_from, is_loser, is_writer, AreWriters}
-use Rattle.px_assign.proofs.Firsts.{same_itself, not_itself, found_among}
+use Rattle.px_assign.proofs.Firsts.{not_itself, found_among}
 
 -- ---- tests
 
@@ -163,7 +164,7 @@ kept_by_holder plan world wanting holding node target kept k inside passes =
     let there : other < length plan = kept.all_hold k 0 inside in
     let holds : holds_variable world (site_in plan other) ≡ true =
     sym (kept.are.holds other there (writes_writer plan (first_of plan target) other passes))
-    ∙ list_any_at (nat_eq other) holding k 0 inside (same_itself other) in
+    ∙ list_any_at (nat_eq other) holding k 0 inside (nat_eq_equiv.refl other) in
     let waits = and_parts (is_waiting (state_at world (site_in plan node).path)) _ kept.start in
     list_any_at (keeps_back plan world target (site_in plan node)) plan other no_site there
     (keeps_from plan world target (site_in plan node) (site_in plan other)
@@ -183,7 +184,7 @@ kept_by_wanter plan world wanting holding node target kept k inside passes =
     let there : other < length plan = kept.all_want k 0 inside in
     let both = and_parts (writes plan (first_of plan target) other) (goes_before plan other node) passes in
     let starts : would_start plan world (site_in plan other) ≡ true =
-    kept.are.starts other there (list_any_at (nat_eq other) wanting k 0 inside (same_itself other)) in
+    kept.are.starts other there (list_any_at (nat_eq other) wanting k 0 inside (nat_eq_equiv.refl other)) in
     list_any_at (keeps_back plan world target (site_in plan node)) plan other no_site there
     (keeps_from plan world target (site_in plan node) (site_in plan other)
     (sym (writes_alike plan target other kept.sound kept.declared there) ∙ both.0)
@@ -288,4 +289,4 @@ losers_alike plan world wanting holding sound all_want all_hold are =
     let node : ℕ = get_or wanting k 0 in
     let there : node < length plan = all_want k 0 inside in
     loser_alike plan world wanting holding node sound there all_want all_hold are
-    (are.starts node there (list_any_at (nat_eq node) wanting k 0 inside (same_itself node))))
+    (are.starts node there (list_any_at (nat_eq node) wanting k 0 inside (nat_eq_equiv.refl node))))

@@ -1,6 +1,7 @@
 -- The distinct tolerances, one after another.
 use Rattle.std.proofs.Common.{◌≡◌, ℕ, ◌+◌, Bool, true, false, nat_eq, nat_lt, ◌==◌, List, [], ◌∷◌, ◌++◌, length, Option, Some, None, is_some, if◌then◌else◌, ◌≤◌, ◌||◌, ◌⊎◌, inl, inr, refl, ◌∙◌, arith}
 use Rattle.std.proofs.lemmas.Bool.Decides.{nat_tests}
+use Rattle.std.specs.Cmp.{nat_eq_equiv}
 use Rattle.std.specs.List.{list_any}
 use Rattle.px_syntax.specs.declared.expr.Tolerance.{Tolerance}
 use Rattle.px_syntax.specs.declared.fault.FaultKind.TheVariants.{TooLarge}
@@ -38,13 +39,10 @@ passed_met before (tolerance ∷ tolerances) =
 
 -- ---- one more
 
-same_either : (x y : ℕ) → nat_eq x y ≡ nat_eq y x
-same_either x y = grind (arith, nat_tests)
-
 known_either : (distance : ℕ) (before : List ℕ)
     → list_any (nat_eq distance) before ≡ list_any (λ other. nat_eq other distance) before
 known_either distance [] = refl
-known_either distance (first ∷ rest) = λ i. same_either distance first i || known_either distance rest i
+known_either distance (first ∷ rest) = λ i. nat_eq_equiv.symm distance first i || known_either distance rest i
 
 abbrev met : List ℕ → Option ℕ → Met
 met before passed = record { before = before; passed = passed }

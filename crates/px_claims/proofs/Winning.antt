@@ -25,7 +25,7 @@ use Rattle.px_tally.proofs.Counting.{none-count, count-none}
 use Rattle.px_assign.specs.Claims.{is_node}
 use Rattle.px_assign.specs.Conflicts.{variable_of, of_variable, writes, goes_before, is_kept_from, is_loser, is_loser_in, is_writer, AreWriters}
 use Rattle.px_assign.proofs.Ties.{loser_alike}
-use Rattle.px_assign.proofs.Firsts.{found_among, other_way, same_itself}
+use Rattle.px_assign.proofs.Firsts.{found_among, other_way}
 use Rattle.px_claims.specs.Claims.{numbers_in, starts_in}
 use Rattle.px_claims.specs.Keeping.{HoldsContested, is_contested}
 use Rattle.px_claims.proofs.Variables.{IsTallyOf}
@@ -123,7 +123,7 @@ found_once found tells (cell ∷ cells) told once =
         let among : list_any (nat_eq other) cells ≡ true =
         list_any_at (nat_eq other) cells again.0 other again.2 (eq-eqb other (get_or cells again.0 other) (sym again.3)) in
         let one : cell ≡ other = same_Some cell other
-        (sym (told cell node (or_left (nat_eq cell cell) (list_any (nat_eq cell) cells) (same_itself cell)) is)
+        (sym (told cell node (or_left (nat_eq cell cell) (list_any (nat_eq cell) cells) (nat_eq_equiv.refl cell)) is)
         ∙ told other node (or_right (nat_eq other cell) (list_any (nat_eq other) cells) among)
         (found_here node (found other) again.4)) in
         once 0 (suc again.0) other (omega arith) (omega (arith, again.2)) (one ∙ sym again.3))
@@ -154,7 +154,7 @@ writes_is plan variable node passes = by (variable_of plan node) passes
     by (Some own) passes = ap Some (sym (eqb-true variable own passes))
 
 is_written : (plan : List Site) (variable node : ℕ) → variable_of plan node ≡ Some variable → writes plan variable node ≡ true
-is_written plan variable node is = ap (of_variable (nat_eq variable)) is ∙ same_itself variable
+is_written plan variable node is = ap (of_variable (nat_eq variable)) is ∙ nat_eq_equiv.refl variable
 
 module _ (plan : List Site) (writers : List Writer) (are : AreInOrder plan writers) (wanting holding : TallyData)
     (wanted : IsTallyOf plan wanting) (held : IsTallyOf plan holding) (links : LinksData)
@@ -325,7 +325,7 @@ module _ (plan : List Site) (writers : List Writer) (are : AreInOrder plan write
   pub within : All (λ node. node < length plan) winners
   within k d inside =
       let node : ℕ = get_or winners k d in
-      (wins node (list_any_at (nat_eq node) winners k d inside (same_itself node))).first.within
+      (wins node (list_any_at (nat_eq node) winners k d inside (nat_eq_equiv.refl node))).first.within
 
   pub each : (node : ℕ) → node < length plan → list_any (nat_eq node) winners ≡ wins_here node
   each node there = same_bool (list_any (nat_eq node) winners) (wins_here node) (λ among. won node (wins node among))
@@ -364,7 +364,7 @@ module _ (plan : List Site) (wants holds : List Bool) (sound : IsSound plan) (lo
     to is =
         let both = and_parts (get_or wants node false) (is_writer plan node && not (loses node)) is in
         let rest = and_parts (is_writer plan node) (not (loses node)) both.1 in
-        let start = are.starts node within (among_numbers wants (nat_eq node) node both.0 (same_itself node)) in
+        let start = are.starts node within (among_numbers wants (nat_eq node) node both.0 (nat_eq_equiv.refl node)) in
         and_from (would_start plan world (site_in plan node)) (is_writer plan node && not (is_loser_in plan world node)) start
         (and_from (is_writer plan node) (not (is_loser_in plan world node)) rest.0 (ap not (sym (alike start)) ∙ rest.1))
 

@@ -11,7 +11,7 @@ use Rattle.px_event.specs.declared.reply.Reply.TheVariants as replies
 use Rattle.px_journal.specs.Journal.{IsReady, IsReadyAs, with_name}
 use Rattle.px_journal.specs.declared.journal.Journal.{Journal}
 use Rattle.px_journal.proofs.Going.{rose_on, goes_none, goes_then, goes_told}
-use Rattle.px_journal.proofs.Moments.{left_now}
+use Rattle.px_journal.proofs.Moments.{grows_length, told_since}
 use Rattle.px_ports.specs.declared.disk.Disk
 use Rattle.px_sem.specs.Log.{Log, is_accepted, accepted, events_of, answer, world_after, AnswersEach}
 use Rattle.px_sem.specs.Run.{run}
@@ -180,7 +180,7 @@ module _ {S D : Type 0} (runs : Stepper.Ghosts S) (members : Disk.Ghosts D) wher
       counted = omega arith;
       now = λ tells text is image left.
           let told = told_of (members.content old.journal.disk) (keeps.goes.tells ∙ tells) in
-          (adds.whole_or_not text old.history (was.stands text is) (told.0) (told.1)).each image (left_now members.images _ _ image adds.goes.grows left);
+          (adds.whole_or_not text old.history (was.stands text is) (told.0) (told.1)).each image (told_since members.images _ image _ (grows_length _ _ adds.goes.grows) left);
       since = λ tells text is.
           let told = told_of (members.content old.journal.disk) (keeps.goes.tells ∙ tells) in
           within_more members.images text old.opening.history old.history (accepted old.log) entry _ _ _ keeps.grown (was.since tells text is)

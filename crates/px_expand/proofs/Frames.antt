@@ -4,6 +4,7 @@ use Rattle.std.specs.Prelude.{◌||◌}
 use Rattle.std.specs.List.{list_any, find}
 use Rattle.std.specs.Option.{option_map_or}
 use Rattle.std.specs.Str.{bytes_eq}
+use Rattle.std.proofs.lemmas.Cmp.{nat_list_eq_equiv}
 use Rattle.std.proofs.lemmas.Bool.{and_parts, false≢true}
 use Rattle.std.proofs.lemmas.Slice.Eq.{bytes_eq-Decides}
 use Rattle.px_value.specs.Name.{is_identifier}
@@ -20,7 +21,7 @@ use Rattle.px_scope.specs.Actions.{kind_of}
 use Rattle.px_expand.specs.Kinds.{Shape, Rest, OneAction, Children, shape_of}
 use Rattle.px_forms.specs.Nodes.{Place, child}
 use Rattle.px_scope.specs.Scope.{Scope}
-use Rattle.px_expand.proofs.Naming.{are_identifiers, differs_from_hash, names_from}
+use Rattle.px_expand.proofs.Naming.{are_identifiers, hash_differs, names_from}
 use Rattle.px_expand.proofs.Seen.{HasHead, AgreesOn}
 use Rattle.px_expand.proofs.Sound.{body_named}
 use Rattle.px_expand.proofs.Within.{IsWithin, own_within, others_within}
@@ -109,12 +110,12 @@ module _ (whole : List Site) where
         → AgreesOn whole name found (cond (is_same name other || among) (Some (at name)) None)
     unlabelled_agrees name other None among none more =
         λ identifier.
-        ap (λ test. cond (test || among) (Some (at name)) None) (differs_from_hash other name none identifier) ∙ more identifier
+        ap (λ test. cond (test || among) (Some (at name)) None) (nat_list_eq_equiv.symm name other ∙ hash_differs other name none identifier) ∙ more identifier
     unlabelled_agrees name other (Some head) among none more = record {
       identifier = more.identifier;
       path = more.path;
       is =
-          ap (λ test. cond (test || among) (Some (at name)) None) (differs_from_hash other name none more.identifier)
+          ap (λ test. cond (test || among) (Some (at name)) None) (nat_list_eq_equiv.symm name other ∙ hash_differs other name none more.identifier)
           ∙ more.is;
       has = more.has;
     }

@@ -1,9 +1,10 @@
 -- Identifiers are no generated names, and nodes side by side in a tree without faults differ in name.
-use Rattle.std.proofs.Common.{◌≡◌, ℕ, suc, ◌+◌, ◌<◌, ◌^◌, Bool, true, false, not, List, [], ◌∷◌, Option, Some, None, refl, sym, ap, ◌∙◌, arith}
+use Rattle.std.proofs.Common.{◌≡◌, ℕ, suc, ◌+◌, ◌<◌, ◌^◌, Bool, true, false, not, List, [], ◌∷◌, Option, Some, None, refl, ap, ◌∙◌, arith}
 use Rattle.std.specs.Prelude.{decimal}
 use Rattle.std.specs.List.{list_any, list_all}
 use Rattle.std.specs.Option.{option_to_list}
 use Rattle.std.proofs.lemmas.Bool.{and_from, and_parts, or_from, not_from_false, not-true, false_from_ne_true, both_ways}
+use Rattle.std.proofs.lemmas.Cmp.{nat_list_eq_equiv}
 use Rattle.std.proofs.lemmas.Fmt.{decimal_injective}
 use Rattle.std.proofs.lemmas.Slice.Eq.{bytes_eq-Decides}
 use Rattle.px_value.specs.Name.{is_identifier, generated_name}
@@ -27,11 +28,6 @@ hash_differs hash name none identifier =
     false_from_ne_true _ (λ same.
     both_ways (is_identifier hash) none (ap is_identifier ((bytes_eq-Decides hash name).0 same) ∙ identifier))
 
-pub differs_from_hash : (hash name : List ℕ) → is_identifier hash ≡ false → is_identifier name ≡ true → is_same name hash ≡ false
-differs_from_hash hash name none identifier =
-    false_from_ne_true _ (λ same.
-    both_ways (is_identifier hash) none (ap is_identifier (sym ((bytes_eq-Decides name hash).0 same)) ∙ identifier))
-
 -- a name that is no identifier differs from that of a node with a label, or without one by another name
 pub hash_from_named : (hash : List ℕ) (label : Option Identifier) (unlabelled : List ℕ) → is_identifier hash ≡ false
     → are_identifiers (option_to_list label) ≡ true → is_same hash unlabelled ≡ false
@@ -39,13 +35,6 @@ pub hash_from_named : (hash : List ℕ) (label : Option Identifier) (unlabelled 
 hash_from_named hash None unlabelled none identifiers other = other
 hash_from_named hash (Some label) unlabelled none identifiers other =
     hash_differs hash label.name none (and_parts (is_identifier label.name) true identifiers).0
-
-pub named_from_hash : (hash : List ℕ) (label : Option Identifier) (unlabelled : List ℕ) → is_identifier hash ≡ false
-    → are_identifiers (option_to_list label) ≡ true → is_same unlabelled hash ≡ false
-    → is_same (named label unlabelled) hash ≡ false
-named_from_hash hash None unlabelled none identifiers other = other
-named_from_hash hash (Some label) unlabelled none identifiers other =
-    differs_from_hash hash label.name none (and_parts (is_identifier label.name) true identifiers).0
 
 -- ---- actions
 
@@ -80,7 +69,9 @@ label_among : (name : List ℕ) (place : ℕ) (actions : Actions) → is_identif
     → list_any (is_same name) (names_from place actions) ≡ list_any (is_same name) (names (action_labels actions))
 label_among name place NoActions identifier = refl
 label_among name place (More (Labelled None body) rest) identifier =
-    rw (differs_from_hash (generated_name place) name refl identifier) (label_among name (suc place) rest identifier)
+    let differs : is_same name (generated_name place) ≡ false =
+    nat_list_eq_equiv.symm name (generated_name place) ∙ hash_differs (generated_name place) name refl identifier in
+    rw differs (label_among name (suc place) rest identifier)
 label_among name place (More (Labelled (Some label) body) rest) identifier =
     rw (label_among name (suc place) rest identifier)
 

@@ -14,15 +14,12 @@ use Rattle.px_expand.specs.Size.{actions_nodes, action_nodes, body_nodes, guarde
 
 module _ (actions : List Action) (index : ℕ) (action : Action) (within : index < length actions)
     (is : action ≡ get_or actions index action) where
-  cut : drop index actions ≡ action ∷ drop (index + 1) actions
-  cut = cut_at actions index action within is
-
   pub action_counted :
       actions_nodes (actions_in_turn (map action_of (drop index actions)))
       ≡ body_nodes (body_of (out-Action action).body)
       + actions_nodes (actions_in_turn (map action_of (drop (index + 1) actions)))
   action_counted =
-      ap (λ left. actions_nodes (actions_in_turn (map action_of left))) cut
+      ap (λ left. actions_nodes (actions_in_turn (map action_of left))) (cut_at actions index action within is)
       ∙ ap (λ tree. action_nodes tree + actions_nodes (actions_in_turn (map action_of (drop (index + 1) actions))))
       (action_is action)
 
@@ -33,7 +30,7 @@ module _ (actions : List Action) (index : ℕ) (action : Action) (within : index
       (actions_reach (suc (place + 1)) (actions_in_turn (map action_of (drop (index + 1) actions))))
   action_reached place =
       let rest = actions_in_turn (map action_of (drop (index + 1) actions)) in
-      ap (λ left. actions_reach (suc place) (actions_in_turn (map action_of left))) cut
+      ap (λ left. actions_reach (suc place) (actions_in_turn (map action_of left))) (cut_at actions index action within is)
       ∙ ap (λ tree. max (through (name_of (suc place) tree) (action_reach tree)) (actions_reach (suc (suc place)) rest))
       (action_is action)
       ∙ ap

@@ -3,6 +3,7 @@
 use Rattle.std.proofs.Common.{◌≡◌, ℕ, suc, ◌≤◌, Bool, true, false, not, List, [], ◌∷◌, ◌++◌, Option, Some, None, refl, sym, ap, ◌∙◌, arith}
 use Rattle.std.specs.List.{list_any}
 use Rattle.std.specs.Option.{option_to_list, is_some}
+use Rattle.std.proofs.lemmas.Cmp.{nat_list_eq_equiv}
 use Rattle.std.proofs.lemmas.Bool.{and_from, and_parts, cond_both, or_from, or_parts, not-true, not_from_false}
 use Rattle.std.proofs.lemmas.List.Folds.{list_all-append}
 use Rattle.px_value.proofs.General.{neither}
@@ -40,7 +41,7 @@ use Rattle.px_expand.specs.Typed.{is_typed}
 use Rattle.px_expand.proofs.Apart.{all_apart}
 use Rattle.px_expand.proofs.Declaring.{IsDeclared, items_declared}
 use Rattle.px_expand.proofs.Faultless.{has_none}
-use Rattle.px_expand.proofs.Naming.{are_identifiers, hash_from_named, named_from_hash, names_from, actions_differ}
+use Rattle.px_expand.proofs.Naming.{are_identifiers, hash_from_named, names_from, actions_differ}
 use Rattle.px_expand.proofs.Sizes.{actions_some, actions_few}
 
 -- ---- nodes
@@ -197,12 +198,6 @@ hash_from_branch : (hash unlabelled : List ℕ) (branch : BranchTree) → is_ide
 hash_from_branch hash unlabelled (Branch label block) none all other =
     hash_from_named hash label unlabelled none (both_labels (option_to_list label) (block_labels block) all).0 other
 
-branch_from_hash : (hash unlabelled : List ℕ) (branch : BranchTree) → is_identifier hash ≡ false
-    → are_identifiers (branch_labels branch) ≡ true → is_same unlabelled hash ≡ false
-    → is_same (branch_name unlabelled branch) hash ≡ false
-branch_from_hash hash unlabelled (Branch label block) none all other =
-    named_from_hash hash label unlabelled none (both_labels (option_to_list label) (block_labels block) all).0 other
-
 last_differs : (label : Option Identifier) (otherwise : ElseTree)
     → redeclared (option_to_list label ++ else_label otherwise) ≡ []
     → are_identifiers (option_to_list label) ≡ true → are_identifiers (else_labels otherwise) ≡ true
@@ -215,7 +210,7 @@ last_differs None (Else (Branch (Some second) block)) none own other =
     (hash_from_named then_name (Some second) else_name refl labels.0 refl)
 last_differs (Some first) (Else (Branch None block)) none own other =
     three_differ set_name first.name else_name (hash_from_named set_name (Some first) then_name refl own refl) refl
-    (named_from_hash else_name (Some first) then_name refl own refl)
+    (nat_list_eq_equiv.symm first.name else_name ∙ hash_from_named else_name (Some first) then_name refl own refl)
 last_differs (Some first) (Else (Branch (Some second) block)) none own other =
     let labels = both_labels (second ∷ []) (block_labels block) other in
     let apart = and_parts (not (list_any (is_same first.name) (second.name ∷ []))) _ (all_apart (first ∷ second ∷ []) none) in
@@ -232,7 +227,7 @@ if_differs (Guarded test (Branch label block)) NoElseIfs otherwise none own othe
 if_differs (Guarded test (Branch label block)) (ElseIf next others) otherwise none own other =
     let labels = both_labels (option_to_list label) (block_labels block) own in
     three_differ set_name (named label then_name) else_name (hash_from_named set_name label then_name refl labels.0 refl) refl
-    (named_from_hash else_name label then_name refl labels.0 refl)
+    (nat_list_eq_equiv.symm (named label then_name) else_name ∙ hash_from_named else_name label then_name refl labels.0 refl)
 
 -- ---- all nodes
 
@@ -339,7 +334,7 @@ mutual
       (list_sound refl refl (one_declared test_variable refl refl)
       (ap (λ text. all_differ (set_name ∷ text ∷ step_name ∷ [])) (branch_named inner at branch)
       ∙ three_differ set_name (branch_name body_name branch) step_name (hash_from_branch set_name body_name branch refl good.labels refl) refl
-      (branch_from_hash step_name body_name branch refl good.labels refl)) (
+      (nat_list_eq_equiv.symm (branch_name body_name branch) step_name ∙ hash_from_branch step_name body_name branch refl good.labels refl)) (
         record { lists = refl; siblings = refl; body = refl; declared = none_declared },
         tt,
         (own.0, own.1, leaf_sound refl none_declared),

@@ -75,16 +75,13 @@ module _ (there : Reference → Bool) where
       let parts = and_parts (there (Node path)) (are_nodes paths) are in
       and_from _ _ (says path parts.0) (each_said say says paths parts.1)
 
-  all_done : (paths : List (List ℕ)) → are_nodes paths ≡ true → speaks (all (map done paths)) ≡ true
-  all_done paths are = joined_speaks And true (map done paths) (each_said done done_speaks paths are)
+  pub finished_speaks : (paths : List (List ℕ)) → are_nodes paths ≡ true → speaks (each_finished paths) ≡ true
+  finished_speaks paths are = joined_speaks And true (map done paths) (each_said done done_speaks paths are)
 
   some_ended : (outcome : Outcome) (paths : List (List ℕ)) → are_nodes paths ≡ true
       → speaks (some (map (ended outcome) paths)) ≡ true
   some_ended outcome paths are =
       joined_speaks Or false (map (ended outcome) paths) (each_said (ended outcome) (ended_speaks outcome) paths are)
-
-  pub finished_speaks : (paths : List (List ℕ)) → are_nodes paths ≡ true → speaks (each_finished paths) ≡ true
-  finished_speaks = all_done
 
   -- ---- conditions
 
@@ -136,7 +133,7 @@ module _ (there : Reference → Bool) where
     start = own.start;
     end =
         unwrapped given.end (Binary Or (some (map won paths)) (all (map done paths))) own.end
-        (both_speak Or (some (map won paths)) (all (map done paths)) (some_ended outcomes.Success paths are) (all_done paths are));
+        (both_speak Or (some (map won paths)) (all (map done paths)) (some_ended outcomes.Success paths are) (finished_speaks paths are));
     exit = own.exit;
     skip = own.skip;
     repeat = own.repeat;

@@ -138,7 +138,7 @@ all_added names (name ∷ more) =
         (or_left (is_same name name) false (same-self name))
 
 -- of all names those of one node
-part_passes : {X : Type 0} (p : List ℕ → Bool) (f : X → List (List ℕ)) (xs : List X) (i : ℕ) (d : X)
+pub part_passes : {X Y : Type 0} (p : Y → Bool) (f : X → List Y) (xs : List X) (i : ℕ) (d : X)
     → list_all p (flat_map f xs) ≡ true → i < length xs → list_all p (f (get_or xs i d)) ≡ true
 part_passes p f [] i d all within = absurd (omega arith)
 part_passes p f (x ∷ xs) zero d all within =

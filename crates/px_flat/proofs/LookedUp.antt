@@ -4,18 +4,11 @@ use Rattle.std.specs.List.{cons_option, flat_map}
 use Rattle.std.proofs.lemmas.Grind.{common_steps}
 use Rattle.std.proofs.lemmas.List.Folds.{flat_map-map}
 use Rattle.std.proofs.lemmas.List.{take_all}
-use Rattle.std.proofs.lemmas.List.Sums.{fold-append}
 use Rattle.px_core.specs.Expr.{Term, in_turn}
 use Rattle.px_sem.specs.Tolerances.{tolerances_in, tolerances_in_each, with_tolerance}
-use Rattle.px_flat.specs.Lookups.{with_name, lookups_in, lookups_in_each}
-
-pub names_then : (names one more : List (List ℕ))
-    → fold with_name names (one ++ more) ≡ fold with_name (fold with_name names one) more
-names_then names one more = fold-append with_name names one more
-
-pub tolerances_then : (tolerances one more : List ℕ)
-    → fold with_tolerance tolerances (one ++ more) ≡ fold with_tolerance (fold with_tolerance tolerances one) more
-tolerances_then tolerances one more = fold-append with_tolerance tolerances one more
+use Rattle.px_flat.specs.Lookups.{lookups_in, lookups_in_each}
+-- std's, by a name that a function's search can be given
+pub use Rattle.std.proofs.lemmas.List.Sums.{fold-append as fold_append}
 
 pub each_lookup : (terms : List Term) → lookups_in_each (in_turn terms) ≡ flat_map lookups_in terms
 each_lookup [] = refl

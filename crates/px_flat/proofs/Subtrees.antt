@@ -207,10 +207,10 @@ split_at above (Branch head children rest) i stem differ within =
 
 -- ---- those below a node
 
-one_fails : (p : Site → Bool) (sites : List Site) (i : ℕ) → list_any p sites ≡ false → i < length sites
-    → p (get_or sites i no_site) ≡ false
-one_fails p sites i none within =
-    false_from_ne_true (p (get_or sites i no_site)) (λ is. true≢false (sym (list_any_at p sites i no_site within is) ∙ none))
+pub one_fails : {X : Type 0} (p : X → Bool) (xs : List X) (i : ℕ) (d : X) → list_any p xs ≡ false → i < length xs
+    → p (get_or xs i d) ≡ false
+one_fails p xs i d none within =
+    false_from_ne_true (p (get_or xs i d)) (λ is. true≢false (sym (list_any_at p xs i d within is) ∙ none))
 
 first_of_none : (p : Site → Bool) (sites : List Site) → list_any p sites ≡ false → FirstFails p sites
 first_of_none p [] none = tt
@@ -272,7 +272,7 @@ below_split plan node other split within =
     by (inl before) order last =
         asked
         ∙ ap p (get_or_append_left split.front (split.site ∷ more) no_site other (omega (arith, split.long)))
-        ∙ one_fails p split.front other split.none_before (omega (arith, split.long))
+        ∙ one_fails p split.front other no_site split.none_before (omega (arith, split.long))
         ∙ sym (ap (λ b. b && nat_lt other (after_last plan node)) (le-ltb node other (omega arith)))
     by (inr from) (inr to) last =
         let same : other ≡ length split.front = omega (arith, split.long) in
@@ -293,7 +293,7 @@ below_split plan node other split within =
         let far : other ≡ suc node + (length split.inner + k) = omega (arith, end) in
         asked
         ∙ ap p (behind_it (length split.inner + k) far ∙ get_or-append-add split.inner split.behind k no_site)
-        ∙ one_fails p split.behind k split.none_behind (omega (arith, end, all))
+        ∙ one_fails p split.behind k no_site split.none_behind (omega (arith, end, all))
         ∙ sym (λ i. lt-ltb node other past i && le-ltb other (after_last plan node) outside i)
 
 -- in a fit plan whose paths differ

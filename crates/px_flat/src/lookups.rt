@@ -57,7 +57,7 @@ fn add_each(alloc: Global, exprs: &[Expr], names: &mut IndexSet<Name>) -> Result
     Ok(())
 }
 
-#[tactic(auto, using(crate::proofs::LookedUp::names_then))]
+#[tactic(auto, using(crate::proofs::LookedUp::fold_append))]
 fn add_conditions(
     alloc: Global,
     conditions: &Conditions,
@@ -96,7 +96,7 @@ fn add_pairs(alloc: Global, pairs: &[Pair], names: &mut IndexSet<Name>) -> Resul
     Ok(())
 }
 
-#[tactic(auto, using(crate::proofs::LookedUp::names_then))]
+#[tactic(auto, using(crate::proofs::LookedUp::fold_append))]
 fn add_body(alloc: Global, body: &Body, names: &mut IndexSet<Name>) -> Result<(), NoMemory>
     ensures { OnOk result (names.new.keys ≡ fold with_name names.old.keys (lookups_in_body (body_data body.now))) }
 {
@@ -117,7 +117,7 @@ fn add_body(alloc: Global, body: &Body, names: &mut IndexSet<Name>) -> Result<()
     Ok(())
 }
 
-#[tactic(auto, using(crate::proofs::LookedUp::names_then))]
+#[tactic(auto, using(crate::proofs::LookedUp::fold_append))]
 fn add_node(alloc: Global, node: &CoreNode, names: &mut IndexSet<Name>) -> Result<(), NoMemory>
     ensures { OnOk result (names.new.keys
         ≡ fold with_name names.old.keys (lookups_in_head (head_of (out-CoreNode node.now)))) }

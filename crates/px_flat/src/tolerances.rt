@@ -87,7 +87,7 @@ fn add_each(exprs: &[Expr], tolerances: &mut Vec<u32>) -> Result<(), NoMemory>
     Ok(())
 }
 
-#[tactic(auto, using(crate::proofs::LookedUp::tolerances_then))]
+#[tactic(auto, using(crate::proofs::LookedUp::fold_append))]
 fn add_conditions(conditions: &Conditions, tolerances: &mut Vec<u32>) -> Result<(), NoMemory>
     ensures { OnOk result (tolerances.new.items ≡ fold with_tolerance tolerances.old.items
         (flat_map tolerances_in (terms_of_conditions (condition_terms conditions.now)))) }
@@ -122,7 +122,7 @@ fn add_pairs(pairs: &[Pair], tolerances: &mut Vec<u32>) -> Result<(), NoMemory>
     Ok(())
 }
 
-#[tactic(auto, using(crate::proofs::LookedUp::tolerances_then))]
+#[tactic(auto, using(crate::proofs::LookedUp::fold_append))]
 fn add_body(body: &Body, tolerances: &mut Vec<u32>) -> Result<(), NoMemory>
     ensures { OnOk result (tolerances.new.items ≡ fold with_tolerance tolerances.old.items (tolerances_in_body (body_data body.now))) }
 {
@@ -143,7 +143,7 @@ fn add_body(body: &Body, tolerances: &mut Vec<u32>) -> Result<(), NoMemory>
     Ok(())
 }
 
-#[tactic(auto, using(crate::proofs::LookedUp::tolerances_then))]
+#[tactic(auto, using(crate::proofs::LookedUp::fold_append))]
 fn add_node(node: &CoreNode, tolerances: &mut Vec<u32>) -> Result<(), NoMemory>
     ensures { OnOk result (tolerances.new.items
         ≡ fold with_tolerance tolerances.old.items (tolerances_in_head (head_of (out-CoreNode node.now)))) }

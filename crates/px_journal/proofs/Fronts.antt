@@ -12,10 +12,6 @@ pub same_part : (n k m : ℕ) (a b : List ℕ) → take n a ≡ take n b → k +
 same_part n k m a b same fits =
     sym (drop-take k m a) ∙ ap (λ (l : List ℕ). drop k l) (sym (take-take (k + m) n a fits) ∙ ap (λ (l : List ℕ). take (k + m) l) same ∙ take-take (k + m) n b fits) ∙ drop-take k m b
 
--- the same in what is left of them
-pub same_rest : (n k : ℕ) (a b : List ℕ) → take n a ≡ take n b → k ≤ n → take (n - k) (drop k a) ≡ take (n - k) (drop k b)
-same_rest n k a b same fits = same_part n k (n - k) a b same (omega arith)
-
 is_open-front : (a b : List ℕ) → take 1 a ≡ take 1 b → is_open a ≡ is_open b
 is_open-front a b same = search rules
 
@@ -34,7 +30,7 @@ module _ (version : Version) where
   Records-local n (entry ∷ later) a b same fits records = (
     Opens-local n (record_bytes version entry) a b same (omega (arith, fits)) records.0,
     Records-local (n - (1 + length (record_bytes version entry))) later (drop (1 + length (record_bytes version entry)) a) (drop (1 + length (record_bytes version entry)) b)
-        (same_rest n (1 + length (record_bytes version entry)) a b same (omega (arith, fits))) (omega (arith, fits)) records.1,
+        (same_part n (1 + length (record_bytes version entry)) (n - (1 + length (record_bytes version entry))) a b same (omega (arith, fits))) (omega (arith, fits)) records.1,
   )
 
   pub Front-local : (a b text : List ℕ) (history : List NamedEntry) → take (next_gate version text history) a ≡ take (next_gate version text history) b → Front version a text history → Front version b text history
@@ -42,7 +38,7 @@ module _ (version : Version) where
       let n = next_gate version text history in record {
         opens = Opens-local n (heading version text) a b same (omega arith) front.opens;
         records = Records-local (n - (1 + length (heading version text))) history (drop (1 + length (heading version text)) a) (drop (1 + length (heading version text)) b)
-            (same_rest n (1 + length (heading version text)) a b same (omega arith)) (omega arith) front.records;
+            (same_part n (1 + length (heading version text)) (n - (1 + length (heading version text))) a b same (omega arith)) (omega arith) front.records;
         text_fits = front.text_fits;
         fit = front.fit;
       }

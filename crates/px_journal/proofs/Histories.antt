@@ -1,6 +1,6 @@
 -- What each image since some moment begins with, an append doesn't take away; and how far the gates can stand.
 use Rattle.std.proofs.Common.{rules, ◌≡◌, ◌≤◌, ◌+◌, ◌*◌, ◌⊎◌, ⊎_elim, ℕ, List, [], ◌∷◌, ◌++◌, length, sym, ◌∙◌, ap, subst, arith, append_assoc, length-append, map, IsTrue}
-use Rattle.std.proofs.lemmas.List.{take_all, length-map, map-append}
+use Rattle.std.proofs.lemmas.List.{length-map, map-append}
 use Rattle.std.proofs.lemmas.Bool.{and_parts}
 use Rattle.std.specs.List.{list_all}
 use Rattle.byteorder.specs.Endian.{big_bytes}
@@ -15,12 +15,7 @@ use Rattle.px_journal.specs.declared.version.Version.{Version}
 use Rattle.px_journal.proofs.Bodies.{body_short}
 use Rattle.px_journal.proofs.Fronts.{next_gate-push}
 use Rattle.px_journal.proofs.Meaning.{one_meaning, one_meaning_text, one_meaning_history}
-use Rattle.px_journal.proofs.Moments.{left_before_or_after}
-
--- what a crash now may leave is among what one since an earlier moment may leave
-told_since : (images : Images) (old : List Moment) (told : List ℕ) (t : ℕ) → t ≤ length old → images old told → LeftSince images old t told
-told_since images old told t early left =
-    (length old, early, omega arith, subst (λ (ms : List Moment). images ms told) (sym (take_all (length old) old (omega arith))) left)
+use Rattle.px_journal.proofs.Moments.{told_since, left_before_or_after}
 
 -- of lists that bytes stand for, at most one text and one list for the same bytes
 module _ {X : Type 0} (Stand : List ℕ → List ℕ → List X → Type 0)

@@ -16,9 +16,9 @@ grows_length old new grows = omega (arith, ap length grows, length-take (length 
 
 module _ (images : Images) where
   -- what a crash now may leave is among what one since an earlier moment may leave
-  pub left_now : (old new : List Moment) (image : List ℕ) → take (length old) new ≡ old → images new image → LeftSince images new (length old) image
-  left_now old new image grows left =
-      (length new, grows_length old new grows, omega arith, subst (λ (ms : List Moment). images ms image) (sym (take_all (length new) new (omega arith))) left)
+  pub told_since : (old : List Moment) (told : List ℕ) (t : ℕ) → t ≤ length old → images old told → LeftSince images old t told
+  told_since old told t early left =
+      (length old, early, omega arith, subst (λ (ms : List Moment). images ms told) (sym (take_all (length old) old (omega arith))) left)
 
   -- a moment since t is one up to the middle, or one since the middle
   pub left_before_or_after : (mid new : List Moment) (t : ℕ) (image : List ℕ) → take (length mid) new ≡ mid → LeftSince images new t image
@@ -40,7 +40,7 @@ module _ (images : Images) where
         (λ late.
         let from = second.each image late in
         let now : images mid image = subst (images mid) (sym (from.2)) (from.1) in
-        first.each image (left_now old mid image first.grows now))
+        first.each image (told_since mid image (length old) (grows_length old mid first.grows) now))
         (left_before_or_after mid new (length old) image second.grows left);
   }
 
@@ -61,7 +61,7 @@ module _ (images : Images) where
   pub synced_on : (old mid new : Told) (before then now : List Moment) → Syncs images old mid before then (Ok tt) → OnlyReads images mid new then now
       → ForSome new (λ told. (image : List ℕ) → images now image → image ≡ told)
   synced_on old mid new before then now syncs reads told is image left =
-      let from = reads.elapses.each image (left_now then now image reads.elapses.grows left) in
+      let from = reads.elapses.each image (told_since now image (length then) (grows_length then now reads.elapses.grows) left) in
       from.2 ∙ syncs.synced told (sym (reads.bytes ∙ syncs.bytes) ∙ is) (from.0) (from.1)
 
   module _ (left : List ℕ → Type 0) where

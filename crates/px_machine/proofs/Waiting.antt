@@ -9,7 +9,7 @@ use Rattle.std.proofs.lemmas.List.Quantifiers.{position-Some}
 use Rattle.std.proofs.lemmas.Map.Views.{Contains-from_any, list_any-from_Contains}
 use Rattle.px_links.specs.Links.{LinksData, HoldsOthersAsBefore, SameCounts, holder_of, is_absent, pushed}
 use Rattle.px_links.specs.Lists.{has}
-use Rattle.px_cached.proofs.OneList.{elsewhere, holders_then, now_noted}
+use Rattle.px_cached.proofs.OneList.{elsewhere, holders_then}
 use Rattle.px_micro.specs.declared.sight.Going.{Going}
 use Rattle.px_machine.specs.Queue.{AddsTo, FallBehind, HaveGone, IsBehind, IsWoken, NobodyIsWoken, Wakes, behind_in}
 
@@ -109,22 +109,12 @@ module _ (old new : LinksData) (cell list : ℕ)
   pub kept_here : is_absent old cell ≡ false → holder_of new cell ≡ holder_of old cell
   kept_here waits = rw (eq-eqb cell cell refl, waits) at (holders cell)
 
--- so it adds to that list
-pub push_adds : (list : ℕ) (old new : LinksData) (cell : ℕ)
-    → HoldsOthersAsBefore old new cell (if is_absent old cell then Some list else holder_of old cell) → AddsTo list old new
-push_adds list old new cell holders = holders_then old new cell list holders
-
--- and the cell waits
-pub push_waits : (list : ℕ) (old new : LinksData) (cell : ℕ)
-    → HoldsOthersAsBefore old new cell (if is_absent old cell then Some list else holder_of old cell) → is_absent new cell ≡ false
-push_waits list old new cell holders = now_noted old new cell list holders
-
 -- one push into the list of those woken
 pub push_wakes : (old new : LinksData) (cell : ℕ)
     → HoldsOthersAsBefore old new cell (if is_absent old cell then Some 1 else holder_of old cell)
     → new ≡ (if is_absent old cell then pushed old 1 cell else old) → SameCounts old new → Wakes old new
 push_wakes old new cell holders links counts = record {
-  added = push_adds 1 old new cell holders;
+  added = holders_then old new cell 1 holders;
   behind = by (is_absent old cell) links;
   counts = counts;
 }

@@ -21,11 +21,12 @@ use Rattle.px_flat.proofs.Variables.{cells_apart}
 use Rattle.px_command.proofs.Writes.{cells_within}
 use Rattle.px_parts.specs.declared.parts.Parts.{Parts}
 use Rattle.px_micro.specs.declared.sight.Going.{Going}
+use Rattle.px_micro.specs.declared.turns.CellValue.{CellValue}
 use Rattle.px_micro.specs.Moving.{put_value}
 use Rattle.px_parts.specs.Parts.{plan_in, record_of}
 use Rattle.px_micro.specs.Turns.{from_cell, initial_in}
 use Rattle.px_micro.proofs.Initial.{as_many_of_each}
-use Rattle.px_micro.proofs.Blocks.{values_in-same, values_in-initial, begun_off, begun_at, begun_length, fold-flat_map}
+use Rattle.px_micro.proofs.Blocks.{values_in-same, values_in-initial, begun_off, begun_at, set_length, fold-flat_map}
 use Rattle.px_micro.proofs.Goers.{goers_apart}
 use Rattle.px_micro.proofs.Hits.{hit_by, one_hit}
 
@@ -105,7 +106,7 @@ begun_cell parts going cells node i rise within all node_in few =
     ap (λ (cells : List Value). held cells cell) (fold-flat_map put_value (initial_in parts) going cells)
     ∙ one_hit (step parts) (λ cells. held cells cell) (λ one. nat_eq one.node node) (λ cells. length cells ≡ all_cells plan)
     (λ one. one.node < length plan) (begun parts i)
-    (λ cells one inside long. begun_length (initial_in parts one) cells ∙ long)
+    (λ cells one inside long. set_length (λ (one : CellValue). one.cell) (λ (one : CellValue). one.value) (initial_in parts one) cells ∙ long)
     (λ cells one inside long other.
     missed parts cells one node i inside node_in few (λ same. eqb-false one.node node other (sym same)))
     (λ cells one inside long here.
@@ -138,7 +139,7 @@ begun_variables parts going cells node found rise within all node_in is = by fou
     after = fold put_value cells (flat_map (initial_in parts) going)
 
     long : length after ≡ length cells
-    long = begun_length (flat_map (initial_in parts) going) cells
+    long = set_length (λ (one : CellValue). one.cell) (λ (one : CellValue). one.value) (flat_map (initial_in parts) going) cells
 
     room : first + cells_of_site (site_in plan node) ≤ length after
     room = omega (arith, long, all, cells_within plan node node_in)

@@ -1,9 +1,10 @@
 -- The values of variables, by their cells one after another.
-use Rattle.std.proofs.Common.{◌≡◌, ◌≢◌, ℕ, suc, zero, ◌+◌, ◌<◌, ◌≤◌, true, List, [], ◌∷◌, ◌++◌, length, get_or, set, take, drop, fold, map, sum, refl, ap, sym, ◌∙◌, arith, length-drop}
+use Rattle.std.proofs.Common.{◌≡◌, ◌≢◌, ℕ, suc, zero, ◌+◌, ◌<◌, ◌≤◌, true, List, [], ◌∷◌, ◌++◌, length, get_or, set, take, drop, fold, map, sum, All, refl, ap, sym, ◌∙◌, arith, length-drop}
 use Rattle.std.specs.List.{flat_map, list_all}
 use Rattle.std.proofs.lemmas.Bool.{and_parts}
 use Rattle.std.proofs.lemmas.Grind.{common_steps}
 use Rattle.std.proofs.lemmas.List.{ext_get_or, get_or-take, get_or-drop, get_or-set_same, get_or-set_other, get_or_append_left, get_or-append-add, length-set, length-take-le, drop-drop}
+use Rattle.std.proofs.lemmas.List.Elements.{All-head, All-tail}
 use Rattle.std.proofs.lemmas.List.Sums.{fold-append, sum_by-cons}
 use Rattle.px_value.specs.declared.value.Value.{Value}
 use Rattle.px_value.specs.declared.value.Value.TheVariants as values
@@ -12,7 +13,6 @@ use Rattle.px_core.specs.Plan.{VariableData}
 use Rattle.px_sem.specs.Effects.{initial_values}
 use Rattle.px_flat.specs.Numbered.{held}
 use Rattle.px_flat.specs.Parts.{values_in}
-use Rattle.px_micro.specs.declared.turns.CellValue.{CellValue}
 use Rattle.px_micro.specs.Moving.{put_value}
 use Rattle.px_micro.specs.Turns.{from_cell}
 use Rattle.px_micro.proofs.Initial.{as_many}
@@ -100,10 +100,23 @@ begun_at (value ∷ given) from cells (suc i) within room =
     ap (held (fold put_value (set cells from value) (from_cell (from + 1) given))) there
     ∙ begun_at given (from + 1) (set cells from value) i (omega (arith, within)) (omega (arith, room, length-set cells from value))
 
-pub begun_length : (initial : List CellValue) (cells : List Value) → length (fold put_value cells initial) ≡ length cells
-begun_length [] cells = refl
-begun_length (one ∷ initial) cells =
-    begun_length initial (set cells one.cell one.value) ∙ length-set cells one.cell one.value
+-- the cells that are set are as many as before, and one behind all of those is as it was
+module _ {X : Type 0} (place : X → ℕ) (given : X → Value) where
+  abbrev all_set : List Value → List X → List Value
+  all_set cells items = fold (λ cells item. set cells (place item) (given item)) cells items
+
+  pub set_length : (items : List X) (cells : List Value) → length (all_set cells items) ≡ length cells
+  set_length [] cells = refl
+  set_length (item ∷ items) cells =
+      set_length items (set cells (place item) (given item)) ∙ length-set cells (place item) (given item)
+
+  pub set_off : (items : List X) (cells : List Value) (bound cell : ℕ) → All (λ item. place item < bound) items → bound ≤ cell
+      → held (all_set cells items) cell ≡ held cells cell
+  set_off [] cells bound cell small far = refl
+  set_off (item ∷ items) cells bound cell small far =
+      set_off items (set cells (place item) (given item)) bound cell (All-tail (λ (x : X). place x < bound) item items small) far
+      ∙ get_or-set_other cells (place item) cell (given item) values.Unknown
+      (λ same. absurd (omega (arith, same, far, All-head (λ (x : X). place x < bound) item items small)))
 
 -- what is done with the items of each is done with each in turn
 pub fold-flat_map : {A B S : Type 0} (step : S → B → S) (f : A → List B) (items : List A) (s : S)

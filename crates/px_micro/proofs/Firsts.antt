@@ -3,11 +3,12 @@ use Rattle.std.proofs.Common.{◌≡◌, ℕ, Bool, true, false, cond, List, [],
 use Rattle.std.specs.Cmp.{nat_eq_equiv}
 use Rattle.std.specs.List.{find, list_any}
 use Rattle.std.specs.Option.{option_or}
-use Rattle.std.proofs.lemmas.Bool.{eqb-true, false_from_ne_true, or_parts}
+use Rattle.std.proofs.lemmas.Bool.{eqb-true, false_from_ne_true}
 use Rattle.std.proofs.lemmas.Grind.{common_steps}
-use Rattle.std.proofs.lemmas.List.Elements.{All-cons, All-head, All-nil, All-push, All-tail}
+use Rattle.std.proofs.lemmas.List.Elements.{All-head, All-nil, All-push, All-tail}
 use Rattle.std.proofs.lemmas.List.Folds.{find-append, list_any_none}
 use Rattle.std.proofs.lemmas.List.Quantifiers.{all_pairs_push}
+use Rattle.px_flat.proofs.Subtrees.{one_fails}
 use Rattle.px_micro.specs.declared.effects.CellWrite.{CellWrite}
 use Rattle.px_micro.specs.Turns.{with_write, first_writes}
 use Rattle.px_micro.proofs.Hits.{none_found}
@@ -18,12 +19,6 @@ writes_to variable write = nat_eq write.variable variable
 
 abbrev is_written : List CellWrite → CellWrite → Bool
 is_written writes write = list_any (λ other. nat_eq write.variable other.variable) writes
-
-none_any : {A : Type 0} (p : A → Bool) (items : List A) → list_any p items ≡ false → All (λ item. p item ≡ false) items
-none_any p [] none = All-nil (λ item. p item ≡ false)
-none_any p (item ∷ items) none =
-    let parts = or_parts (p item) (list_any p items) none in
-    All-cons (λ item. p item ≡ false) item items parts.0 (none_any p items parts.1)
 
 -- what holds of all holds of the first ones
 all_from : (P : CellWrite → Type 0) (writes before : List CellWrite) → All P before → All P writes
@@ -57,7 +52,7 @@ apart_from variable (write ∷ writes) before apart =
         let one : (get_or before k d).variable ≡ variable = eqb-true (get_or before k d).variable variable to in
         let other : write.variable ≡ variable = eqb-true write.variable variable same in
         let missed : nat_eq write.variable (get_or before k d).variable ≡ false =
-        none_any (λ (other : CellWrite). nat_eq write.variable other.variable) before fresh k d within in
+        one_fails (λ (other : CellWrite). nat_eq write.variable other.variable) before k d fresh within in
         absurd (cc (sym missed ∙ (λ i. nat_eq (other i) (one i)) ∙ nat_eq_equiv.refl variable))))
 
 pub firsts_apart : (variable : ℕ) (writes : List CellWrite) → AreApart variable (first_writes writes)

@@ -1,10 +1,9 @@
 -- What the cells and acts stand for after all that go have moved.
-use Rattle.std.proofs.Common.{◌≡◌, ℕ, ◌+◌, ◌<◌, ◌≤◌, true, false, List, [], ◌∷◌, length, drop, fold, map, nat_eq, refl, ap, sym, ◌∙◌, subst, arith, Option, Some, None, IsTrue, All, if◌then◌else◌}
+use Rattle.std.proofs.Common.{◌≡◌, ℕ, ◌+◌, ◌<◌, ◌≤◌, true, false, List, length, drop, fold, map, nat_eq, refl, ap, sym, ◌∙◌, subst, arith, Option, Some, None, IsTrue, All, if◌then◌else◌}
 use Rattle.std.specs.List.{filter_map, find, zip}
 use Rattle.std.specs.Option.{option_map}
 use Rattle.std.proofs.lemmas.Bool.{eqb-true}
-use Rattle.std.proofs.lemmas.List.{get_or-set_other, get_or-map, length-map, length-set}
-use Rattle.std.proofs.lemmas.List.Elements.{All-head, All-tail}
+use Rattle.std.proofs.lemmas.List.{get_or-map, length-map}
 use Rattle.px_value.specs.declared.enums.Failure.{Failure}
 use Rattle.px_value.specs.declared.enums.Outcome.{Outcome}
 use Rattle.px_value.specs.declared.value.Value.{Value}
@@ -41,7 +40,7 @@ use Rattle.px_parts.specs.Parts.{AreStanding, plan_in, world_in, record_of}
 use Rattle.px_micro.specs.Turns.{action_after, act_after, effects_in, first_writes, AreTurns, IsTurn}
 use Rattle.px_micro.proofs.Arriving.{Said, said_in, said_after, handle_after, acknowledgement_after, act_then, AreWithin, Rise, all_length, all_acts_length, variable_stays, said_then, acts_then}
 use Rattle.px_micro.proofs.Beginning.{begins, begun_as, begun_variables, initial_small}
-use Rattle.px_micro.proofs.Blocks.{values_in-same, begun_length}
+use Rattle.px_micro.proofs.Blocks.{values_in-same, set_length, set_off}
 use Rattle.px_micro.proofs.Firsts.{firsts_all}
 use Rattle.px_micro.proofs.Goers.{nodes_are, stays}
 use Rattle.px_micro.proofs.Hits.{hit_by}
@@ -71,12 +70,6 @@ acts_after parts made = fold with_turn_act parts.actions.contents.values made.tu
 
 -- ---- all is within the cells
 
-writes_length : (writes : List CellWrite) (cells : List Value) → length (fold put_write cells writes) ≡ length cells
-writes_length [] cells = refl
-writes_length (write ∷ writes) cells =
-    writes_length writes (put_write cells write)
-    ∙ length-set cells write.cell write.value
-
 pub writes_within : (parts : Parts) (made : Turns) → AreReady parts made
     → All (λ write. write.cell < variable_cells (plan_in parts)) made.writes.items
 writes_within parts made ready =
@@ -94,12 +87,12 @@ initial_within parts made ready =
 pub written_length : (parts : Parts) (made : Turns) → AreReady parts made
     → length (cells_written parts made) ≡ all_cells (plan_in parts)
 written_length parts made ready =
-    writes_length made.writes.items parts.cells.contents.values ∙ ready.stand.all_cells
+    set_length (λ (write : CellWrite). write.cell) (λ (write : CellWrite). write.value) made.writes.items parts.cells.contents.values ∙ ready.stand.all_cells
 
 pub begun_all : (parts : Parts) (made : Turns) → AreReady parts made
     → length (cells_begun parts made) ≡ all_cells (plan_in parts)
 begun_all parts made ready =
-    begun_length made.initial.items (cells_written parts made) ∙ written_length parts made ready
+    set_length (λ (one : CellValue). one.cell) (λ (one : CellValue). one.value) made.initial.items (cells_written parts made) ∙ written_length parts made ready
 
 pub turns_within : (parts : Parts) (made : Turns) → AreReady parts made → AreWithin (plan_in parts) made.turns.items
 turns_within parts made ready = λ k d few. (ready.turns.each k d few).within
@@ -117,22 +110,6 @@ turns_rise parts made ready = λ i j d before few.
 
 -- ---- the cells of a node before its turn
 
-writes_off : (writes : List CellWrite) (cells : List Value) (bound cell : ℕ) → All (λ write. write.cell < bound) writes
-    → bound ≤ cell → held (fold put_write cells writes) cell ≡ held cells cell
-writes_off [] cells bound cell small far = refl
-writes_off (write ∷ writes) cells bound cell small far =
-    writes_off writes (put_write cells write) bound cell (All-tail (λ (write : CellWrite). write.cell < bound) write writes small) far
-    ∙ get_or-set_other cells write.cell cell write.value values.Unknown
-    (λ same. absurd (omega (arith, same, far, All-head (λ (write : CellWrite). write.cell < bound) write writes small)))
-
-values_off : (given : List CellValue) (cells : List Value) (bound cell : ℕ) → All (λ one. one.cell < bound) given
-    → bound ≤ cell → held (fold put_value cells given) cell ≡ held cells cell
-values_off [] cells bound cell small far = refl
-values_off (one ∷ given) cells bound cell small far =
-    values_off given (put_value cells one) bound cell (All-tail (λ (one : CellValue). one.cell < bound) one given small) far
-    ∙ get_or-set_other cells one.cell cell one.value values.Unknown
-    (λ same. absurd (omega (arith, same, far, All-head (λ (one : CellValue). one.cell < bound) one given small)))
-
 said_before : (parts : Parts) (made : Turns) (node : ℕ) → AreReady parts made
     → said_in (plan_in parts) node (cells_begun parts made) ≡ said_in (plan_in parts) node parts.cells.contents.values
 said_before parts made node ready = λ i. record {
@@ -149,8 +126,8 @@ said_before parts made node ready = λ i. record {
     same : (cell : ℕ) → variable_cells plan ≤ cell
         → held (cells_begun parts made) cell ≡ held parts.cells.contents.values cell
     same cell far =
-        values_off made.initial.items (cells_written parts made) (variable_cells plan) cell (initial_within parts made ready) far
-        ∙ writes_off made.writes.items parts.cells.contents.values (variable_cells plan) cell (writes_within parts made ready) far
+        set_off (λ (one : CellValue). one.cell) (λ (one : CellValue). one.value) made.initial.items (cells_written parts made) (variable_cells plan) cell (initial_within parts made ready) far
+        ∙ set_off (λ (write : CellWrite). write.cell) (λ (write : CellWrite). write.value) made.writes.items parts.cells.contents.values (variable_cells plan) cell (writes_within parts made ready) far
 
 -- ---- the variables of a node
 

@@ -44,6 +44,10 @@ dry_run_status tree threads _ _ (DryRunOf.whole log dry) =
     let found = some_start (sites tree) dry.legal.runs in sym (ap (λ start. (of_start (sites tree) start).status) found.1)
 dry_run_status tree threads _ _ DryRunOf.no_memory = tt
 
+-- a soak names its journal
+pub soak_journal : (words : List (List ℕ)) → IsSoak words → HasJournal words
+soak_journal words asked = (asked.2, ap (option_and_then journal_operand) asked.3)
+
 module _ {D : Type 0} (members : Disk.Ghosts D) (words : List (List ℕ)) (before now : View) (old new : D) where
   -- an ending that was emitted whole has its cause
   abbrev IsCaused : Ending → Type 0
@@ -275,9 +279,6 @@ module _ {D : Type 0} (members : Disk.Ghosts D) (words : List (List ℕ)) (befor
     soak_starts : (IsSuch : Option (World × ℕ) → Type 0) → IsSuch (started (sites tree)) → Starts words before now IsSuch
     soak_starts IsSuch such = inr (asked, tree, compiled, such)
 
-    soak_journal : HasJournal words
-    soak_journal = (asked.2, ap (option_and_then journal_operand) asked.3)
-
     -- behind its start
     module _ (starts : Starts words before now (λ found. IsSome found)) where
       soaked_caused : (session : Session) (due : Due) → ForSome (members.content old) (λ told. IsTrue (is_nothing told))
@@ -285,13 +286,13 @@ module _ {D : Type 0} (members : Disk.Ghosts D) (words : List (List ℕ)) (befor
       soaked_caused session _ nothing (DueBehind.whole none all) = λ emits. Cause.done starts (λ has. nothing)
       soaked_caused session _ nothing (DueBehind.stalled waits none stalled) =
           absurd (soak_never_stalls (sites tree) session.first session.log count seed waits stalled)
-      soaked_caused session _ nothing (DueBehind.failed some rose) = λ emits. Cause.disk_fault soak_journal (inr starts) rose
+      soaked_caused session _ nothing (DueBehind.failed some rose) = λ emits. Cause.disk_fault (soak_journal words asked) (inr starts) rose
       soaked_caused session _ nothing (DueBehind.no_memory none) = tt
 
       soak_made_caused : (text : List ℕ) (limit : ℕ) (course : Course) (due : Due)
           → NewCalls members tellings.Summary (sites tree) text limit (soak_lines count seed) old new course due → AreCaused due
-      soak_made_caused text limit _ _ (NewCalls.exists told) = λ emits. Cause.journal_refused (inl (starts, soak_journal, told))
-      soak_made_caused text limit _ _ (NewCalls.half_made rose) = λ emits. Cause.disk_fault soak_journal (inr starts) rose
+      soak_made_caused text limit _ _ (NewCalls.exists told) = λ emits. Cause.journal_refused (inl (starts, soak_journal words asked, told))
+      soak_made_caused text limit _ _ (NewCalls.half_made rose) = λ emits. Cause.disk_fault (soak_journal words asked) (inr starts) rose
       soak_made_caused text limit _ _ (NewCalls.made session due nothing (so, behind)) = soaked_caused session due nothing behind
       soak_made_caused text limit _ _ NewCalls.no_memory = tt
 

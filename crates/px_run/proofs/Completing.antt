@@ -7,6 +7,7 @@ use Rattle.px_compile.proofs.Refusals.{one_plan}
 use Rattle.px_core.specs.Plan.{Site, Tree, sites}
 use Rattle.px_event.specs.declared.entry.Entry.{Entry}
 use Rattle.px_journal.specs.Layout.{is_nothing, entries, Stands}
+use Rattle.px_journal.proofs.Appending.{same_told}
 use Rattle.px_output.specs.View.{View, Faulted}
 use Rattle.px_ports.specs.Host.{Files, Rose}
 use Rattle.px_ports.specs.declared.disk.Disk
@@ -32,8 +33,8 @@ use Rattle.px_run.specs.Kinds.{plan_file, script_file}
 use Rattle.px_run.specs.Soak.{soak_plan, soak_lines, SoakCalls}
 use Rattle.px_run.specs.declared.finishing.Telling.{Telling}
 use Rattle.px_run.specs.declared.finishing.Telling.TheVariants as tellings
-use Rattle.px_run.proofs.Causing.{dry_run_status}
-use Rattle.px_run.proofs.Excluding.{none_or_some, same_text, same_first, same_tree, never_none, never_refused, one_status}
+use Rattle.px_run.proofs.Causing.{dry_run_status, soak_journal}
+use Rattle.px_run.proofs.Excluding.{none_or_some, some_or_none, same_text, same_first, same_tree, never_none, never_refused, one_status}
 use Rattle.px_run.proofs.FileKinds.{IsKind, plan_kind, script_kind, text_kind, holds_text, held, none_held}
 use Rattle.px_run.proofs.SeenFiles.{WhereDue}
 
@@ -62,24 +63,8 @@ module _ {D : Type 0} (members : Disk.Ghosts D) (words : List (List ℕ)) (befor
   abbrev Calls : Option Command → Course → Ending → Type 0
   Calls asked course ending = CommandCallsFor members asked before now old new course (Some ending)
 
-  -- what the words have, they have once
-  one_plan_asked : (one other : List ℕ) → HasPlan words one → HasPlan words other → one ≡ other
-  one_plan_asked one other first second = let both = sym first ∙ second in cc
-
-  one_script_asked : (one other : List ℕ) → HasScript words one → HasScript words other → one ≡ other
-  one_script_asked one other first second = let both = sym first ∙ second in cc
-
-  plan_or_none : (plan : List ℕ) → HasPlan words plan → option_and_then plan_operand (command words) ≡ None → ⊥
-  plan_or_none plan has none = let both = sym none ∙ has in cc
-
-  script_or_none : (script : List ℕ) → HasScript words script → option_and_then script_operand (command words) ≡ None → ⊥
-  script_or_none script has none = let both = sym none ∙ has in cc
-
   reopens_or_not : TakesUpJournal words → option_map takes_up (command words) ≡ Some false → ⊥
   reopens_or_not reopens not = let both = sym reopens ∙ not in cc
-
-  journal_or_none : HasJournal words → option_and_then journal_operand (command words) ≡ None → ⊥
-  journal_or_none (journal, has) none = let both = sym none ∙ has in cc
 
   -- ---- sessions whose disk doesn't fail
 
@@ -134,9 +119,6 @@ module _ {D : Type 0} (members : Disk.Ghosts D) (words : List (List ℕ)) (befor
   -- ---- a soak whose plan compiles
 
   module _ (asked : IsSoak words) (tree : Tree) (compiled : IsCompiled soak_plan tree) where
-    soak_journal : HasJournal words
-    soak_journal = (asked.2, ap (option_and_then journal_operand) asked.3)
-
     -- its start, and what comes of it
     soak_behind : (course : Course) (due : Due) → CommandCallsFor members (command words) before now old new course due
         → WhereDue (λ ending. RunCallsBy members tellings.Summary (sites tree) soak_plan event_limit (soak_lines asked.0 asked.1) old new course (Some ending)
@@ -158,7 +140,7 @@ module _ {D : Type 0} (members : Disk.Ghosts D) (words : List (List ℕ)) (befor
         → ending.status ≡ (of_start (sites tree) found).status
     soak_status journal course ending None ends = ending_is course Untouched ending runaway_at_start ends
     soak_status journal course ending (Some settled) calls =
-        let ((bytes, content, nothing), steady) = journal soak_journal in
+        let ((bytes, content, nothing), steady) = journal (soak_journal words asked) in
         soak_new_sound steady (sites tree) soak_plan event_limit asked.0 asked.1 course (Some ending) bytes content nothing calls
 
     soak_runs_away : started (sites tree) ≡ None → (course : Course) (ending : Ending)
@@ -175,7 +157,7 @@ module _ {D : Type 0} (members : Disk.Ghosts D) (words : List (List ℕ)) (befor
         → ending.status ≡ 5
     soak_exists_status journal course ending None some ends = absurd (none_or_some {A = World × ℕ} None refl some)
     soak_exists_status journal course ending (Some settled) some calls =
-        let ((bytes, content, something), steady) = journal soak_journal in
+        let ((bytes, content, something), steady) = journal (soak_journal words asked) in
         new_refused steady _ (sites tree) soak_plan event_limit (soak_lines asked.0 asked.1) course (Some ending) bytes content something calls
 
   module _ (files : Files) (told : before.files ≡ Some files) where
@@ -192,7 +174,7 @@ module _ {D : Type 0} (members : Disk.Ghosts D) (words : List (List ℕ)) (befor
       without_script : (other : List ℕ) → HasScript words other → HoldsNone (script_file plan) files other → ending.status ≡ 4
       without_script other also none =
           none_held Script (script_file plan) 4 before now files name (script_kind plan) told (λ rose. readable (name, asks, rose)) so_far Next course
-          (Some ending) (subst (λ n. HoldsNone (script_file plan) files n) (one_script_asked other name also asks) none) after
+          (Some ending) (subst (λ n. HoldsNone (script_file plan) files n) (same_told (option_and_then script_operand (command words)) other name also asks) none) after
 
     -- ---- a plan that the host holds, or that is none
 
@@ -200,7 +182,7 @@ module _ {D : Type 0} (members : Disk.Ghosts D) (words : List (List ℕ)) (befor
       module _ (A : Type 0) (kind : FileKind A) (is_kind : IsKind A kind 3) (Next : A → Course → Due → Type 0) (other : List ℕ) (asks : HasPlan words other)
           (course : Course) (ending : Ending) (after : AfterFile kind before now other Untouched Next course (Some ending)) where
         here : AfterFile kind before now plan Untouched Next course (Some ending)
-        here = subst (λ n. AfterFile kind before now n Untouched Next course (Some ending)) (one_plan_asked other plan asks has) after
+        here = subst (λ n. AfterFile kind before now n Untouched Next course (Some ending)) (same_told (option_and_then plan_operand (command words)) other plan asks has) after
 
         behind_plan : (part : A) → Holds kind files plan part → Next part course (Some ending)
         behind_plan part holds =
@@ -215,7 +197,7 @@ module _ {D : Type 0} (members : Disk.Ghosts D) (words : List (List ℕ)) (befor
 
       plan_refused_by : HoldsNone plan_file files plan → (asked : Option Command) (course : Course) (ending : Ending) → command words ≡ asked
           → Calls asked course ending → ending.status ≡ 3
-      plan_refused_by none None course ending is calls = absurd (plan_or_none plan has (ap (option_and_then plan_operand) is))
+      plan_refused_by none None course ending is calls = absurd (some_or_none plan has (ap (option_and_then plan_operand) is))
       plan_refused_by none (Some (TraceStart other)) course ending is (same, calls) =
           without_plan Tree plan_file plan_kind _ other (ap (option_and_then plan_operand) is) course ending calls none
       plan_refused_by none (Some (DryRun other script)) course ending is (same, calls) =
@@ -226,10 +208,10 @@ module _ {D : Type 0} (members : Disk.Ghosts D) (words : List (List ℕ)) (befor
           without_plan (List ℕ × Tree) (with_text plan_file) text_of_kind _ other (ap (option_and_then plan_operand) is) course ending calls none
       plan_refused_by none (Some (Run other script journal limit)) course ending is calls =
           without_plan (List ℕ × Tree) (with_text plan_file) text_of_kind _ other (ap (option_and_then plan_operand) is) course ending calls none
-      plan_refused_by none (Some (Resume script journal limit)) course ending is calls = absurd (plan_or_none plan has (ap (option_and_then plan_operand) is))
-      plan_refused_by none (Some (Trace journal)) course ending is calls = absurd (plan_or_none plan has (ap (option_and_then plan_operand) is))
-      plan_refused_by none (Some (Names journal)) course ending is calls = absurd (plan_or_none plan has (ap (option_and_then plan_operand) is))
-      plan_refused_by none (Some (Soak count seed journal)) course ending is calls = absurd (plan_or_none plan has (ap (option_and_then plan_operand) is))
+      plan_refused_by none (Some (Resume script journal limit)) course ending is calls = absurd (some_or_none plan has (ap (option_and_then plan_operand) is))
+      plan_refused_by none (Some (Trace journal)) course ending is calls = absurd (some_or_none plan has (ap (option_and_then plan_operand) is))
+      plan_refused_by none (Some (Names journal)) course ending is calls = absurd (some_or_none plan has (ap (option_and_then plan_operand) is))
+      plan_refused_by none (Some (Soak count seed journal)) course ending is calls = absurd (some_or_none plan has (ap (option_and_then plan_operand) is))
 
       module _ (tree : Tree) (holds : Holds plan_file files plan tree) (script_readable : ¬ FailsToRead HasScript words before now) where
         abbrev source : List ℕ × Tree
@@ -241,28 +223,28 @@ module _ {D : Type 0} (members : Disk.Ghosts D) (words : List (List ℕ)) (befor
         -- a script that is none
         script_refused_by : (name : List ℕ) → HasScript words name → HoldsNone (script_file (sites tree)) files name → (asked : Option Command)
             (course : Course) (ending : Ending) → command words ≡ asked → Calls asked course ending → ending.status ≡ 4
-        script_refused_by name asks none None course ending is calls = absurd (script_or_none name asks (ap (option_and_then script_operand) is))
+        script_refused_by name asks none None course ending is calls = absurd (some_or_none name asks (ap (option_and_then script_operand) is))
         script_refused_by name asks none (Some (TraceStart other)) course ending is calls =
-            absurd (script_or_none name asks (ap (option_and_then script_operand) is))
+            absurd (some_or_none name asks (ap (option_and_then script_operand) is))
         script_refused_by name asks none (Some (DryRun other script)) course ending is (same, calls) =
             without_script (sites tree) script_readable Untouched _ script (ap (option_and_then script_operand) is) course ending
             (behind_plan Tree plan_file plan_kind _ other (ap (option_and_then plan_operand) is) course ending calls tree holds) name asks none
         script_refused_by name asks none (Some (Check other)) course ending is calls =
-            absurd (script_or_none name asks (ap (option_and_then script_operand) is))
+            absurd (some_or_none name asks (ap (option_and_then script_operand) is))
         script_refused_by name asks none (Some (Format other)) course ending is calls =
-            absurd (script_or_none name asks (ap (option_and_then script_operand) is))
+            absurd (some_or_none name asks (ap (option_and_then script_operand) is))
         script_refused_by name asks none (Some (Run other script journal limit)) course ending is calls =
             without_script (sites tree) script_readable Untouched _ script (ap (option_and_then script_operand) is) course ending
             (behind_plan (List ℕ × Tree) (with_text plan_file) text_of_kind _ other (ap (option_and_then plan_operand) is) course ending calls source source_holds)
             name asks none
         script_refused_by name asks none (Some (Resume script journal limit)) course ending is calls =
-            absurd (plan_or_none plan has (ap (option_and_then plan_operand) is))
+            absurd (some_or_none plan has (ap (option_and_then plan_operand) is))
         script_refused_by name asks none (Some (Trace journal)) course ending is calls =
-            absurd (plan_or_none plan has (ap (option_and_then plan_operand) is))
+            absurd (some_or_none plan has (ap (option_and_then plan_operand) is))
         script_refused_by name asks none (Some (Names journal)) course ending is calls =
-            absurd (script_or_none name asks (ap (option_and_then script_operand) is))
+            absurd (some_or_none name asks (ap (option_and_then script_operand) is))
         script_refused_by name asks none (Some (Soak count seed journal)) course ending is calls =
-            absurd (script_or_none name asks (ap (option_and_then script_operand) is))
+            absurd (some_or_none name asks (ap (option_and_then script_operand) is))
 
         module _ (scripts : (name : List ℕ) → HasScript words name → (held : Script) × Holds (script_file (sites tree)) files name held) where
           -- the calls of a run behind its files
@@ -286,7 +268,7 @@ module _ {D : Type 0} (members : Disk.Ghosts D) (words : List (List ℕ)) (befor
 
             complete_by : (asked : Option Command) (course : Course) (ending : Ending) → command words ≡ asked → Calls asked course ending
                 → OrStalled (status_behind asked tree) ending.status
-            complete_by None course ending is calls = absurd (plan_or_none plan has (ap (option_and_then plan_operand) is))
+            complete_by None course ending is calls = absurd (some_or_none plan has (ap (option_and_then plan_operand) is))
             complete_by (Some (TraceStart other)) course ending is (same, calls) =
                 inl (ending_is course Untouched ending (start_ending tree)
                 (behind_plan Tree plan_file plan_kind _ other (ap (option_and_then plan_operand) is) course ending calls tree holds))
@@ -307,15 +289,15 @@ module _ {D : Type 0} (members : Disk.Ghosts D) (words : List (List ℕ)) (befor
                 let asks : HasScript words script = ap (option_and_then script_operand) is in
                 start_sound (name, ap (option_and_then journal_operand) is) holds.0 limit (scripts script asks).0 course ending (started (sites tree))
                 (run_behind other script name limit course ending (ap (option_and_then plan_operand) is) asks calls)
-            complete_by (Some (Resume script name limit)) course ending is calls = absurd (plan_or_none plan has (ap (option_and_then plan_operand) is))
-            complete_by (Some (Trace name)) course ending is calls = absurd (plan_or_none plan has (ap (option_and_then plan_operand) is))
-            complete_by (Some (Names name)) course ending is calls = absurd (plan_or_none plan has (ap (option_and_then plan_operand) is))
-            complete_by (Some (Soak count seed name)) course ending is calls = absurd (plan_or_none plan has (ap (option_and_then plan_operand) is))
+            complete_by (Some (Resume script name limit)) course ending is calls = absurd (some_or_none plan has (ap (option_and_then plan_operand) is))
+            complete_by (Some (Trace name)) course ending is calls = absurd (some_or_none plan has (ap (option_and_then plan_operand) is))
+            complete_by (Some (Names name)) course ending is calls = absurd (some_or_none plan has (ap (option_and_then plan_operand) is))
+            complete_by (Some (Soak count seed name)) course ending is calls = absurd (some_or_none plan has (ap (option_and_then plan_operand) is))
 
           -- a start that doesn't settle
           runs_away_by : AsksForRun words → started (sites tree) ≡ None → (asked : Option Command) (course : Course) (ending : Ending) → command words ≡ asked
               → Calls asked course ending → ending.status ≡ 6
-          runs_away_by runs none None course ending is calls = absurd (plan_or_none plan has (ap (option_and_then plan_operand) is))
+          runs_away_by runs none None course ending is calls = absurd (some_or_none plan has (ap (option_and_then plan_operand) is))
           runs_away_by runs none (Some (TraceStart other)) course ending is (same, calls) =
               ending_is course Untouched ending (start_ending tree)
               (behind_plan Tree plan_file plan_kind _ other (ap (option_and_then plan_operand) is) course ending calls tree holds)
@@ -334,10 +316,10 @@ module _ {D : Type 0} (members : Disk.Ghosts D) (words : List (List ℕ)) (befor
               ending_is course Untouched ending runaway_at_start
               (subst (λ found. RunCallsBy members tellings.Text (sites tree) holds.0 limit (scripts script asks).0 old new course (Some ending) found) none
               (run_behind other script name limit course ending (ap (option_and_then plan_operand) is) asks calls))
-          runs_away_by runs none (Some (Resume script name limit)) course ending is calls = absurd (plan_or_none plan has (ap (option_and_then plan_operand) is))
-          runs_away_by runs none (Some (Trace name)) course ending is calls = absurd (plan_or_none plan has (ap (option_and_then plan_operand) is))
-          runs_away_by runs none (Some (Names name)) course ending is calls = absurd (plan_or_none plan has (ap (option_and_then plan_operand) is))
-          runs_away_by runs none (Some (Soak count seed name)) course ending is calls = absurd (plan_or_none plan has (ap (option_and_then plan_operand) is))
+          runs_away_by runs none (Some (Resume script name limit)) course ending is calls = absurd (some_or_none plan has (ap (option_and_then plan_operand) is))
+          runs_away_by runs none (Some (Trace name)) course ending is calls = absurd (some_or_none plan has (ap (option_and_then plan_operand) is))
+          runs_away_by runs none (Some (Names name)) course ending is calls = absurd (some_or_none plan has (ap (option_and_then plan_operand) is))
+          runs_away_by runs none (Some (Soak count seed name)) course ending is calls = absurd (some_or_none plan has (ap (option_and_then plan_operand) is))
 
           module _ (has_journal : HasJournal words) (starts : IsSome (started (sites tree)))
               (journal : IsSound members words old new (λ bytes. IsFalse (is_nothing bytes))) where
@@ -350,19 +332,19 @@ module _ {D : Type 0} (members : Disk.Ghosts D) (words : List (List ℕ)) (befor
                 new_refused steady _ (sites tree) text limit script course (Some ending) bytes content something calls
 
             exists_by : (asked : Option Command) (course : Course) (ending : Ending) → command words ≡ asked → Calls asked course ending → ending.status ≡ 5
-            exists_by None course ending is calls = absurd (plan_or_none plan has (ap (option_and_then plan_operand) is))
-            exists_by (Some (TraceStart other)) course ending is calls = absurd (journal_or_none has_journal (ap (option_and_then journal_operand) is))
-            exists_by (Some (DryRun other script)) course ending is calls = absurd (journal_or_none has_journal (ap (option_and_then journal_operand) is))
-            exists_by (Some (Check other)) course ending is calls = absurd (journal_or_none has_journal (ap (option_and_then journal_operand) is))
-            exists_by (Some (Format other)) course ending is calls = absurd (journal_or_none has_journal (ap (option_and_then journal_operand) is))
+            exists_by None course ending is calls = absurd (some_or_none plan has (ap (option_and_then plan_operand) is))
+            exists_by (Some (TraceStart other)) course ending is calls = absurd (some_or_none has_journal.0 has_journal.1 (ap (option_and_then journal_operand) is))
+            exists_by (Some (DryRun other script)) course ending is calls = absurd (some_or_none has_journal.0 has_journal.1 (ap (option_and_then journal_operand) is))
+            exists_by (Some (Check other)) course ending is calls = absurd (some_or_none has_journal.0 has_journal.1 (ap (option_and_then journal_operand) is))
+            exists_by (Some (Format other)) course ending is calls = absurd (some_or_none has_journal.0 has_journal.1 (ap (option_and_then journal_operand) is))
             exists_by (Some (Run other script name limit)) course ending is calls =
                 let asks : HasScript words script = ap (option_and_then script_operand) is in
                 start_refused holds.0 limit (scripts script asks).0 course ending (started (sites tree)) starts
                 (run_behind other script name limit course ending (ap (option_and_then plan_operand) is) asks calls)
-            exists_by (Some (Resume script name limit)) course ending is calls = absurd (plan_or_none plan has (ap (option_and_then plan_operand) is))
-            exists_by (Some (Trace name)) course ending is calls = absurd (plan_or_none plan has (ap (option_and_then plan_operand) is))
-            exists_by (Some (Names name)) course ending is calls = absurd (plan_or_none plan has (ap (option_and_then plan_operand) is))
-            exists_by (Some (Soak count seed name)) course ending is calls = absurd (plan_or_none plan has (ap (option_and_then plan_operand) is))
+            exists_by (Some (Resume script name limit)) course ending is calls = absurd (some_or_none plan has (ap (option_and_then plan_operand) is))
+            exists_by (Some (Trace name)) course ending is calls = absurd (some_or_none plan has (ap (option_and_then plan_operand) is))
+            exists_by (Some (Names name)) course ending is calls = absurd (some_or_none plan has (ap (option_and_then plan_operand) is))
+            exists_by (Some (Soak count seed name)) course ending is calls = absurd (some_or_none plan has (ap (option_and_then plan_operand) is))
 
   -- ---- a journal
 
@@ -411,7 +393,7 @@ module _ {D : Type 0} (members : Disk.Ghosts D) (words : List (List ℕ)) (befor
           → (files : Files) × (before.files ≡ Some files) × ((held : Script) × Holds (script_file (sites tree)) files name held))
           → ¬ FailsToRead HasScript words before now → (asked : Option Command) (course : Course) (ending : Ending) → command words ≡ asked
           → Calls asked course ending → OrStalled 0 ending.status
-      taken_up_by scripts readable None course ending is calls = absurd (journal_or_none has_journal (ap (option_and_then journal_operand) is))
+      taken_up_by scripts readable None course ending is calls = absurd (some_or_none has_journal.0 has_journal.1 (ap (option_and_then journal_operand) is))
       taken_up_by scripts readable (Some (TraceStart plan)) course ending is calls = absurd (reopens_or_not reopens (ap (option_map takes_up) is))
       taken_up_by scripts readable (Some (DryRun plan script)) course ending is calls = absurd (reopens_or_not reopens (ap (option_map takes_up) is))
       taken_up_by scripts readable (Some (Check plan)) course ending is calls = absurd (reopens_or_not reopens (ap (option_map takes_up) is))
@@ -433,7 +415,7 @@ module _ {D : Type 0} (members : Disk.Ghosts D) (words : List (List ℕ)) (befor
       script_refused_behind : (name : List ℕ) (files : Files) → HasScript words name → before.files ≡ Some files
           → HoldsNone (script_file (sites tree)) files name → ¬ FailsToRead HasScript words before now → (asked : Option Command) (course : Course)
           (ending : Ending) → command words ≡ asked → Calls asked course ending → ending.status ≡ 4
-      script_refused_behind name files asks told none readable None course ending is calls = absurd (script_or_none name asks (ap (option_and_then script_operand) is))
+      script_refused_behind name files asks told none readable None course ending is calls = absurd (some_or_none name asks (ap (option_and_then script_operand) is))
       script_refused_behind name files asks told none readable (Some (TraceStart plan)) course ending is calls =
           absurd (reopens_or_not reopens (ap (option_map takes_up) is))
       script_refused_behind name files asks told none readable (Some (DryRun plan script)) course ending is calls =
@@ -448,11 +430,11 @@ module _ {D : Type 0} (members : Disk.Ghosts D) (words : List (List ℕ)) (befor
           without_script files told (sites tree) readable (TakenUp text first) _ script (ap (option_and_then script_operand) is) course ending
           (taken_up _ course (Some ending) calls) name asks none
       script_refused_behind name files asks told none readable (Some (Trace journal)) course ending is calls =
-          absurd (script_or_none name asks (ap (option_and_then script_operand) is))
+          absurd (some_or_none name asks (ap (option_and_then script_operand) is))
       script_refused_behind name files asks told none readable (Some (Names journal)) course ending is calls =
-          absurd (script_or_none name asks (ap (option_and_then script_operand) is))
+          absurd (some_or_none name asks (ap (option_and_then script_operand) is))
       script_refused_behind name files asks told none readable (Some (Soak count seed journal)) course ending is calls =
-          absurd (script_or_none name asks (ap (option_and_then script_operand) is))
+          absurd (some_or_none name asks (ap (option_and_then script_operand) is))
 
     -- that is refused
     module _ (why : Ending) (refuses : JournalRefuses members old why) where
@@ -469,7 +451,7 @@ module _ {D : Type 0} (members : Disk.Ghosts D) (words : List (List ℕ)) (befor
 
       journal_refused_by : AsksForRun words → (asked : Option Command) (course : Course) (ending : Ending) → command words ≡ asked → Calls asked course ending
           → ending.status ≡ why.status
-      journal_refused_by runs None course ending is calls = absurd (journal_or_none has_journal (ap (option_and_then journal_operand) is))
+      journal_refused_by runs None course ending is calls = absurd (some_or_none has_journal.0 has_journal.1 (ap (option_and_then journal_operand) is))
       journal_refused_by runs (Some (TraceStart plan)) course ending is calls = absurd (reopens_or_not reopens (ap (option_map takes_up) is))
       journal_refused_by runs (Some (DryRun plan script)) course ending is calls = absurd (reopens_or_not reopens (ap (option_map takes_up) is))
       journal_refused_by runs (Some (Check plan)) course ending is calls = absurd (reopens_or_not reopens (ap (option_map takes_up) is))

@@ -14,6 +14,7 @@ use Rattle.px_journal.specs.Layout.{is_nothing, Stands}
 use Rattle.px_journal.proofs.Meaning.{one_meaning_text, one_meaning_history}
 use Rattle.px_journal.proofs.Ready.{stands_not_nothing}
 use Rattle.px_journal.proofs.Undamaged.{undamaged}
+use Rattle.px_output.proofs.Telling.{run_starts}
 use Rattle.px_ports.specs.declared.disk.Disk
 use Rattle.px_sem.specs.Log.{events_of}
 use Rattle.px_sem.specs.Run.{posted, started, settled_world, run_on, run}
@@ -27,14 +28,8 @@ pub none_or_some : {A : Type 0} (found : Option A) → found ≡ None → IsSome
 none_or_some None is some = cc
 none_or_some (Some x) is some = cc
 
-run_on_nothing : (plan : List Site) (events : List Event) → run_on plan None events ≡ None
-unfolding run_on
-run_on_nothing plan events = refl
-
--- a plan that doesn't start has no run
-pub never_started : (plan : List Site) (events : List Event) → started plan ≡ None → IsSome (run plan events) → ⊥
-never_started plan events is some =
-    none_or_some (run plan events) (ap (λ found. run_on plan (settled_world found) events) is ∙ run_on_nothing plan events) some
+pub some_or_none : {A : Type 0} {found : Option A} (some : A) → found ≡ Some some → found ≡ None → ⊥
+some_or_none some has none = let both = sym none ∙ has in cc
 
 -- a run over a history is one over each front of it
 front_runs : (plan : List Site) (now : Option World) (front rest : List Event) → IsSome (run_on plan now (front ++ rest)) → IsSome (run_on plan now front)
@@ -99,7 +94,7 @@ module _ {D : Type 0} (members : Disk.Ghosts D) (disk : D) (bytes text : List �
   never_refused ending runs refuses = by (only_runs_away ending refuses)
     where
       by : RunsAway tree first ending → ⊥
-      by (RunsAway.start is away) = never_started (sites tree) (events_of first) away runs
+      by (RunsAway.start is away) = none_or_some (started (sites tree)) away (run_starts (sites tree) (events_of first) runs)
       by (RunsAway.event at away) = runs_to_its_end (sites tree) first at away runs
 
   -- a start that doesn't settle is refused as such
@@ -108,7 +103,7 @@ module _ {D : Type 0} (members : Disk.Ghosts D) (disk : D) (bytes text : List �
     where
       by : RunsAway tree first ending → ending.status ≡ 6
       by (RunsAway.start is away) = is
-      by (RunsAway.event at away) = absurd (never_started (sites tree) (events_of away.before) none away.settles)
+      by (RunsAway.event at away) = absurd (none_or_some (started (sites tree)) none (run_starts (sites tree) (events_of away.before) away.settles))
 
 -- a disk is refused with one status
 same_kind : {D : Type 0} (members : Disk.Ghosts D) (disk : D) (bytes : List ℕ) (first second : Ending) → members.content disk ≡ Some bytes

@@ -109,10 +109,6 @@ prepared runs old mid new plan name tree ready source first second short read fi
   started = run_started (sites tree) (runs.state ready.stepper) start at_rest;
 }
 
--- a world that was run has settled
-pub start_settles : (plan : List Site) (world : World) → run plan [] ≡ Some world → (found : World × ℕ) × (started plan ≡ Some found)
-start_settles plan world is = some_start plan (is_some_at (run plan []) world is)
-
 -- ---- the command
 
 module _ {D : Type 0} (members : Disk.Ghosts D) (plan script name : List ℕ) (limit : ℕ) (old mid new : View) (disk : D) where
@@ -143,8 +139,8 @@ module _ {D : Type 0} (members : Disk.Ghosts D) (plan script name : List ℕ) (l
       done = subst (λ (nodes : List Site). PreparedCarries members tellings.Text nodes ready.text.items name limit ready.script mid new disk carried) is_ready.nodes of_nodes
 
       start : (found : World × ℕ) × (started (sites tree) ≡ Some found)
-      start = start_settles (sites tree) (runs.state ready.stepper).world
-          (subst (λ (nodes : List Site). run nodes [] ≡ Some (runs.state ready.stepper).world) is_ready.nodes is_ready.started)
+      start = some_start (sites tree) (is_some_at (run (sites tree) []) (runs.state ready.stepper).world
+          (subst (λ (nodes : List Site). run nodes [] ≡ Some (runs.state ready.stepper).world) is_ready.nodes is_ready.started))
 
   -- where none has, the disk is as it was
   pub not_prepared_runs : (stop : Stop) → OnlyReads old mid → members.bound_to disk ≡ None → IsNotPrepared plan script old mid stop

@@ -1,5 +1,6 @@
 -- A soak, from its plan and its lines.
 use Rattle.std.proofs.Common.{◌≡◌, inr, ℕ, List, [], Some, None, Result, Ok, Err, IsErrAnd, IfErr, refl, sym, ◌∙◌, ap, subst}
+use Rattle.px_value.proofs.General.{is_some_at}
 use Rattle.px_compile.specs.Compiled.{IsCompiled}
 use Rattle.px_core.specs.Plan.{Site, Tree, sites}
 use Rattle.px_output.specs.View.{View}
@@ -29,7 +30,7 @@ use Rattle.px_run.specs.declared.finishing.Carried.{Carried}
 use Rattle.px_run.specs.declared.finishing.Telling.TheVariants as tellings
 use Rattle.px_run.specs.declared.run.Prepared.{Prepared}
 use Rattle.px_run.proofs.Performing.{performs_more}
-use Rattle.px_run.proofs.Preparing.{start_settles}
+use Rattle.px_run.proofs.Starting.{some_start}
 
 -- a start that runs away, or for which memory is wanting
 no_start : (tree : Tree) (fault : StepFault) → IsCompiled soak_plan tree → (fault ≡ steps.Runaway → started (sites tree) ≡ None)
@@ -92,8 +93,8 @@ module _ {D : Type 0} (members : Disk.Ghosts D) (count seed : ℕ) (name : List 
           is_ready.script of_nodes))
 
       start : (found : World × ℕ) × (started (sites is_ready.tree) ≡ Some found)
-      start = start_settles (sites is_ready.tree) (runs.state ready.stepper).world
-          (subst (λ (nodes : List Site). run nodes [] ≡ Some (runs.state ready.stepper).world) is_ready.nodes is_ready.started)
+      start = some_start (sites is_ready.tree) (is_some_at (run (sites is_ready.tree) []) (runs.state ready.stepper).world
+          (subst (λ (nodes : List Site). run nodes [] ≡ Some (runs.state ready.stepper).world) is_ready.nodes is_ready.started))
 
   -- where none has, the disk is as it was
   pub not_prepared_soaks : (stop : Stop) → members.bound_to disk ≡ None → IsSoakNotPrepared stop

@@ -2,15 +2,17 @@
 use Rattle.std.proofs.Common.{◌≡◌, ℕ, List, [], ◌++◌, Option, Some, None, IsSome, Result, refl, ap, subst, sym, ◌∙◌}
 use Rattle.px_core.specs.Plan.{Site, Tree, sites}
 use Rattle.px_event.specs.declared.entry.Entry.{Entry}
+use Rattle.px_exec.proofs.Images.{told_of}
 use Rattle.px_output.specs.Drafts.{Keeps, Holds}
 use Rattle.px_output.specs.Printing.{Prints}
 use Rattle.px_output.specs.View.{View}
 use Rattle.px_output.specs.declared.printer.PrintFault.{PrintFault}
+use Rattle.px_output.proofs.Telling.{run_starts}
 use Rattle.px_script.specs.Order.{InFileOrder}
 use Rattle.px_script.specs.declared.todo.Todo.{Todo}
-use Rattle.px_sem.proofs.Logs.{run_on_none, run_at_start, run_started}
+use Rattle.px_sem.proofs.Logs.{run_at_start, run_started}
 use Rattle.px_sem.specs.Log.{Log, AnswersEach, HasRun, accepted, posted_in}
-use Rattle.px_sem.specs.Run.{started, settled_world, run}
+use Rattle.px_sem.specs.Run.{started, run}
 use Rattle.px_sem.specs.Stepper.{State, settled_state}
 use Rattle.px_sem.specs.Text.{text_of, trace}
 use Rattle.px_sem.specs.World.{World}
@@ -52,12 +54,8 @@ pub start_held : (plan nodes : List Site) (new draft : Option (List ℕ)) → no
 start_held plan nodes new draft same is keeps = rw same (subst (λ new. Keeps new draft (trace plan [])) is keeps)
 
 -- where an empty history has a run, the start settles
-some_settled : (found : Option (World × ℕ)) → IsSome (settled_world found) → (settled : World × ℕ) × (found ≡ Some settled)
-some_settled None some = absurd (cc)
-some_settled (Some settled) some = (settled, refl)
-
 pub some_start : (plan : List Site) → IsSome (run plan []) → (settled : World × ℕ) × (started plan ≡ Some settled)
-some_start plan runs = some_settled (started plan) (subst IsSome (run_on_none plan (settled_world (started plan))) runs)
+some_start plan runs = told_of (started plan) (run_starts plan [] runs)
 
 -- what posting all entries of a script has come to is what a dry run calls for
 pub posted_all : (tree : Tree) (threads : List Todo) (now : State) (log : Log) (entries : List Entry)

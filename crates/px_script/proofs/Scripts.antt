@@ -1,14 +1,14 @@
 -- What a fit script has at each of its threads.
-use Rattle.std.proofs.Common.{◌≡◌, ◌≢◌, ℕ, zero, suc, ◌+◌, ◌^◌, ◌<◌, ◌≤◌, true, List, [], ◌∷◌, length, map, get_or, sym, ◌∙◌, subst, arith, inl, inr}
+use Rattle.std.proofs.Common.{◌≡◌, ◌≢◌, ℕ, zero, suc, ◌+◌, ◌^◌, ◌<◌, ◌≤◌, true, List, [], ◌∷◌, length, map, get_or, sym, subst, arith, inl, inr}
 use Rattle.std.specs.Prelude.{nat_lt, nat_le, ◌&&◌}
 use Rattle.std.specs.List.{list_all, sum_by}
 use Rattle.std.proofs.lemmas.Bool.{and_parts, leb-true, ltb-true, cases_lt}
 use Rattle.std.proofs.lemmas.List.{length-map, get_or-map}
-use Rattle.std.proofs.lemmas.List.Folds.{list_all-append}
 use Rattle.std.proofs.lemmas.List.Sums.{sum_by-le}
 use Rattle.std.proofs.lemmas.List.Sorted.{IsPermutation-refl}
 use Rattle.px_event.specs.Fit.{is_fit_entry}
 use Rattle.px_script.specs.Fit.{rise_above, is_fit_line, are_fit_lines, IsFitScript}
+use Rattle.px_flat.proofs.Known.{part_passes}
 use Rattle.px_script.specs.Order.{thread_entries, all_entries}
 use Rattle.px_script.specs.declared.script.Script.{Script}
 use Rattle.px_script.specs.declared.todo.Todo.{Todo}
@@ -16,21 +16,11 @@ use Rattle.px_script.proofs.Orders.{entries_fit}
 
 -- ---- what each thread posts is fit
 
-of_each : (threads : List Todo) (i : ℕ) (d : Todo) → i < length threads → list_all is_fit_entry (all_entries threads) ≡ true
-    → list_all is_fit_entry (thread_entries (get_or threads i d)) ≡ true
-of_each [] i d within fit = absurd (omega arith)
-of_each (todo ∷ threads) zero d within fit =
-    (and_parts (list_all is_fit_entry (thread_entries todo)) (list_all is_fit_entry (all_entries threads))
-    (sym (list_all-append is_fit_entry (thread_entries todo) (all_entries threads)) ∙ fit)).0
-of_each (todo ∷ threads) (suc i) d within fit =
-    of_each threads i d (omega arith)
-    (and_parts (list_all is_fit_entry (thread_entries todo)) (list_all is_fit_entry (all_entries threads))
-    (sym (list_all-append is_fit_entry (thread_entries todo) (all_entries threads)) ∙ fit)).1
-
 fit_thread : (script : Script) (i : ℕ) (d : Todo) → IsFitScript script → i < length script.threads
     → list_all is_fit_entry (thread_entries (get_or script.threads i d)) ≡ true
 fit_thread script i d fit within =
-    of_each script.threads i d within (entries_fit script (all_entries script.threads) fit (IsPermutation-refl (all_entries script.threads)))
+    part_passes is_fit_entry thread_entries script.threads i d
+    (entries_fit script (all_entries script.threads) fit (IsPermutation-refl (all_entries script.threads))) within
 
 -- ---- the threads differ
 

@@ -3,6 +3,7 @@ use Rattle.std.proofs.Common.{◌≡◌, inl, inr, ⊎_elim, ℕ, List, [], ◌�
 use Rattle.std.specs.List.{list_all}
 use Rattle.std.specs.Option.{option_map, ForSome}
 use Rattle.px_crew.specs.Crew.{failed_entry, Ends}
+use Rattle.px_crew.proofs.Gathering.{unfailed as failed_none}
 use Rattle.px_event.specs.Fit.{is_fit_entry}
 use Rattle.px_event.specs.declared.entry.Entry.{Entry}
 use Rattle.px_event.specs.declared.named.NamedEntry.{NamedEntry}
@@ -11,7 +12,7 @@ use Rattle.px_exec.specs.declared.closing.Failed.{Failed}
 use Rattle.px_exec.proofs.Tellings.{ready_now}
 use Rattle.px_journal.proofs.Going.{goes_told}
 use Rattle.px_journal.proofs.Ready.{ready_few, ready_fit, ready_stands, ready_synced}
-use Rattle.px_journal.proofs.Moments.{left_now}
+use Rattle.px_journal.proofs.Moments.{grows_length, told_since}
 use Rattle.px_journal.specs.Crash.{LeavesOnly}
 use Rattle.px_journal.specs.Goes.{Goes}
 use Rattle.px_journal.specs.Journal.{IsReady, IsReadyAs, with_name}
@@ -100,7 +101,7 @@ module _ {S D : Type 0} (runs : Stepper.Ghosts S) (members : Disk.Ghosts D) (exe
       → WasNamed members exec text found
       → LeavesNames members text found (accepted exec.log ++ unsure (failed_entry exec)) exec.opening.journal exec.journal.disk
   leaves_names law tells text found was = record {
-    read = λ told here. since.each told (left_now members.images _ _ told keeps.goes.grows (law exec.journal.disk told here));
+    read = λ told here. since.each told (told_since members.images _ told _ (grows_length _ _ keeps.goes.grows) (law exec.journal.disk told here));
     since = since;
   }
     where
@@ -125,13 +126,6 @@ module _ {S D : Type 0} (runs : Stepper.Ghosts S) (members : Disk.Ghosts D) (exe
       from : (f : Option Failed) → IsSome (option_map (λ (f : Failed). f.entry) f) → IsSome f
       from None some = some
       from (Some failed) some = refl
-
-  pub unfailed_where : failed_entry exec ≡ None → exec.failed ≡ None
-  unfailed_where none = by exec.failed refl
-    where
-      by : (f : Option Failed) → exec.failed ≡ f → exec.failed ≡ None
-      by None unfailed = unfailed
-      by (Some failed) closed = let some = ap (option_map (λ (f : Failed). f.entry)) closed in absurd (cc)
 
   -- the entry of a failed append was to be accepted
   pub due_where : WasDue (plan_of runs exec) exec.opening.limit exec.history (failed_entry exec)
@@ -182,4 +176,4 @@ closes {S} {D} runs members was after law keeps same threads posted ends disk_is
 }
   where
     ready : failed_entry after ≡ None → IsReady members after.journal (keeps.text.0) after.history
-    ready none = ready_now runs members after keeps (unfailed_where runs members after keeps none)
+    ready none = ready_now runs members after keeps (failed_none after.failed none)

@@ -6,7 +6,7 @@ use Rattle.px_event.specs.declared.entry.Entry.{Entry}
 use Rattle.px_journal.specs.Crash.{OldOrNew}
 use Rattle.px_journal.specs.Journal.{IsSynced, IsUnwritten, IsUntouched}
 use Rattle.px_journal.specs.Layout.{Stands}
-use Rattle.px_journal.proofs.Moments.{left_now, left_before_or_after, elapses_none, elapses_on}
+use Rattle.px_journal.proofs.Moments.{grows_length, told_since, left_before_or_after, elapses_none, elapses_on}
 use Rattle.px_ports.specs.Moment.{LeftSince, Stays}
 use Rattle.px_ports.specs.declared.disk.Disk
 use Rattle.px_session.specs.Creating.{LeavesNew}
@@ -65,7 +65,7 @@ module _ {D : Type 0} (members : Disk.Ghosts D) where
 
       older : (image : List ℕ) → OldOrNew (members.images (members.moments mid)) text image → OldOrNew (members.images (members.moments old)) text image
       older image = ⊎_elim
-          (λ was. inl (from_before old mid untouched image (left_now members.images (members.moments old) (members.moments mid) image ((untouched.unwritten).elapses).grows was)))
+          (λ was. inl (from_before old mid untouched image (told_since members.images (members.moments mid) image (length (members.moments old)) (grows_length (members.moments old) (members.moments mid) ((untouched.unwritten).elapses).grows) was)))
           (λ new. inr new)
 
   -- a disk that is synced, and stands for a text and a history

@@ -73,9 +73,6 @@ same_has rows word =
     has_row_is (codes "events") (operand_row word rows)
     ∙ ap is_some (other_row (codes "operands") (codes "events") AsWritten CommandLine (word ∷ []) rows refl) ∙ sym (has_row_is (codes "events") rows)
 
-one_put : (front : List Text) (word : Text) (words : List Text) → (front ++ word ∷ []) ++ words ≡ front ++ word ∷ words
-one_put front word words = append_assoc front (word ∷ []) words
-
 ended : (limits : Bool) (held : Held) (rows : List Row) (waiting : Waiting) (is_trailing : Bool) → Settles limits held rows
     → read limits held waiting is_trailing [] ≡ put (operands_in rows) (limit_of rows) []
 ended limits held rows waiting is_trailing s =
@@ -88,7 +85,7 @@ trails limits held rows waiting [] s = ended limits held rows waiting true s
 trails limits held rows waiting (word ∷ words) s =
     ap (option_and_then line_in) (trailing_on limits held waiting word words s.fault)
     ∙ trails limits (behind_operand limits held word) (operand_row word rows) positional words (operand_settles limits held rows word s)
-    ∙ rw (operand_added AsWritten CommandLine (word ∷ []) rows, same_first rows word, one_put (operands_in rows) word words) refl
+    ∙ rw (operand_added AsWritten CommandLine (word ∷ []) rows, same_first rows word, append_assoc (operands_in rows) (word ∷ []) words) refl
 
 -- ---- no option may come any more: there is none, or it has stood
 
@@ -131,7 +128,7 @@ unlimited limits held rows is_behind (word ∷ words) s none texts = by
     more : (o : Option (List Text)) → option_and_then (put (operands_in (operand_row word rows)) (limit_of (operand_row word rows))) o
         ≡ option_and_then (put (operands_in rows) (limit_of rows)) (option_map (λ behind. word ∷ behind) o)
     more None = refl
-    more (Some behind) = rw (operand_added AsWritten CommandLine (word ∷ []) rows, same_first rows word, one_put (operands_in rows) word behind) refl
+    more (Some behind) = rw (operand_added AsWritten CommandLine (word ∷ []) rows, same_first rows word, append_assoc (operands_in rows) (word ∷ []) behind) refl
 
     by : read limits (behind_operand limits held word) positional false words ≡ option_and_then (put (operands_in (operand_row word rows)) (limit_of (operand_row word rows))) (operands words)
         → Kind word → read limits held (ready is_behind) false (word ∷ words) ≡ option_and_then (put (operands_in rows) (limit_of rows)) (operands (word ∷ words))
@@ -201,7 +198,7 @@ limits_on held rows is_behind (word ∷ words) s none texts = by
   where
     more : (o : Option Limited) → option_map (with_front (operands_in (operand_row word rows))) o ≡ option_map (with_front (operands_in rows)) (option_map (with_operand word) o)
     more None = refl
-    more (Some found) = rw (operand_added AsWritten CommandLine (word ∷ []) rows, one_put (operands_in rows) word found.operands) refl
+    more (Some found) = rw (operand_added AsWritten CommandLine (word ∷ []) rows, append_assoc (operands_in rows) (word ∷ []) found.operands) refl
 
     named : (l : IsLong word) → bytes_eq (codes "events") l.name ≡ true → l.number ≡ None
         → read true held (ready is_behind) false (word ∷ words) ≡ option_map (with_front (operands_in rows)) (limited_by_next words)

@@ -1,10 +1,11 @@
 use Rattle.std.proofs.Common.{append-nil, ◌≡◌, ◌∷◌, ◌++◌, [], get_or, take, filter, nat_eq, true, false, rules, sym, ap, ◌∙◌}
+use Rattle.std.specs.Cmp.{nat_eq_equiv}
 use Rattle.std.proofs.lemmas.List.{take_all}
 use Rattle.std.proofs.lemmas.List.Folds.{list_any_at}
 use Rattle.px_flat.specs.Flat.{plan_of}
 use Rattle.px_flat.proofs.Tables.{flat_sound}
 use Rattle.px_assign.specs.Conflicts.{is_loser}
-use Rattle.px_assign.proofs.Firsts.{stays_as_loser, filter_more, same_itself}
+use Rattle.px_assign.proofs.Firsts.{stays_as_loser, filter_more}
 use Rattle.px_assign.proofs.Ties.{losers_alike}
 use Rattle.px_assign.proofs.conflicts.losers.Goals as goal
 use Rattle.px_assign.proofs.conflicts.losers.Goals.{then-stays+in_ok-push, else-stays}
@@ -17,7 +18,7 @@ loop-node-preserved c =
     let test = is_loser plan wanting c.args.holding.now in
     let judged : test (get_or wanting i 0) ≡ c.stays.result =
     sym (stays_as_loser plan wanting c.args.holding.now _ _ (get_or wanting i 0) c.in_ok-held.ensures c.in_ok-first.ensures
-    (list_any_at (nat_eq (get_or wanting i 0)) wanting i 0 c.loop-node-test.true (same_itself (get_or wanting i 0))))
+    (list_any_at (nat_eq (get_or wanting i 0)) wanting i 0 c.loop-node-test.true (nat_eq_equiv.refl (get_or wanting i 0))))
     ∙ sym c.stays.ensures in
     elim c.if-stays.branch [
       | then-stays+in_ok-push w ↦

@@ -2,7 +2,7 @@ use Rattle.std.proofs.Common.{◌≡◌, rules, fold, map, ap, sym, ◌∙◌}
 use Rattle.std.specs.List.{flat_map}
 use Rattle.px_core.specs.Expr.{term_of}
 use Rattle.px_flat.specs.Lookups.{with_name, lookups_in}
-use Rattle.px_flat.proofs.LookedUp.{names_then, each_lookup, all_had}
+use Rattle.px_flat.proofs.LookedUp.{fold_append, each_lookup, all_had}
 use Rattle.px_flat.proofs.Terms.{look, binary}
 use Rattle.px_flat.proofs.lookups.+add.Goals as goal
 
@@ -25,7 +25,7 @@ add-returns-in_ok-add-in-Binary-2 t c =
     ≡ fold with_name c.add-in-Binary.new.names.keys (lookups_in (term_of w.right.value)) = search rules in
     both
     ∙ ap (λ names. fold with_name names (lookups_in (term_of w.right.value))) one
-    ∙ sym (names_then keys (lookups_in (term_of w.left.value)) (lookups_in (term_of w.right.value)))
+    ∙ sym (fold_append with_name keys (lookups_in (term_of w.left.value)) (lookups_in (term_of w.right.value)))
     ∙ ap (λ term. fold with_name keys (lookups_in term)) (sym (binary w.op w.left w.right))
     ∙ ap (λ e. fold with_name keys (lookups_in (term_of e))) (sym w.is)
 

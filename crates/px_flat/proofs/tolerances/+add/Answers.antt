@@ -2,7 +2,7 @@ use Rattle.std.proofs.Common.{◌≡◌, [], rules, fold, map, ap, sym, ◌∙�
 use Rattle.std.specs.List.{cons_option, flat_map}
 use Rattle.px_core.specs.Expr.{in_turn, term_of}
 use Rattle.px_sem.specs.Tolerances.{tolerances_in, tolerances_in_each, with_tolerance}
-use Rattle.px_flat.proofs.LookedUp.{tolerances_then, each_tolerance, own_then, all_had}
+use Rattle.px_flat.proofs.LookedUp.{fold_append, each_tolerance, own_then, all_had}
 use Rattle.px_flat.proofs.Terms.{look, binary}
 use Rattle.px_flat.proofs.tolerances.+add.Goals as goal
 
@@ -26,7 +26,7 @@ add-returns-in_ok-add-in-Binary-2 t c =
     ≡ fold with_tolerance c.add-in-Binary.new.tolerances.items (tolerances_in (term_of w.right.value)) = search rules in
     both
     ∙ ap (λ tolerances. fold with_tolerance tolerances (tolerances_in (term_of w.right.value))) one
-    ∙ sym (tolerances_then known (tolerances_in (term_of w.left.value)) (tolerances_in (term_of w.right.value)))
+    ∙ sym (fold_append with_tolerance known (tolerances_in (term_of w.left.value)) (tolerances_in (term_of w.right.value)))
     ∙ ap (λ term. fold with_tolerance known (tolerances_in term)) (sym (binary w.op w.left w.right))
     ∙ ap (λ e. fold with_tolerance known (tolerances_in (term_of e))) (sym w.is)
 

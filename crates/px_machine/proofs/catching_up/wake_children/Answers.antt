@@ -1,8 +1,9 @@
 use Rattle.std.proofs.Common.{◌<◌, length, ap, sym, subst, arith}
 use Rattle.px_flat.specs.declared.row.Extent.{Extent}
 use Rattle.px_flat.specs.Flat.{plan_of}
+use Rattle.px_cached.proofs.OneList.{now_noted}
 use Rattle.px_micro.proofs.Families.{end_within}
-use Rattle.px_machine.proofs.Waiting.{push_waits, push_wakes}
+use Rattle.px_machine.proofs.Waiting.{push_wakes}
 use Rattle.px_machine.proofs.Waking.{HasWokenBefore, all_woken, woken_more}
 use Rattle.px_machine.proofs.catching_up.wake_children.Goals as goal
 
@@ -18,7 +19,7 @@ children-preserved c =
     subst (λ next. HasWokenBefore plan c.args.node next c.args.queue.now new)
     (sym (ap (λ (extent : Extent). extent.end) c.extent-child.ensures.extent))
     (woken_more c.args.flat.now c.args.node child c.args.queue.now old new c.requires.node there c.children.invariant
-    (push_wakes old new child pushed.holders pushed.links pushed.counts) (push_waits 1 old new child pushed.holders))
+    (push_wakes old new child pushed.holders pushed.links pushed.counts) (now_noted old new child 1 pushed.holders))
 
 pub returns-clause-children : goal.returns-clause-children
 returns-clause-children c =

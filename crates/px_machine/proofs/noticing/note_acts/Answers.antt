@@ -1,9 +1,9 @@
 use Rattle.std.proofs.Common.{refl, sym, subst}
 use Rattle.std.proofs.lemmas.List.{take_more}
+use Rattle.px_cached.proofs.OneList.{holders_then, now_noted}
 use Rattle.px_machine.specs.declared.kept.Kept.{Kept}
 use Rattle.px_machine.specs.Noticing.{HaveNotedActs}
 use Rattle.px_machine.proofs.News.{acts_more}
-use Rattle.px_machine.proofs.Waiting.{push_adds, push_waits}
 use Rattle.px_machine.proofs.noticing.note_acts.Goals as goal
 
 pub loop-node-preserved : goal.loop-node-preserved
@@ -15,4 +15,4 @@ loop-node-preserved c =
     subst (HaveNotedActs c.args.kept.now new) (sym (take_more c.news-news.result.now c.loop-node.node-index 0 c.loop-node-test.true))
     (acts_more c.args.kept.now old new _ _ c.loop-node.invariant
     (record { flat = refl; truths = refl; seen = refl; states = refl; told = refl; busy = refl; claims = refl }) refl
-    (record { added = push_adds 0 old.queue queue _ pushed.holders; counts = pushed.counts }) (push_waits 0 old.queue queue _ pushed.holders))
+    (record { added = holders_then old.queue queue _ 0 pushed.holders; counts = pushed.counts }) (now_noted old.queue queue _ 0 pushed.holders))
