@@ -1,5 +1,5 @@
 // Tokens that are tried in place of one that can't stand where it does.
-use px_lex::{LexFault, Token, lex};
+use px_lex::{Token, lex};
 use px_pen::Pen;
 use px_plan_parse::parse;
 use px_syntax::ParseFault;
@@ -46,51 +46,39 @@ impl Front {
         }
     }
 
-    /// Whether the tokens are a plan.
-    pub fn is_plan(&mut self) -> bool {
-        self.fault_at().is_none()
-    }
-
-    /// Whether a plan goes on with the token that is spelled so.
+    /// Whether a plan goes on with what is spelled so, one token or none; with none, whether the tokens are a plan.
     pub fn takes(&mut self, spelling: &str) -> bool {
         match lex(self.alloc, spelling) {
             Ok(tokens) => self.goes_on_with(tokens),
-            Err(fault) => self.fails(matches!(fault, LexFault::NoMemory)),
+            // It is spelled as the language has it, so memory alone can be missing.
+            Err(_) => self.fails(),
         }
     }
 
-    // Whether a plan goes on with these tokens.
     fn goes_on_with(&mut self, mut tokens: Vec<Token>) -> bool {
         let end = self.tokens.len();
         if self.tokens.append(&mut tokens).is_err() {
-            return self.fails(true);
+            return self.fails();
         }
-        let goes_on = match self.fault_at() {
-            Some(token) => token > end,
-            None => true,
-        };
+        let goes_on = self.stands(end);
         self.tokens.truncate(end);
         goes_on
     }
 
-    // The token with which no plan goes on; None where the tokens are a plan.
-    fn fault_at(&mut self) -> Option<usize> {
+    // Whether the token with this number can stand there: the tokens are a plan, or what is wrong comes behind it.
+    fn stands(&mut self, place: usize) -> bool {
         match parse(self.alloc, &self.tokens) {
             Ok(tree) => {
                 drop(tree);
-                None
+                true
             }
-            Err(ParseFault::SyntaxFault { token }) => Some(token),
-            Err(fault) => {
-                self.fails(matches!(fault, ParseFault::NoMemory));
-                Some(0)
-            }
+            Err(ParseFault::SyntaxFault { token } | ParseFault::Deep { token }) => token > place,
+            Err(ParseFault::NoMemory) => self.fails(),
         }
     }
 
-    // Notes whether memory has run out; the try itself has failed in any case.
-    fn fails(&mut self, for_memory: bool) -> bool {
-        self.has_failed = self.has_failed || for_memory;
+    fn fails(&mut self) -> bool {
+        self.has_failed = true;
         false
     }
 }

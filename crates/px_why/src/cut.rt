@@ -1,6 +1,5 @@
 // Where a plan can't go on.
-use crate::place::{Place, place_of};
-use crate::syntax::place_at;
+use crate::place::{Place, place_at, place_of};
 use px_lex::{Sign, Token, TokenKind};
 
 /// The place of a token with which a plan can't go on, or of its end, and what stands round it.
@@ -21,13 +20,9 @@ impl<'a> Cut<'a> {
         } else {
             open_bracket(text, tokens)
         };
-        let before = match tokens.get(token.saturating_sub(1)) {
-            Some(before) => place_of(text, before.at),
-            None => place_of(text, 0),
-        };
         Cut {
             place: place_at(text, tokens, token),
-            before,
+            before: place_at(text, tokens, token.saturating_sub(1)),
             open,
         }
     }

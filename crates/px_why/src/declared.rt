@@ -1,4 +1,6 @@
 // The names that a tree declares: variables, nodes, commands and lookups.
+use crate::nearest::Nearest;
+use px_pen::Pen;
 use px_syntax::{Block, Body, Branch, Declaration, Identifier, Item, Surface, TypeName};
 use px_value::NoMemory;
 use std::alloc::{AllocError, Global};
@@ -25,6 +27,55 @@ pub struct Declared<'a> {
     pub answer: Option<TypeName>,
     /// The number of the place, in which no two names of one sort are the same.
     pub place: usize,
+}
+
+/// The first name of this sort that is spelled so.
+pub fn first_of<'a>(names: &'a [Declared<'a>], sort: Sort, name: &str) -> Option<&'a Declared<'a>> {
+    for one in names {
+        if one.sort == sort && one.name == name {
+            return Some(one);
+        }
+    }
+    None
+}
+
+/// The token of the first name that is of the same sort, spelling and place as the one at this token.
+pub fn first_like(names: &[Declared<'_>], token: usize) -> usize {
+    let Some(other) = declared_at(names, token) else {
+        return token;
+    };
+    for one in names {
+        if one.place == other.place && one.sort == other.sort && one.name == other.name {
+            return one.token;
+        }
+    }
+    token
+}
+
+fn declared_at<'a>(names: &'a [Declared<'a>], token: usize) -> Option<&'a Declared<'a>> {
+    for one in names {
+        if one.token == token {
+            return Some(one);
+        }
+    }
+    None
+}
+
+/// The name of this sort that is nearest to one that is written, if one is near.
+pub fn nearest_declared<'a>(
+    alloc: Global,
+    names: &'a [Declared<'a>],
+    sort: Sort,
+    name: &'a str,
+    out: &mut Pen,
+) -> Option<&'a str> {
+    let mut nearest = Nearest::to(name);
+    for one in names {
+        if one.sort == sort {
+            nearest.look_at(alloc, one.name);
+        }
+    }
+    nearest.found(out)
 }
 
 /// The names, in the order in which a walk from the declarations to the root's last action comes to them.
@@ -65,8 +116,23 @@ impl<'a> Names<'a> {
         self.places
     }
 
-    fn add(&mut self, declared: Declared<'a>) {
+    fn add(
+        &mut self,
+        sort: Sort,
+        identifier: &'a Identifier,
+        parameters: usize,
+        answer: Option<TypeName>,
+        place: usize,
+    ) {
         if !self.has_failed {
+            let declared = Declared {
+                name: identifier.name.as_str(),
+                token: identifier.token,
+                sort,
+                parameters,
+                answer,
+                place,
+            };
             self.has_failed = self.list.push(declared).is_err();
         }
     }
@@ -74,39 +140,24 @@ impl<'a> Names<'a> {
     fn globals(&mut self, declarations: &'a [Declaration]) {
         let place = self.new_place();
         for declaration in declarations {
-            let (sort, answer, name, parameters) = match declaration {
+            match declaration {
                 Declaration::Command {
                     answer,
                     name,
                     parameters,
-                } => (Sort::Command, *answer, name, parameters.len()),
+                } => self.add(Sort::Command, name, parameters.len(), *answer, place),
                 Declaration::Lookup {
                     answer,
                     name,
                     parameters,
-                } => (Sort::Lookup, Some(*answer), name, parameters.len()),
-            };
-            self.add(Declared {
-                name: name.name.as_str(),
-                token: name.token,
-                sort,
-                parameters,
-                answer,
-                place,
-            });
+                } => self.add(Sort::Lookup, name, parameters.len(), Some(*answer), place),
+            }
         }
     }
 
     // Adds a variable or a node.
     fn add_plain(&mut self, sort: Sort, identifier: &'a Identifier, place: usize) {
-        self.add(Declared {
-            name: identifier.name.as_str(),
-            token: identifier.token,
-            sort,
-            parameters: 0,
-            answer: None,
-            place,
-        });
+        self.add(sort, identifier, 0, None, place);
     }
 
     fn label(&mut self, label: &'a Option<Identifier>, place: usize) {

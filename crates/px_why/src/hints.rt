@@ -57,42 +57,30 @@ fn keyword_taken<'a>(
     }
 }
 
-/// A word, one that can't stand behind it, and the rule for that.
-const PAIRS: [(&str, &str, &str); 3] = [
+/// A word, one that can't stand behind it, and the rule for that; behind an empty word stands any.
+const PAIRS: [(&str, &str, &str); 4] = [
     ("else", "if", "`else if` is written `elseif`"),
     ("}", ";", "no `;` stands behind a `}`"),
     ("+", "+", "there is no `++`: write `x + 1`"),
+    (
+        "",
+        "#(",
+        "a list of values stands in a declaration alone: write the elements one by one, as `x[0] = 1`",
+    ),
 ];
 
 // The rule that is broken where the second stands behind the first.
 fn rule_broken(before: &str, found: &str, wanted: &Wanted) -> Option<&'static str> {
     for pair in &PAIRS {
         let (first, second, rule) = *pair;
-        if before == first && found == second {
+        if found == second && (first.is_empty() || before == first) {
             return Some(rule);
         }
     }
     rule_of_order(found, wanted)
 }
 
-// The rule that is broken where this word stands too late.
-fn rule_of_order(found: &str, wanted: &Wanted) -> Option<&'static str> {
-    if found == "#(" {
-        Some(
-            "a list of values stands in a declaration alone: write the elements one by one, as `x[0] = 1`",
-        )
-    } else if wanted.is_complete && (found == "Command" || is_type(found)) {
-        Some("declarations stand before the plan")
-    } else if wanted.action {
-        rule_of_block(found)
-    } else {
-        None
-    }
-}
-
-fn is_type(word: &str) -> bool {
-    matches!(word, "Integer" | "Boolean" | "String")
-}
+const TYPES: [&str; 3] = ["Integer", "Boolean", "String"];
 
 /// What begins a condition or a Priority.
 const ATTRIBUTES: [&str; 9] = [
@@ -107,16 +95,25 @@ const ATTRIBUTES: [&str; 9] = [
     "Priority",
 ];
 
-// The rule that is broken where this word stands in place of an action.
-fn rule_of_block(found: &str) -> Option<&'static str> {
-    if is_type(found) {
-        return Some("variables are declared before the first action of their block");
+// The rule that is broken where this word stands too late.
+fn rule_of_order(found: &str, wanted: &Wanted) -> Option<&'static str> {
+    let is_type = is_among(found, &TYPES);
+    if wanted.is_complete && (is_type || found == "Command") {
+        Some("declarations stand before the plan")
+    } else if wanted.action && is_type {
+        Some("variables are declared before the first action of their block")
+    } else if wanted.action && is_among(found, &ATTRIBUTES) {
+        Some("conditions and a Priority stand before the first action of their block")
+    } else {
+        None
     }
-    for attribute in &ATTRIBUTES {
-        let attribute = *attribute;
-        if found == attribute {
-            return Some("conditions and a Priority stand before the first action of their block");
+}
+
+fn is_among(word: &str, others: &[&str]) -> bool {
+    for other in others {
+        if *other == word {
+            return true;
         }
     }
-    None
+    false
 }

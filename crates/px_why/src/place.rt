@@ -1,4 +1,5 @@
 // Places in a text: the line, the column and what stands there.
+use px_lex::Token;
 use std::str::Chars;
 
 /// The most characters of a line that are shown.
@@ -36,6 +37,17 @@ pub fn place_of(text: &str, at: usize) -> Place<'_> {
         }
     }
     place
+}
+
+/// The place of a token; behind the last, the end of the last.
+pub fn place_at<'a>(text: &'a str, tokens: &[Token], token: usize) -> Place<'a> {
+    match tokens.get(token) {
+        Some(token) => place_of(text, token.at),
+        None => match tokens.last() {
+            Some(last) => place_of(text, last.at).behind(),
+            None => place_of(text, 0),
+        },
+    }
 }
 
 fn place_in(content: &str, line: usize, before: usize) -> Place<'_> {
@@ -93,6 +105,12 @@ impl<'a> Place<'a> {
     /// What is shown of the line.
     pub fn shown(&self) -> &'a str {
         front(skipped(self.content, self.shown_from()), SHOWN)
+    }
+
+    /// What is shown of what stands here.
+    pub(crate) fn marked(&self) -> &'a str {
+        let before = self.before.saturating_sub(self.shown_from());
+        front(skipped(self.shown(), before), self.width)
     }
 
     /// What is shown of the line before the place.

@@ -1,12 +1,12 @@
 // All faults of a plan, told one after another.
 use crate::candidates::Front;
-use crate::cut::Cut;
+use crate::cut::{Cut, is_opening};
 use crate::declared::names_in;
-use crate::lexical::{byte_of, not_a_token};
-use crate::place::place_of;
+use crate::lexical::{BAD, REAL, Row, TOO_LONG, not_a_token};
+use crate::place::{place_at, place_of};
 use crate::report::{Words, push_fault, push_whole};
 use crate::seen::Seen;
-use crate::syntax::{cut_short, place_at, too_deep};
+use crate::syntax::cut_short;
 use px_check::{Spot, first_behind};
 use px_lex::{LexFault, Token, lex};
 use px_pen::Pen;
@@ -32,22 +32,17 @@ pub fn why_plan(alloc: Global, name: &str, bytes: &[u8], out: &mut Pen) -> Resul
 }
 
 fn not_text(name: &str, bytes: &[u8], at: usize, out: &mut Pen) {
-    out.fill_each(
-        "error: the byte {} of the file, in line {}, is no text (UTF-8)",
-        &[at, line_at(bytes, at)],
-    );
-    push_whole(out, name, "save the plan as UTF-8");
-}
-
-// The number of the line in which a byte stands.
-fn line_at(bytes: &[u8], at: usize) -> usize {
     let mut line: usize = 1;
     for byte in bytes.iter().take(at) {
         if *byte == b'\n' {
             line = line.saturating_add(1);
         }
     }
-    line
+    out.fill_each(
+        "error: the byte {} of the file, in line {}, is no text (UTF-8)",
+        &[at, line],
+    );
+    push_whole(out, name, "save the plan as UTF-8");
 }
 
 fn why_text(alloc: Global, name: &str, text: &str, out: &mut Pen) -> Result<u32, NoMemory> {
@@ -56,25 +51,21 @@ fn why_text(alloc: Global, name: &str, text: &str, out: &mut Pen) -> Result<u32,
             let mut front = Front::of(alloc, tokens);
             let told = why_tokens(alloc, name, text, &mut front, out);
             drop(front);
-            told
+            return told;
         }
-        Err(fault) => no_token(alloc, name, text, &fault, out),
+        Err(LexFault::Bad { at }) => no_token(alloc, name, text, at, &BAD, out),
+        Err(LexFault::Real { at }) => no_token(alloc, name, text, at, &REAL, out),
+        Err(LexFault::TooLong { at }) => no_token(alloc, name, text, at, &TOO_LONG, out),
+        Err(LexFault::NoMemory) => return Err(AllocError),
     }
+    Ok(1)
 }
 
-fn no_token(
-    alloc: Global,
-    name: &str,
-    text: &str,
-    fault: &LexFault,
-    out: &mut Pen,
-) -> Result<u32, NoMemory> {
-    let at = byte_of(fault).ok_or(AllocError)?;
+fn no_token(alloc: Global, name: &str, text: &str, at: usize, rows: &[Row], out: &mut Pen) {
     let place = place_of(text, at);
     let mut words = Words::new(alloc);
-    not_a_token(fault, &place, &mut words);
+    not_a_token(rows, &place, &mut words);
     push_fault(out, name, &place, &words);
-    Ok(1)
 }
 
 fn why_tokens(
@@ -117,9 +108,19 @@ fn no_syntax(
     push_fault(out, name, &cut.place, &words);
 }
 
+// Of a bracket or an operator.
 fn deep(alloc: Global, name: &str, text: &str, tokens: &[Token], token: usize, out: &mut Pen) {
     let mut words = Words::new(alloc);
-    too_deep(tokens, token, &mut words);
+    match tokens.get(token) {
+        Some(token) if is_opening(token) => words.say(
+            "64 brackets are open before this one",
+            "close some, or put what stands inside into a plan of fewer levels",
+        ),
+        _ => words.say(
+            "the statement has 64 operators before this one",
+            "put a part of it into a variable first",
+        ),
+    }
     push_fault(out, name, &place_at(text, tokens, token), &words);
 }
 

@@ -3,6 +3,9 @@ use crate::place::Place;
 use px_pen::Pen;
 use std::alloc::Global;
 
+/// What is wrong, and what helps; each `{}` stands for a name.
+pub type Told = (&'static str, &'static str);
+
 /// What is wrong, and what to do about it.
 #[derive(Drop)]
 pub struct Words {
@@ -30,6 +33,12 @@ impl Words {
     pub fn say_of(&mut self, name: &str, message: &str, help: &str) {
         self.message.fill(message, name);
         self.help.fill(help, name);
+    }
+
+    /// As `say_of`.
+    pub(crate) fn tell(&mut self, name: &str, told: Told) {
+        let (message, help) = told;
+        self.say_of(name, message, help);
     }
 }
 
@@ -59,24 +68,34 @@ pub fn push_whole(out: &mut Pen, name: &str, help: &str) {
 
 // The line, and marks under what is meant.
 fn push_excerpt(out: &mut Pen, place: &Place<'_>) {
-    let line = place.line;
-    write!(out, "     |\n{line:>4} | ");
-    for c in place.shown().chars() {
-        out.push_char(if c.is_control() && c != '\t' { ' ' } else { c });
-    }
+    out.push(match place.line {
+        0..=9 => "     |\n   ",
+        10..=99 => "     |\n  ",
+        100..=999 => "     |\n ",
+        _ => "     |\n",
+    });
+    out.fill_each("{} | ", &[place.line]);
+    push_blanked(out, place.shown(), true);
     out.push("\n     | ");
-    push_marks(out, place);
+    push_blanked(out, place.shown_before(), false);
+    push_marks(out, place.marked());
     out.push("\n");
 }
 
-fn push_marks(out: &mut Pen, place: &Place<'_>) {
-    let before = place.shown_before();
-    for c in before.chars() {
-        out.push_char(if c == '\t' { '\t' } else { ' ' });
+// Writes blanks in place of all characters, or of those that can't be shown; tabs stay.
+fn push_blanked(out: &mut Pen, text: &str, is_shown: bool) {
+    for c in text.chars() {
+        let stays = c == '\t' || (is_shown && !c.is_control());
+        out.push_char(if stays { c } else { ' ' });
     }
-    let shown = place.shown().chars().count();
-    let left = shown.saturating_sub(before.chars().count());
-    for _ in 0..place.width.min(left.max(1)) {
-        out.push_char('^');
+}
+
+// A mark for each character, and one where there is none.
+fn push_marks(out: &mut Pen, marked: &str) {
+    if marked.is_empty() {
+        out.push("^");
+    }
+    for _ in marked.chars() {
+        out.push("^");
     }
 }

@@ -1,11 +1,9 @@
 // Tokens that are no plan, in words.
 use crate::candidates::Front;
-use crate::cut::{Cut, is_opening};
+use crate::cut::Cut;
 use crate::hints::push_hint;
-use crate::place::{Place, place_of};
 use crate::report::Words;
 use crate::wanted::Wanted;
-use px_lex::Token;
 use px_pen::Pen;
 use std::alloc::Global;
 
@@ -38,29 +36,4 @@ fn push_wanted(cut: &Cut<'_>, wanted: &Wanted, out: &mut Pen) {
     }
     out.push("what may stand here is ");
     wanted.push_phrase(out);
-}
-
-/// Says of a bracket or an operator that it is too deep.
-pub fn too_deep(tokens: &[Token], token: usize, words: &mut Words) {
-    match tokens.get(token) {
-        Some(token) if is_opening(token) => words.say(
-            "64 brackets are open before this one",
-            "close some, or put what stands inside into a plan of fewer levels",
-        ),
-        _ => words.say(
-            "the statement has 64 operators before this one",
-            "put a part of it into a variable first",
-        ),
-    }
-}
-
-/// The place of a token; behind the last, the end of the last.
-pub fn place_at<'a>(text: &'a str, tokens: &[Token], token: usize) -> Place<'a> {
-    match tokens.get(token) {
-        Some(token) => place_of(text, token.at),
-        None => match tokens.last() {
-            Some(last) => place_of(text, last.at).behind(),
-            None => place_of(text, 0),
-        },
-    }
 }

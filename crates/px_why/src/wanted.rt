@@ -6,9 +6,8 @@ use std::alloc::Global;
 /// A token as it is spelled, and how those of its sort are told.
 type Sample = (&'static str, &'static str);
 
-// Signs that are told by themselves.
-const SIGNS: [Sample; 10] = [
-    (";", "`;`"),
+// Signs that are told by themselves, but for the semicolon.
+const SIGNS: [Sample; 9] = [
     (",", "`,`"),
     (":", "`:`"),
     ("=", "`=`"),
@@ -18,6 +17,24 @@ const SIGNS: [Sample; 10] = [
     ("[", "`[`"),
     ("}", "`}`"),
     ("==", "an operator"),
+];
+
+// Values: of any kind, or literals alone.
+const VALUES: [Sample; 2] = [
+    ("isKnown", "an expression"),
+    ("true", "a number, a String, `true` or `false`"),
+];
+
+// Types: any, or that of a loop's variable.
+const TYPES: [Sample; 2] = [
+    ("Boolean", "a type (`Integer`, `Boolean` or `String`)"),
+    ("Integer", "`Integer`"),
+];
+
+// Names: any, or those of attributes.
+const NAMES: [Sample; 2] = [
+    ("x", "a name"),
+    ("state", "`state`, `outcome`, `failure` or `command_handle`"),
 ];
 
 // What is a part of what is told otherwise, where that is wanted.
@@ -38,10 +55,10 @@ const SMALLER: [Sample; 11] = [
 /// What may stand somewhere, sort by sort.
 #[derive(Drop)]
 pub struct Wanted {
-    /// In words.
-    sorts: Vec<&'static str>,
-    // Whether memory has run out for a sort.
-    has_failed: bool,
+    /// All sorts but the last, in words.
+    others: Pen,
+    /// The last; empty where there is none yet.
+    last: &'static str,
     /// Whether a semicolon is among them.
     pub semicolon: bool,
     /// Whether an action is among them.
@@ -54,15 +71,22 @@ impl Wanted {
     /// What may stand behind the front of a plan.
     pub fn behind(alloc: Global, front: &mut Front) -> Wanted {
         let mut wanted = Wanted {
-            sorts: Vec::new(alloc),
-            has_failed: false,
-            semicolon: front.takes(";"),
-            action: front.takes("if"),
-            is_complete: front.is_plan(),
+            others: Pen::new(alloc),
+            last: "",
+            semicolon: false,
+            action: false,
+            is_complete: front.takes(""),
         };
+        wanted.semicolon = wanted.add(";", "`;`", front);
         wanted.add_each(&SIGNS, front);
-        if !wanted.add_larger(front) {
-            wanted.add_smaller(front);
+        let value = wanted.add_first(&VALUES, front);
+        wanted.action = wanted.add("if", "an action", front);
+        wanted.add("Start", "a condition", front);
+        let block = wanted.action || wanted.add("Concurrence", "a block in `{ }`", front);
+        wanted.add_first(&TYPES, front);
+        if !value && !block {
+            wanted.add_first(&NAMES, front);
+            wanted.add_each(&SMALLER, front);
         }
         wanted
     }
@@ -70,8 +94,12 @@ impl Wanted {
     // Adds a sort if the token of this spelling is taken, and answers whether it is.
     fn add(&mut self, spelling: &str, sort: &'static str, front: &mut Front) -> bool {
         let is_taken = front.takes(spelling);
-        if is_taken && !self.has_failed {
-            self.has_failed = self.sorts.push(sort).is_err();
+        if is_taken {
+            if !self.others.is_empty() {
+                self.others.push(", ");
+            }
+            self.others.push(self.last);
+            self.last = sort;
         }
         is_taken
     }
@@ -82,41 +110,22 @@ impl Wanted {
         }
     }
 
-    // What begins with many tokens. Answers whether a name, a number or an opening bracket belongs to it.
-    fn add_larger(&mut self, front: &mut Front) -> bool {
-        let value = self.add("isKnown", "an expression", front)
-            || self.add("true", "a number, a String, `true` or `false`", front);
-        let action = self.add("if", "an action", front);
-        self.add("Start", "a condition", front);
-        let block = action || self.add("Concurrence", "a block in `{ }`", front);
-        let any_type = "a type (`Integer`, `Boolean` or `String`)";
-        if !self.add("Boolean", any_type, front) {
-            self.add("Integer", "`Integer`", front);
+    // Adds the first sort whose token is taken, and answers whether there is one.
+    fn add_first(&mut self, samples: &[Sample], front: &mut Front) -> bool {
+        for (spelling, sort) in samples {
+            if self.add(*spelling, *sort, front) {
+                return true;
+            }
         }
-        value || block
-    }
-
-    fn add_smaller(&mut self, front: &mut Front) {
-        if !self.add("x", "a name", front) {
-            let attribute = "`state`, `outcome`, `failure` or `command_handle`";
-            self.add("state", attribute, front);
-        }
-        self.add_each(&SMALLER, front);
+        false
     }
 
     /// Writes the sorts as one phrase.
     pub fn push_phrase(&self, out: &mut Pen) {
-        if self.has_failed {
-            out.fail();
+        out.append(&self.others);
+        if !self.others.is_empty() {
+            out.push(" or ");
         }
-        for (place, sort) in self.sorts.iter().enumerate() {
-            let left = self.sorts.len().saturating_sub(place);
-            match (place, left) {
-                (0, _) => {}
-                (_, 1) => out.push(" or "),
-                _ => out.push(", "),
-            }
-            out.push(*sort);
-        }
+        out.push(self.last);
     }
 }
