@@ -1,10 +1,11 @@
 // The faults of a tree in words, by their kinds.
-use crate::declared::{Sort, first_like, first_of};
+use crate::declared::{Declared, Sort, first_like, first_of};
 use crate::misfit::{misused, push_misfit, push_no_result};
 use crate::report::{Told, Words};
 use crate::seen::{Seen, keyword_at, kind_at, name_at, sign_at};
 use px_check::Spot;
 use px_lex::{Keyword, Sign, Token, TokenKind};
+use px_pen::Pen;
 use px_syntax::FaultKind;
 use std::alloc::Global;
 
@@ -60,11 +61,16 @@ impl<'a> Seen<'a> {
         words
             .help
             .push("give it as many, or change its declaration");
-        let message = &mut words.message;
-        message.fill("`{}` ", name);
-        let Some(declared) = first_of(self.names, sort, name) else {
-            return message.push("is declared with another number of arguments");
-        };
+        words.message.fill("`{}` ", name);
+        match first_of(self.names, sort, name) {
+            Some(declared) => self.push_count(declared, &mut words.message),
+            None => words
+                .message
+                .push("is declared with another number of arguments"),
+        }
+    }
+
+    fn push_count(&self, declared: &Declared<'_>, message: &mut Pen) {
         match declared.parameters {
             0 => message.push("takes no argument"),
             1 => message.push("takes 1 argument"),

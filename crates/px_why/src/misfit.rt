@@ -51,20 +51,20 @@ fn is_alone(tokens: &[Token], token: usize, given: ValueType) -> bool {
 /// An array without an index, a scalar with one, a single value in place of a list, a list in place of a value, or a
 /// tolerance where there can be none, by the sign behind it.
 pub fn misused(tokens: &[Token], token: usize, next: Option<Sign>) -> Told {
-    match (kind_at(tokens, token), next) {
-        (Some(TokenKind::Identifier(_)), Some(Sign::OpenBracket)) => (
+    match kind_at(tokens, token) {
+        Some(TokenKind::Identifier(_)) if next == Some(Sign::OpenBracket) => (
             "`{}` is no array, and has no elements",
             "leave the index away: `{}`",
         ),
-        (Some(TokenKind::Identifier(_)), _) => (
+        Some(TokenKind::Identifier(_)) => (
             "`{}` is an array; one value is wanted here",
             "name one of its elements, as `{}[0]`",
         ),
-        (Some(TokenKind::Integer(_)), Some(Sign::CloseParen)) => (
+        Some(TokenKind::Integer(_)) if next == Some(Sign::CloseParen) => (
             "a tolerance stands here, and the lookup is not declared as Integer",
             "leave it away with the comma before it, or declare the lookup as Integer",
         ),
-        (Some(TokenKind::Sign(Sign::OpenList)), _) => (
+        Some(TokenKind::Sign(Sign::OpenList)) => (
             "a list of values stands here, and the variable is no array",
             "give the variable one value, or a size, as in `Integer x[2] = #(1 2);`",
         ),

@@ -26,17 +26,19 @@ pub struct Place<'a> {
 
 /// The place of what a plan has at a byte of its text, and behind its end that of its last line's end.
 pub fn place_of(text: &str, at: usize) -> Place<'_> {
+    let at = at.min(text.len());
+    let mut line: usize = 0;
     let mut begin: usize = 0;
-    let mut place = place_in("", 1, 0);
-    for (number, content) in text.split('\n').enumerate() {
-        let before = characters_before(content, at.saturating_sub(begin));
-        place = place_in(content, number.saturating_add(1), before);
-        begin = begin.saturating_add(content.len()).saturating_add(1);
-        if at < begin {
-            return place;
+    for content in text.split('\n') {
+        line = line.saturating_add(1);
+        let end = begin.saturating_add(content.len());
+        if at <= end {
+            let before = characters_before(content, at.saturating_sub(begin));
+            return place_in(content, line, before);
         }
+        begin = end.saturating_add(1);
     }
-    place
+    place_in("", line, 0)
 }
 
 /// The place of a token; behind the last, the end of the last.

@@ -35,7 +35,7 @@ impl Words {
         self.help.fill(help, name);
     }
 
-    /// As `say_of`.
+    /// Writes what is wrong and what helps, with a name in place of each `{}`.
     pub(crate) fn tell(&mut self, name: &str, told: Told) {
         let (message, help) = told;
         self.say_of(name, message, help);
