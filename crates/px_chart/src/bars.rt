@@ -2,8 +2,9 @@
 use crate::draw::Drawing;
 use crate::layout::{BAR, BASELINE, MARGIN, ROW, indent};
 use crate::paths::last_name;
-use crate::rows::{Change, Mark, Row, Rows};
-use px_value::NodeState;
+use crate::rows::{Change, Mark, Row};
+use indexmap::IndexMap;
+use px_value::{NodeState, Path};
 
 impl Drawing {
     /// Draws a band behind every second row, under all else.
@@ -19,7 +20,7 @@ impl Drawing {
     }
 
     /// Draws the rows, with their names again at these slots.
-    pub fn rows(&mut self, rows: &Rows, again: &[u32]) {
+    pub fn rows(&mut self, rows: &IndexMap<Path, Row>, again: &[u32]) {
         for (number, (path, row)) in rows.iter().enumerate() {
             let top = self.layout.row(number);
             let y = top.saturating_add(BASELINE);

@@ -1,8 +1,5 @@
 // The measures of a picture, in its units.
-use crate::columns::Column;
-use crate::paths::last_name;
 use crate::recording::Recording;
-use crate::rows::Rows;
 
 /// Room round everything.
 pub const MARGIN: u32 = 16;
@@ -65,40 +62,17 @@ fn as_units(count: usize) -> u32 {
     u32::try_from(count).unwrap_or(u32::MAX)
 }
 
-// The width of the widest name with what stands before it.
-fn names_width(rows: &Rows) -> u32 {
-    let mut width: u32 = 0;
-    for (path, row) in rows.iter() {
-        let name = text_width(last_name(path.as_str()));
-        width = width.max(indent(row.depth).saturating_add(name));
-    }
-    width
-}
-
-/// How many slots the widest name takes.
-pub fn name_slots(rows: &Rows) -> u32 {
-    let mut width: u32 = 0;
-    for path in rows.keys() {
-        width = width.max(text_width(last_name(path.as_str())));
-    }
+/// How many slots hold this width.
+pub fn slots_of(width: u32) -> u32 {
     (width / SLOT).saturating_add(1)
-}
-
-// The width of the longest label, which is its height at the head of a column.
-fn labels_width(columns: &[Column]) -> u32 {
-    let mut width: u32 = 0;
-    for column in columns {
-        width = width.max(text_width(column.label.as_str()));
-    }
-    width
 }
 
 impl Layout {
     /// The layout of a recording under a title.
     pub fn of(title: &str, recording: &Recording) -> Layout {
-        let left = names_width(&recording.rows).saturating_add(MARGIN);
+        let left = recording.names.saturating_add(MARGIN);
         let right = left.saturating_add(recording.slot.saturating_mul(SLOT));
-        let heads = labels_width(&recording.columns).saturating_add(NUMBERS);
+        let heads = recording.labels.saturating_add(NUMBERS);
         let top = heads.saturating_add(TOP);
         // The title has larger letters.
         let title = text_width(title).saturating_mul(2);

@@ -21,8 +21,6 @@ mod rows;
 mod style;
 mod values;
 
-pub use draw::picture_of;
+pub use draw::draw_run;
 pub use paths::{NodePath, last_name, paths_of};
-pub use record::record_run;
-pub use recording::Recording;
 pub use values::push_value;

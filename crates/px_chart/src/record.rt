@@ -24,10 +24,11 @@ pub fn record_run<S: Stepper>(
 ) -> Result<bool, NoMemory>
     requires fit { IsFit (tree_of plan.now) }
 {
+    recording.add_rows(plan)?;
     let mut stepper = S::fresh(alloc, plan)?;
-    let recorded = start_and_post(alloc, &mut stepper, entries, recording);
+    let settles = start_and_post(alloc, &mut stepper, entries, recording);
     drop(stepper);
-    recorded
+    settles
 }
 
 fn start_and_post<S: Stepper>(
@@ -38,12 +39,12 @@ fn start_and_post<S: Stepper>(
 ) -> Result<bool, NoMemory>
     requires pending { IsTrue (is_pending (S.state stepper.old).pending) }
 {
-    if !settles(alloc, stepper, recording)? {
-        return Ok(false);
+    let settles = settles(alloc, stepper, recording)?;
+    if settles {
+        recording.end_start();
+        post_each(alloc, stepper, entries, recording)?;
     }
-    recording.end_start()?;
-    post_each(alloc, stepper, entries, recording)?;
-    Ok(true)
+    Ok(settles)
 }
 
 // Steps until the world is quiet and settles it, and answers whether it does so; each step is kept.
@@ -61,7 +62,7 @@ fn settles<S: Stepper>(
             stepper.settle();
             return Ok(true);
         }
-        recording.step(stepper.moves())?;
+        recording.step(stepper.moves());
     }
     Ok(false)
 }
@@ -81,7 +82,7 @@ fn post_each<S: Stepper>(
         if refused.is_none() {
             count = count.saturating_add(1);
         }
-        recording.end_entry(entry, refused)?;
+        recording.end_entry(entry, refused);
     }
     Ok(())
 }

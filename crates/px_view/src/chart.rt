@@ -2,12 +2,11 @@
 ghost use Rattle.px_core.specs.Fit.{IsFit};
 ghost use Rattle.px_core.specs.Plan.{tree_of};
 
-use crate::answer::{RUNAWAY, Stop};
+use crate::answer::Stop;
 use crate::journal::{Held, list_journal, recovered};
-use crate::lines::entries_in;
-use crate::reading::plan_in;
+use crate::reading::{entries_in, plan_in};
 use crate::runaway::why_start;
-use px_chart::{Recording, picture_of, record_run};
+use px_chart::draw_run;
 use px_core::Plan;
 use px_event::Entry;
 use px_journal::RecoverWhy;
@@ -18,24 +17,10 @@ use std::alloc::Global;
 /// Draws the run of a plan to which the lines of a script are posted by their numbers.
 pub fn chart_script<S: Stepper>(
     alloc: Global,
-    script: &str,
-    lines: &[u8],
-    name: &str,
-    bytes: &[u8],
-    out: &mut Pen,
-) -> Result<(), Stop> {
-    let plan = plan_in(alloc, name, bytes, out)?;
-    let drawn = chart_lines::<S>(alloc, script, lines, name, &plan, out);
-    drop(plan);
-    drawn
-}
-
-fn chart_lines<S: Stepper>(
-    alloc: Global,
-    script: &str,
-    lines: &[u8],
     name: &str,
     plan: &Plan,
+    script: &str,
+    lines: &[u8],
     out: &mut Pen,
 ) -> Result<(), Stop>
     requires fit { IsFit (tree_of plan.now) }
@@ -83,20 +68,9 @@ fn chart_entries<S: Stepper>(
 ) -> Result<(), Stop>
     requires fit { IsFit (tree_of plan.now) }
 {
-    let mut recording = Recording::new(alloc, plan)?;
-    match record_run::<S>(alloc, plan, entries, &mut recording) {
-        Ok(true) => {
-            *out = picture_of(alloc, title, &recording);
-            Ok(())
-        }
-        Ok(false) => no_start::<S>(alloc, title, plan, out),
+    match draw_run::<S>(alloc, title, plan, entries, out) {
+        Ok(true) => Ok(()),
+        Ok(false) => why_start::<S>(alloc, title, plan, out),
         Err(_) => Err(Stop::NoMemory),
     }
-}
-
-fn no_start<S: Stepper>(alloc: Global, title: &str, plan: &Plan, out: &mut Pen) -> Result<(), Stop>
-    requires fit { IsFit (tree_of plan.now) }
-{
-    let _ = why_start::<S>(alloc, title, plan, out)?;
-    Err(Stop::Refused(RUNAWAY))
 }

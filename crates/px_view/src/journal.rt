@@ -2,6 +2,7 @@
 ghost use Rattle.std.specs.Prelude.{IfOk, IsTrue};
 
 use crate::answer::{JOURNAL_REFUSED, Stop};
+use crate::counts::push_count;
 use crate::gates::last_gate;
 use px_event::Entry;
 use px_journal::{Journal, RecoverWhy, Recovered};
@@ -90,13 +91,7 @@ fn push_history(alloc: Global, history: &[Entry], out: &mut Pen) -> Result<(), N
     let mut lines = Vec::new(alloc);
     push_headings(alloc, history, &mut lines)?;
     out.push(from_utf8(&lines).unwrap_or("(a text of the history is no UTF-8)\n"));
-    let events = history.len();
-    let count = if events == 1 {
-        "{} event\n"
-    } else {
-        "{} events\n"
-    };
-    out.fill_each(count, &[events]);
+    push_count(history.len(), "event", out);
     Ok(())
 }
 

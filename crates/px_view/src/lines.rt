@@ -1,13 +1,7 @@
 // The faulty line of a script, in words.
-ghost use Rattle.px_core.specs.Fit.{IsFit};
-ghost use Rattle.px_core.specs.Plan.{tree_of};
-
-use crate::answer::{SCRIPT_REFUSED, Stop};
 use px_chart::{NodePath, last_name, paths_of};
 use px_core::Plan;
-use px_event::Entry;
 use px_pen::Pen;
-use px_script::{SCRIPT_LIMIT, ScriptFault, read_script};
 use px_why::{Nearest, Place, Words, push_fault, push_meant, push_whole};
 use std::alloc::Global;
 use std::str::from_utf8;
@@ -38,32 +32,6 @@ const SHAPES: [(&str, &str); 7] = [
     ),
 ];
 
-/// What the lines of a script for a plan post, by rising numbers. Where its bytes are no script, its first faulty line is
-/// explained.
-pub fn entries_in(
-    alloc: Global,
-    name: &str,
-    bytes: &[u8],
-    plan: &Plan,
-    out: &mut Pen,
-) -> Result<Vec<Entry>, Stop>
-    requires fit { IsFit (tree_of plan.now) }
-{
-    if bytes.len() > SCRIPT_LIMIT {
-        out.push("error: the file is no script: it has over 16,777,216 bytes");
-        push_whole(out, name, "");
-        return Err(Stop::Refused(SCRIPT_REFUSED));
-    }
-    match read_script(alloc, bytes, plan) {
-        Ok(script) => Ok(script.into_entries(alloc)?),
-        Err(ScriptFault::Fault { line, kind }) => {
-            push_line(alloc, name, bytes, line, kind, plan, out);
-            Err(Stop::Refused(SCRIPT_REFUSED))
-        }
-        Err(ScriptFault::NoMemory) => Err(Stop::NoMemory),
-    }
-}
-
 // The bytes of a line, by its number from 1.
 fn line_of(bytes: &[u8], line: u32) -> &[u8] {
     bytes
@@ -72,7 +40,8 @@ fn line_of(bytes: &[u8], line: u32) -> &[u8] {
         .unwrap_or(&[])
 }
 
-fn push_line(
+/// Explains what is wrong with a line of a script: a fault of this kind.
+pub fn push_line(
     alloc: Global,
     name: &str,
     bytes: &[u8],
@@ -195,52 +164,52 @@ fn no_node(alloc: Global, content: &str, nodes: &[NodePath<'_>], words: &mut Wor
 // Of a line that isn't for nodes of this one's kind.
 fn of_other_kind(nodes: &[NodePath<'_>], node: &NodePath<'_>, first: &str, words: &mut Words) {
     let path = node.path.as_str();
-    let wanted = match first {
+    let kind = match first {
         "ack" => "an Update",
         _ => "a Command",
     };
     words.message.fill("`{}` is ", path);
     words.message.push(node.a_kind());
     words.message.fill("; `{}` is for ", first);
-    words.message.push(wanted);
-    push_below(nodes, path, wanted, &mut words.help);
+    words.message.push(kind);
+    push_meant_nodes(nodes, &Meant::Below { path, kind }, &mut words.help);
 }
 
+// Of a path that no node has: the path that is nearest is meant, or the nodes with the last name that is.
 fn no_path(alloc: Global, nodes: &[NodePath<'_>], path: &str, words: &mut Words) {
     words.message.fill("the plan has no node `{}`", path);
     let mut nearest = Nearest::to(path);
-    for node in nodes {
-        nearest.look_at(alloc, node.path.as_str());
-    }
-    match nearest.found(&mut words.help) {
-        Some(near) => push_meant(near, &mut words.help),
-        None => alike_at_last(alloc, nodes, last_name(path), &mut words.help),
-    }
-}
-
-// Writes the nodes with the last name that is nearest to this one.
-fn alike_at_last(alloc: Global, nodes: &[NodePath<'_>], last: &str, help: &mut Pen) {
-    let mut nearest = Nearest::to(last);
-    for node in nodes {
-        nearest.look_at(alloc, last_name(node.path.as_str()));
-    }
-    match nearest.found(help) {
-        Some(last) => push_named(nodes, last, help),
-        None => help.push("`plexil-view nodes PLAN` prints the paths of a plan"),
-    }
-}
-
-// Writes the nodes of the kind that is wanted below a path.
-fn push_below(nodes: &[NodePath<'_>], above: &str, wanted: &str, help: &mut Pen) {
-    let mut told: usize = 0;
+    let mut alike = Nearest::to(last_name(path));
     for node in nodes {
         let path = node.path.as_str();
-        if node.a_kind() == wanted && is_below(path, above) {
-            push_one(told, path, help);
-            told = told.saturating_add(1);
+        nearest.look_at(alloc, path);
+        alike.look_at(alloc, last_name(path));
+    }
+    let help = &mut words.help;
+    match (nearest.found(help), alike.found(help)) {
+        (Some(near), _) => push_meant(near, help),
+        (None, Some(last)) => push_meant_nodes(nodes, &Meant::Named(last), help),
+        (None, None) => help.push("`plexil-view nodes PLAN` prints the paths of a plan"),
+    }
+}
+
+// The nodes that may be meant.
+#[derive(Clone, Copy)]
+enum Meant<'a> {
+    /// Those with this last name.
+    Named(&'a str),
+    /// Those of a kind below a path.
+    Below { path: &'a str, kind: &'a str },
+}
+
+impl Meant<'_> {
+    fn has(&self, node: &NodePath<'_>) -> bool {
+        match self {
+            Meant::Named(last) => last_name(node.path.as_str()) == *last,
+            Meant::Below { path, kind } => node.a_kind() == *kind
+                && is_below(node.path.as_str(), *path),
         }
     }
-    end_meant(told, help);
 }
 
 fn is_below(path: &str, above: &str) -> bool {
@@ -250,17 +219,20 @@ fn is_below(path: &str, above: &str) -> bool {
     }
 }
 
-// Writes the nodes with this last name.
-fn push_named(nodes: &[NodePath<'_>], last: &str, help: &mut Pen) {
-    let mut told: usize = 0;
+// Asks whether one of these nodes is meant, where there is one.
+fn push_meant_nodes(nodes: &[NodePath<'_>], meant: &Meant<'_>, help: &mut Pen) {
+    let mut count: usize = 0;
     for node in nodes {
-        let path = node.path.as_str();
-        if last_name(path) == last {
-            push_one(told, path, help);
-            told = told.saturating_add(1);
+        if meant.has(node) {
+            push_one(count, node.path.as_str(), help);
+            count = count.saturating_add(1);
         }
     }
-    end_meant(told, help);
+    if count > TOLD.saturating_add(1) {
+        help.push(", or another one of that name?");
+    } else if count > 0 {
+        help.push("?");
+    }
 }
 
 // Writes a path that may be meant, behind so many others.
@@ -269,14 +241,5 @@ fn push_one(others: usize, path: &str, help: &mut Pen) {
         help.fill("is `{}` meant", path);
     } else if others <= TOLD {
         help.fill(", or `{}`", path);
-    }
-}
-
-// Ends the question for so many paths.
-fn end_meant(paths: usize, help: &mut Pen) {
-    if paths > TOLD.saturating_add(1) {
-        help.push(", or another one of that name?");
-    } else if paths > 0 {
-        help.push("?");
     }
 }

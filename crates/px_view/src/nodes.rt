@@ -1,6 +1,4 @@
 // The command `nodes`.
-use crate::answer::Stop;
-use crate::reading::plan_in;
 use crate::terms::{push_args, push_expr, push_index};
 use px_chart::{NodePath, paths_of};
 use px_core::{BinaryOp, Body, Expr, Plan, Target, UnaryOp};
@@ -12,20 +10,7 @@ use std::alloc::Global;
 const SHOWN: usize = 240;
 
 /// Lists the nodes of a plan whose paths have a word in them.
-pub fn list_nodes(
-    alloc: Global,
-    name: &str,
-    bytes: &[u8],
-    like: &str,
-    out: &mut Pen,
-) -> Result<(), Stop> {
-    let plan = plan_in(alloc, name, bytes, out)?;
-    let listed = push_plan(alloc, &plan, like, out);
-    drop(plan);
-    Ok(listed?)
-}
-
-fn push_plan(alloc: Global, plan: &Plan, like: &str, out: &mut Pen) -> Result<(), NoMemory> {
+pub fn list_nodes(alloc: Global, plan: &Plan, like: &str, out: &mut Pen) -> Result<(), NoMemory> {
     for node in &paths_of(alloc, plan)? {
         if node.path.as_str().contains(like) {
             push_node(alloc, node, out);

@@ -1,13 +1,16 @@
-// Files, and the plans in them.
+// Files, and the plans and the scripts in them.
 ghost use Rattle.std.specs.Prelude.{IfOk};
 ghost use Rattle.px_core.specs.Fit.{IsFit};
 ghost use Rattle.px_core.specs.Plan.{tree_of};
 
-use crate::answer::{PLAN_REFUSED, READ_FAULT, Stop};
+use crate::answer::{PLAN_REFUSED, READ_FAULT, SCRIPT_REFUSED, Stop};
+use crate::lines::push_line;
 use px_compile::{TEXT_LIMIT, compile};
 use px_core::Plan;
+use px_event::Entry;
 use px_pen::Pen;
 use px_ports::{Fetched, Host, HostFault};
+use px_script::{SCRIPT_LIMIT, ScriptFault, read_script};
 use px_syntax::{ExpandFault, PlanFault};
 use px_why::{push_whole, why_plan};
 use std::alloc::Global;
@@ -84,4 +87,29 @@ fn too_many(name: &str, nodes: u32, out: &mut Pen) -> NoPlan {
     );
     push_whole(out, name, "make it of fewer nodes, or nest them less deep");
     NoPlan::Refused(1)
+}
+
+/// What the lines of a script for a plan post, by rising numbers. Where bytes are no script, why is written.
+pub fn entries_in(
+    alloc: Global,
+    name: &str,
+    bytes: &[u8],
+    plan: &Plan,
+    out: &mut Pen,
+) -> Result<Vec<Entry>, Stop>
+    requires fit { IsFit (tree_of plan.now) }
+{
+    if bytes.len() > SCRIPT_LIMIT {
+        out.push("error: the file is no script: it has over 16,777,216 bytes");
+        push_whole(out, name, "");
+        return Err(Stop::Refused(SCRIPT_REFUSED));
+    }
+    match read_script(alloc, bytes, plan) {
+        Ok(script) => Ok(script.into_entries(alloc)?),
+        Err(ScriptFault::Fault { line, kind }) => {
+            push_line(alloc, name, bytes, line, kind, plan, out);
+            Err(Stop::Refused(SCRIPT_REFUSED))
+        }
+        Err(ScriptFault::NoMemory) => Err(Stop::NoMemory),
+    }
 }

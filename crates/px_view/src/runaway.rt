@@ -4,46 +4,46 @@ ghost use Rattle.px_core.specs.Fit.{IsFit};
 ghost use Rattle.px_core.specs.Plan.{tree_of};
 ghost use Rattle.px_sem.specs.Stepper.{is_pending};
 
+use crate::answer::{RUNAWAY, Stop};
 use px_core::Plan;
 use px_pen::Pen;
 use px_sem::{Move, STEP_LIMIT, Stepper};
-use px_value::NoMemory;
 use px_why::push_whole;
 use std::alloc::Global;
 
 /// How many nodes are told.
 const TOLD: usize = 5;
 
-/// Writes, where the start of a plan doesn't settle, which nodes go on, and answers whether it settles.
+/// Settles the start of a plan; where it doesn't settle, writes which nodes go on.
 pub fn why_start<S: Stepper>(
     alloc: Global,
     name: &str,
     plan: &Plan,
     out: &mut Pen,
-) -> Result<bool, NoMemory>
+) -> Result<(), Stop>
     requires fit { IsFit (tree_of plan.now) }
 {
     let mut stepper = S::fresh(alloc, plan)?;
-    let settles = settles_or_tells(alloc, name, &mut stepper, out);
+    let settled = step_until_quiet(alloc, name, &mut stepper, out);
     drop(stepper);
-    settles
+    settled
 }
 
-fn settles_or_tells<S: Stepper>(
+fn step_until_quiet<S: Stepper>(
     alloc: Global,
     name: &str,
     stepper: &mut S,
     out: &mut Pen,
-) -> Result<bool, NoMemory>
+) -> Result<(), Stop>
     requires pending { IsTrue (is_pending (S.state stepper.old).pending) }
 {
     for _ in 0..STEP_LIMIT + 1 {
         if !stepper.step(alloc)? {
-            return Ok(true);
+            return Ok(());
         }
     }
     push_going(name, stepper.moves(), out);
-    Ok(false)
+    Err(Stop::Refused(RUNAWAY))
 }
 
 fn push_going(name: &str, moves: &[Move], out: &mut Pen) {

@@ -1,11 +1,16 @@
 // The program over a host.
-use crate::answer::{Answer, DONE, Stop, USAGE, WANT_OF_MEMORY};
+ghost use Rattle.px_core.specs.Fit.{IsFit};
+ghost use Rattle.px_core.specs.Plan.{tree_of};
+
+use crate::answer::{Answer, DONE, PLAN_REFUSED, Stop, USAGE, WANT_OF_MEMORY};
 use crate::chart::{chart_journal, chart_script};
-use crate::journal::list_journal;
+use crate::journal::{JOURNAL_LIMIT, list_journal};
 use crate::nodes::list_nodes;
-use crate::reading::fetch;
-use crate::why::{why_plan, why_script};
-use crate::words::{Task, task_in};
+use crate::reading::{NoPlan, fetch, plan_in};
+use crate::why::{push_faults, why_plan, why_script};
+use crate::words::{Task, What, task_in};
+use px_compile::TEXT_LIMIT;
+use px_core::Plan;
 use px_pen::Pen;
 use px_ports::Host;
 use px_script::SCRIPT_LIMIT;
@@ -33,11 +38,19 @@ fn answer<H: Host, S: Stepper>(
 ) -> Result<Answer, NoMemory> {
     let mut out = Pen::new(alloc);
     match asked::<H, S>(alloc, words, host, &mut out) {
-        Ok(Some(name)) => sent_to(String::from_str(alloc, name)?, out),
-        Ok(None) => shown(DONE, out),
-        Err(Stop::Refused(status)) => shown(status, out),
+        Ok(None) => answered(DONE, out, None),
+        Ok(Some(name)) => {
+            let name = String::from_str(alloc, name)?;
+            answered(DONE, out, Some(name))
+        }
+        Err(Stop::Refused(status)) => answered(status, out, None),
         Err(Stop::NoMemory) => Err(AllocError),
     }
+}
+
+fn answered(status: u8, out: Pen, file: Option<String>) -> Result<Answer, NoMemory> {
+    let text = out.written()?;
+    Ok(Answer { status, text, file })
 }
 
 // Does what is asked for, and answers the name of the file where what is written goes, if it goes to one.
@@ -48,17 +61,15 @@ fn asked<'a, H: Host, S: Stepper>(
     out: &mut Pen,
 ) -> Result<Option<&'a str>, Stop> {
     let task = task_in(alloc, words, out)?;
-    spare(task, out)?;
-    let (file, limit) = task.source();
-    let bytes = fetch(alloc, file, limit, host, out)?;
-    carry_out::<H, S>(alloc, task, bytes, host, out)?;
-    Ok(task.file())
+    spare(&task, out)?;
+    carry_out::<H, S>(alloc, &task, host, out)?;
+    Ok(task.to)
 }
 
 // A picture doesn't take the place of a file that it is made of.
-fn spare(task: Task<'_>, out: &mut Pen) -> Result<(), Stop> {
-    match task.file() {
-        Some(name) if task.is_made_of(name) => {
+fn spare(task: &Task<'_>, out: &mut Pen) -> Result<(), Stop> {
+    match task.to {
+        Some(name) if name == task.file || task.script == Some(name) => {
             let why = "{}: the picture is made of this file, and can't take its place\n";
             out.fill(why, name);
             Err(Stop::Refused(USAGE))
@@ -67,44 +78,70 @@ fn spare(task: Task<'_>, out: &mut Pen) -> Result<(), Stop> {
     }
 }
 
-// Does a task over the bytes of its source.
 fn carry_out<H: Host, S: Stepper>(
     alloc: Global,
-    task: Task<'_>,
-    bytes: Vec<u8>,
+    task: &Task<'_>,
     host: &mut H,
     out: &mut Pen,
 ) -> Result<(), Stop> {
-    match task {
-        Task::WhyPlan { plan } => why_plan::<S>(alloc, plan, &bytes, out),
-        Task::WhyScript { script, plan } => {
-            let lines = fetch(alloc, script, SCRIPT_LIMIT, host, out)?;
-            why_script(alloc, script, &lines, plan, &bytes, out)
+    match task.what {
+        What::Journal => {
+            let bytes = fetch(alloc, task.file, JOURNAL_LIMIT, host, out)?;
+            list_journal(alloc, task.file, bytes, out)
         }
-        Task::Nodes { plan, like } => list_nodes(alloc, plan, &bytes, like, out),
-        Task::Journal { journal } => list_journal(alloc, journal, bytes, out),
-        Task::ChartScript { plan, script, .. } => {
-            let lines = fetch(alloc, script, SCRIPT_LIMIT, host, out)?;
-            chart_script::<S>(alloc, script, &lines, plan, &bytes, out)
+        What::ChartJournal => {
+            let bytes = fetch(alloc, task.file, JOURNAL_LIMIT, host, out)?;
+            chart_journal::<S>(alloc, task.file, bytes, out)
         }
-        Task::ChartJournal { journal, .. } => chart_journal::<S>(alloc, journal, bytes, out),
+        What::Why | What::Nodes | What::Chart => {
+            let bytes = fetch(alloc, task.file, TEXT_LIMIT, host, out)?;
+            let lines = match task.script {
+                Some(script) => fetch(alloc, script, SCRIPT_LIMIT, host, out)?,
+                None => Vec::new(alloc),
+            };
+            over_plan::<S>(alloc, task, &bytes, &lines, out)
+        }
     }
 }
 
-// The answer that goes to a file.
-fn sent_to(name: String, out: Pen) -> Result<Answer, NoMemory> {
-    Ok(Answer {
-        status: DONE,
-        text: out.written()?,
-        file: Some(name),
-    })
+// Does a task over the plan that bytes spell, and the lines of the script for it.
+fn over_plan<S: Stepper>(
+    alloc: Global,
+    task: &Task<'_>,
+    bytes: &[u8],
+    lines: &[u8],
+    out: &mut Pen,
+) -> Result<(), Stop> {
+    match plan_in(alloc, task.file, bytes, out) {
+        Ok(plan) => {
+            let done = with_plan::<S>(alloc, task, &plan, lines, out);
+            drop(plan);
+            done
+        }
+        Err(NoPlan::Refused(faults)) => {
+            if let (What::Why, None) = (task.what, task.script) {
+                push_faults(task.file, faults, out);
+            }
+            Err(Stop::Refused(PLAN_REFUSED))
+        }
+        Err(NoPlan::NoMemory) => Err(Stop::NoMemory),
+    }
 }
 
-// The answer on standard output.
-fn shown(status: u8, out: Pen) -> Result<Answer, NoMemory> {
-    Ok(Answer {
-        status,
-        text: out.written()?,
-        file: None,
-    })
+fn with_plan<S: Stepper>(
+    alloc: Global,
+    task: &Task<'_>,
+    plan: &Plan,
+    lines: &[u8],
+    out: &mut Pen,
+) -> Result<(), Stop>
+    requires fit { IsFit (tree_of plan.now) }
+{
+    let name = task.file;
+    match (task.what, task.script) {
+        (What::Nodes, _) => Ok(list_nodes(alloc, plan, task.like, out)?),
+        (What::Chart, Some(script)) => chart_script::<S>(alloc, name, plan, script, lines, out),
+        (_, Some(script)) => why_script(alloc, script, lines, plan, out),
+        (_, None) => why_plan::<S>(alloc, name, plan, out),
+    }
 }
