@@ -9,7 +9,8 @@ use crate::tail::Tail;
 use px_ports::{Disk, DiskFault};
 use std::alloc::Global;
 use std::fs::File;
-use std::io::{ErrorKind, Read, Seek, SeekFrom, Write};
+use std::io::ErrorKind;
+use std::os::unix::fs::FileExt;
 use std::path::Path;
 use std::rt::Files;
 use std::{fs, io};
@@ -104,15 +105,14 @@ impl<R: Files<File = File>> StdDisk<R> {
         ensures name { self.new.name ≡ self.old.name }
         ensures faults { self.new.faults ≡ self.old.faults }
     {
-        let Some(file) = &mut self.file else {
+        let Some(file) = &self.file else {
             return if into.is_empty() {
                 Ok(())
             } else {
                 Err(ErrorKind::UnexpectedEof.into())
             };
         };
-        file.seek(SeekFrom::Start(at))?;
-        file.read_exact(into)?;
+        file.read_exact_at(into, at)?;
         match &self.tail {
             Some(tail) => tail.cover(at, into),
             None => Ok(()),
@@ -135,13 +135,11 @@ impl<R: Files<File = File>> StdDisk<R> {
             self.file = Some(file);
             self.is_new = true;
         }
-        let file = self.file.as_mut().unwrap();
-        file.seek(SeekFrom::Start(at))?;
-        file.write_all(bytes)?;
-        file.flush()
+        self.file.as_ref().unwrap().write_all_at(bytes, at)
     }
 
-    // Syncs the file, and where it may be new, that its folder has it.
+    // Syncs the file, and where it may be new, that its folder has it. With the data goes what is needed to read it back, as
+    // the file's length; the time of the last write may be lost.
     fn sync_all(&mut self) -> io::Result<()>
         requires { IsTrue (is_some self.old.name) }
         ensures name { self.new.name ≡ self.old.name }
@@ -151,7 +149,7 @@ impl<R: Files<File = File>> StdDisk<R> {
             return Err(ErrorKind::Other.into());
         }
         if let Some(file) = &self.file {
-            file.sync_all()?;
+            file.sync_data()?;
         }
         if self.is_new {
             sync_folder(&self.rt, self.name.as_ref().unwrap().as_str())?;

@@ -46,15 +46,22 @@ impl Tail {
     /// file has changed behind, the two are of different moments, and the call fails: so it may be in a longer file that a
     /// `run` has taken over.
     pub fn cover(&self, at: u64, into: &mut [u8]) -> io::Result<()> {
-        for (place, byte) in (at..self.end()).zip(into) {
-            let behind = place.checked_sub(self.place);
-            if let Some(kept) = behind.and_then(|i| self.bytes.get(i as usize)) {
-                if at < self.place && *byte != *kept {
-                    return Err(ErrorKind::Other.into());
-                }
-                *byte = *kept;
-            }
+        if at < self.place {
+            return self.confirm(self.place - at, into);
         }
+        let kept = self.bytes.get((at - self.place) as usize..).unwrap_or(&[]);
+        let count = kept.len().min(into.len());
+        into[..count].copy_from_slice(&kept[..count]);
         Ok(())
+    }
+
+    // Fails where what was read, from so many bytes before these on, has others in their place.
+    fn confirm(&self, before: u64, read: &[u8]) -> io::Result<()> {
+        let reached = read.get(before as usize..).unwrap_or(&[]);
+        if reached.starts_with(&self.bytes) || self.bytes.starts_with(reached) {
+            Ok(())
+        } else {
+            Err(ErrorKind::Other.into())
+        }
     }
 }
