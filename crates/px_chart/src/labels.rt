@@ -93,7 +93,7 @@ fn push_report(name: &Name, args: &[Value], value: &Value, pen: &mut Pen) {
 }
 
 /// Writes what an effect does, and answers how it is marked; an assignment that writes nothing isn't.
-pub fn push_effect(effect: &Effect, pen: &mut Pen) -> Option<Deed> {
+pub fn push_effect(effect: &Effect, pen: &mut Pen) -> Option<&'static Deed> {
     match effect {
         Effect::NoWrite => None,
         Effect::Wrote {

@@ -16,7 +16,6 @@ pub struct Change {
 }
 
 /// What a node does besides, as a picture marks it.
-#[derive(Clone, Copy)]
 pub struct Deed {
     /// In the legend.
     pub word: &'static str,
@@ -25,25 +24,25 @@ pub struct Deed {
 }
 
 /// A command is sent.
-pub const COMMAND: Deed = Deed {
+pub const COMMAND: &Deed = &Deed {
     word: "command",
     form: "M0 -5 L9 0 L0 5 Z",
 };
 
 /// A command is asked to abort.
-pub const ABORT: Deed = Deed {
+pub const ABORT: &Deed = &Deed {
     word: "abort",
     form: "M0 -4 H8 V4 H0 Z",
 };
 
 /// An update is sent.
-pub const UPDATE: Deed = Deed {
+pub const UPDATE: &Deed = &Deed {
     word: "update",
     form: "M4 -5 L9 0 L4 5 L-1 0 Z",
 };
 
 /// A variable is written.
-pub const WRITE: Deed = Deed {
+pub const WRITE: &Deed = &Deed {
     word: "write",
     form: "M4 -3 A3 3 0 1 1 3.9 -3 Z",
 };
@@ -52,7 +51,7 @@ pub const WRITE: Deed = Deed {
 #[derive(Drop)]
 pub struct Mark {
     pub slot: u32,
-    pub deed: Deed,
+    pub deed: &'static Deed,
     /// In words.
     pub says: String,
 }
@@ -104,7 +103,7 @@ impl Row {
         }
     }
 
-    fn mark(&mut self, slot: u32, deed: Deed, says: Pen) -> Result<(), NoMemory> {
+    fn mark(&mut self, slot: u32, deed: &'static Deed, says: Pen) -> Result<(), NoMemory> {
         let says = says.written()?;
         self.marks.push(Mark { slot, deed, says })?;
         Ok(())

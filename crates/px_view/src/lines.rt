@@ -2,7 +2,7 @@
 use px_chart::{NodePath, last_name, paths_of};
 use px_core::Plan;
 use px_pen::Pen;
-use px_why::{Nearest, Place, Words, push_fault, push_meant, push_whole};
+use px_why::{Nearest, Place, Words, end_whole, push_fault, push_meant};
 use std::alloc::Global;
 use std::str::from_utf8;
 
@@ -59,7 +59,7 @@ pub fn push_line(
         }
         Err(_) => {
             out.fill_each("error: line {} is no text (UTF-8)", &[line]);
-            push_whole(out, name, "");
+            end_whole(out, name, "");
         }
     }
 }

@@ -12,7 +12,7 @@ use px_pen::Pen;
 use px_ports::{Fetched, Host, HostFault};
 use px_script::{SCRIPT_LIMIT, ScriptFault, read_script};
 use px_syntax::{ExpandFault, PlanFault};
-use px_why::{push_whole, why_plan};
+use px_why::{end_whole, why_plan};
 use std::alloc::Global;
 
 /// The bytes of a file, which has at most `limit`.
@@ -62,7 +62,7 @@ pub fn plan_in(alloc: Global, name: &str, bytes: &[u8], out: &mut Pen) -> Result
 {
     if bytes.len() > TEXT_LIMIT {
         out.push("error: the file is no plan: it has over 1,048,576 bytes");
-        push_whole(out, name, "");
+        end_whole(out, name, "");
         return Err(NoPlan::Refused(1));
     }
     match compile(alloc, bytes) {
@@ -85,7 +85,7 @@ fn too_many(name: &str, nodes: u32, out: &mut Pen) -> NoPlan {
         "error: the plan has {} nodes, of at most 4,096, or one of them a path of over 5,000 bytes",
         &[nodes],
     );
-    push_whole(out, name, "make it of fewer nodes, or nest them less deep");
+    end_whole(out, name, "make it of fewer nodes, or nest them less deep");
     NoPlan::Refused(1)
 }
 
@@ -101,7 +101,7 @@ pub fn entries_in(
 {
     if bytes.len() > SCRIPT_LIMIT {
         out.push("error: the file is no script: it has over 16,777,216 bytes");
-        push_whole(out, name, "");
+        end_whole(out, name, "");
         return Err(Stop::Refused(SCRIPT_REFUSED));
     }
     match read_script(alloc, bytes, plan) {

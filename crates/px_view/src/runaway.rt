@@ -8,7 +8,7 @@ use crate::answer::{RUNAWAY, Stop};
 use px_core::Plan;
 use px_pen::Pen;
 use px_sem::{Move, STEP_LIMIT, Stepper};
-use px_why::push_whole;
+use px_why::end_whole;
 use std::alloc::Global;
 
 /// How many nodes are told.
@@ -53,7 +53,7 @@ fn push_going(name: &str, moves: &[Move], out: &mut Pen) {
     for moved in moves.iter().take(TOLD) {
         out.fill(" {}", moved.node.as_str());
     }
-    push_whole(
+    end_whole(
         out,
         name,
         "let a node that repeats wait for the outside, as by `Start Lookup(go);`, or give it a Repeat that becomes false",

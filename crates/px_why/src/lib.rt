@@ -28,4 +28,4 @@ mod wanted;
 pub use nearest::{Nearest, push_meant};
 pub use place::Place;
 pub use plan::why_plan;
-pub use report::{Words, push_fault, push_whole};
+pub use report::{Words, end_whole, push_fault};

@@ -4,7 +4,7 @@ use crate::cut::{Cut, is_opening};
 use crate::declared::names_in;
 use crate::lexical::{BAD, REAL, Row, TOO_LONG, not_a_token};
 use crate::place::{place_at, place_of};
-use crate::report::{Words, push_fault, push_whole};
+use crate::report::{Words, end_whole, push_fault};
 use crate::seen::Seen;
 use crate::syntax::cut_short;
 use px_check::{Spot, first_behind};
@@ -42,7 +42,7 @@ fn not_text(name: &str, bytes: &[u8], at: usize, out: &mut Pen) {
         "error: the byte {} of the file, in line {}, is no text (UTF-8)",
         &[at, line],
     );
-    push_whole(out, name, "save the plan as UTF-8");
+    end_whole(out, name, "save the plan as UTF-8");
 }
 
 fn why_text(alloc: Global, name: &str, text: &str, out: &mut Pen) -> Result<u32, NoMemory> {

@@ -58,7 +58,7 @@ pub fn push_fault(out: &mut Pen, name: &str, place: &Place<'_>, words: &Words) {
 }
 
 /// Ends a fault that has no place in a file, behind what is wrong; the help is empty where there is nothing to say.
-pub fn push_whole(out: &mut Pen, name: &str, help: &str) {
+pub fn end_whole(out: &mut Pen, name: &str, help: &str) {
     out.fill("\n  --> {}\n", name);
     if !help.is_empty() {
         out.fill("   = help: {}\n", help);
