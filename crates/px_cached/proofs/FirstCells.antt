@@ -1,18 +1,17 @@
 -- Each source of a condition that has a cell begins at the cell's source.
-use Rattle.std.proofs.Common.{◌≡◌, ℕ, zero, suc, ◌+◌, ◌-◌, ◌<◌, ◌≤◌, Bool, true, false, not, ◌&&◌, List, [], ◌∷◌, ◌++◌, length, map, sum, take, replicate, get_or, Some, inl, inr, refl, ap, sym, ◌∙◌, arith, All, if◌then◌else◌}
+use Rattle.std.proofs.Common.{◌≡◌, ℕ, zero, suc, ◌+◌, ◌-◌, ◌<◌, ◌≤◌, Bool, true, false, not, ◌&&◌, List, [], ◌∷◌, ◌++◌, length, map, sum, take, replicate, get_or, Some, is_some, inl, inr, refl, ap, sym, ◌∙◌, arith, All, if◌then◌else◌}
 use Rattle.std.specs.List.{list_any, flat_map}
 use Rattle.std.specs.Option.{unwrap_or}
 use Rattle.std.proofs.lemmas.Bool.{cases_lt}
 use Rattle.std.proofs.lemmas.Grind.{flat_map-append}
 use Rattle.std.proofs.lemmas.List.{append_assoc, append-nil, get_or_append_left, get_or-append-add, get_or-replicate, length-append, length-replicate, take_more}
 use Rattle.std.proofs.lemmas.List.Elements.{All-append, All-cons, All-nil}
-use Rattle.std.proofs.lemmas.List.Sums.{AllPass-from_list_all}
 use Rattle.std.proofs.lemmas.Option.{slice_get_past, slice_get-get_or}
 use Rattle.px_core.specs.declared.conditions.ConditionKind.{ConditionKind}
 use Rattle.px_core.specs.declared.conditions.ConditionKind.TheVariants as which
 use Rattle.px_core.specs.Expr as terms
 use Rattle.px_core.specs.Expr.{Term, Terms, NoTerms, More}
-use Rattle.px_core.specs.Fit.{Scalar, Array, cells_of, cells_of_site, declares_array, declares_scalar, has_right_variables, is_array, references, references_of_each, references_of_target, targets_of, terms_of, terms_of_conditions}
+use Rattle.px_core.specs.Fit.{Scalar, Array, cells_of, cells_of_site, declares_array, declares_scalar, references, references_of_each, references_of_target, targets_of, terms_of, terms_of_conditions}
 use Rattle.px_core.specs.Plan.{Site, VariableData, no_site, no_term, is_same}
 use Rattle.px_flat.specs.Layout.{Place, first_cell, place_from, variable_cells, state_cell, outcome_cell, failure_cell, handle_cell, acknowledgement_cell}
 use Rattle.px_flat.specs.Lookups.{lookups_in, lookups_in_each, lookups_in_body}
@@ -22,8 +21,7 @@ use Rattle.px_flat.specs.Sources.{Source, Cells, Reports, sources_in, sources_in
 use Rattle.px_flat.proofs.Known.{IsSound, AreKnown, back, each_known, front, site_known}
 use Rattle.px_flat.proofs.NumberedValues.{first_variable}
 use Rattle.px_flat.proofs.Sums.{sum_more, sum_front, sum_rest}
-use Rattle.px_flat.proofs.VariableValues.{HasPlace, has_place, place_of-node}
-use Rattle.px_flat.proofs.Variables.{place_behind}
+use Rattle.px_flat.proofs.Variables.{IsDeclared, declared, place_at, place_behind}
 use Rattle.px_flat.proofs.Worlds.{IsThere, site_there}
 use Rattle.px_cached.specs.Conditions.{condition_in, source_number}
 use Rattle.px_cached.specs.Firsts.{HasCell, firsts_from, firsts_of, source_of}
@@ -210,22 +208,20 @@ source_low plan cell = elim (cases_lt cell (variable_cells plan)) [
 -- a variable that is there
 module _ (plan : List Site) (sound : IsSound plan) (owner name : List ℕ) (form : VariableData → Bool)
     (there : IsThere plan owner (λ site. list_any (λ variable. is_same variable.name name && form variable) site.head.variables)) where
-  has : HasPlace (first_cell plan there.node) (site_in plan there.node).head.variables name
-  has = has_place form (first_cell plan there.node) (site_in plan there.node).head.variables name
-      (AllPass-from_list_all has_right_variables plan sound.arrays there.node no_site there.within) there.is
-
-  place_is : place_of plan owner name ≡ has.place
-  place_is = place_of-node plan owner name there.node sound.distinct there.within there.path_is has
+  its : IsDeclared plan owner name
+  its = declared plan owner name form sound there
 
   some_cell : 0 < (place_of plan owner name).size
-  some_cell = omega (arith, has.some_cells, ap (λ (place : Place). place.size) place_is)
+  some_cell = omega (arith, its.has.some_cells, ap (λ (place : Place). place.size) (place_at plan owner name sound its))
 
   first_is : (cell : ℕ) → HasCell (Cells (place_of plan owner name).first (place_of plan owner name).size) cell
       → (place_of plan owner name).first ≡ source_of plan cell
   first_is cell in_it =
-      let node = there.node in
+      let node = its.node in
+      let has = its.has in
       let variables = (site_in plan node).head.variables in
       let own = first_cell plan node in
+      let place_is = place_at plan owner name sound its in
       let first = ap (λ (place : Place). place.first) place_is in
       let size = ap (λ (place : Place). place.size) place_is in
       let behind : own ≤ has.place.first = place_behind own variables name has.place has.is in
@@ -237,7 +233,7 @@ module _ (plan : List Site) (sound : IsSound plan) (owner name : List ℕ) (form
         first,
         size,
         has.within,
-        sum_more cells_of_site plan node no_site there.within,
+        sum_more cells_of_site plan node no_site its.within,
         sum_front cells_of_site plan (node + 1),
       ) in
       let at : cell ≡ own + (cell - own) = omega (arith, in_it.0, first, behind) in
@@ -245,7 +241,7 @@ module _ (plan : List Site) (sound : IsSound plan) (owner name : List ℕ) (form
       first ∙ sym (
       among plan cell below
       ∙ ap (λ at. get_or (firsts_of plan) at 0) at
-      ∙ at_node 0 plan node (cell - own) there.within inside
+      ∙ at_node 0 plan node (cell - own) its.within inside
       ∙ ap (λ cell'. get_or (firsts_from cell' variables) (cell - own) 0) zero_on
       ∙ in_variables own variables name has.place (cell - own) (cell - has.place.first) has.is
       (omega (arith, in_it.0, in_it.1, first, size, has.some_cells)) (omega (arith, in_it.0, first, behind))
@@ -275,12 +271,12 @@ module _ (plan : List Site) (sound : IsSound plan) (cell : ℕ) where
         → All Begins (sources_in plan (numbered plan term))
     begin_each (terms.Literal value) known = All-nil Begins
     begin_each (terms.Var owner name) known =
-        one (Cells (place_of plan owner name).first 1) (only_is plan sound owner name (λ variable. not (is_array variable.size))
+        one (Cells (place_of plan owner name).first 1) (only_is plan sound owner name (λ variable. not (is_some variable.size))
         (site_there (declares_scalar name) owner plan (first_variable plan (Scalar owner name) [] [] known)) cell)
     begin_each (terms.Cell owner name index) known =
         All-cons Begins (Cells (place_of plan owner name).first (place_of plan owner name).size)
         (sources_in plan (numbered plan index))
-        (first_is plan sound owner name (λ variable. is_array variable.size)
+        (first_is plan sound owner name (λ variable. is_some variable.size)
         (site_there (declares_array name) owner plan
         (first_variable plan (Array owner name) (references index) (lookups_in index) known)) cell)
         (begin_each index (back plan (Array owner name ∷ []) (references index) [] (lookups_in index) known))

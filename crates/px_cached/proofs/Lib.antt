@@ -15,3 +15,5 @@ pub mod Refreshing
 pub mod Reported
 pub mod Seeing
 pub mod Sending
+pub mod Turning
+pub mod Watched

@@ -1,5 +1,5 @@
 -- What is to be looked at, while touched sources are gone through.
-use Rattle.std.proofs.Common.{◌≡◌, ℕ, ◌+◌, ◌≤◌, true, false, nat_eq, List, [], ◌∷◌, subst, ◌⊎◌, inl, inr, ap, sym, ◌∙◌, All, None, Some, sum_by, arith}
+use Rattle.std.proofs.Common.{◌≡◌, ℕ, ◌+◌, ◌≤◌, true, false, nat_eq, List, [], ◌∷◌, get_or, subst, ◌⊎◌, inl, inr, ap, sym, ◌∙◌, All, None, Some, sum_by, arith}
 use Rattle.std.specs.List.{list_any}
 use Rattle.std.proofs.lemmas.Bool.Decides.{eqb_tells}
 use Rattle.std.proofs.lemmas.List.Elements.{All-tail}
@@ -62,3 +62,12 @@ module _ (Stays : ℕ → Type 0) (listeners : ListenData) (first_touched first_
       touched_counts = (counts.0 ∙ so_far.touched_counts.0, counts.1 ∙ so_far.touched_counts.1);
       stale_counts = (stale_counts.0 ∙ so_far.stale_counts.0, stale_counts.1 ∙ so_far.stale_counts.1);
     }
+
+-- what is to be looked at or stays, where more is to be looked at
+pub noted_later : (Stays : ℕ → Type 0) (old new : LinksData) → ((part : ℕ) → is_absent old part ≡ false → is_absent new part ≡ false)
+    → (parts : List ℕ) → All (λ part. (is_absent old part ≡ false) ⊎ Stays part) parts
+    → All (λ part. (is_absent new part ≡ false) ⊎ Stays part) parts
+noted_later Stays old new still parts noted k d inside = elim (noted k d inside) [
+  | inl was ↦ inl (still (get_or parts k d) was)
+  | inr stays ↦ inr stays
+]

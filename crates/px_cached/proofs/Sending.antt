@@ -3,17 +3,17 @@ use Rattle.std.proofs.Crossing.{crosses}
 use denote.Struct.Declared.{shape}
 use denote.Param.Send.{IsSend, sendable, view_send, recorded_send, struct_send}
 use denote.Param.SendFields.{as_row_send, variants_send}
-use Rattle.px_value.proofs.text.Text.TheSendSync as texts
 use Rattle.px_flat.proofs.Sending.{numbered_send}
-use Rattle.px_flat.specs.contracts.numbered.NumberedExpr as numbered
 use Rattle.px_links.proofs.links.Links.TheSendSync as links
 use Rattle.px_listen.specs.contracts.listeners.Listeners as listeners
 use Rattle.px_listen.specs.contracts.listeners.Listeners.TheInside as listeners_inside
 use Rattle.px_cached.proofs.part.Above.TheSendSync as aboves
 use Rattle.px_cached.proofs.part.Joint.TheSendSync as joints
+use Rattle.px_cached.proofs.watching.Watcher.TheSendSync as watchers
 use Rattle.px_cached.specs.contracts.part.Part as parts
 use Rattle.px_cached.specs.contracts.laying.Network as networks
 use Rattle.px_cached.specs.contracts.looking.Kept as truths
+use Rattle.px_cached.specs.contracts.watching.Watch as watches
 use Rattle.px_cached.specs.contracts.cached.Cached as cached
 use Rattle.px_cached.specs.contracts.cached.Cached.TheInside as cached_inside
 
@@ -27,6 +27,10 @@ network_send =
 truths_send : IsSend (truths.the_field.row)
 truths_send =
     struct_send (shape truths.the_type) (search (sendable, crosses, as_row_send, network_send, links.the_send) depth 24)
+
+watch_send : IsSend (watches.the_field.row)
+watch_send =
+    struct_send (shape watches.the_type) (search (sendable, crosses, as_row_send, watchers.the_field_send) depth 24)
 
 listeners_send : IsSend listeners.the_row
 listeners_send =
@@ -49,10 +53,13 @@ cached_send =
         (
           search (sendable, listeners_send),
           (
-            search (sendable, links.the_send),
+            search (sendable, crosses, as_row_send, watch_send) depth 24,
             (
-              search (sendable, crosses) depth 24,
-              (search (sendable, crosses) depth 24, (search (sendable, crosses) depth 24, tt)),
+              search (sendable, links.the_send),
+              (
+                search (sendable, crosses) depth 24,
+                (search (sendable, crosses) depth 24, (search (sendable, crosses) depth 24, tt)),
+              ),
             ),
           ),
         ),

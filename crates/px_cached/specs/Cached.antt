@@ -49,11 +49,15 @@ pub record IsTouched (old new : CachedData) (source : ℕ) : Type 0 where
   pub others : (other : ℕ) → is_touched old other ≡ true → is_touched new other ≡ true
   pub owed : due new ≤ due old + cost (plan_in old) source
 
--- each source of a condition that has this cell is touched
+-- each source of a condition that has this cell is touched, with these sites
+abbrev pub TouchedIn : List Site → CachedData → ℕ → Type 0
+TouchedIn sites cached cell = (node : ℕ) (kind : ConditionKind) → node < length sites
+    → All (λ source. HasCell source cell → is_touched cached (source_number sites source) ≡ true)
+    (sources_in sites (condition_in sites node kind))
+
+-- with its own
 abbrev pub IsTouchedAt : CachedData → ℕ → Type 0
-IsTouchedAt cached cell = (node : ℕ) (kind : ConditionKind) → node < length (plan_in cached)
-    → All (λ source. HasCell source cell → is_touched cached (source_number (plan_in cached) source) ≡ true)
-    (sources_in (plan_in cached) (condition_in (plan_in cached) node kind))
+IsTouchedAt cached cell = TouchedIn (plan_in cached) cached cell
 
 -- all that is reported is touched, and each source that was
 pub record HasTouchedReports (old new : CachedData) : Type 0 where
@@ -75,12 +79,15 @@ pub record HasTouchedCell (old new : CachedData) (cell : ℕ) : Type 0 where
   pub others : (source : ℕ) → is_touched old source ≡ true → is_touched new source ≡ true
   pub owed : due new ≤ due old + cost (plan_in old) (source_of (plan_in old) cell)
 
--- each source of a condition that was not touched is as it was seen: what `refresh` needs
+-- each source of a condition that was not touched is as it was seen, with these sites
+abbrev pub SeenIn : List Site → CachedData → Present → Type 0
+SeenIn sites cached present = (node : ℕ) (kind : ConditionKind) → node < length sites
+    → All (λ source. is_touched cached (source_number sites source) ≡ false → IsSame sites cached.seen present source)
+    (sources_in sites (condition_in sites node kind))
+
+-- with its own: what `refresh` needs
 abbrev pub IsSeenBut : CachedData → Present → Type 0
-IsSeenBut cached present = (node : ℕ) (kind : ConditionKind) → node < length (plan_in cached)
-    → All (λ source. is_touched cached (source_number (plan_in cached) source) ≡ false
-    → IsSame (plan_in cached) cached.seen present source)
-    (sources_in (plan_in cached) (condition_in (plan_in cached) node kind))
+IsSeenBut cached present = SeenIn (plan_in cached) cached present
 
 -- all is seen, and nothing was touched since
 pub record IsSeen (cached : CachedData) (present : Present) : Type 0 where

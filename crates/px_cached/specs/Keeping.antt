@@ -12,6 +12,7 @@ use Rattle.px_cached.specs.Firsts.{firsts_of}
 use Rattle.px_cached.specs.Looking.{IsSound}
 use Rattle.px_cached.specs.Network.{root_truth}
 use Rattle.px_cached.specs.Reading.{AreListening}
+use Rattle.px_cached.specs.Watching.{AreWatching}
 
 abbrev pub cached_data : Inside → CachedData
 cached_data c = record {
@@ -22,11 +23,12 @@ cached_data c = record {
   left = in_all (climb c.kept.network.above.items) c.kept.stale;
 }
 
--- the kept truths are sound in what was seen, each part depends on each of its sources, and what depends on a source costs no
--- more than the source does
+-- the kept truths are sound in what was seen, each part depends on each of its sources, those that read a name are watched, and
+-- what depends on a source costs no more than the source does
 pub record IsKept (c : Inside) : Type 0 where
   pub sound : IsSound (plan_of c.flat.value) (present_in c.seen_cells.value c.seen_reports.value) c.kept
   pub listening : AreListening (plan_of c.flat.value) c.kept.network.parts.items c.listeners
+  pub watching : AreWatching (plan_of c.flat.value) c.kept.network.parts.items c.listeners c.watches.items
   pub costs : (source : ℕ) → sum_by (climb c.kept.network.above.items) (dependents_of c.listeners source)
       ≤ cost (plan_of c.flat.value) source
   pub touched_cells : c.touched.cells ≡ all_sources (plan_of c.flat.value)

@@ -11,3 +11,4 @@ pub mod Network
 pub mod Noticing
 pub mod Reading
 pub mod Still
+pub mod Watching

@@ -6,10 +6,11 @@ use Rattle.px_flat.specs.Flat.{plan_of}
 use Rattle.px_flat.specs.Layout.{all_cells}
 use Rattle.px_flat.specs.Lookups.{lookups_of}
 use Rattle.px_flat.specs.Numbered.{Numbered, held, reported_of}
-use Rattle.px_flat.specs.Sources.{Present, value_in}
+use Rattle.px_flat.specs.Sources.{Present, Reports, value_in}
 use Rattle.px_cached.specs.declared.still.Asker.{Asker}
 use Rattle.px_cached.specs.declared.still.LastRead.{LastRead}
 use Rattle.px_cached.specs.Cached.{present_in}
+use Rattle.px_cached.specs.Conditions.{source_number}
 use Rattle.px_cached.specs.Laying.{IsRead}
 use Rattle.px_cached.specs.Looking.{IsRight}
 use Rattle.px_cached.specs.Network.{part_at, truth_at}
@@ -41,3 +42,8 @@ HoldsValue plan expr cell = (present : Present) → held present.cells cell ≡ 
 abbrev pub IsLastRead : Asker → LastRead → Type 0
 IsLastRead asker last =
     last.value ≡ reported_of asker.reports.now.reports (slice_index_or (lookups_of (plan_of asker.flat.now)) last.lookup []) [] None
+
+-- the source is what is reported under this name, as it is read without a tolerance
+abbrev pub IsSourceOf : List Site → ℕ → ℕ → Type 0
+IsSourceOf plan source lookup =
+    (lookup < length (lookups_of plan)) × (source ≡ source_number plan (Reports lookup None))

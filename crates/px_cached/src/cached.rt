@@ -15,6 +15,7 @@ use crate::noticing::{NOTED, notice};
 use crate::reading::listeners;
 use crate::sources::{report_source, source_count};
 use crate::still::Asker;
+use crate::watching::{Watch, watches};
 use px_cells::Cells;
 use px_core::ConditionKind;
 use px_flat::Flat;
@@ -34,6 +35,8 @@ pub struct Cached {
     kept: Kept,
     /// Of each source the parts that are evaluated whole and read it.
     listeners: Listeners,
+    /// Of each lookup name the parts that read it without a tolerance.
+    watches: Vec<Watch>,
     /// One list of sources.
     touched: Links,
     /// The first cell of the variable of each variable cell.
@@ -81,10 +84,12 @@ impl Cached {
         let kept = Kept::of(alloc, flat)?;
         let listeners = listeners(alloc, flat, &kept.network.parts)?;
         listeners.each_once();
+        let watches = watches(alloc, flat, &kept.network.parts, &listeners)?;
         Ok(Cached {
             flat: Snapshot::of(flat),
             kept,
             listeners,
+            watches,
             touched,
             firsts,
             seen_cells: Snapshot::of(cells),
@@ -195,6 +200,7 @@ impl Cached {
             &asker,
             &mut self.touched,
             &self.listeners,
+            &self.watches,
             &mut self.kept.stale,
         );
         self.seen_cells = Snapshot::of(cells);

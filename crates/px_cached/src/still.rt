@@ -2,11 +2,10 @@
 ghost use Rattle.std.specs.Prelude.{◌≡◌, ◌<◌, [], length, None, IsTrue, IfSome};
 ghost use Rattle.px_value.specs.Truth.{truth_of};
 ghost use Rattle.px_flat.specs.Flat.{plan_of};
-ghost use Rattle.px_flat.specs.Lookups.{lookups_of};
 ghost use Rattle.px_flat.specs.NumberedData.{expr_data};
 ghost use Rattle.px_flat.specs.Within.{IsWithin};
 ghost use Rattle.px_flat.specs.Layout.{all_cells};
-ghost use Rattle.px_cached.specs.Still.{HoldsValue, IsAsking, IsLastRead, IsStill, value_now};
+ghost use Rattle.px_cached.specs.Still.{HoldsValue, IsAsking, IsLastRead, IsSourceOf, IsStill, value_now};
 
 use crate::part::Part;
 use px_cells::Cells;
@@ -37,7 +36,8 @@ pub(crate) struct LastRead {
 
 /// What was last reported under the lookup name that is the source of this number. None says nothing.
 pub(crate) fn last_read(alloc: Global, asker: &Asker<'_>, source: u32) -> Option<LastRead>
-    ensures { IfSome result (IsLastRead asker.now) }
+    ensures last { IfSome result (IsLastRead asker.now) }
+    ensures source { IfSome result (λ last. IsSourceOf (plan_of asker.now.flat.now) source last.lookup) }
 {
     let lookup = lookup_of(asker.flat, source)?;
     let Ok(name) = asker.flat.lookup_name(lookup).copy(alloc) else {
@@ -58,7 +58,7 @@ pub(crate) fn last_read(alloc: Global, asker: &Asker<'_>, source: u32) -> Option
 
 // The lookup name that a source is without a tolerance.
 fn lookup_of(flat: &Flat, source: u32) -> Option<u32>
-    ensures { IfSome result (λ lookup. lookup < length (lookups_of (plan_of flat.now))) }
+    ensures { IfSome result (IsSourceOf (plan_of flat.now) source) }
 {
     let latched = flat
         .tolerances()

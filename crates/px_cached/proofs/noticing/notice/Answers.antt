@@ -1,7 +1,12 @@
 use Rattle.std.proofs.Common.{sym, ◌∙◌}
 use Rattle.px_cached.specs.Still.{IsStill}
+use Rattle.px_cached.proofs.Turning.{recalls_more}
 use Rattle.px_cached.proofs.Marking.{goes_on}
 use Rattle.px_cached.proofs.noticing.notice.Goals as goal
+
+pub note-requires-clause-recalls : goal.note-requires-clause-recalls
+note-requires-clause-recalls c =
+    recalls_more c.args.asker.now c.args.stale.now c.touched.stale c.touched.invariant.still c.requires.recalls
 
 pub touched-preserved : goal.touched-preserved
 touched-preserved c =

@@ -16,6 +16,7 @@ use Rattle.px_cached.specs.Laying.{IsRead}
 use Rattle.px_cached.specs.Looking.{IsSound}
 use Rattle.px_cached.specs.Network.{part_at}
 use Rattle.px_cached.specs.Reading.{AreListening}
+use Rattle.px_cached.specs.Watching.{AreWatching}
 use Rattle.px_cached.proofs.Costing.{dependents_cost}
 use Rattle.px_cached.proofs.cached.Cached.new.Goals as goal
 
@@ -30,6 +31,11 @@ listeners-requires-clause-parts c =
     subst (λ (parts : List Part). length parts < 2 ^ 32) (sym c.deref.ensures.value)
     (c.in_ok-kept.ensures.sound (present_in c.args.cells.now c.args.reports.now)).laid.shape.few
 
+pub watches-requires-clause-listening : goal.watches-requires-clause-listening
+watches-requires-clause-listening c =
+    subst (λ parts. AreListening (plan_of c.args.flat.now) parts c.in_ok-listeners.listeners)
+    (c.deref.ensures.value ∙ sym c.deref-2.ensures.value) c.in_ok-listeners.ensures.listening
+
 pub invariant_of-result : goal.invariant_of-result
 invariant_of-result c =
     let kept = c.in_ok-kept.kept in
@@ -41,6 +47,10 @@ invariant_of-result c =
       listening = subst (λ (flat : Flat). AreListening (plan_of flat) kept.network.parts.items c.in_ok-listeners.listeners) flat_is
           (subst (λ parts. AreListening (plan_of c.args.flat.now) parts c.in_ok-listeners.listeners) c.deref.ensures.value
           c.in_ok-listeners.ensures.listening);
+      watching = subst (λ (flat : Flat). AreWatching (plan_of flat) kept.network.parts.items c.in_ok-listeners.listeners c.in_ok-watches.watches.items)
+          flat_is
+          (subst (λ parts. AreWatching (plan_of c.args.flat.now) parts c.in_ok-listeners.listeners c.in_ok-watches.watches.items)
+          c.deref-2.ensures.value c.in_ok-watches.ensures);
       costs = subst (λ (flat : Flat). (source : ℕ)
           → sum_by (climb kept.network.above.items) (dependents_of c.in_ok-listeners.listeners source) ≤ cost (plan_of flat) source)
           flat_is

@@ -33,6 +33,7 @@ returns-clause-fresh c =
       flat = t.flat;
       kept = kept;
       listeners = t.listeners;
+      watches = t.watches;
       touched = t.touched;
       firsts = t.firsts;
       seen_cells = t.seen_cells;

@@ -14,6 +14,19 @@ use Rattle.px_cached.specs.Network.{part_at, truth_at}
 use Rattle.px_cached.proofs.Seeing.{right_present}
 use Rattle.px_cached.proofs.cached.Cached.see.Goals as goal
 
+pub notice-requires-clause-recalls : goal.notice-requires-clause-recalls
+notice-requires-clause-recalls c =
+    let t = c.self.inside in
+    let same : plan_of c.args.flat.now ≡ plan_of t.flat.value = c.requires.plan ∙ sym (ap plan_in c.self.view_is) in (
+      present_in t.seen_cells.value t.seen_reports.value,
+      rw (c.deref-2.ensures.value, c.deref.ensures.value, same) c.self.invariant.sound.right,
+    )
+
+pub notice-requires-clause-watching : goal.notice-requires-clause-watching
+notice-requires-clause-watching c =
+    let same : plan_of c.args.flat.now ≡ plan_of c.self.inside.flat.value = c.requires.plan ∙ sym (ap plan_in c.self.view_is) in
+    rw (c.deref.ensures.value, c.deref-3.ensures.value, same) c.self.invariant.watching
+
 pub invariant_of-self : goal.invariant_of-self
 invariant_of-self c =
     let t = c.self.inside in
@@ -42,6 +55,7 @@ invariant_of-self c =
     record {
       sound = subst (λ present. IsSound plan present later) (sym (λ i. present_in (c.of.ensures i) (c.of-2.ensures i))) sound;
       listening = before.listening;
+      watching = before.watching;
       costs = before.costs;
       firsts = before.firsts;
       touched_cells = c.notice.ensures.touched_counts.0 ∙ before.touched_cells;
