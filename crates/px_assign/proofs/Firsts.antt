@@ -1,16 +1,15 @@
 -- Who goes first of those that want a variable, and so who stays.
-use Rattle.std.proofs.Common.{◌≡◌, ◌≢◌, ℕ, zero, suc, ◌+◌, ◌<◌, length, take, get_or, filter, Bool, true, false, not, ◌&&◌, ◌||◌, List, [], ◌∷◌, ◌++◌, Option, Some, None, refl, ap, sym, ◌∙◌, subst, arith, inl, inr, if◌then◌else◌}
+use Rattle.std.proofs.Common.{◌≡◌, ◌≢◌, ℕ, zero, suc, ◌+◌, ◌<◌, length, take, Bool, true, false, not, ◌&&◌, ◌||◌, List, [], ◌∷◌, ◌++◌, Option, Some, None, refl, ap, sym, ◌∙◌, subst, arith, inl, inr, if◌then◌else◌}
 use Rattle.std.specs.Prelude.{nat_eq}
 use Rattle.std.specs.Cmp.{nat_eq_equiv}
 use Rattle.std.specs.List.{list_any, All}
 use Rattle.std.proofs.lemmas.Bool.{and_parts, and_from, or_parts, or_from, or_cases, or_left, or_right, eqb-true, false_from_ne_true, false≢true}
 use Rattle.std.proofs.lemmas.Bool.Decides.{nat_tests}
 use Rattle.std.proofs.lemmas.List.Folds.{list_any-append}
-use Rattle.std.proofs.lemmas.List.{take_more}
-use Rattle.std.proofs.lemmas.List.Elements.{filter-append}
+use Rattle.px_value.specs.General.{is_number}
 use Rattle.px_core.specs.Plan.{Site}
 use Rattle.px_assign.specs.Conflicts.{of_variable, variable_of, writes, goes_before, is_kept_from, is_loser}
-use Rattle.px_assign.specs.Claims.{IsFirst, better, claimed, is_node, stays}
+use Rattle.px_assign.specs.Claims.{IsFirst, better, claimed, stays}
 
 -- ---- two writers, and three
 
@@ -94,7 +93,7 @@ one_more plan variable nodes node first is = after plan variable nodes node firs
 
 first_or_kept : (plan : List Site) (variable node : ℕ) (wanting : List ℕ) (first : Option ℕ)
     → IsFirst plan variable wanting first → list_any (nat_eq node) wanting ≡ true → writes plan variable node ≡ true
-    → not (is_node node first) ≡ list_any (λ other. writes plan variable other && goes_before plan other node) wanting
+    → not (is_number first node) ≡ list_any (λ other. writes plan variable other && goes_before plan other node) wanting
 first_or_kept plan variable node wanting None none among writer =
     absurd (false≢true (sym none ∙ found_among (writes plan variable) node wanting among writer))
 first_or_kept plan variable node wanting (Some first) is among writer = by (nat_eq first node) refl
@@ -142,10 +141,3 @@ first_within plan variable nodes i first all is = within nodes i all is.among
       | inl same ↦ subst (λ n. n < length plan) (sym (eqb-true first node same)) (all 0 0 (omega arith))
       | inr behind ↦ within nodes i (λ k d inside. all (suc k) d (omega arith)) behind
     ]
-
--- one more that was looked at stays or is no loser
-pub filter_more : (p : ℕ → Bool) (ns : List ℕ) (i : ℕ) (here : Bool) → i < length ns → p (get_or ns i 0) ≡ here
-    → filter p (take (i + 1) ns) ≡ filter p (take i ns) ++ (if here then get_or ns i 0 ∷ [] else [])
-filter_more p ns i here within is =
-    ap (filter p) (take_more ns i 0 within) ∙ filter-append p (take i ns) (get_or ns i 0 ∷ [])
-    ∙ ap (λ b. filter p (take i ns) ++ (if b then get_or ns i 0 ∷ [] else [])) is

@@ -1,6 +1,7 @@
 -- Who of those that want a variable goes first.
 use Rattle.std.specs.Prelude.{◌≡◌, ℕ, Bool, true, false, not, ◌&&◌, ◌||◌, nat_eq, List, Option, Some, None, if◌then◌else◌}
 use Rattle.std.specs.List.{list_any}
+use Rattle.px_value.specs.General.{is_number}
 use Rattle.px_core.specs.Plan.{Site}
 use Rattle.px_assign.specs.Conflicts.{of_variable, writes, goes_before}
 
@@ -23,11 +24,7 @@ better plan node (Some other) = if goes_before plan node other then Some node el
 abbrev pub claimed : List Site → ℕ → ℕ → Option ℕ → Option ℕ
 claimed plan variable node first = if writes plan variable node then better plan node first else first
 
-abbrev pub is_node : ℕ → Option ℕ → Bool
-is_node node None = false
-is_node node (Some other) = nat_eq other node
-
 -- a node stays: its variable is held, or another node goes first
 abbrev pub stays : (ℕ → Bool) → (ℕ → Option ℕ) → ℕ → Option ℕ → Bool
 stays held first node variable =
-    of_variable (λ variable. held variable || not (is_node node (first variable))) variable
+    of_variable (λ variable. held variable || not (is_number (first variable) node)) variable

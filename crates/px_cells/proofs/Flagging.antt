@@ -14,7 +14,7 @@ use Rattle.px_cells.specs.News.{with_number, with_numbers}
 use Rattle.px_cells.proofs.Marking.{at_mark-slice}
 
 -- whether the first passes, or one behind it
-pub or_last : (a b : Bool) → (a || (b || false)) ≡ (if b then true else a)
+or_last : (a b : Bool) → (a || (b || false)) ≡ (if b then true else a)
 or_last true true = refl
 or_last true false = refl
 or_last false true = refl

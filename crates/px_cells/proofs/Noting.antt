@@ -4,12 +4,12 @@ use Rattle.std.specs.List.{list_any}
 use Rattle.std.proofs.lemmas.Bool.{eqb-true, eq-eqb, cases_lt, cases_Bool}
 use Rattle.std.proofs.lemmas.Bool.Decides.{eqb_tells}
 use Rattle.std.proofs.lemmas.List.{get_or-set_same, get_or-set_other, get_or_past, length-set, set-get_or, drop_more, drop_all}
-use Rattle.std.proofs.lemmas.List.Folds.{list_any-append, list_any_at}
+use Rattle.std.proofs.lemmas.List.Folds.{list_any_at}
 use Rattle.std.proofs.lemmas.List.Quantifiers.{all_pairs_push}
 use Rattle.std.proofs.lemmas.Map.Views.{Contains-from_any}
 use Rattle.std.proofs.Math.Nat.{mul-le-mul_right}
 use Rattle.px_cells.specs.Marks.{AreNoted, NoneKept, at_mark}
-use Rattle.px_cells.proofs.Flagging.{or_last}
+use Rattle.px_cells.proofs.Flagging.{has-push}
 use Rattle.px_cells.proofs.Marking.{at_mark-back, at_mark-slice}
 
 module _ {T : Type 0} where
@@ -62,9 +62,7 @@ module _ {T : Type 0} where
     where
       last : (answer : Bool) → nat_eq k at ≡ answer
           → list_any (nat_eq k) (changed ++ at ∷ []) ≡ (if answer then true else list_any (nat_eq k) changed)
-      last answer is =
-          list_any-append (nat_eq k) changed (at ∷ []) ∙ or_last (list_any (nat_eq k) changed) (nat_eq k at)
-          ∙ ap (λ b. if b then true else list_any (nat_eq k) changed) is
+      last answer is = has-push changed at k ∙ ap (λ b. if b then true else list_any (nat_eq k) changed) is
 
   -- each cell once
   pub once_first : (olds : List (Option T)) (changed : List ℕ) (at : ℕ) → AreNoted olds changed

@@ -14,12 +14,11 @@ use Rattle.px_syntax.specs.Expr.{Term, term_of}
 use Rattle.px_syntax.specs.ExprFaults.{faults_as}
 use Rattle.px_syntax.specs.Fault.{Fault}
 use Rattle.px_syntax.specs.Scope.{Scope, Head, Node, own_action, head_of}
-use Rattle.px_syntax.proofs.Trees.{block_is, action_is, branch_is, guarded_is}
+use Rattle.px_syntax.proofs.Trees.{block_is, action_is, branch_is, guarded_is, in_turn}
 use Rattle.px_check.specs.Found.{Sought, noted}
 use Rattle.px_check.specs.Scope.{outside}
 use Rattle.px_check.proofs.Naming.{dropped_over}
 use Rattle.px_check.proofs.Noting.{noted_append, noted_then}
-use Rattle.px_check.proofs.Seeing.{in_turn}
 use Rattle.px_check.proofs.Walking.{part_walked}
 
 -- ---- a block

@@ -4,10 +4,11 @@ use Rattle.std.proofs.Common.{Option, Some, None, option_map, refl, sym, ap, ◌
 use Rattle.std.specs.Str.{bytes_eq}
 use Rattle.std.proofs.lemmas.Iterator.Adapters.{option_map_id}
 use Rattle.std.proofs.lemmas.List.{map-append}
+use Rattle.std.proofs.lemmas.Map.Made.{lookup-map_values}
 use Rattle.std.proofs.lemmas.Grind.{flat_map-append}
 use Rattle.std.proofs.Math.Seq.{drop-append_seam}
-use Rattle.px_value.proofs.General.{find-map}
-use Rattle.px_syntax.specs.Scope.{Global, Head, Node, is_named, searched, declared}
+use Rattle.px_value.proofs.General.{lookup-map}
+use Rattle.px_syntax.specs.Scope.{Global, Head, Node, Visible, is_named, searched, declared}
 use Rattle.px_check.specs.Globals.{callable_data, callables_data, by_name}
 use Rattle.px_check.specs.Nodes.{named_head, named_heads, names_of}
 use Rattle.px_check.specs.Scope.{visibles, type_seen}
@@ -16,15 +17,6 @@ use Rattle.px_check.specs.declared.globals.Callable.{Callable}
 use Rattle.px_check.specs.declared.scope.VariableType.{VariableType}
 
 -- ---- lists
-
-twice_mapped : {X Y Z : Type 0} (f : Y → Z) (g : X → Y) (o : Option X)
-    → option_map f (option_map g o) ≡ option_map (λ x. f (g x)) o
-twice_mapped f g None = refl
-twice_mapped f g (Some x) = refl
-
-pub find_mapped : {X Y Z : Type 0} (p : Y → Bool) (f : X → Y) (g : Y → Z) (xs : List X)
-    → option_map g (find p (map f xs)) ≡ option_map (λ x. g (f x)) (find (λ x. p (f x)) xs)
-find_mapped p f g xs = ap (option_map g) (find-map p f xs) ∙ twice_mapped g f (find (λ x. p (f x)) xs)
 
 -- what stands before a list again is dropped again
 pub dropped_over : {X : Type 0} (xs ys : List X) → drop (length (xs ++ ys) - length ys) (xs ++ ys) ≡ ys
@@ -40,17 +32,24 @@ over_more one named more over = (over.0 ++ one ∷ [], over.1 ∙ sym (append_as
 
 pub variable_meant : (name : List ℕ) (named : List (List ℕ × VariableType))
     → meaning_of name named ≡ option_map type_seen (find (λ variable. bytes_eq name variable.name) (visibles named))
-variable_meant name named =
-    sym (find_mapped (λ variable. bytes_eq name variable.name)
-    (λ (one : List ℕ × VariableType). record { name = one.0; of_type = one.1.of_type; is_array = one.1.is_array })
-    type_seen named)
+variable_meant name [] = refl
+variable_meant name (one ∷ named) = by (bytes_eq name one.0) (variable_meant name named)
+  where
+    visible : Visible
+    visible = record { name = one.0; of_type = one.1.of_type; is_array = one.1.is_array }
+
+    by : (same : Bool)
+        → meaning_of name named ≡ option_map type_seen (find (λ variable. bytes_eq name variable.name) (visibles named))
+        → cond same (Some one.1) (meaning_of name named)
+        ≡ option_map type_seen (cond same (Some visible) (find (λ variable. bytes_eq name variable.name) (visibles named)))
+    by true rest = refl
+    by false rest = rest
 
 -- ---- nodes
 
 head_by : (name label : List ℕ) (is_command same : Bool) (rest : List (List ℕ × Bool)) (heads : List Head)
     → meaning_of name rest ≡ option_map (λ head. head.is_command) (find (is_named name) heads)
-    → option_map (λ (one : List ℕ × Bool). one.1)
-    (cond same (Some (label, is_command)) (find (λ one. bytes_eq name one.0) rest))
+    → cond same (Some is_command) (meaning_of name rest)
     ≡ option_map (λ (head : Head). head.is_command)
     (cond same (Some (record { label = Some label; is_command = is_command })) (find (is_named name) heads))
 head_by name label is_command true rest heads is = refl
@@ -116,11 +115,9 @@ pub callable_meant : (name : List ℕ) (named : List (List ℕ × Callable)) (gl
     → callables_data named ≡ by_name globals
     → option_map callable_data (meaning_of name named) ≡ declared globals name
 callable_meant name named globals is =
-    twice_mapped callable_data (λ (one : List ℕ × Callable). one.1) (find (λ one. bytes_eq name one.0) named)
-    ∙ sym (find_mapped (λ one. bytes_eq name one.0) (λ (one : List ℕ × Callable). (one.0, callable_data one.1))
-    (λ one. one.1) named)
+    sym (lookup-map_values callable_data (bytes_eq name) named)
     ∙ ap (meaning_of name) is
-    ∙ find_mapped (λ one. bytes_eq name one.0) (λ (known : Global). (known.name.name, known)) (λ one. one.1) globals
+    ∙ lookup-map (bytes_eq name) (λ (known : Global). known.name.name) (λ known. known) globals
     ∙ option_map_id (declared globals name)
 
 -- the invariant of the walk from the last callable to the first: what is named, behind the rest

@@ -1,6 +1,6 @@
 -- Names that stand twice, noted one after another.
-use Rattle.std.proofs.Common.{◌≡◌, ℕ, ◌+◌, ◌<◌, Bool, true, false, cond, ◌||◌, List, [], ◌∷◌, map, drop, length, get_or, find}
-use Rattle.std.proofs.Common.{Some, is_some, option_map, bytes_eq, refl, sym, ap, ◌∙◌}
+use Rattle.std.proofs.Common.{◌≡◌, ℕ, ◌+◌, ◌<◌, Bool, true, false, cond, ◌||◌, List, [], ◌∷◌, map, drop, length, get_or}
+use Rattle.std.proofs.Common.{Some, is_some, bytes_eq, refl, sym, ap, ◌∙◌}
 use Rattle.std.specs.Borrow.{Bor}
 use Rattle.std.specs.List.{list_any}
 use Rattle.px_value.proofs.General.{cut_at}
@@ -20,8 +20,7 @@ name_again name [] = refl
 name_again name (one ∷ before) = by (bytes_eq name one.0) (name_again name before)
   where
     by : (same : Bool) → is_some (meaning_of name before) ≡ list_any (bytes_eq name) (map (λ one. one.0) before)
-        → is_some (option_map (λ (one : List ℕ × Unit {0}). one.1) (cond same (Some one) (find (λ one. bytes_eq name one.0) before)))
-        ≡ (same || list_any (bytes_eq name) (map (λ one. one.0) before))
+        → is_some (cond same (Some one.1) (meaning_of name before)) ≡ (same || list_any (bytes_eq name) (map (λ one. one.0) before))
     by true rest = refl
     by false rest = rest
 

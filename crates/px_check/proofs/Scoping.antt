@@ -37,9 +37,6 @@ module _ {T : Type 0} where
       by true here test rest = absurd (cc)
       by false there test rest = rw test (rest there)
 
-  reverse-cons : (e : Shadowing T) (es : List (Shadowing T)) → reverse (e ∷ es) ≡ reverse es ++ e ∷ []
-  reverse-cons e es = reverse-append (e ∷ []) es
-
   -- the entry at the place of the nearest one has the meaning
   pub nearest_means : (name : List ℕ) (es : List (Shadowing T)) (i : ℕ) (x : Shadowing T) → nearest_of name es ≡ Some i
       → x ≡ get_or (reverse es) i x → Some x.meaning ≡ meaning_of name (meanings es)
@@ -47,7 +44,7 @@ module _ {T : Type 0} where
   nearest_means name (e ∷ es) i x is at = by (bytes_eq name e.name) is refl (nearest_means name es i x)
     where
       there : x ≡ get_or (reverse es ++ e ∷ []) i x
-      there = at ∙ ap (λ xs. get_or xs i x) (reverse-cons e es)
+      there = at ∙ ap (λ xs. get_or xs i x) (reverse-append (e ∷ []) es)
 
       by : (same : Bool) → cond same (Some (length es)) (nearest_of name es) ≡ Some i → bytes_eq name e.name ≡ same
           → (nearest_of name es ≡ Some i → x ≡ get_or (reverse es) i x → Some x.meaning ≡ meaning_of name (meanings es))

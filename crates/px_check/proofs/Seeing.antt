@@ -10,16 +10,13 @@ use Rattle.px_syntax.specs.declared.block.Block.{Block, out-Block}
 use Rattle.px_syntax.specs.declared.block.Guarded.{Guarded, out-Guarded}
 use Rattle.px_syntax.specs.declared.word.BlockForm.{BlockForm}
 use Rattle.px_syntax.specs.declared.word.BlockForm.TheVariants as forms
-use Rattle.px_syntax.specs.Block.{ItemData, item_data, block_of, BodyTree, ActionTree, Labelled, Braces, action_of, body_of, branch_of, guarded_of, actions_in_turn, else_ifs_in_turn, Actions, NoActions, More}
+use Rattle.px_syntax.specs.Block.{ItemData, item_data, block_of, BodyTree, ActionTree, Labelled, Braces, body_of, branch_of, guarded_of, actions_in_turn, else_ifs_in_turn, NoActions, More}
 use Rattle.px_syntax.specs.BlockFaults.{action_labels, guarded_child, if_children}
 use Rattle.px_syntax.specs.Scope.{Scope, Visible, Head, head_of, is_simple, own_action, is_command_body, children_of, branch_child}
-use Rattle.px_syntax.proofs.Trees.{action_is, block_is, guarded_is}
+use Rattle.px_syntax.proofs.Trees.{action_is, block_is, guarded_is, in_turn}
 use Rattle.px_check.specs.Nodes.{head_data}
 use Rattle.px_check.specs.Scope.{with_variables}
 use Rattle.px_check.specs.declared.nodes.NodeHead.{NodeHead}
-
-abbrev pub in_turn : List Action → Actions
-in_turn actions = actions_in_turn (map action_of actions)
 
 -- ---- the nodes of actions, and their labels
 

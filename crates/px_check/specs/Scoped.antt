@@ -1,7 +1,6 @@
 -- How names with meanings are kept, so that the nearest of a name is found without a walk.
 use Rattle.std.specs.Prelude.{◌≡◌, ℕ, List, [], ◌∷◌, ◌++◌, map, length, Option, Some, None, if◌then◌else◌}
-use Rattle.std.specs.List.{find}
-use Rattle.std.specs.Option.{option_map}
+use Rattle.std.specs.Map.{lookup}
 use Rattle.std.specs.Str.{bytes_eq}
 use Rattle.indexmap.specs.IndexMap.{IndexMap, get}
 use Rattle.px_check.specs.declared.scoped.Shadowing.{Shadowing}
@@ -13,7 +12,7 @@ module _ {T : Type 0} where
 
   -- what a name means by these, of which the nearest come first
   abbrev pub meaning_of : List ℕ → List (List ℕ × T) → Option T
-  meaning_of name named = option_map (λ one. one.1) (find (λ one. bytes_eq name one.0) named)
+  meaning_of name named = lookup (bytes_eq name) named
 
   -- the place of the nearest entry of a name; the farthest entry has the place 0
   abbrev pub nearest_of : List ℕ → List (Shadowing T) → Option ℕ

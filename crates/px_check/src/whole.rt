@@ -3,9 +3,9 @@ ghost use Rattle.std.specs.Prelude.{◌≡◌, [], slice_get, option_map, OnOk, 
 ghost use Rattle.px_syntax.specs.Block.{block_of};
 ghost use Rattle.px_syntax.specs.BlockFaults.{block_faults};
 ghost use Rattle.px_syntax.specs.Plan.{tree_of_surface};
-ghost use Rattle.px_syntax.specs.PlanFaults.{faults, outermost, block_cells, passing_fault};
+ghost use Rattle.px_syntax.specs.PlanFaults.{all_faults, faults, outermost, block_cells, passing_fault};
 ghost use Rattle.px_syntax.specs.Tolerances.{block_tolerances, passing_tolerance};
-ghost use Rattle.px_check.specs.Checked.{IsFirst, all_faults};
+ghost use Rattle.px_check.specs.Checked.{IsFirst};
 ghost use Rattle.px_check.specs.Found.{fault_of, behind, noted};
 
 use crate::cells::CellCount;

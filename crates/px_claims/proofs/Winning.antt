@@ -12,6 +12,7 @@ use Rattle.std.proofs.lemmas.List.Kept.{AllPairs-cons}
 use Rattle.std.proofs.lemmas.List.Quantifiers.{position-Some}
 use Rattle.std.proofs.lemmas.List.Sums.{position_or_len_is}
 use Rattle.std.proofs.lemmas.Option.{same_Some}
+use Rattle.px_value.specs.General.{is_number}
 use Rattle.px_value.proofs.General.{same_bool}
 use Rattle.px_core.specs.Plan.{Site}
 use Rattle.px_sem.specs.Conflicts.{would_start}
@@ -20,9 +21,9 @@ use Rattle.px_flat.specs.Row.{site_in}
 use Rattle.px_flat.proofs.Known.{IsSound}
 use Rattle.px_links.specs.Links.{LinksData}
 use Rattle.px_links.specs.Lists.{has, nth}
+use Rattle.px_links.proofs.Linking.{number_here}
 use Rattle.px_tally.specs.Tally.{TallyData, is_counted, total}
 use Rattle.px_tally.proofs.Counting.{none-count, count-none}
-use Rattle.px_assign.specs.Claims.{is_node}
 use Rattle.px_assign.specs.Conflicts.{variable_of, of_variable, writes, goes_before, is_kept_from, is_loser, is_loser_in, is_writer, AreWriters}
 use Rattle.px_assign.proofs.Ties.{loser_alike}
 use Rattle.px_assign.proofs.Firsts.{found_among, other_way}
@@ -84,20 +85,16 @@ among_numbers flags test number is passes =
 -- ---- what is found of each of a list
 
 any_found : (found : ℕ → Option ℕ) (node : ℕ) (cells : List ℕ)
-    → list_any (nat_eq node) (filter_map found cells) ≡ list_any (λ cell. is_node node (found cell)) cells
+    → list_any (nat_eq node) (filter_map found cells) ≡ list_any (λ cell. is_number (found cell) node) cells
 any_found found node [] = refl
 any_found found node (cell ∷ cells) = by (found cell) refl (any_found found node cells)
   where
     by : (here : Option ℕ) → found cell ≡ here
-        → list_any (nat_eq node) (filter_map found cells) ≡ list_any (λ cell. is_node node (found cell)) cells
+        → list_any (nat_eq node) (filter_map found cells) ≡ list_any (λ cell. is_number (found cell) node) cells
         → list_any (nat_eq node) (filter_map found (cell ∷ cells))
-        ≡ list_any (λ cell. is_node node (found cell)) (cell ∷ cells)
+        ≡ list_any (λ cell. is_number (found cell) node) (cell ∷ cells)
     by None is rest = rw is rest
     by (Some other) is rest = rw is (λ i. nat_eq_equiv.symm node other i || rest i)
-
-found_here : (node : ℕ) (found : Option ℕ) → is_node node found ≡ true → found ≡ Some node
-found_here node None is = absurd (false≢true is)
-found_here node (Some other) is = ap Some (eqb-true other node is)
 
 -- what is found tells of what it was found, so nothing is found twice
 found_once : (found tells : ℕ → Option ℕ) (cells : List ℕ)
@@ -116,7 +113,7 @@ found_once found tells (cell ∷ cells) told once =
     by (Some node) is rest = rw is
         (AllPairs-cons (λ a b. a ≢ b) node (filter_map found cells)
         (λ k d inside same.
-        let again = Any-from_list_any (λ cell. is_node node (found cell)) cells
+        let again = Any-from_list_any (λ cell. is_number (found cell) node) cells
         (sym (any_found found node cells)
         ∙ list_any_at (nat_eq node) (filter_map found cells) k d inside (eq-eqb node (get_or (filter_map found cells) k d) same)) in
         let other : ℕ = again.1 in
@@ -125,7 +122,7 @@ found_once found tells (cell ∷ cells) told once =
         let one : cell ≡ other = same_Some cell other
         (sym (told cell node (or_left (nat_eq cell cell) (list_any (nat_eq cell) cells) (nat_eq_equiv.refl cell)) is)
         ∙ told other node (or_right (nat_eq other cell) (list_any (nat_eq other) cells) among)
-        (found_here node (found other) again.4)) in
+        (number_here (found other) node again.4)) in
         once 0 (suc again.0) other (omega arith) (omega (arith, again.2)) (one ∙ sym again.3))
         rest)
 
@@ -253,7 +250,7 @@ module _ (plan : List Site) (writers : List Writer) (are : AreInOrder plan write
 
   wins : (node : ℕ) → list_any (nat_eq node) winners ≡ true → Wins node
   wins node among =
-      let at = Any-from_list_any (λ variable. is_node node (found variable)) (nth links.lists 0)
+      let at = Any-from_list_any (λ variable. is_number (found variable) node) (nth links.lists 0)
       (sym (any_found found node (nth links.lists 0)) ∙ among) in
       let variable : ℕ = at.1 in
       let contested = in_list variable (list_any_at (nat_eq variable) (nth links.lists 0) at.0 variable at.2
@@ -261,7 +258,7 @@ module _ (plan : List Site) (writers : List Writer) (are : AreInOrder plan write
       record {
         variable = variable;
         contested = contested;
-        first = goes_first variable node contested (found_here node (found variable) at.4);
+        first = goes_first variable node contested (number_here (found variable) node at.4);
       }
 
   -- a writer would start, and is no loser
@@ -304,8 +301,8 @@ module _ (plan : List Site) (writers : List Writer) (are : AreInOrder plan write
             (is_written plan variable first.0 first.2.writes) sooner)))
       ] in
       any_found found node (nth links.lists 0)
-      ∙ found_among (λ variable. is_node node (found variable)) variable (nth links.lists 0) (listed variable contested)
-      (ap (is_node node) first.1 ∙ eq-eqb first.0 node same)
+      ∙ found_among (λ variable. is_number (found variable) node) variable (nth links.lists 0) (listed variable contested)
+      (ap (λ found. is_number found node) first.1 ∙ eq-eqb first.0 node same)
 
   lost : (node : ℕ) → node < length plan → wins_here node ≡ true → list_any (nat_eq node) winners ≡ true
   lost node within is =

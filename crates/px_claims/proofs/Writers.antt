@@ -1,5 +1,5 @@
 -- The writers of a plan, as they are gathered and sorted.
-use Rattle.std.proofs.Common.{◌≡◌, ℕ, ◌+◌, ◌<◌, Bool, true, false, ◌||◌, List, [], ◌∷◌, ◌++◌, Some, None, ap, sym, ◌∙◌, arith, inl, inr, All}
+use Rattle.std.proofs.Common.{◌≡◌, ℕ, ◌+◌, Bool, false, ◌||◌, List, [], ◌∷◌, ◌++◌, None, ap, sym, ◌∙◌, arith, inl, inr}
 use Rattle.std.specs.Prelude.{nat_eq}
 use Rattle.std.specs.List.{list_any}
 use Rattle.std.proofs.lemmas.Bool.{cases_eq, eq-eqb, or_left, or_right}
@@ -8,13 +8,7 @@ use Rattle.std.proofs.lemmas.List.Folds.{list_any-append}
 use Rattle.px_core.specs.Plan.{Site}
 use Rattle.px_assign.specs.Conflicts.{variable_of}
 use Rattle.px_claims.specs.declared.order.Writer.{Writer}
-use Rattle.px_claims.specs.Ordering.{IsWriter}
-
--- each is one, and those before a number are among them
-pub record AreSoFar (plan : List Site) (writers : List Writer) (count : ℕ) : Type 0 where
-  pub each : All (IsWriter plan) writers
-  pub all : (node variable : ℕ) → node < count → variable_of plan node ≡ Some variable
-      → list_any (λ (writer : Writer). nat_eq node writer.node) writers ≡ true
+use Rattle.px_claims.specs.Ordering.{IsWriter, AreSoFar}
 
 pub no_more : (plan : List Site) (writers : List Writer) (count : ℕ) → AreSoFar plan writers count
     → variable_of plan count ≡ None → AreSoFar plan writers (count + 1)

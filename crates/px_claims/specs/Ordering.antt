@@ -16,11 +16,15 @@ pub record IsWriter (plan : List Site) (writer : Writer) : Type 0 where
   pub variable : variable_of plan writer.node ≡ Some writer.variable
   pub priority : writer.priority ≡ priority_of plan writer.node
 
--- each is one, and each node that writes a variable is among them
-pub record AreWriters (plan : List Site) (writers : List Writer) : Type 0 where
+-- each is one, and each node before a number that writes a variable is among them
+pub record AreSoFar (plan : List Site) (writers : List Writer) (count : ℕ) : Type 0 where
   pub each : All (IsWriter plan) writers
-  pub all : (node variable : ℕ) → node < length plan → variable_of plan node ≡ Some variable
+  pub all : (node variable : ℕ) → node < count → variable_of plan node ≡ Some variable
       → list_any (λ (writer : Writer). nat_eq node writer.node) writers ≡ true
+
+-- and each of the plan
+abbrev pub AreWriters : List Site → List Writer → Type 0
+AreWriters plan writers = AreSoFar plan writers (length plan)
 
 -- by variable, then by priority number, then by place
 abbrev pub stands_before : Writer → Writer → Bool

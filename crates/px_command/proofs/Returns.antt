@@ -27,8 +27,7 @@ use Rattle.px_flat.specs.Row.{site_in}
 use Rattle.px_flat.proofs.Known.{IsSound}
 use Rattle.px_flat.proofs.Slotted.{names_differ}
 use Rattle.px_flat.proofs.Targets.{taken_alike}
-use Rattle.px_flat.proofs.Variables.{IsDeclared, target_declared}
-use Rattle.px_flat.proofs.VariableValues.{place_of-node}
+use Rattle.px_flat.proofs.Variables.{IsDeclared, place_at, target_declared}
 use Rattle.px_command.specs.Results.{result_slot}
 use Rattle.px_command.proofs.Rows.{HasNode, has_node, counted, nothing_changes}
 use Rattle.px_command.proofs.Writes.{IsCellOf, variable_written, cells_within}
@@ -179,7 +178,7 @@ result_is plan cells acts node slot sound within parts is =
     declared = target_declared plan node of.result sound within (ap target_of of.is)
 
     place_is : place_of plan of.result.owner of.result.name ≡ declared.has.place
-    place_is = place_of-node plan of.result.owner of.result.name declared.node sound.distinct declared.within declared.path_is declared.has
+    place_is = place_at plan of.result.owner of.result.name sound declared
 
     at : IsSlot plan of.result (act_of acts node) (held cells (handle_cell plan node))
         (held cells (acknowledgement_cell plan node)) slot

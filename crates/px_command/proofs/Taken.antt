@@ -1,5 +1,5 @@
 -- What taking an event comes to, for each row of the table and where it does not count.
-use Rattle.std.proofs.Common.{◌≡◌, ℕ, ◌<◌, true, false, ◌||◌, ◌&&◌, List, length, set, refl, ap, ◌∙◌, Some, None, arith}
+use Rattle.std.proofs.Common.{◌≡◌, ℕ, ◌<◌, true, false, ◌||◌, ◌&&◌, List, length, set, refl, ap, sym, subst, ◌∙◌, Some, None, arith}
 use Rattle.std.proofs.lemmas.Bool.{and_parts}
 use Rattle.std.proofs.lemmas.Grind.{common_steps}
 use Rattle.px_value.specs.declared.enums.Handle.{Handle}
@@ -15,7 +15,7 @@ use Rattle.px_sem.specs.Effects.{as_kind}
 use Rattle.px_sem.specs.Events as semantics
 use Rattle.px_sem.specs.Events.{take}
 use Rattle.px_sem.specs.Guards.{is_executing, is_failing}
-use Rattle.px_sem.specs.World.{LookState, Report}
+use Rattle.px_sem.specs.World.{LookState, Report, World}
 use Rattle.px_cells.specs.Marked.{Contents, written}
 use Rattle.px_flat.specs.declared.act.Act.{Act}
 use Rattle.px_flat.specs.declared.act.Act.TheVariants as under_way
@@ -41,7 +41,12 @@ pub unchanged : (plan : List Site) (event : Event) (cells : Contents Value) (act
     → ((reports : List (LookState × Report)) → take plan (world_of plan cells.values reports acts.values) event
     ≡ world_of plan cells.values reports acts.values)
     → IsTaken plan event cells acts cells acts
-unchanged plan event cells acts parts same = grind (arith, common_steps)
+unchanged plan event cells acts parts same = record {
+  nodes = λ reports. ap (λ (world : World). world.nodes) (sym (same reports));
+  parts = parts;
+  cells_marked = refl;
+  acts_marked = refl;
+}
 
 -- a cell, an act, or both are written
 both_written : (plan : List Site) (event : Event) (cells new_cells : Contents Value) (acts new_acts : Contents Act)
@@ -53,7 +58,16 @@ both_written : (plan : List Site) (event : Event) (cells new_cells : Contents Va
     ≡ take plan (world_of plan cells.values reports acts.values) event)
     → IsTaken plan event cells acts new_cells new_acts
 both_written plan event cells new_cells acts new_acts new_values new_under_way values_are acts_are cells_marked acts_marked parts taken =
-    grind (arith, common_steps)
+    record {
+      nodes = λ reports.
+          ap (λ values. (world_of plan values reports new_acts.values).nodes) values_are
+          ∙ ap (λ acts. (world_of plan new_values reports acts).nodes) acts_are
+          ∙ ap (λ (world : World). world.nodes) (taken reports);
+      parts = subst (λ values. IsParts plan values new_acts.values) (sym values_are)
+          (subst (IsParts plan new_values) (sym acts_are) parts);
+      cells_marked = cells_marked;
+      acts_marked = acts_marked;
+    }
 
 -- ---- the rows
 

@@ -1,58 +1,24 @@
 -- The labels of a tree that the tokens of a text spell are identifiers.
-use Rattle.std.proofs.Common.{◌≡◌, ℕ, zero, suc, ◌+◌, Bool, true, List, [], ◌∷◌, ◌++◌, length, Option, Some, None, refl, sym, ap, ◌∙◌}
-use Rattle.std.specs.List.{list_all}
+use Rattle.std.proofs.Common.{◌≡◌, ℕ, true, List, ◌++◌, length, Option, Some, None, refl, sym, ap, ◌∙◌}
 use Rattle.std.specs.Option.{option_to_list}
 use Rattle.std.specs.Prelude.{IsTrue}
-use Rattle.std.proofs.lemmas.Bool.{and_from, and_parts}
+use Rattle.std.proofs.lemmas.Bool.{and_from}
 use Rattle.std.proofs.lemmas.List.Folds.{list_all-append}
 use Rattle.px_value.specs.Name.{is_identifier}
 use Rattle.px_lex.specs.declared.token.Token.{Token}
-use Rattle.px_lex.specs.declared.token.TokenKind.{TokenKind}
 use Rattle.px_lex.specs.declared.token.TokenKind.TheVariants as kinds
-use Rattle.px_lex.specs.Lexer.{Piece, Stands, AllStand, spelled, token_at, tokens_from, Splits}
-use Rattle.px_lex.specs.Token.{IsToken}
+use Rattle.px_lex.specs.Lexer.{Splits}
 use Rattle.px_syntax.specs.declared.expr.Identifier.{Identifier}
 use Rattle.px_syntax.specs.Block.{BlockTree, Braces, Actions, NoActions, More, ActionTree, Labelled, BranchTree, Branch, GuardedTree, Guarded, ElseIfs, NoElseIfs, ElseIf, ElseTree, NoElse, Else, BodyTree, Inner, Assign, CallInto, Call, Update, If, While, For}
 use Rattle.px_syntax.specs.BlockGrammar.{label, block, each_action, action, branch, guarded, else_ifs, otherwise, body}
 use Rattle.px_syntax.specs.Form.{kind_at}
 use Rattle.px_syntax.specs.Plan.{PlanTree}
 use Rattle.px_syntax.specs.PlanGrammar.{Spells}
+use Rattle.px_syntax.proofs.Spelled.{IsSpelled, spelled_in}
 use Rattle.px_expand.specs.Labels.{block_labels, actions_labels, action_labels, body_labels, guarded_labels, else_if_labels, else_labels, branch_labels, has_identifiers}
+use Rattle.px_expand.proofs.Naming.{are_identifiers}
 
 -- ---- tokens
-
-abbrev is_named : TokenKind → Bool
-is_named (kinds.Identifier name) = is_identifier name
-is_named kind = true
-
-abbrev are_named : List Token → Bool
-are_named tokens = list_all (λ token. is_named token.kind) tokens
-
--- an identifier's token spells an identifier
-kind_named : (kind : TokenKind) (spelling rest : List ℕ) → IsToken kind spelling rest → is_named kind ≡ true
-kind_named (kinds.Identifier name) spelling rest is = ap is_identifier (sym is.same) ∙ is.word.word
-kind_named (kinds.Keyword word) spelling rest is = refl
-kind_named (kinds.Integer value) spelling rest is = refl
-kind_named (kinds.Text content) spelling rest is = refl
-kind_named (kinds.Sign sign) spelling rest is = refl
-
-token_named :
-    (at : ℕ) (kind : Option TokenKind) (spelling rest : List ℕ) → Stands kind spelling rest
-    → are_named (token_at at kind) ≡ true
-token_named at None spelling rest stands = refl
-token_named at (Some kind) spelling rest stands =
-    and_from (is_named kind) true (kind_named kind spelling rest stands) refl
-
-tokens_named :
-    (at : ℕ) (pieces : List Piece) (rest : List ℕ) → AllStand pieces rest → are_named (tokens_from at pieces) ≡ true
-tokens_named at [] rest stand = refl
-tokens_named at (piece ∷ pieces) rest stand =
-    let front = token_at at piece.kind in
-    let behind = tokens_from (at + length piece.spelling) pieces in
-    list_all-append (λ (token : Token). is_named token.kind) front behind
-    ∙ and_from (are_named front) (are_named behind)
-    (token_named at piece.kind piece.spelling (spelled pieces ++ rest) stand.0)
-    (tokens_named (at + length piece.spelling) pieces rest stand.1)
 
 -- each identifier among the tokens is one
 record AreNamed (tokens : List Token) : Type 0 where
@@ -60,28 +26,16 @@ record AreNamed (tokens : List Token) : Type 0 where
       (number : ℕ) (name : List ℕ) → kind_at tokens number ≡ Some (kinds.Identifier name)
       → is_identifier name ≡ true
 
-named_at :
-    (tokens : List Token) (number : ℕ) (name : List ℕ) → are_named tokens ≡ true
-    → kind_at tokens number ≡ Some (kinds.Identifier name) → is_identifier name ≡ true
-named_at [] number name all has = absurd (cc)
-named_at (token ∷ tokens) zero name all has =
-    let same : token.kind ≡ kinds.Identifier name = (cc) in
-    sym (ap is_named same) ∙ (and_parts (is_named token.kind) (are_named tokens) all).0
-named_at (token ∷ tokens) (suc number) name all has =
-    named_at tokens number name (and_parts (is_named token.kind) (are_named tokens) all).1 has
-
 splits_named : (text : List ℕ) (tokens : List Token) → Splits text tokens → AreNamed tokens
 splits_named text tokens splits =
     record {
       at =
           λ number name has.
-          named_at tokens number name (ap are_named splits.listed ∙ tokens_named 0 splits.pieces [] splits.stand) has;
+          let there : IsSpelled (kinds.Identifier name) = spelled_in text tokens splits (kinds.Identifier name) number has in
+          ap is_identifier (sym there.token.same) ∙ there.token.word.word;
     }
 
 -- ---- labels
-
-abbrev are_identifiers : List Identifier → Bool
-are_identifiers labels = list_all (λ label. is_identifier label.name) labels
 
 both :
     (first second : List Identifier) → are_identifiers first ≡ true → are_identifiers second ≡ true

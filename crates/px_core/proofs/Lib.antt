@@ -1,6 +1,5 @@
 pub mod Cells
-pub mod Each
-pub mod Finished
+pub mod Differing
 pub mod Halves
 pub mod Paths
 pub mod SitePaths

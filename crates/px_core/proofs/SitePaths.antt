@@ -3,32 +3,34 @@ use Rattle.std.proofs.Common.{◌≡◌, ◌≢◌, ℕ, zero, suc, Bool, true, 
 use Rattle.std.proofs.Common.{◌++◌, length, refl, ap, sym, ◌∙◌, subst, arith, ◌⊎◌, inl, inr, append_assoc}
 use Rattle.std.proofs.Common.{append-nil, length-append}
 use Rattle.std.proofs.lemmas.Bool.{and_parts}
-use Rattle.std.specs.List.{list_all, list_any}
+use Rattle.std.specs.List.{list_all, list_any, AllByRecursion as Each}
 use Rattle.std.proofs.lemmas.List.{append_cancel_left}
+use Rattle.std.proofs.lemmas.List.Elements.{All-from_recursion, recursion_from_All}
+use Rattle.std.proofs.lemmas.List.Sums.{AllPass-from_list_all}
 use Rattle.px_value.specs.Name.{is_name}
+use Rattle.px_value.proofs.General.{each-append, each_front, each_back, each_map}
 use Rattle.px_value.proofs.Paths.{is_dotless, name_dotless}
 use Rattle.px_core.specs.Plan.{Tree, NoNode, Branch, Site, no_site, is_same, path_under, sites_under, sites}
 use Rattle.px_core.specs.Fit.{names_of, siblings_differ, has_name, AreDistinct}
-use Rattle.px_core.proofs.Each.{Each, Differ, each-append, each_front, each_back, each_map, each_at}
+use Rattle.px_core.proofs.Differing.{Differ}
 use Rattle.px_core.proofs.Paths.{same-self}
 
 each_pass : (p : Site → Bool) (xs : List Site) → list_all p xs ≡ true → Each (λ site. p site ≡ true) xs
-each_pass p [] h = tt
-each_pass p (x ∷ xs) h = let parts = and_parts (p x) (list_all p xs) h in (parts.0, each_pass p xs parts.1)
+each_pass p xs all = recursion_from_All (λ site. p site ≡ true) xs (AllPass-from_list_all p xs all)
 
-differ-append : (xs ys : List Site) → Differ xs → Differ ys → Each (λ x. Each (λ y. x.path ≢ y.path) ys) xs
+differ-append : (xs ys : List Site) → Differ xs → Differ ys → Each (λ (x : Site). Each (λ y. x.path ≢ y.path) ys) xs
     → Differ (xs ++ ys)
 differ-append [] ys hx hy apart = hy
 differ-append (x ∷ xs) ys hx hy apart =
-    (each-append (λ other. x.path ≢ other.path) xs ys hx.0 apart.0, differ-append xs ys hx.1 hy apart.1)
+    (each-append (λ (other : Site). x.path ≢ other.path) xs ys hx.0 apart.0, differ-append xs ys hx.1 hy apart.1)
 
 are_distinct : (sites : List Site) → Differ sites → AreDistinct sites
 are_distinct [] differ i j hi hj same = absurd (omega arith)
 are_distinct (site ∷ sites) differ zero zero hi hj same = refl
 are_distinct (site ∷ sites) differ zero (suc j) hi hj same =
-    absurd (each_at (λ other. site.path ≢ other.path) sites j no_site (omega arith) differ.0 same)
+    absurd (All-from_recursion (λ (other : Site). site.path ≢ other.path) sites differ.0 j no_site (omega arith) same)
 are_distinct (site ∷ sites) differ (suc i) zero hi hj same =
-    absurd (each_at (λ other. site.path ≢ other.path) sites i no_site (omega arith) differ.0 (sym same))
+    absurd (All-from_recursion (λ (other : Site). site.path ≢ other.path) sites differ.0 i no_site (omega arith) (sym same))
 are_distinct (site ∷ sites) differ (suc i) (suc j) hi hj same =
     ap suc (are_distinct sites differ.1 i j (omega arith) (omega arith) same)
 
@@ -127,7 +129,7 @@ differ_tree : (above : List (List ℕ)) (tree : Tree) → siblings_differ tree �
     → Each Named (sites_under above tree) → Differ (sites_under above tree)
 differ_tree above NoNode siblings named = tt
 differ_tree above (Branch head children rest) siblings named = (
-  each-append (λ other. own ≢ other.path) inner outer
+  each-append (λ (other : Site). own ≢ other.path) inner outer
       (each_map (UnderOne (own ∷ above) (names_of children)) (λ other. own ≢ other.path) inner own_is_shorter
       (under_one (own ∷ above) children (each_front Named inner outer named.1)))
       (each_map (UnderOne above (names_of rest)) (λ other. own ≢ other.path) outer

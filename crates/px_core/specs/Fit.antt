@@ -1,5 +1,5 @@
 -- What makes a plan fit to run.
-use Rattle.std.specs.Prelude.{◌≡◌, ℕ, ◌<◌, ◌≤◌, Bool, true, false, not, ◌&&◌, nat_le, List, [], ◌∷◌, ◌++◌, length, get_or, map, sum, Option, Some, None, IsTrue}
+use Rattle.std.specs.Prelude.{◌≡◌, ℕ, ◌<◌, ◌≤◌, Bool, true, false, not, ◌&&◌, nat_le, List, [], ◌∷◌, ◌++◌, length, get_or, map, sum, Option, Some, None, is_some, IsTrue}
 use Rattle.std.specs.List.{list_all, list_any, flat_map}
 use Rattle.px_value.specs.Name.{is_name}
 use Rattle.px_core.specs.declared.node.Kind.{Kind}
@@ -157,11 +157,11 @@ abbrev pub terms_of_conditions : ConditionTerms → List Term
 terms_of_conditions c =
     c.start ∷ c.end ∷ c.exit ∷ c.skip ∷ c.repeat ∷ c.pre ∷ c.post ∷ c.invariant ∷ []
 
+-- what a node speaks of, in its conditions and then in its body
 abbrev pub references_of_site : Site → List Reference
 references_of_site site =
     flat_map references (terms_of_conditions site.head.conditions)
-    ++ flat_map references (terms_of site.head.body)
-    ++ flat_map references_of_target (targets_of site.head.body)
+    ++ (flat_map references (terms_of site.head.body) ++ flat_map references_of_target (targets_of site.head.body))
 
 -- ---- whether a plan has it
 
@@ -177,18 +177,17 @@ abbrev pub is_update : Kind → Bool
 is_update kinds.Update = true
 is_update kind = false
 
-abbrev pub is_array : Option ℕ → Bool
-is_array None = false
-is_array (Some size) = true
+-- a variable of this name is declared: an array, which has a size, or a scalar
+abbrev pub declares_in : Bool → List ℕ → List VariableData → Bool
+declares_in true name variables = list_any (λ variable. is_same variable.name name && is_some variable.size) variables
+declares_in false name variables = list_any (λ variable. is_same variable.name name && not (is_some variable.size)) variables
 
 -- a node declares a scalar of this name; an array
 abbrev pub declares_scalar : List ℕ → Site → Bool
-declares_scalar name site =
-    list_any (λ variable. is_same variable.name name && not (is_array variable.size)) site.head.variables
+declares_scalar name site = declares_in false name site.head.variables
 
 abbrev pub declares_array : List ℕ → Site → Bool
-declares_array name site =
-    list_any (λ variable. is_same variable.name name && is_array variable.size) site.head.variables
+declares_array name site = declares_in true name site.head.variables
 
 -- each path is that of a node, of the kind that is asked
 abbrev pub path_is_there : List Site → Reference → Bool
@@ -203,6 +202,10 @@ abbrev pub variable_is_there : List Site → Reference → Bool
 variable_is_there plan (Scalar owner name) = has_site (declares_scalar name) owner plan
 variable_is_there plan (Array owner name) = has_site (declares_array name) owner plan
 variable_is_there plan mention = true
+
+-- what is spoken of is there
+abbrev pub is_there : List Site → Reference → Bool
+is_there plan mention = path_is_there plan mention && variable_is_there plan mention
 
 abbrev pub paths_are_there : List Site → Site → Bool
 paths_are_there plan site = list_all (path_is_there plan) (references_of_site site)

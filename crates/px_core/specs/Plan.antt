@@ -153,6 +153,10 @@ branch node rest = Branch (head_of node) (in_order node.children.items) rest
 abbrev pub tree_of_node : CoreNode → Tree
 tree_of_node node = fold-CoreNode (Tree → Tree) branch node NoNode
 
+-- nodes side by side
+abbrev pub trees_of : List CoreNode → Tree
+trees_of nodes = in_order (map (fold-CoreNode (Tree → Tree) branch) nodes)
+
 abbrev pub tree_of : Plan → Tree
 tree_of plan = tree_of_node plan.root
 

@@ -15,10 +15,11 @@ use Rattle.px_sem.specs.declared.stepper.Stepper
 use Rattle.px_desk.specs.Listing.{start_of, listing, log_in, failed_in}
 use Rattle.px_desk.specs.Seating.{Seating, newcomer, AreAll, IsOneHistory}
 use Rattle.px_desk.proofs.Lists.{log_of_listing, failed_of_listing}
+use Rattle.px_desk.proofs.Dealing.{seats_count}
 use Rattle.px_crew.specs.Crew.{failed_entry, AreAt, Comes}
 use Rattle.px_crew.specs.Seat.{entry_in}
 use Rattle.px_crew.specs.Work.{workers_of, places_of, AreReady, HaveWorked, ComesTo}
-use Rattle.px_crew.proofs.Engaged.{engaged_length, engaged_places, engaged_seats, engaged_came, engaged_ready, seats_count, own_still, numbers_still}
+use Rattle.px_crew.proofs.Engaged.{engaged_length, engaged_places, engaged_seats, engaged_came, engaged_ready, own_still, numbers_still}
 use Rattle.px_crew.proofs.Gathering.{comes_whole}
 use Rattle.px_crew.proofs.Working.{places_rise}
 
@@ -48,7 +49,7 @@ module _ {S D T : Type 0} (runs : Stepper.Ghosts S) (exec opened : Executive S D
   seated_opened = seated ∙ ap (λ (e : Executive S D). map (newcomer (listing e)) (range_with_len 0 (length places))) (sym is_opened)
 
   counted : length seats ≡ length places
-  counted = seats_count (start_of runs opened.opening) fits seating (listing opened) seats (length places) seated_opened
+  counted = seats_count seating (listing opened) seats (length places) seated_opened
 
   pub workers_count : length (workers_of seats places) ≡ length threads
   workers_count = engaged_length seats places counted ∙ counted ∙ at.same

@@ -17,7 +17,7 @@ use Rattle.px_sem.specs.Log.{Log, posted_in}
 use Rattle.px_sem.specs.declared.log.LogEntry.{LogEntry}
 use Rattle.px_turn.specs.Histories.{IsFront, items, opened, positions}
 use Rattle.px_turn.specs.declared.view.Stamped.{Stamped}
-use Rattle.px_turn.proofs.Positions.{positions_opened, items_opened, items-append}
+use Rattle.px_turn.proofs.Positions.{positions_opened, items_opened}
 use Rattle.px_desk.specs.Listing.{Start, log_in, failed_in}
 use Rattle.px_desk.specs.Seating.{Seating, newcomer, IsOneHistory}
 use Rattle.px_desk.specs.declared.listing.Listing.{Listing}
@@ -26,9 +26,10 @@ use Rattle.px_crew.specs.Seat.{own, entry_in, board_of, HasGoneOn}
 use Rattle.px_crew.specs.Walk.{lines_between}
 use Rattle.px_crew.specs.Work.{board, places_of, HaveWorked}
 use Rattle.px_crew.proofs.Further.{front_and_between, walks_on}
-use Rattle.px_crew.proofs.Listings.{log_in-append, failed_in-behind, failed_in-front, own-append, none_own, own_stays}
+use Rattle.px_crew.proofs.Listings.{log_in-append, log_in-items-append, failed_in-behind, failed_in-front, own-append, none_own, own_stays}
 use Rattle.px_crew.proofs.Makers.{IsMadeFor, are_made_for, entries_made, only_made, failed_made}
 use Rattle.px_crew.proofs.Passing.{walks_same}
+use Rattle.px_crew.proofs.Standing.{place_at}
 use Rattle.px_script.proofs.OwnPosts.{posts_of, own_thread}
 use Rattle.px_script.proofs.Walks.{walks_longer}
 
@@ -61,7 +62,7 @@ module _ (start : Start) (first : List Listing) (whole later : List (Stamped Lis
   pub shown_front : IsFront (board_of start new).log (log_in (items whole))
   shown_front = (
     log_in (items front.0),
-    ap (λ (list : List (Stamped Listing)). log_in (items list)) front.1 ∙ ap log_in (items-append new.seen front.0) ∙ log_in-append (items new.seen) (items front.0),
+    ap (λ (list : List (Stamped Listing)). log_in (items list)) front.1 ∙ log_in-items-append new.seen front.0,
   )
 
   -- at the opening it had made nothing, and shown the list as it was
@@ -95,11 +96,6 @@ module _ (plan : List Site) (first : List Entry) (log more : Log) (todo : Todo) 
 pub some_of : {A : Type 0} (xs : List A) (i : ℕ) → i < length xs → A
 some_of [] i within = absurd (omega arith)
 some_of (x ∷ xs) i within = x
-
--- the place of one of the workers
-pub place_at : {S : Type 0} (workers : List (Worker S)) (i : ℕ) (e : Worker S) → i < length workers
-    → get_or (places_of workers) i 0 ≡ (get_or workers i e).at
-place_at {S} workers i e within = get_or-map (λ (worker : Worker S). worker.at) workers i e 0 within
 
 -- ---- all seats
 
@@ -156,7 +152,7 @@ module _ {S : Type 0} (start : Start) (fits : S → Type 0) (seating : S → Sea
   -- ---- the whole list
 
   list_is : list ≡ first ++ items w.later
-  list_is = sym w.stands ∙ ap items w.begins ∙ items-append (opened first) w.later ∙ ap (λ (l : List Listing). l ++ items w.later) (items_opened first)
+  list_is = sym w.stands ∙ ap items w.begins ∙ map-append (λ (e : Stamped Listing). e.item) (opened first) w.later ∙ ap (λ (l : List Listing). l ++ items w.later) (items_opened first)
 
   pub log_is : log_in list ≡ log_in first ++ log_in (items w.later)
   log_is = ap log_in list_is ∙ log_in-append first (items w.later)
@@ -224,5 +220,5 @@ module _ {S : Type 0} (start : Start) (fits : S → Type 0) (seating : S → Sea
         → failed_in (items (seating (get_or news i e).seat).seen) ≡ Some failed → failed_in list ≡ Some failed
     seen_failed i d e failed within is =
         let front = front_at i d e within in
-        ap failed_in (sym w.stands ∙ ap items front.1 ∙ items-append (seating (get_or news i e).seat).seen front.0)
+        ap failed_in (sym w.stands ∙ ap items front.1 ∙ map-append (λ (e : Stamped Listing). e.item) (seating (get_or news i e).seat).seen front.0)
         ∙ failed_in-front (items (seating (get_or news i e).seat).seen) (items front.0) failed is

@@ -2,7 +2,7 @@
 use Rattle.std.proofs.Common.{◌≡◌, ℕ, zero, suc, ◌<◌, ◌≤◌, List, [], ◌∷◌, ◌++◌, map, length, get_or, refl, sym, ap, ◌∙◌, subst, arith}
 use Rattle.std.specs.List.{All, range_with_len}
 use Rattle.std.proofs.lemmas.List.{length-map, get_or-map}
-use Rattle.std.proofs.lemmas.List.FromFn.{length-range_with_len, get_or-map-range_with_len}
+use Rattle.std.proofs.lemmas.List.FromFn.{get_or-map-range_with_len}
 use Rattle.px_script.specs.declared.todo.Todo.{Todo}
 use Rattle.px_script.specs.declared.worker.WorkEnd.TheVariants as works
 use Rattle.px_script.specs.declared.worker.Worker.{Worker}
@@ -10,6 +10,7 @@ use Rattle.px_turn.proofs.Positions.{positions_opened}
 use Rattle.px_desk.specs.Listing.{Start}
 use Rattle.px_desk.specs.Seating.{Seating, newcomer, HasMade}
 use Rattle.px_desk.specs.declared.listing.Listing.{Listing}
+use Rattle.px_desk.proofs.Dealing.{seats_count}
 use Rattle.px_crew.specs.Work.{workers_of, places_of, AreReady, HaveWorked}
 
 module _ {S : Type 0} where
@@ -49,18 +50,18 @@ module _ {S : Type 0} where
 
   module _ (start : Start) (fits : S → Type 0) (seating : S → Seating) (first : List Listing) (seats : List S) (n : ℕ)
       (seated : map seating seats ≡ map (newcomer first) (range_with_len 0 n)) where
-    pub seats_count : length seats ≡ n
-    seats_count = sym (length-map seats seating) ∙ ap (λ (l : List Seating). length l) seated ∙ length-map (range_with_len 0 n) (newcomer first) ∙ length-range_with_len 0 n
+    counted : length seats ≡ n
+    counted = seats_count seating first seats n seated
 
     seated_at : (i : ℕ) (s : S) → i < n → seating (get_or seats i s) ≡ newcomer first i
     seated_at i s within =
-        sym (get_or-map seating seats i s (seating s) (omega (arith, seats_count)))
+        sym (get_or-map seating seats i s (seating s) (omega (arith, counted)))
         ∙ ap (λ (l : List Seating). get_or l i (seating s)) seated
         ∙ get_or-map-range_with_len (newcomer first) 0 n i i (seating s) within (omega arith)
 
     module _ (threads : List Todo) (places : List ℕ) (as_many : n ≡ length threads) (same : length places ≡ length threads) where
       counts : length seats ≡ length places
-      counts = seats_count ∙ as_many ∙ sym same
+      counts = counted ∙ as_many ∙ sym same
 
       pub engaged_came : (i : ℕ) (e : Worker S) → i < length threads → seating (get_or (workers_of seats places) i e).seat ≡ newcomer first i
       engaged_came i e within =

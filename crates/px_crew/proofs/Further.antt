@@ -5,7 +5,6 @@ use Rattle.std.proofs.lemmas.List.{append_assoc, length-take, take-take, take-ap
 use Rattle.std.proofs.lemmas.List.Elements.{filter_map-append}
 use Rattle.std.proofs.lemmas.Option.{none-some, same_Some}
 use Rattle.px_event.specs.declared.entry.Entry.{Entry}
-use Rattle.px_event.specs.declared.event.Event.{Event}
 use Rattle.px_script.specs.Order.{entry_of, thread_entries}
 use Rattle.px_script.specs.declared.line.Line.{Line}
 use Rattle.px_script.specs.declared.line.What.{What}
@@ -21,7 +20,7 @@ use Rattle.px_crew.specs.declared.walking.Reach.{Reach}
 use Rattle.px_crew.specs.declared.walking.Stop.{Stop}
 use Rattle.px_crew.specs.declared.walking.Stop.TheVariants as stops
 use Rattle.px_crew.proofs.Passing.{Walking, later_then, walks_same}
-use Rattle.px_script.proofs.Walks.{line_at, walks_joined}
+use Rattle.px_script.proofs.Walks.{line_at, posted_by, walks_joined}
 
 -- a front of lines and those behind it, up to a place, are the front up to that place
 pub front_and_between : (lines : List Line) (from to : ℕ) → from ≤ to → take from lines ++ drop from (take to lines) ≡ take to lines
@@ -56,9 +55,6 @@ between_then : (todo : Todo) (from at to : ℕ) → from ≤ at → at ≤ to �
 between_then todo from at to before after within =
     ap (filter_map (entry_of todo.thread)) (lines_then todo.lines from at to before after within)
     ∙ filter_map-append (entry_of todo.thread) (drop from (take at todo.lines)) (drop at (take to todo.lines))
-
-abbrev entry_by : ℕ → ℕ → Event → Entry
-entry_by thread line event = record { thread = thread; line = line; event = event }
 
 ends_then : (todo : Todo) (at : ℕ) (old mid new : Board) (end : Result Unit Stop) → mid.broke ≡ old.broke → EndsAt todo at mid new end → EndsAt todo at old new end
 ends_then todo at old mid new (Ok done) same ends = (ends.0, ends.1 ∙ same)
@@ -106,7 +102,7 @@ next_at todo at old new (Err stops.Disk) entry ends unbroken broken =
     let stopped = ends.4 in
     elim stopped.2 [
       | inl mine ↦
-          let same : entry_by todo.thread line.number stopped.0 ≡ entry = same_Some (entry_by todo.thread line.number stopped.0) entry (sym mine.broke ∙ broken) in
+          let same : posted_by todo.thread line.number stopped.0 ≡ entry = same_Some (posted_by todo.thread line.number stopped.0) entry (sym mine.broke ∙ broken) in
           subst (λ (entry : Entry). (todo.thread ≡ entry.thread) × (slice_get todo.lines at ≡ Some (line_at entry.line (whats.Post entry.event)))) same
           (refl, ends.2 ∙ ap (λ (what : What). Some (line_at line.number what)) stopped.1)
       | inr finds ↦ absurd (none-some entry (sym (finds.looked.broke ∙ ends.3 ∙ unbroken) ∙ broken))

@@ -4,7 +4,7 @@ use Rattle.std.specs.List.{All, Contains, slice_get, filter_map, sum_by}
 use Rattle.std.specs.Option.{option_and_then, option_to_list}
 use Rattle.std.proofs.lemmas.Bool.{cases_eq}
 use Rattle.std.proofs.lemmas.List.{append-nil, length-set, get_or-set_same, get_or-set_other, take_more}
-use Rattle.std.proofs.lemmas.Option.{same_Some, slice_get_read, slice_get_within, get_or_from_slice_get}
+use Rattle.std.proofs.lemmas.Option.{none-some, same_Some, slice_get_read, slice_get_within, get_or_from_slice_get}
 use Rattle.std.proofs.lemmas.List.Elements.{Contains-get_or, filter_map-append}
 use Rattle.px_core.specs.Plan.{Site}
 use Rattle.px_event.specs.declared.cond.Cond.{Cond}
@@ -37,11 +37,11 @@ use Rattle.px_crew.specs.Crew.{AreAt, IsWait, IsWaiting, AreWaiting, IsOver, Com
 use Rattle.px_crew.specs.Seat.{entry_in}
 use Rattle.px_crew.specs.Standstill.{wait_of, wait_at, waits_of, IsHeld}
 use Rattle.px_crew.specs.Work.{board, places_of, HaveWorked, AreHeld, ComesTo}
-use Rattle.px_crew.proofs.Composing.{some_of, place_at, composed, unbroken_at, broken_one, seen_failed}
+use Rattle.px_crew.proofs.Composing.{some_of, composed, unbroken_at, broken_one, seen_failed}
 use Rattle.px_crew.proofs.Further.{seen_at, next_at, going_on}
 use Rattle.px_crew.proofs.Further.{unbroken_at as walk_unbroken}
 use Rattle.px_crew.proofs.Passing.{walks_same}
-use Rattle.px_crew.proofs.Standing.{no_wait}
+use Rattle.px_crew.proofs.Standing.{no_wait, place_at}
 use Rattle.px_script.proofs.Walks.{line_at, walks_wait}
 
 pub follows_of : (plan : List Site) (first : List Entry) (log : Log) (threads : List Todo) (places : List ℕ) → AreAt plan first log threads places → Follows plan first log threads
@@ -94,10 +94,7 @@ module _ {S : Type 0} (start : Start) (fits : S → Type 0) (seating : S → Sea
           let whole = walk_unbroken (get_or threads i d) (get_or news i e).at (board start fits seating (get_or olds i e)) (board start fits seating (get_or news i e)) one.end one.walked.ends
           (λ is. unbroken i e (omega (arith, worked.same, same)) (one.says ∙ is)) in
           let was = unbroken_at start fits seating threads olds news differ same worked first came list w i d e within in
-          absurd (some_none failed.entry (sym broken.1.1 ∙ whole ∙ was))
-        where
-          some_none : (entry : Entry) → ◌≡◌ {A = Option Entry} (Some entry) None → ⊥
-          some_none entry is = cc
+          absurd (none-some failed.entry (sym (whole ∙ was) ∙ broken.1.1))
 
   -- where one has, one of them has made it
   one_failed : (worker : Worker S) → Contains news worker → worker.end ≡ works.Disk → (failed : Failed) × (failed_in list ≡ Some failed)

@@ -1,12 +1,12 @@
 -- What lists of a desk have of logs, of failed appends and of the entries that carry a number.
-use Rattle.std.proofs.Common.{◌≡◌, ℕ, ◌+◌, Bool, true, false, if◌then◌else◌, List, [], ◌∷◌, ◌++◌, map, filter, length, Option, Some, None, refl, sym, ap, ◌∙◌, subst, arith, append-nil}
-use Rattle.std.proofs.lemmas.List.{append_cancel_left}
+use Rattle.std.proofs.Common.{◌≡◌, ℕ, ◌+◌, Bool, true, false, if◌then◌else◌, List, [], ◌∷◌, ◌++◌, map, filter, length, Option, Some, None, refl, sym, ap, ◌∙◌, subst, append-nil}
+use Rattle.std.proofs.lemmas.List.{append_cancel_left, map-append}
 use Rattle.std.proofs.lemmas.List.Elements.{filter-append}
 use Rattle.px_exec.specs.declared.closing.Failed.{Failed}
 use Rattle.px_sem.specs.Log.{Log}
 use Rattle.px_turn.specs.Histories.{items, is_number, positions_from, positions}
 use Rattle.px_turn.specs.declared.view.Stamped.{Stamped}
-use Rattle.px_turn.proofs.Positions.{items-append}
+use Rattle.px_turn.proofs.Positions.{positions-append}
 use Rattle.px_desk.specs.Listing.{listing_of, log_in, failed_in}
 use Rattle.px_desk.specs.declared.listing.Listing.{Listing}
 use Rattle.px_desk.specs.declared.listing.Listing.TheVariants as listings
@@ -18,6 +18,10 @@ pub log_in-append : (xs ys : List Listing) → log_in (xs ++ ys) ≡ log_in xs +
 log_in-append [] ys = refl
 log_in-append (listings.Answered logged ∷ xs) ys = ap (λ (log : Log). logged ∷ log) (log_in-append xs ys)
 log_in-append (listings.Failed entry faults ∷ xs) ys = log_in-append xs ys
+
+-- of histories
+pub log_in-items-append : (xs ys : List (Stamped Listing)) → log_in (items (xs ++ ys)) ≡ log_in (items xs) ++ log_in (items ys)
+log_in-items-append xs ys = ap log_in (map-append (λ (e : Stamped Listing). e.item) xs ys) ∙ log_in-append (items xs) (items ys)
 
 -- ---- failed appends
 
@@ -61,19 +65,7 @@ clear_before (x ∷ y ∷ xs) item [] (Some failed) is = absurd (cc)
 pub own-append : (number : ℕ) (xs ys : List (Stamped Listing)) → own number (xs ++ ys) ≡ own number xs ++ own number ys
 own-append number xs ys =
     ap items (filter-append (λ (e : Stamped Listing). is_number e.maker number) xs ys)
-    ∙ items-append (filter (λ (e : Stamped Listing). is_number e.maker number) xs) (filter (λ (e : Stamped Listing). is_number e.maker number) ys)
-
-positions-append : (number at : ℕ) (xs ys : List (Stamped Listing))
-    → positions_from number at (xs ++ ys) ≡ positions_from number at xs ++ positions_from number (at + length xs) ys
-positions-append number at [] ys = ap (λ (k : ℕ). positions_from number k ys) (omega arith)
-positions-append number at (x ∷ xs) ys =
-    by (is_number x.maker number) (positions-append number (at + 1) xs ys ∙ ap (λ (k : ℕ). positions_from number (at + 1) xs ++ positions_from number k ys) (omega arith))
-  where
-    by : (b : Bool) → positions_from number (at + 1) (xs ++ ys) ≡ positions_from number (at + 1) xs ++ positions_from number (at + length (x ∷ xs)) ys
-        → (if b then at ∷ positions_from number (at + 1) (xs ++ ys) else positions_from number (at + 1) (xs ++ ys))
-        ≡ (if b then at ∷ positions_from number (at + 1) xs else positions_from number (at + 1) xs) ++ positions_from number (at + length (x ∷ xs)) ys
-    by true rest = ap (λ (places : List ℕ). at ∷ places) rest
-    by false rest = rest
+    ∙ map-append (λ (e : Stamped Listing). e.item) (filter (λ (e : Stamped Listing). is_number e.maker number) xs) (filter (λ (e : Stamped Listing). is_number e.maker number) ys)
 
 pub own_yes : (number : ℕ) (e : Stamped Listing) (list : List (Stamped Listing)) → is_number e.maker number ≡ true → own number (e ∷ list) ≡ e.item ∷ own number list
 own_yes number e list is = rw is refl

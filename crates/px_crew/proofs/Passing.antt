@@ -8,6 +8,7 @@ use Rattle.px_core.specs.Plan.{Site}
 use Rattle.px_event.specs.declared.cond.Cond.{Cond}
 use Rattle.px_event.specs.declared.entry.Entry.{Entry}
 use Rattle.px_event.specs.declared.event.Event.{Event}
+use Rattle.px_exec.specs.Answers.{logged}
 use Rattle.px_script.specs.Follows.{Walks}
 use Rattle.px_script.specs.Order.{entry_of, thread_entries}
 use Rattle.px_script.specs.declared.line.Line.{Line}
@@ -39,8 +40,8 @@ pub answered_later : {old new : Board} {entry : Entry} → IsAnswered old new en
 answered_later {old} {new} {entry} a = record {
   plan = a.plan;
   first = a.first;
-  more = a.others ++ record { entry = entry; reply = a.reply } ∷ [];
-  log = a.log ∙ append_assoc old.log a.others (record { entry = entry; reply = a.reply } ∷ []);
+  more = a.others ++ logged entry a.reply ∷ [];
+  log = a.log ∙ append_assoc old.log a.others (logged entry a.reply ∷ []);
 }
 
 -- the same walk, of other names

@@ -11,16 +11,17 @@ use Rattle.px_exec.specs.declared.receipt.Receipt.{Receipt}
 use Rattle.px_sem.specs.Log.{Log, posted_in}
 use Rattle.px_turn.specs.Histories.{stamped, items, positions}
 use Rattle.px_turn.specs.declared.view.Stamped.{Stamped}
-use Rattle.px_turn.proofs.Positions.{items-append, positions_own}
+use Rattle.px_turn.proofs.Fronts.{front_trans}
+use Rattle.px_turn.proofs.Positions.{positions_own}
 use Rattle.px_desk.specs.Listing.{Start, log_in, failed_in, IsLegalList, HasFailed, Answers}
 use Rattle.px_desk.specs.Seating.{Seating, Adds, HasMade}
 use Rattle.px_desk.specs.Seating.{IsLooked as HasLooked}
 use Rattle.px_desk.specs.declared.listing.Listing.{Listing}
 use Rattle.px_desk.specs.declared.listing.Listing.TheVariants as listings
-use Rattle.px_desk.proofs.Dealing.{front_trans}
+use Rattle.px_desk.proofs.Shown.{looked_number, added_number}
 use Rattle.px_crew.specs.Board.{IsLooked, IsAnswered, IsBroken, Posts}
 use Rattle.px_crew.specs.Seat.{own, entry_in, board_of, HasGoneOn}
-use Rattle.px_crew.proofs.Listings.{log_in-append, failed_in-answered, failed_in-behind, clear_front, clear_before, own-append, own_stays, clear_own}
+use Rattle.px_crew.proofs.Listings.{log_in-append, log_in-items-append, failed_in-answered, failed_in-behind, clear_front, clear_before, own-append, own_stays, clear_own}
 
 -- ---- seats that have seen more
 
@@ -43,18 +44,15 @@ module _ (start : Start) (old new : Seating) (mine : HasMade old) (made : HasMad
     looked_seen : new.seen ≡ old.seen ++ looked.finds.begins.0
     looked_seen = looked.finds.begins.1
 
-    looked_number : new.number ≡ old.number
-    looked_number = ap (λ (s : Seating). s.number) looked.same
-
     looked_own : own new.number new.seen ≡ own old.number old.seen
     looked_own =
-        ap (λ (number : ℕ). own number new.seen) looked_number ∙ ap (own old.number) looked_seen
+        ap (λ (number : ℕ). own number new.seen) (looked_number looked) ∙ ap (own old.number) looked_seen
         ∙ own_stays old.number old.seen looked.finds.begins.0
-        (sym mine ∙ sym (ap (λ (s : Seating). s.made) looked.same) ∙ made ∙ ap (λ (number : ℕ). positions number new.seen) looked_number
+        (sym mine ∙ sym (ap (λ (s : Seating). s.made) looked.same) ∙ made ∙ ap (λ (number : ℕ). positions number new.seen) (looked_number looked)
         ∙ ap (positions old.number) looked_seen)
 
     pub looked_on : HasGoneOn old new
-    looked_on = record { number = looked_number; seen = looked.finds.begins; made = made }
+    looked_on = record { number = looked_number looked; seen = looked.finds.begins; made = made }
 
     pub looked_board : IsLooked (board_of start old) (board_of start new)
     looked_board = record {
@@ -63,7 +61,7 @@ module _ (start : Start) (old new : Seating) (mine : HasMade old) (made : HasMad
         first = refl;
         more = log_in (items looked.finds.begins.0);
         log = ap (λ (list : List (Stamped Listing)). log_in (items list)) looked_seen
-            ∙ ap log_in (items-append old.seen looked.finds.begins.0) ∙ log_in-append (items old.seen) (items looked.finds.begins.0);
+            ∙ log_in-items-append old.seen looked.finds.begins.0;
       };
       made = ap (λ (list : List Listing). posted_in (log_in list)) looked_own;
       broke = ap (λ (list : List Listing). entry_in (failed_in list)) looked_own;
@@ -78,9 +76,6 @@ module _ (start : Start) (old new : Seating) (mine : HasMade old) (made : HasMad
     others : List (Stamped Listing)
     others = adds.finds.begins.0
 
-    added_number : new.number ≡ old.number
-    added_number = ap (λ (s : Seating). s.number) adds.same
-
     added_seen : new.seen ≡ adds.found ++ stamped (Some old.number) item ∷ []
     added_seen = ap (λ (s : Seating). s.seen) adds.same
 
@@ -91,24 +86,24 @@ module _ (start : Start) (old new : Seating) (mine : HasMade old) (made : HasMad
         ∙ own_stays old.number old.seen adds.finds.begins.0
         (sym mine
         ∙ append_cancel_right old.made (positions old.number adds.found) (length adds.found ∷ [])
-        (sym (ap (λ (s : Seating). s.made) adds.same) ∙ made ∙ ap (λ (number : ℕ). positions number new.seen) added_number
+        (sym (ap (λ (s : Seating). s.made) adds.same) ∙ made ∙ ap (λ (number : ℕ). positions number new.seen) (added_number adds)
         ∙ ap (positions old.number) added_seen ∙ positions_own old.number adds.found item)
         ∙ ap (positions old.number) adds.finds.begins.1)
 
     added_own : own new.number new.seen ≡ own old.number old.seen ++ item ∷ []
     added_own =
-        ap (λ (number : ℕ). own number new.seen) added_number ∙ ap (own old.number) added_seen
+        ap (λ (number : ℕ). own number new.seen) (added_number adds) ∙ ap (own old.number) added_seen
         ∙ own-append old.number adds.found (stamped (Some old.number) item ∷ [])
         ∙ ap (λ (list : List Listing). list ++ own old.number (stamped (Some old.number) item ∷ [])) all_found
         ∙ ap (λ (list : List Listing). own old.number old.seen ++ list) (own_one old.number item)
 
     added_items : items new.seen ≡ items adds.found ++ item ∷ []
-    added_items = ap items added_seen ∙ items-append adds.found (stamped (Some old.number) item ∷ [])
+    added_items = ap items added_seen ∙ map-append (λ (e : Stamped Listing). e.item) adds.found (stamped (Some old.number) item ∷ [])
 
     found_log : log_in (items adds.found) ≡ log_in (items old.seen) ++ log_in (items adds.finds.begins.0)
     found_log =
         ap (λ (list : List (Stamped Listing)). log_in (items list)) adds.finds.begins.1
-        ∙ ap log_in (items-append old.seen adds.finds.begins.0) ∙ log_in-append (items old.seen) (items adds.finds.begins.0)
+        ∙ log_in-items-append old.seen adds.finds.begins.0
 
     added_log : log_in (items new.seen) ≡ (log_in (items old.seen) ++ log_in (items adds.finds.begins.0)) ++ log_in (item ∷ [])
     added_log =
@@ -117,7 +112,7 @@ module _ (start : Start) (old new : Seating) (mine : HasMade old) (made : HasMad
 
     pub added_on : HasGoneOn old new
     added_on = record {
-      number = added_number;
+      number = added_number adds;
       seen = (
         adds.finds.begins.0 ++ stamped (Some old.number) item ∷ [],
         added_seen ∙ ap (λ (list : List (Stamped Listing)). list ++ stamped (Some old.number) item ∷ []) adds.finds.begins.1
@@ -151,7 +146,7 @@ module _ (start : Start) (old new : Seating) (mine : HasMade old) (made : HasMad
       let unbroken : failed_in (own old.number old.seen) ≡ None
       = clear_own old.number old.seen
       (clear_front (items old.seen) (items adds.finds.begins.0)
-      (ap failed_in (sym (items-append old.seen adds.finds.begins.0) ∙ sym (ap items adds.finds.begins.1)) ∙ clear)) in
+      (ap failed_in (sym (map-append (λ (e : Stamped Listing). e.item) old.seen adds.finds.begins.0) ∙ sym (ap items adds.finds.begins.1)) ∙ clear)) in
       record {
         later = record {
           plan = refl;

@@ -34,20 +34,18 @@ appends_none waits wait none = sym (ap (λ (wait : Option Stall). waits ++ optio
 -- ---- the waits so far, and those of the threads that are left
 
 pub waits_more : (waits : List Stall) (threads : List Todo) (places : List ℕ) (i : ℕ) (todo : Todo) (place : ℕ) → i < length threads → i < length places
-    → todo ≡ get_or threads i todo → place ≡ get_or places i place
+    → todo ≡ get_or threads i todo → place ≡ get_or places i 0
     → (waits ++ option_to_list (wait_at todo place)) ++ waits_of (drop (i + 1) threads) (drop (i + 1) places) ≡ waits ++ waits_of (drop i threads) (drop i places)
 waits_more waits threads places i todo place in_threads in_places is at =
     append_assoc waits (option_to_list (wait_at todo place)) (waits_of (drop (i + 1) threads) (drop (i + 1) places))
     ∙ ap (λ (rest : List Stall). waits ++ rest)
     (sym (ap (λ (threads : List Todo). waits_of threads (drop i places)) (drop_more threads i todo in_threads ∙ ap (λ (t : Todo). t ∷ drop (i + 1) threads) (sym is))
-    ∙ ap (λ (places : List ℕ). waits_of (todo ∷ drop (i + 1) threads) places) (drop_more places i place in_places ∙ ap (λ (p : ℕ). p ∷ drop (i + 1) places) (sym at))))
+    ∙ ap (λ (places : List ℕ). waits_of (todo ∷ drop (i + 1) threads) places) (drop_more places i 0 in_places ∙ ap (λ (p : ℕ). p ∷ drop (i + 1) places) (sym at))))
 
--- the place of a worker
-pub place_at : {S : Type 0} (workers : List (Worker S)) (i : ℕ) (worker : Worker S) → i < length workers → worker ≡ get_or workers i worker
-    → worker.at ≡ get_or (places_of workers) i worker.at
-place_at {S} workers i worker within is =
-    let at : Worker S → ℕ = λ w. w.at in
-    ap at is ∙ sym (get_or-map at workers i worker worker.at within)
+-- the place of one of the workers
+pub place_at : {S : Type 0} (workers : List (Worker S)) (i : ℕ) (e : Worker S) → i < length workers
+    → get_or (places_of workers) i 0 ≡ (get_or workers i e).at
+place_at {S} workers i e within = get_or-map (λ (worker : Worker S). worker.at) workers i e 0 within
 
 -- where either list is at its end, none is left
 pub waits_end : (threads : List Todo) (places : List ℕ) (i : ℕ) → (length threads ≤ i) ⊎ (length places ≤ i) → waits_of (drop i threads) (drop i places) ≡ []

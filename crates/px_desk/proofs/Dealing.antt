@@ -1,20 +1,22 @@
 -- Seats that are dealt out, and gathered again.
-use Rattle.std.proofs.Common.{◌≡◌, ℕ, ◌+◌, ◌≤◌, max, List, [], ◌∷◌, ◌++◌, map, sym, ap, ◌∙◌, arith, append_assoc}
-use Rattle.std.proofs.lemmas.List.{map-append}
+use Rattle.std.proofs.Common.{◌≡◌, ℕ, ◌+◌, ◌≤◌, max, List, [], ◌∷◌, ◌++◌, map, length, sym, ap, ◌∙◌, arith}
+use Rattle.std.specs.List.{range_with_len}
+use Rattle.std.proofs.lemmas.List.{length-map, map-append}
 use Rattle.std.proofs.lemmas.List.Elements.{All-push, All-weaker}
-use Rattle.std.proofs.lemmas.List.FromFn.{map-range_with_len_more}
+use Rattle.std.proofs.lemmas.List.FromFn.{length-map-range_with_len, map-range_with_len_more}
 use Rattle.px_turn.specs.Histories.{IsFront}
 use Rattle.px_turn.specs.Views.{record_of, split_once_more, split_off, joined}
 use Rattle.px_turn.specs.declared.view.Record.{Record}
 use Rattle.px_turn.specs.declared.view.View.{View}
+use Rattle.px_turn.proofs.Fronts.{front_trans}
+use Rattle.px_desk.specs.Seating.{Seating, newcomer}
 use Rattle.px_desk.specs.Seats.{split_times, split_from, HasTaken}
+use Rattle.px_desk.specs.declared.listing.Listing.{Listing}
 
-pub front_trans : {A : Type 0} (xs ys zs : List A) → IsFront xs ys → IsFront ys zs → IsFront xs zs
-front_trans xs ys zs one other =
-    (one.0 ++ other.0, other.1 ∙ ap (λ l. l ++ other.0) one.1 ∙ append_assoc xs one.0 other.0)
-
-pub map_more : {X Y : Type 0} (f : X → Y) (xs ys : List X) (x : X) → ys ≡ xs ++ x ∷ [] → map f ys ≡ map f xs ++ f x ∷ []
-map_more f xs ys x is = ap (map f) is ∙ map-append f xs (x ∷ [])
+pub seats_count : {S : Type 0} (seating : S → Seating) (first : List Listing) (seats : List S) (n : ℕ)
+    → map seating seats ≡ map (newcomer first) (range_with_len 0 n) → length seats ≡ n
+seats_count seating first seats n seated =
+    sym (length-map seats seating) ∙ ap (λ (l : List Seating). length l) seated ∙ length-map-range_with_len (newcomer first) 0 n
 
 module _ {T I : Type 0} where
   -- one seat more is split off

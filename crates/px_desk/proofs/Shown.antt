@@ -1,25 +1,32 @@
 -- What becomes of a seat that takes the turn and leaves, with an entry more or without.
 use Rattle.std.proofs.Common.{◌≡◌, ℕ, List, [], ◌∷◌, ◌++◌, length, Some, Result, true, refl, sym, ap, ◌∙◌, subst}
-use Rattle.std.proofs.lemmas.List.{append_cancel_left}
+use Rattle.std.proofs.lemmas.List.{append_cancel_left, map-append}
 use Rattle.px_event.specs.declared.entry.Entry.{Entry}
 use Rattle.px_exec.specs.Executive.{Executive}
 use Rattle.px_exec.specs.declared.fault.PostFault.{PostFault}
 use Rattle.px_exec.specs.declared.receipt.Receipt.{Receipt}
 use Rattle.px_sem.specs.declared.stepper.Stepper
-use Rattle.px_turn.proofs.Positions.{positions_own, items-append}
+use Rattle.px_turn.proofs.Positions.{positions_own}
 use Rattle.px_turn.specs.Histories.{items, stamped}
 use Rattle.px_turn.specs.Steps.{IsShown}
 use Rattle.px_turn.specs.Views.{entered, without_turn, with_entry}
 use Rattle.px_turn.specs.declared.view.Stamped.{Stamped}
 use Rattle.px_desk.specs.EventDesk.{ViewOf, seating_of, IsSeated}
 use Rattle.px_desk.specs.Listing.{listing, Start, start_of, IsLegalList, is_listed, Answers}
-use Rattle.px_desk.specs.Seating.{IsLooked, Adds, HasMade}
+use Rattle.px_desk.specs.Seating.{Seating, IsLooked, Adds, HasMade}
 use Rattle.px_desk.specs.declared.listing.Listing.{Listing}
 use Rattle.px_desk.proofs.Lists.{answers_told}
 
 -- an executive goes on with another
 abbrev pub goes_on : {S D : Type 0} → Executive S D → Executive S D → Type 0
 goes_on opened exec = exec.opening ≡ opened.opening
+
+-- a seat keeps its number
+pub looked_number : {old new : Seating} → IsLooked old new → new.number ≡ old.number
+looked_number looked = ap (λ (s : Seating). s.number) looked.same
+
+pub added_number : {old new : Seating} {item : Listing} → Adds old new item → new.number ≡ old.number
+added_number adds = ap (λ (s : Seating). s.number) adds.same
 
 -- a list is longer by one entry only
 pub same_item : (list after seen : List Listing) (item other : Listing) → list ≡ seen → after ≡ list ++ item ∷ [] → after ≡ seen ++ other ∷ [] → item ≡ other
@@ -49,7 +56,7 @@ module _ {S D : Type 0} where
 
     pub seen_added : items new.seen ≡ items mid.seen ++ item ∷ []
     seen_added = ap (λ (v : ViewOf S D). items v.seen) added
-        ∙ items-append mid.seen (stamped (Some old.number) item ∷ [])
+        ∙ map-append (λ (e : Stamped Listing). e.item) mid.seen (stamped (Some old.number) item ∷ [])
 
     module _ (found : Executive S D) (shown : IsShown listing goes_on old mid.seen found) where
       pub adds_it : Adds (seating_of old) (seating_of new) item

@@ -1,8 +1,7 @@
 -- Two seats of a desk, one of which has posted and the other counted.
-use Rattle.std.proofs.Common.{◌≡◌, ◌≢◌, ℕ, zero, suc, List, [], ◌∷◌, map, length, Result, Ok, Err, refl, sym, ap, ◌∙◌, arith}
+use Rattle.std.proofs.Common.{◌≡◌, ◌≢◌, ℕ, zero, suc, List, [], ◌∷◌, map, length, Result, Ok, Err, refl, ap, ◌∙◌, arith}
 use Rattle.std.specs.Prelude.{slice_index_or, slice_set}
 use Rattle.std.specs.List.{All, range_with_len}
-use Rattle.std.proofs.lemmas.List.{length-map}
 use Rattle.px_event.specs.declared.entry.Entry.{Entry}
 use Rattle.px_exec.specs.declared.fault.PostFault.{PostFault}
 use Rattle.px_exec.specs.declared.fault.PostFault.TheVariants as faults
@@ -10,27 +9,19 @@ use Rattle.px_exec.specs.declared.receipt.Receipt.{Receipt}
 use Rattle.px_desk.specs.Listing.{Start, Answers}
 use Rattle.px_desk.specs.Seating.{Seating, newcomer, Adds, IsLooked, AreAll}
 use Rattle.px_desk.specs.declared.listing.Listing.{Listing}
+use Rattle.px_desk.proofs.Dealing.{seats_count}
+use Rattle.px_desk.proofs.Shown.{added_number, looked_number}
 
 -- a post leaves the seat its number
-added : (old new : Seating) (item : Listing) → Adds old new item → new.number ≡ old.number
-added old new item adds = ap (λ (s : Seating). s.number) adds.same
-
-looked : (old new : Seating) → IsLooked old new → new.number ≡ old.number
-looked old new look = ap (λ (s : Seating). s.number) look.same
-
 pub posted : (start : Start) (old new : Seating) (list : List Listing) (entry : Entry) (answer : Result Receipt PostFault)
     → Answers start (Adds old new) (IsLooked old new) list entry answer → new.number ≡ old.number
-posted start old new list entry (Ok receipt) h = added old new _ h.0
-posted start old new list entry (Err faults.PlanFinished) h = added old new _ h
-posted start old new list entry (Err (faults.Full limit)) h = added old new _ h.0
-posted start old new list entry (Err faults.Runaway) h = added old new _ h
-posted start old new list entry (Err faults.DiskFault) h = added old new _ h.1
-posted start old new list entry (Err (faults.Closed count)) h = looked old new h.0
-posted start old new list entry (Err faults.NoMemory) h = looked old new h.0
-
-pub two : {S : Type 0} (seating : S → Seating) (first : List Listing) (seats : List S)
-    → map seating seats ≡ map (newcomer first) (range_with_len 0 2) → length seats ≡ 2
-two seating first seats seated = sym (length-map seats seating) ∙ ap (λ (l : List Seating). length l) seated
+posted start old new list entry (Ok receipt) h = added_number h.0
+posted start old new list entry (Err faults.PlanFinished) h = added_number h
+posted start old new list entry (Err (faults.Full limit)) h = added_number h.0
+posted start old new list entry (Err faults.Runaway) h = added_number h
+posted start old new list entry (Err faults.DiskFault) h = added_number h.1
+posted start old new list entry (Err (faults.Closed count)) h = looked_number h.0
+posted start old new list entry (Err faults.NoMemory) h = looked_number h.0
 
 pub both : {S : Type 0} (P : S → Type 0) (seats : List S) (a b : S) → length seats ≡ 2 → P a → P b → All P (slice_set (slice_set seats 0 a) 1 b)
 both P [] a b two at_a at_b k d within = absurd (omega arith)
@@ -56,9 +47,9 @@ pub all : {S : Type 0} (seating : S → Seating) (first : List Listing) (seats :
     → (seating a).number ≡ (seating (slice_index_or seats 0 d)).number
     → (seating b).number ≡ (seating (slice_index_or (slice_set seats 0 a) 1 e)).number
     → AreAll 2 (map (λ seat. (seating seat).number) (slice_set (slice_set seats 0 a) 1 b))
-all seating first [] seated a b d e at_a at_b = absurd (omega (arith, two seating first [] seated))
-all seating first (x ∷ []) seated a b d e at_a at_b = absurd (omega (arith, two seating first (x ∷ []) seated))
+all seating first [] seated a b d e at_a at_b = absurd (omega (arith, seats_count seating first [] 2 seated))
+all seating first (x ∷ []) seated a b d e at_a at_b = absurd (omega (arith, seats_count seating first (x ∷ []) 2 seated))
 all seating first (x ∷ y ∷ []) seated a b d e at_a at_b =
     let number = numbered seating first x y [] seated in
     (at_a ∙ number.0, others (seating b).number (at_b ∙ number.1), refl)
-all seating first (x ∷ y ∷ z ∷ seats) seated a b d e at_a at_b = absurd (omega (arith, two seating first (x ∷ y ∷ z ∷ seats) seated))
+all seating first (x ∷ y ∷ z ∷ seats) seated a b d e at_a at_b = absurd (omega (arith, seats_count seating first (x ∷ y ∷ z ∷ seats) 2 seated))

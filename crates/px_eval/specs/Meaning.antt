@@ -1,9 +1,9 @@
 -- What a value is to the plan's own expressions, in the worlds that cells and reports stand for.
-use Rattle.std.specs.Prelude.{◌≡◌, Bool, List, ◌&&◌, IsTrue}
+use Rattle.std.specs.Prelude.{◌≡◌, List, IsTrue}
 use Rattle.std.specs.List.{list_all, list_any}
 use Rattle.px_value.specs.declared.value.Value.{Value}
 use Rattle.px_core.specs.Expr.{Term}
-use Rattle.px_core.specs.Fit.{Reference, references, path_is_there, variable_is_there}
+use Rattle.px_core.specs.Fit.{references, is_there}
 use Rattle.px_core.specs.Plan.{Site, is_same}
 use Rattle.px_sem.specs.Expressions.{value}
 use Rattle.px_sem.specs.World.{LookState, Report}
@@ -12,13 +12,9 @@ use Rattle.px_flat.specs.Lookups.{lookups_in, lookups_of}
 use Rattle.px_flat.specs.Numbered.{Numbered, numbered}
 use Rattle.px_flat.specs.Parts.{IsParts, world_of}
 
--- the plan has a node or a variable that is spoken of
-abbrev pub has : List Site → Reference → Bool
-has plan mention = path_is_there plan mention && variable_is_there plan mention
-
 -- the plan has all that an expression speaks of, and looks up all that it looks up
 pub record IsKnown (plan : List Site) (term : Term) : Type 0 where
-  pub mentioned : IsTrue (list_all (has plan) (references term))
+  pub mentioned : IsTrue (list_all (is_there plan) (references term))
   pub looked_up : IsTrue (list_all (λ name. list_any (is_same name) (lookups_of plan)) (lookups_in term))
 
 -- An expression of the plan that has these numbers has this value in the world that the parts stand for, whatever the

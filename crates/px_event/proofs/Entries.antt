@@ -11,7 +11,7 @@ use Rattle.px_value.specs.Path.{is_path, pieces}
 use Rattle.px_value.specs.declared.enums.Handle.{Handle}
 use Rattle.px_value.specs.declared.enums.Handle.TheVariants as handles
 use Rattle.px_value.specs.declared.value.Value.{Value}
-use Rattle.px_event.specs.Fit.{is_report_name, is_fit_event, is_fit_entry}
+use Rattle.px_event.specs.Fit.{is_report_name, is_fit_event, is_thread, is_fit_entry}
 use Rattle.px_event.specs.Values.{is_plain, is_plain_or_unknown}
 use Rattle.px_event.specs.Bytes.{text_bytes, value_bytes, handle_code, event_bytes, entry_bytes}
 use Rattle.px_event.specs.Reading.{Read, ◌>>=◌, only, byte_at, number_at, name_at, path_at, value_at, arguments_at, handle_of, handle_at, report_at, handle_event_at, return_at, event_behind, event_at, source_at, entry_at, decoded, Gives}
@@ -240,9 +240,6 @@ event_again (events.Acknowledged node) rest fit =
     after (path_at (text_bytes node ++ rest)) (node_read events.Acknowledged) (node, rest) _ (path_again node rest fit) refl
 
 -- ---- where an entry comes from
-
-abbrev is_thread : ℕ → Bool
-is_thread n = nat_le 1 n && nat_le n 8
 
 abbrev is_line : ℕ → Bool
 is_line n = nat_le 1 n

@@ -1,5 +1,5 @@
 -- One thread more is named.
-use Rattle.std.proofs.Common.{◌≡◌, ℕ, true, false, List, [], ◌∷◌, ◌++◌, Some, None, refl, ap, inl, inr}
+use Rattle.std.proofs.Common.{◌≡◌, ℕ, true, false, cond, List, [], ◌∷◌, ◌++◌, Option, Some, None, refl, ap, ◌∙◌, inl, inr}
 use Rattle.std.specs.Prelude.{◌&&◌, ◌==◌, is_none}
 use Rattle.std.proofs.lemmas.Bool.{and_parts, and_from, cases_Bool}
 use Rattle.px_value.proofs.General.{differs_turned, is_none-None}
@@ -15,12 +15,22 @@ unnamed_parts thread row later none = elim (cases_Bool (row.thread == thread)) [
   | inr other ↦ (other, rw other at none)
 ]
 
+-- the name, where there is one more row behind those with this one
+abbrev pub or_row : ℕ → ThreadName → Option (List ℕ) → Option (List ℕ)
+or_row thread row None = cond (row.thread == thread) (Some row.name) None
+or_row thread row (Some name) = Some name
+
+pub name_push : (thread : ℕ) (rows : List ThreadName) (row : ThreadName) → name_of thread (rows ++ row ∷ []) ≡ or_row thread row (name_of thread rows)
+name_push thread [] row = refl
+name_push thread (first ∷ rows) row = elim (cases_Bool (first.thread == thread)) [
+  | inl is ↦ rw is refl
+  | inr isnt ↦ rw isnt (name_push thread rows row)
+]
+
 unnamed-push : (thread : ℕ) (rows : List ThreadName) (row : ThreadName) → name_of thread rows ≡ None → (row.thread == thread) ≡ false
     → name_of thread (rows ++ row ∷ []) ≡ None
-unnamed-push thread [] row none other = rw other refl
-unnamed-push thread (first ∷ later) row none other =
-    let parts = unnamed_parts thread first later none in
-    rw (parts.0) (unnamed-push thread later row (parts.1) other)
+unnamed-push thread rows row none other =
+    name_push thread rows row ∙ ap (or_row thread row) none ∙ ap (λ same. cond same (Some row.name) None) other
 
 pub are_names-push : (rows : List ThreadName) (row : ThreadName) → are_names rows ≡ true → name_of row.thread rows ≡ None → is_report_name row.name ≡ true
     → are_names (rows ++ row ∷ []) ≡ true

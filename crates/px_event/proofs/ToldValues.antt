@@ -33,9 +33,6 @@ signed_fits n lt =
     chosen_fits (nat_lt n (2 ^ 31)) n (2 ^ 32 - suc n) (λ low. low)
     (λ high. let above : 2 ^ 31 ≤ n = ltb-false n (2 ^ 31) high in lt-ltb (2 ^ 32 - suc n) (2 ^ 31) (omega arith))
 
-unsigned_signed : (z : ℤ) → fits_32_bits z ≡ true → cast_signed w32 (cast_unsigned w32 z) ≡ z
-unsigned_signed z fits = to_z-of_z w32 z (fits_of z fits)
-
 unsigned_below : (z : ℤ) → fits_32_bits z ≡ true → cast_unsigned w32 z < 2 ^ 32
 unsigned_below (pos n) fits = let low : n < 2 ^ 31 = ltb-true n (2 ^ 31) fits in omega (arith, ints)
 unsigned_below (negsuc n) fits = let low : n < 2 ^ 31 = ltb-true n (2 ^ 31) fits in omega (arith, ints)
@@ -98,7 +95,7 @@ value_again (values.Boolean true) rest fit = refl
 value_again (values.Integer number) rest fit =
     after (number_at 4 (integer_bytes number ++ rest)) integer_read (cast_unsigned w32 number, rest) _
     (number_again 4 (cast_unsigned w32 number) rest (unsigned_below number fit))
-    (ap (λ (z : ℤ). integer_read_as z rest) (unsigned_signed number fit))
+    (ap (λ (z : ℤ). integer_read_as z rest) (to_z-of_z w32 number (fits_of number fit)))
   where
     integer_read_as : ℤ → List ℕ → Read Value
     integer_read_as z left = Some (values.Integer z, left)

@@ -9,6 +9,10 @@ use Rattle.px_event.specs.declared.event.Event.TheVariants as events
 use Rattle.px_event.specs.declared.entry.Entry.{Entry}
 use Rattle.px_event.specs.declared.named.NamedEntry.{NamedEntry}
 
+-- the entry of an event that comes from a line of a thread
+abbrev pub entry_of : ℕ → ℕ → Event → Entry
+entry_of thread line event = record { thread = thread; line = line; event = event }
+
 -- what a report may be about: an identifier of at most 64 bytes
 abbrev pub is_report_name : List ℕ → Bool
 is_report_name name = is_identifier name && nat_le (length name) 64
@@ -22,11 +26,14 @@ is_fit_event (events.Return node value) = is_path node && is_plain_or_unknown va
 is_fit_event (events.AbortDone node) = is_path node
 is_fit_event (events.Acknowledged node) = is_path node
 
--- the thread is from 1 to 8, the line from 1 to 2^32 - 1, and the event is fit
+-- there are threads from 1 to 8
+abbrev pub is_thread : ℕ → Bool
+is_thread number = nat_le 1 number && nat_le number 8
+
+-- the thread is one of these, the line from 1 to 2^32 - 1, and the event is fit
 abbrev pub is_fit_entry : Entry → Bool
 is_fit_entry entry =
-    nat_le 1 entry.thread && nat_le entry.thread 8 && nat_le 1 entry.line && nat_lt entry.line (2 ^ 32)
-    && is_fit_event entry.event
+    is_thread entry.thread && nat_le 1 entry.line && nat_lt entry.line (2 ^ 32) && is_fit_event entry.event
 
 -- the name of an interface, where there is one, is such a name too
 abbrev pub is_interface : Option (List ℕ) → Bool

@@ -1,7 +1,7 @@
 -- What an executive keeps, at its opening and after each answer of a post.
-use Rattle.std.proofs.Common.{◌≡◌, ◌≤◌, ◌<◌, ◌+◌, ◌^◌, ℕ, List, [], ◌∷◌, ◌++◌, Option, Some, None, IsSome, length, refl, sym, ◌∙◌, ap, subst, arith, append_assoc, append-nil, IsTrue, IsFalse}
+use Rattle.std.proofs.Common.{◌≡◌, ◌≤◌, ◌<◌, ◌+◌, ◌^◌, ℕ, List, [], ◌∷◌, ◌++◌, Option, Some, None, length, refl, sym, ◌∙◌, ap, subst, arith, append_assoc, append-nil, IsTrue, IsFalse}
 use Rattle.std.proofs.lemmas.List.{length-map, map-append}
-use Rattle.px_value.proofs.General.{is_some_at}
+use Rattle.px_value.proofs.General.{is_some_at, none_or_some}
 use Rattle.px_core.specs.Plan.{Site}
 use Rattle.px_event.specs.Fit.{is_fit_entry}
 use Rattle.px_event.specs.declared.entry.Entry.{Entry}
@@ -43,9 +43,6 @@ opening_of {S} {D} {stepper} {first} {kept} {journal} {front} {history} limit s 
 module _ {S D : Type 0} (runs : Stepper.Ghosts S) (members : Disk.Ghosts D) where
   pub open_of : (exec : Executive S D) → Keeps runs members exec → exec.failed ≡ None → IsOpen members exec
   open_of exec keeps unfailed = subst (KeepsDisk runs members exec) unfailed keeps.disk
-
-  none_failed : (exec : Executive S D) → exec.failed ≡ None → ¬ IsSome exec.failed
-  none_failed exec unfailed some = absurd (let none = subst IsSome unfailed some in cc)
 
   -- ---- the journal after a reply
 
@@ -139,7 +136,7 @@ module _ {S D : Type 0} (runs : Stepper.Ghosts S) (members : Disk.Ghosts D) wher
     few = few;
     settled = moved ∙ ap (settled_state plan) (sym world_is);
     runs_to = ap (λ h. run plan (events_of h)) grows ∙ run_after plan old.opening.limit old.history (world_of runs old) entry reply keeps.runs_to due ∙ ap Some (sym world_is);
-    goes = goes_told members (goes_then members keeps.goes (none_failed old unfailed) adds.goes) (λ failed. absurd (right failed)) (λ some. absurd (cc));
+    goes = goes_told members (goes_then members keeps.goes (none_or_some old.failed unfailed) adds.goes) (λ failed. absurd (right failed)) (λ some. absurd (cc));
     disk = replied_open old stepper journal entry history log reply keeps unfailed grows kept still adds;
     naming = replied_naming old stepper journal entry history log reply keeps unfailed logs named still adds;
   }
@@ -167,7 +164,7 @@ module _ {S D : Type 0} (runs : Stepper.Ghosts S) (members : Disk.Ghosts D) wher
     few = keeps.few;
     settled = same ∙ keeps.settled ∙ ap (settled_state (plan_of runs old)) (sym world_is);
     runs_to = keeps.runs_to ∙ ap Some (sym world_is);
-    goes = goes_told members (goes_then members keeps.goes (none_failed old unfailed) adds.goes) (λ so. refl) (λ some. failed);
+    goes = goes_told members (goes_then members keeps.goes (none_or_some old.failed unfailed) adds.goes) (λ so. refl) (λ some. failed);
     disk = record {
       fit = fit;
       due = record {

@@ -2,6 +2,7 @@
 use Rattle.std.proofs.Common.{◌≡◌, ◌<◌, ◌+◌, ◌^◌, ℕ, List, [], ◌∷◌, ◌++◌, Option, Some, None, IsTrue, IsFalse, length, refl, sym, ◌∙◌, ap, subst, arith, length-append}
 use Rattle.std.specs.Prelude.{Err}
 use Rattle.std.specs.Option.{option_map}
+use Rattle.px_value.proofs.General.{option_map_some}
 use Rattle.px_event.specs.Fit.{is_fit_entry}
 use Rattle.px_event.specs.declared.entry.Entry.{Entry}
 use Rattle.px_event.specs.declared.named.NamedEntry.{NamedEntry}
@@ -21,7 +22,7 @@ use Rattle.px_exec.specs.Answers.{answer_now, answered, logged, Replies, Fails, 
 use Rattle.px_exec.specs.Crash.{AddsAtMost}
 use Rattle.px_exec.specs.Executive.{Executive, Keeps, plan_of, world_of}
 use Rattle.px_exec.proofs.Naming.{with_parts}
-use Rattle.px_exec.proofs.Keeping.{open_of, keeps_replied, keeps_failed, keeps_as_before}
+use Rattle.px_exec.proofs.Keeping.{open_of, keeps_replied, keeps_failed}
 
 -- which append had failed, by its count of faults
 pub unfailed_of : (failed : Option Failed) (count : Option ℕ) → count ≡ option_map (λ f. f.faults) failed → count ≡ None → failed ≡ None
@@ -30,10 +31,9 @@ unfailed_of (Some failed) count is none = absurd (cc)
 
 pub failed_of : (failed : Option Failed) (count : Option ℕ) (n : ℕ) → count ≡ option_map (λ f. f.faults) failed → count ≡ Some n
     → (entry : Entry) × (failed ≡ Some (record { entry = entry; faults = n }))
-failed_of None count n is some = absurd (cc)
-failed_of (Some failed) count n is some =
-    let same : failed.faults ≡ n = cc in
-    (failed.entry, ap (λ k. let f : Option Failed = Some (record { entry = failed.entry; faults = k }) in f) same)
+failed_of failed count n is some =
+    let found = option_map_some (λ (f : Failed). f.faults) failed n (sym is ∙ some) in
+    (found.0.entry, found.1 ∙ ap (λ k. let f : Option Failed = Some (record { entry = found.0.entry; faults = k }) in f) found.2)
 
 pub closes_with : (failed : Option Failed) (a b : Entry) (m n : ℕ) → failed ≡ Some (record { entry = a; faults = m }) → a ≡ b → m ≡ n
     → failed ≡ Some (record { entry = b; faults = n })
@@ -159,9 +159,6 @@ module _ {S D : Type 0} (runs : Stepper.Ghosts S) (members : Disk.Ghosts D) (old
 
     module _ (stepper : S) (journal : Journal D) (history : List Entry) (log : Log) (same : runs.state stepper ≡ runs.state old.stepper)
         (still : journal ≡ old.journal) (same_history : history ≡ old.history) (same_log : log ≡ old.log) where
-      pub keeps_out : Keeps runs members (with_parts old stepper journal history log old.failed)
-      keeps_out = keeps_as_before runs members old stepper journal history log old.failed keeps same still same_history same_log refl
-
       pub posts_out : RanOut runs old (with_parts old stepper journal history log old.failed)
       posts_out = record {
         unchanged = record { history = same_history; log = same_log; state = same; opening = refl };

@@ -1,25 +1,22 @@
 -- What a post answers, and what it does to the executive.
 use Rattle.std.specs.Prelude.{◌≡◌, ◌+◌, ℕ, List, [], ◌∷◌, ◌++◌, length, Some, None, Result, Ok, Err}
 use Rattle.px_event.specs.declared.entry.Entry.{Entry}
-use Rattle.px_event.specs.declared.event.Event.{Event}
+pub use Rattle.px_event.specs.Fit.{entry_of}
 use Rattle.px_event.specs.declared.reply.Reply.{Reply}
 use Rattle.px_event.specs.declared.reply.Reply.TheVariants as replies
 use Rattle.px_journal.specs.Journal.{IsReady}
 use Rattle.px_ports.specs.Host.{Rose}
 use Rattle.px_ports.specs.declared.disk.Disk
 use Rattle.px_sem.specs.Log.{accepted, answer, world_after}
+pub use Rattle.px_sem.specs.Log.{logged_as as logged}
 use Rattle.px_sem.specs.Stepper.{settled_state}
 use Rattle.px_sem.specs.World.{standing_of}
-use Rattle.px_sem.specs.declared.log.LogEntry.{LogEntry}
 use Rattle.px_sem.specs.declared.standing.Standing.{Standing}
 use Rattle.px_sem.specs.declared.stepper.Stepper
 use Rattle.px_exec.specs.Executive.{Executive, plan_of, world_of, IsTextOf}
 use Rattle.px_exec.specs.declared.fault.PostFault.{PostFault}
 use Rattle.px_exec.specs.declared.fault.PostFault.TheVariants as faults
 use Rattle.px_exec.specs.declared.receipt.Receipt.{Receipt}
-
-abbrev pub entry_of : ℕ → ℕ → Event → Entry
-entry_of thread line event = record { thread = thread; line = line; event = event }
 
 -- what the poster is told of a reply
 abbrev pub answered : Reply → ℕ → Standing → Result Receipt PostFault
@@ -32,9 +29,6 @@ answered replies.Runaway limit standing = Err faults.Runaway
 abbrev pub answer_now : {S D : Type 0} → Stepper.Ghosts S → Executive S D → Entry → Reply
 answer_now runs exec entry =
     answer (plan_of runs exec) exec.opening.limit (length exec.history) (world_of runs exec) entry.event
-
-abbrev pub logged : Entry → Reply → LogEntry
-logged entry reply = record { entry = entry; reply = reply }
 
 -- history, log and world are as before, and so is the opening
 pub record IsUnchanged {S D : Type 0} (runs : Stepper.Ghosts S) (old new : Executive S D) : Type 0 where

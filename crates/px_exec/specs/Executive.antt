@@ -1,5 +1,6 @@
 -- What an executive is, and what its type keeps from its opening on.
 use Rattle.std.specs.Prelude.{◌≡◌, ◌≤◌, ◌<◌, ◌^◌, ℕ, List, [], ◌∷◌, ◌++◌, length, map, Option, Some, None, IsSome, IsTrue}
+use Rattle.std.specs.Option.{option_map, option_to_list}
 use Rattle.px_core.specs.Plan.{Site}
 use Rattle.px_event.specs.Fit.{is_fit_entry}
 use Rattle.px_event.specs.declared.entry.Entry.{Entry}
@@ -99,8 +100,7 @@ WasNamed members exec text found =
 
 -- the entry of a failed append, or none
 abbrev pub failed_entries : Option Failed → List Entry
-failed_entries None = []
-failed_entries (Some failed) = failed.entry ∷ []
+failed_entries failed = option_to_list (option_map (λ f. f.entry) failed)
 
 -- what was accepted since the opening, and the entry of a failed append: each with the name that the journal gives its
 -- thread

@@ -1,5 +1,5 @@
 -- The actions of a block, one after another: how far their paths reach, what is seen of them, and their nodes.
-use Rattle.std.proofs.Common.{◌≡◌, ℕ, zero, suc, ◌+◌, ◌<◌, ◌≤◌, max, List, [], ◌∷◌, ◌++◌, length, map, drop, get_or, Option, Some, None, fold}
+use Rattle.std.proofs.Common.{◌≡◌, ℕ, zero, suc, ◌+◌, ◌<◌, ◌≤◌, max, List, [], ◌∷◌, ◌++◌, length, map, drop, get_or, Option, Some, None}
 use Rattle.std.proofs.Common.{refl, ap, sym, ◌∙◌, arith, add-one, append_assoc}
 use Rattle.std.proofs.Math.ListN.{drop_of_length-le}
 use Rattle.indexmap.specs.IndexMap.{insert_entry}
@@ -7,22 +7,18 @@ use Rattle.px_value.specs.Path.{below}
 use Rattle.px_value.proofs.General.{cut_at}
 use Rattle.px_syntax.specs.declared.block.Action.{Action, out-Action}
 use Rattle.px_syntax.specs.declared.word.BlockForm.{BlockForm}
-use Rattle.px_syntax.specs.Block.{Actions, More, action_of, actions_in_turn, body_of}
-use Rattle.px_syntax.proofs.Trees.{action_is}
+use Rattle.px_syntax.specs.Block.{Actions, More, action_of, body_of}
+use Rattle.px_syntax.proofs.Trees.{action_is, in_turn}
 use Rattle.px_core.specs.declared.node.CoreNode.{CoreNode}
 use Rattle.px_core.specs.declared.node.CoreNode.TheFolds.{fold-CoreNode}
-use Rattle.px_core.specs.Plan.{Tree, NoNode, branch, is_same, tree_of_node}
+use Rattle.px_core.specs.Plan.{Tree, NoNode, branch, is_same, tree_of_node, trees_of}
 use Rattle.px_forms.specs.Adding.{Added}
 use Rattle.px_expand.specs.Core.{actions_core, actions_seen, action_core, body_core, name_of, follows}
 use Rattle.px_forms.specs.Nodes.{Place, alone, before, child}
 use Rattle.px_expand.specs.Children.{names_of, paths_of, seen}
-use Rattle.px_forms.specs.Placed.{trees_of}
-use Rattle.px_scope.specs.Scope.{Scope, Table, table}
+use Rattle.px_scope.specs.Scope.{Scope, Table, inserted, table}
 use Rattle.px_expand.specs.Size.{through, action_nodes, action_reach, actions_nodes, actions_reach, body_nodes, body_reach}
 use Rattle.px_forms.proofs.Trees.{known_before}
-
-abbrev pub in_turn : List Action → Actions
-in_turn actions = actions_in_turn (map action_of actions)
 
 -- the actions that are left at a place that one stands at
 pub left_at : (actions : List Action) (place : ℕ) (action : Action)
@@ -81,9 +77,6 @@ fewer_left actions place action within is =
     omega (arith, ap actions_nodes (left_at actions place action within is), ap action_nodes (action_is action), fewer_behind place actions)
 
 -- ---- what is seen of them
-
-abbrev pub inserted : Table → Table → Table
-inserted = fold (λ known child. insert_entry is_same known child.0 child.1)
 
 -- what is listed of them
 listed_more : (of_each : List ℕ × List ℕ → List ℕ) (known more : List (List ℕ)) (first : List ℕ × List ℕ) (rest : Table)

@@ -19,7 +19,7 @@ use Rattle.px_syntax.specs.Scope.{Head, own_action, head_of, branch_child}
 use Rattle.px_core.specs.declared.expr.BinaryOp.TheVariants.{And}
 use Rattle.px_core.specs.declared.node.Kind.TheVariants as kinds
 use Rattle.px_core.specs.Expr.{Binary}
-use Rattle.px_core.specs.Fit.{has_site, is_command}
+use Rattle.px_core.specs.Fit.{declares_in, has_site, is_there, is_command}
 use Rattle.px_core.specs.Plan.{Site, Tree, NoNode, Nothing, path_under, sites_under, sites, is_same}
 use Rattle.px_core.proofs.Paths.{same-self}
 use Rattle.px_forms.specs.Adding.{Added, nothing}
@@ -39,9 +39,9 @@ use Rattle.px_expand.proofs.Inside.{leaf_fits, shaped_fits, block_seen, actions_
 use Rattle.px_expand.proofs.Declaring.{each_item_none}
 use Rattle.px_expand.proofs.Fitting.{at, LabelIs, label_is, AllFit, node_is, node_fits, nothing_said, nothing_added, assignment_fits, not_found_speaks, before_fits, KeepsTest, where_found_speaks, where_not_found_speaks, tested_keeps, tested_fits, entered_seen, MayBe, follows_speaks}
 use Rattle.px_expand.proofs.Frames.{LabelNamed, NamedHeads, view, block_command}
-use Rattle.px_expand.proofs.Mentions.{is_there, scalar_is, judged_there}
+use Rattle.px_expand.proofs.Mentions.{scalar_is, judged_there}
 use Rattle.px_expand.proofs.Naming.{are_identifiers}
-use Rattle.px_expand.proofs.Seen.{declares_in, HasHead, HasVariable, IsSeen, seen_further}
+use Rattle.px_expand.proofs.Seen.{HasHead, HasVariable, IsSeen, seen_further}
 use Rattle.px_expand.proofs.Sound.{both_labels, own_labels, block_named, body_named, branch_named, if_named}
 use Rattle.px_expand.proofs.Speaking.{both_speak, done_speaks, finished_speaks, are_nodes, none_speaks, GivenSpeaks, AddedSpeaks}
 use Rattle.px_expand.proofs.Within.{IsWithin, own_within, children_within, others_within, alone_within, within_itself}
@@ -325,7 +325,7 @@ module _ (whole : List Site) where
         (record { name = variable.name; of_type = Integer; is_array = false } ∷ []) (counter variable.name first ∷ [])
         place.seen place.named (list_has path label (own (λ site. true) refl))
         (subst (λ heads. NamedHeads whole (below loop) heads (branch_name body_name branch ∷ [])) (append-nil (branch_child branch)) heads)
-        (refl, refl, tt)
+        ((refl, refl), tt)
         (λ text as_array declares. own (λ site. declares_in as_array text site.head.variables) declares) in
         let body_is = branch_there loop body_name below_it inner (where_found loop) branch (alone last) in_it in
         let counts : HasVariable whole path variable.name false =

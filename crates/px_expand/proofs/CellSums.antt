@@ -1,7 +1,7 @@
 -- The variables of a core plan have as many cells as those of its tree, and at most one more for each node.
 use Rattle.std.proofs.Common.{◌≡◌, ℕ, suc, ◌+◌, ◌≤◌, Bool, cond, List, [], ◌∷◌, ◌++◌, map, Option, Some, None, refl, sym, ap, ◌∙◌, inl, inr, arith}
 use Rattle.std.specs.Prelude.{nat_lt, sum}
-use Rattle.std.specs.List.{flat_map}
+use Rattle.std.specs.List.{flat_map, sum_by}
 use Rattle.std.specs.Option.{unwrap_or}
 use Rattle.std.proofs.lemmas.Bool.{ltb-false, cases_Bool}
 use Rattle.std.proofs.lemmas.List.{map-append}
@@ -52,13 +52,11 @@ cells_of_sites above (plan.Branch head children rest) =
 
 -- ---- the cells of the text
 
-abbrev total : List Cells → ℕ
-total [] = 0
-total (first ∷ rest) = first.count + total rest
+abbrev count : Cells → ℕ
+count cells = cells.count
 
-total-append : (front back : List Cells) → total (front ++ back) ≡ total front + total back
-total-append [] back = omega arith
-total-append (first ∷ front) back = omega (arith, total-append front back)
+abbrev total : List Cells → ℕ
+total = sum_by count
 
 few_cells : (before : ℕ) (cells : List Cells) → passing_fault before cells ≡ [] → before ≤ 65536 → before + total cells ≤ 65536
 few_cells before [] none few = omega arith
@@ -69,7 +67,7 @@ few_cells before (first ∷ rest) none few =
           let more = few_cells (before + first.count) rest
           (ap (λ (test : Bool). cond test (fault_at TooLarge first.token) (passing_fault (before + first.count) rest)) (sym within) ∙ none)
           (ltb-false 65536 (before + first.count) within) in
-          omega (arith, more)
+          omega (arith, more, sum_by-cons count first rest)
     ]
   where
     some : fault_at TooLarge first.token ≡ [] → ⊥
@@ -81,7 +79,8 @@ listed_cells of_type [] = refl
 listed_cells of_type (first ∷ rest) =
     let own = sum_by-cons (λ number. number) (cells_of (variable_of of_type first)) (map cells_of (map (variable_of of_type) rest)) in
     let one : cells_of (variable_of of_type first) ≡ unwrap_or first.size 1 = cells_are (variable_of of_type first) in
-    omega (arith, own, one, listed_cells of_type rest)
+    let head : Cells = record { token = first.name.token; count = unwrap_or first.size 1 } in
+    omega (arith, own, one, sum_by-cons count head (item_cells (Variables of_type rest)), listed_cells of_type rest)
 
 item_sum : (item : ItemData) → cells_in_variables (variables_in item) ≡ total (item_cells item)
 item_sum (Variables of_type variables) = listed_cells of_type variables
@@ -93,7 +92,7 @@ items_sum [] = refl
 items_sum (item ∷ items) =
     let both = map-append cells_of (variables_in item) (variables_of items) in
     let split = sum_by-append (λ number. number) (map cells_of (variables_in item)) (map cells_of (variables_of items)) in
-    let text = total-append (item_cells item) (flat_map item_cells items) in
+    let text = sum_by-append count (item_cells item) (flat_map item_cells items) in
     omega (arith, ap sum both, split, text, item_sum item, items_sum items)
 
 -- ---- along the core plan
@@ -117,7 +116,7 @@ mutual
       (paths_of (block_seen place.path (Braces form items actions)))
       (actions_core inner place.path form None 1 actions) (total (actions_cells actions)) (actions_nodes actions)
       (actions_few inner place.path form None 1 actions) in
-      let text = total-append (flat_map item_cells items) (actions_cells actions) in
+      let text = sum_by-append count (flat_map item_cells items) (actions_cells actions) in
       omega (arith, own, text)
 
   actions_few : (scope : Scope) (path : List ℕ) (form : BlockForm) (behind : Option (List ℕ)) (place : ℕ) (actions : Actions)
@@ -126,7 +125,7 @@ mutual
   actions_few scope path form behind place (More first rest) =
       let one = action_few scope (child path (name_of place first) (follows form behind)) first in
       let others = actions_few scope path form (Some (below path (name_of place first))) (suc place) rest in
-      omega (arith, one, others, total-append (action_cells first) (actions_cells rest))
+      omega (arith, one, others, sum_by-append count (action_cells first) (actions_cells rest))
 
   action_few : (scope : Scope) (place : Place) (action : ActionTree)
       → cells_in (alone (action_core scope place action)) ≤ total (action_cells action) + action_nodes action
@@ -147,8 +146,8 @@ mutual
       omega (
         arith,
         all,
-        total-append (guarded_cells guarded ++ else_if_cells others) (else_cells otherwise),
-        total-append (guarded_cells guarded) (else_if_cells others),
+        sum_by-append count (guarded_cells guarded ++ else_if_cells others) (else_cells otherwise),
+        sum_by-append count (guarded_cells guarded) (else_if_cells others),
       )
   body_few scope place (While (Guarded test branch)) =
       let own =
@@ -159,7 +158,8 @@ mutual
       let own =
       branch_few (for_scope scope place variable.name branch)
       (child (loop_path place.path) (branch_name body_name branch) (where_found (loop_path place.path))) branch in
-      omega (arith, own)
+      let counter : Cells = record { token = variable.token; count = 1 } in
+      omega (arith, own, sum_by-cons count counter (branch_cells branch))
 
   if_few : (scope : Scope) (place : Place) (otherwise : Otherwise) (k : ℕ)
       → ((inner : Scope) (path : List ℕ) → cells_in (otherwise.nodes inner path) ≤ k)
@@ -180,7 +180,7 @@ mutual
       let all =
       if_few inner (child path else_name (where_not_found path)) (chain_core last others)
       (total (else_if_cells others) + else_if_nodes others + k) (chain_few last k behind others) guarded in
-      omega (arith, all, total-append (guarded_cells guarded) (else_if_cells others))
+      omega (arith, all, sum_by-append count (guarded_cells guarded) (else_if_cells others))
 
   else_few : (otherwise : ElseTree) (inner : Scope) (path : List ℕ)
       → cells_in ((else_core otherwise).nodes inner path) ≤ total (else_cells otherwise) + else_nodes otherwise

@@ -35,12 +35,8 @@ use Rattle.px_expand.specs.Core.{core}
 abbrev id : List ℕ → Identifier
 id name = record { name = name; token = 0 }
 
-abbrev actions : List text.ActionTree → text.Actions
-actions [] = text.NoActions
-actions (first ∷ rest) = text.More first (actions rest)
-
 abbrev block : BlockForm → List text.ItemData → List text.ActionTree → text.BlockTree
-block form items inner = text.Braces form items (actions inner)
+block form items inner = text.Braces form items (text.actions_in_turn inner)
 
 abbrev labelled : List ℕ → text.BodyTree → text.ActionTree
 labelled label body = text.Labelled (Some (id label)) body

@@ -6,7 +6,7 @@ use Rattle.std.proofs.lemmas.Bool.{and_parts, or_parts, ltb-false, not-false}
 use Rattle.px_value.proofs.Ascii.{list_all-weaker}
 use Rattle.px_syntax.specs.Plan.{PlanTree}
 use Rattle.px_syntax.specs.PlanFaults.{faults}
-use Rattle.px_core.specs.Fit.{IsFit, path_is_there, variable_is_there, paths_are_there, variables_are_there, owns_its_targets, references_of_site, has_short_path}
+use Rattle.px_core.specs.Fit.{IsFit, is_there, path_is_there, variable_is_there, paths_are_there, variables_are_there, owns_its_targets, references_of_site, has_short_path}
 use Rattle.px_core.specs.Plan.{Site, sites, count_of}
 use Rattle.px_expand.specs.Bound.{is_too_large}
 use Rattle.px_expand.specs.Core.{core}
@@ -17,7 +17,6 @@ use Rattle.px_expand.proofs.CellSums.{core_cells}
 use Rattle.px_expand.proofs.Counts.{core_count}
 use Rattle.px_expand.proofs.Faultless.{has_none}
 use Rattle.px_expand.proofs.Fitting.{fits}
-use Rattle.px_expand.proofs.Mentions.{is_there}
 use Rattle.px_expand.proofs.Sound.{core_sound}
 use Rattle.px_expand.proofs.SoundSites.{sound_lists, sound_siblings, sound_variables, sound_bodies, sound_arrays, sound_values}
 

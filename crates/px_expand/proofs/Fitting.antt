@@ -20,7 +20,7 @@ use Rattle.px_core.specs.declared.node.Kind.{Kind}
 use Rattle.px_core.specs.declared.node.Kind.TheVariants as kinds
 use Rattle.px_core.specs.Defaults.{default_end, default_priority}
 use Rattle.px_core.specs.Expr.{Term, Unary, Binary}
-use Rattle.px_core.specs.Fit.{has_site, references_of_site, owns_its_targets, targets_of}
+use Rattle.px_core.specs.Fit.{declares_in, has_site, is_there, references_of_site, owns_its_targets, targets_of}
 use Rattle.px_core.specs.Fit as ref
 use Rattle.px_core.specs.Plan as plan
 use Rattle.px_core.specs.Plan.{BodyData, VariableData, Site, Tree, NoNode, is_same, path_under, sites_under}
@@ -36,9 +36,9 @@ use Rattle.px_expand.specs.Children.{seen as seen_at}
 use Rattle.px_scope.specs.Scope.{Scope, table, each_once}
 use Rattle.px_expand.proofs.Declaring.{names_of_variables}
 use Rattle.px_expand.proofs.Frames.{LabelNamed, NamedHeads, heads_agree}
-use Rattle.px_expand.proofs.Mentions.{is_there, scalar_is}
+use Rattle.px_expand.proofs.Mentions.{scalar_is}
 use Rattle.px_expand.proofs.Naming.{are_identifiers}
-use Rattle.px_expand.proofs.Seen.{declares_in, SameShown, HasHead, HasVariable, AgreesOn, IsSeen, seen_inside}
+use Rattle.px_expand.proofs.Seen.{SameShown, HasHead, HasVariable, AgreesOn, IsSeen, seen_inside}
 use Rattle.px_expand.proofs.Speaking.{speaks, both_speak, are_nodes, done_speaks, finished_speaks, GivenSpeaks, none_speaks, AddedSpeaks, BodySpeaks, node_speaks}
 use Rattle.px_expand.proofs.Tables.{child_found, variable_found}
 use Rattle.px_expand.proofs.Within.{IsWithin, own_within, children_within}

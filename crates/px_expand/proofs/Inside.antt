@@ -16,7 +16,7 @@ use Rattle.px_syntax.specs.Scope as seen
 use Rattle.px_syntax.specs.Scope.{is_simple, own_action, is_command_block, children_of}
 use Rattle.px_syntax.specs.ValueType.{named_type}
 use Rattle.px_core.specs.declared.node.Kind.TheVariants as kinds
-use Rattle.px_core.specs.Fit.{has_site, is_array, is_command, is_update}
+use Rattle.px_core.specs.Fit.{declares_in, has_site, is_there, is_command, is_update}
 use Rattle.px_core.specs.Plan as plan
 use Rattle.px_core.specs.Plan.{VariableData, Site, Tree, NoNode, path_under, sites_under}
 use Rattle.px_forms.specs.Adding.{Added}
@@ -32,9 +32,9 @@ use Rattle.px_scope.specs.Scope.{Scope, table, each_once}
 use Rattle.px_expand.proofs.Declaring.{names_of_variables}
 use Rattle.px_expand.proofs.Fitting.{at, LabelIs, AllFit, node_is, node_fits, nothing_said, entered_seen}
 use Rattle.px_expand.proofs.Frames.{View, view, NamedHeads, actions_heads, block_command}
-use Rattle.px_expand.proofs.Mentions.{is_there, items_there, assign_there, call_into_there, call_alone_there, update_there}
+use Rattle.px_expand.proofs.Mentions.{items_there, assign_there, call_into_there, call_alone_there, update_there}
 use Rattle.px_expand.proofs.Naming.{are_identifiers}
-use Rattle.px_expand.proofs.Seen.{SameShown, shown-append, declares_in, HasVariable, IsSeen}
+use Rattle.px_expand.proofs.Seen.{SameShown, shown-append, HasVariable, IsSeen}
 use Rattle.px_expand.proofs.Sound.{block_named, body_named}
 use Rattle.px_expand.proofs.Speaking.{are_nodes, finished_speaks, sequence_speaks, try_speaks, GivenSpeaks, AddedSpeaks}
 use Rattle.px_expand.proofs.Tables.{names_in, children_named_so}
@@ -42,14 +42,10 @@ use Rattle.px_expand.proofs.Within.{IsWithin, own_within, children_within, other
 
 -- ---- the variables of items
 
-some_array : (size : Option ℕ) → is_some size ≡ is_array size
-some_array None = refl
-some_array (Some size) = refl
-
 variables_shown : (of_type : TypeName) (variables : List text.VariableData)
     → SameShown (map (visible_as (named_type of_type)) variables) (map (variable_of of_type) variables)
 variables_shown of_type [] = tt
-variables_shown of_type (first ∷ rest) = (refl, some_array first.size, variables_shown of_type rest)
+variables_shown of_type (first ∷ rest) = ((refl, refl), variables_shown of_type rest)
 
 item_shown : (item : ItemData) → SameShown (visible_in item) (variables_in item)
 item_shown (Variables of_type variables) = variables_shown of_type variables

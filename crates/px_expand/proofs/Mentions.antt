@@ -1,6 +1,6 @@
 -- What expressions, targets and items of a tree without faults speak of is there in its core plan.
 use Rattle.std.proofs.Common.{◌≡◌, ℕ, Bool, true, false, not, List, [], ◌∷◌, ◌++◌, map, Option, Some, None, refl, ◌∙◌, subst, length}
-use Rattle.std.specs.Prelude.{◌&&◌, if◌then◌else◌}
+use Rattle.std.specs.Prelude.{if◌then◌else◌}
 use Rattle.std.specs.List.{list_any, list_all, flat_map}
 use denote.Enum.Bare.{sameb}
 use Rattle.std.proofs.lemmas.Bool.{and_from, and_parts, not-false, cond_both}
@@ -26,7 +26,7 @@ use Rattle.px_syntax.specs.Scope as seen
 use Rattle.px_syntax.specs.Scope.{Visible, Head, variable_named, declared, reference_token}
 use Rattle.px_syntax.specs.ValueType.{told_types, allowed_as, binary_signature, binary_function_signature, unary_signature, unary_function_signature}
 use Rattle.px_core.specs.Expr.{Term, in_turn}
-use Rattle.px_core.specs.Fit.{Reference, Scalar, Array, path_is_there, variable_is_there, has_site, references, references_of_each, references_of_target, targets_of}
+use Rattle.px_core.specs.Fit.{Scalar, Array, declares_in, is_there, has_site, references, references_of_each, references_of_target, targets_of}
 use Rattle.px_core.specs.Plan as plan
 use Rattle.px_core.specs.Plan.{BodyData, Site, is_same}
 use Rattle.px_scope.specs.Items.{given_for}
@@ -35,7 +35,7 @@ use Rattle.px_scope.specs.Actions.{body_of, target_of, pair_of}
 use Rattle.px_scope.specs.Resolving.{resolved, resolved_each, attribute_term}
 use Rattle.px_scope.specs.Scope.{Scope, owner_of, path_meant}
 use Rattle.px_expand.proofs.Faultless.{where_none}
-use Rattle.px_expand.proofs.Seen.{declares_in, HasHead, HasVariable, IsSeen, meant_there, owner_there}
+use Rattle.px_expand.proofs.Seen.{HasHead, HasVariable, IsSeen, meant_there, owner_there}
 use Rattle.px_expand.proofs.Speaking.{speaks, MaySpeak, GivenSpeaks, BodySpeaks}
 use Rattle.px_expand.proofs.Within.{site_weaker}
 
@@ -80,27 +80,23 @@ command_meant outer node head is none =
     not-false head.is_command (where_none (not head.is_command) NoSuchNode (reference_token node) (rw is at none))
 
 module _ (whole : List Site) where
-  -- what is spoken of is there, and is what it is spoken of as
-  abbrev pub is_there : Reference → Bool
-  is_there reference = path_is_there whole reference && variable_is_there whole reference
-
   pub variable_is : (owner name : List ℕ) (as_array : Bool) → HasVariable whole owner name as_array
       → has_site (λ site. true) owner whole ≡ true
   variable_is owner name as_array =
       site_weaker (λ site. declares_in as_array name site.head.variables) (λ site. true) (λ site passes. refl) owner whole
 
-  pub scalar_is : (owner name : List ℕ) → HasVariable whole owner name false → is_there (Scalar owner name) ≡ true
+  pub scalar_is : (owner name : List ℕ) → HasVariable whole owner name false → is_there whole (Scalar owner name) ≡ true
   scalar_is owner name has = and_from _ _ (variable_is owner name false has) has
 
-  array_is : (owner name : List ℕ) → HasVariable whole owner name true → is_there (Array owner name) ≡ true
+  array_is : (owner name : List ℕ) → HasVariable whole owner name true → is_there whole (Array owner name) ≡ true
   array_is owner name has = and_from _ _ (variable_is owner name true has) has
 
-  in_turn_speak : (terms : List Term) → list_all (speaks is_there) terms ≡ true
-      → list_all is_there (references_of_each (in_turn terms)) ≡ true
+  in_turn_speak : (terms : List Term) → list_all (speaks (is_there whole)) terms ≡ true
+      → list_all (is_there whole) (references_of_each (in_turn terms)) ≡ true
   in_turn_speak [] all = refl
   in_turn_speak (term ∷ terms) all =
-      let parts = and_parts (speaks is_there term) (list_all (speaks is_there) terms) all in
-      list_all-append is_there (references term) (references_of_each (in_turn terms))
+      let parts = and_parts (speaks (is_there whole) term) (list_all (speaks (is_there whole)) terms) all in
+      list_all-append (is_there whole) (references term) (references_of_each (in_turn terms))
       ∙ and_from _ _ parts.0 (in_turn_speak terms parts.1)
 
   module _ (above : List (List ℕ)) (outer : seen.Scope) (scope : Scope) (all : IsSeen whole above outer scope) where
@@ -116,14 +112,14 @@ module _ (whole : List Site) where
         (subst (λ as_array. HasVariable whole (owner_of scope name.name) name.name as_array) means.used own.0, own.1)
 
     attribute_there : (node : NodeReference) (attribute : AttributeWord) → attribute_faults outer node attribute ≡ []
-        → speaks is_there (attribute_term attribute (path_meant scope node)) ≡ true
+        → speaks (is_there whole) (attribute_term attribute (path_meant scope node)) ≡ true
     attribute_there node attribute none =
         let meaning = node_meant outer node attribute (seen.meant outer node) refl none in
         of_word attribute meaning.0 meaning.1 none (meant_there whole outer scope all.nodes node meaning.0 meaning.1)
       where
         of_word : (attribute : AttributeWord) (head : Head) → seen.meant outer node ≡ Some head
             → attribute_faults outer node attribute ≡ [] → HasHead whole (path_meant scope node) head
-            → speaks is_there (attribute_term attribute (path_meant scope node)) ≡ true
+            → speaks (is_there whole) (attribute_term attribute (path_meant scope node)) ≡ true
         of_word attributes.State head is none has = and_from _ _ (and_from _ _ has.node refl) refl
         of_word attributes.Outcome head is none has = and_from _ _ (and_from _ _ has.node refl) refl
         of_word attributes.Failure head is none has = and_from _ _ (and_from _ _ has.node refl) refl
@@ -131,7 +127,7 @@ module _ (whole : List Site) where
             and_from _ _ (and_from _ _ (has.command (command_meant outer node head is none)) refl) refl
 
     mutual
-      pub term_there : (term : expr.Term) → expr_faults outer term ≡ [] → speaks is_there (resolved scope term) ≡ true
+      pub term_there : (term : expr.Term) → expr_faults outer term ≡ [] → speaks (is_there whole) (resolved scope term) ≡ true
       term_there (expr.Literal value token) none = refl
       term_there (expr.Enumerated value token) none = refl
       term_there (expr.Variable name) none =
@@ -156,7 +152,7 @@ module _ (whole : List Site) where
           let one = expr_faults outer first in let two = type_fault takes outer first in
           let third = neither (one ++ two ++ expr_faults outer second) (type_fault takes outer second) none in
           let parts = neither (one ++ two) (expr_faults outer second) third.0 in
-          list_all-append is_there (references (resolved scope first)) (references (resolved scope second))
+          list_all-append (is_there whole) (references (resolved scope first)) (references (resolved scope second))
           ∙ and_from _ _ (term_there first (neither one two parts.0).0) (term_there second parts.1)
       term_there (expr.Unary operator token operand) none =
           term_there operand (neither (expr_faults outer operand) (type_fault (unary_signature operator).takes outer operand) none).0
@@ -167,11 +163,11 @@ module _ (whole : List Site) where
           (alike_fault (binary_signature operator) outer left right) none in
           let third = neither (one ++ two ++ expr_faults outer right) (type_fault takes outer right) fourth.0 in
           let parts = neither (one ++ two) (expr_faults outer right) third.0 in
-          list_all-append is_there (references (resolved scope left)) (references (resolved scope right))
+          list_all-append (is_there whole) (references (resolved scope left)) (references (resolved scope right))
           ∙ and_from _ _ (term_there left (neither one two parts.0).0) (term_there right parts.1)
 
       pub terms_there : (parameters : List ValueType) (terms : expr.Terms) → argument_faults outer parameters terms ≡ []
-          → list_all (speaks is_there) (resolved_each scope terms) ≡ true
+          → list_all (speaks (is_there whole)) (resolved_each scope terms) ≡ true
       terms_there parameters expr.NoTerms none = refl
       terms_there [] (expr.More first rest) none =
           let parts = neither (expr_faults outer first ++ type_fault told_types outer first) (argument_faults outer [] rest) none in
@@ -185,18 +181,18 @@ module _ (whole : List Site) where
           (terms_there parameters rest parts.1)
 
     pub judged_there : (allowed : List ValueType) (term : expr.Term) → faults_as allowed outer term ≡ []
-        → speaks is_there (resolved scope term) ≡ true
+        → speaks (is_there whole) (resolved scope term) ≡ true
     judged_there allowed term none = term_there term (neither (expr_faults outer term) (type_fault allowed outer term) none).0
 
     -- ---- items
 
     given_there : (condition : Condition) (items : List ItemData) → flat_map (item_faults outer) items ≡ []
-        → MaySpeak is_there (given_for scope condition items)
+        → MaySpeak (is_there whole) (given_for scope condition items)
     given_there condition [] none = tt
     given_there condition (Conditions given token test ∷ items) none =
         let parts = neither (faults_as (Boolean ∷ []) outer test) (flat_map (item_faults outer) items) none in
         cond_both (sameb condition_type given condition) (Some (resolved scope test)) (given_for scope condition items)
-        (MaySpeak is_there) (λ same. judged_there (Boolean ∷ []) test parts.0)
+        (MaySpeak (is_there whole)) (λ same. judged_there (Boolean ∷ []) test parts.0)
         (λ other. given_there condition items parts.1)
     given_there condition (Variables of_type variables ∷ items) none =
         given_there condition items (neither (item_faults outer (Variables of_type variables)) _ none).1
@@ -204,7 +200,7 @@ module _ (whole : List Site) where
         given_there condition items (neither (item_faults outer (Priority token priority)) _ none).1
 
     pub items_there : (items : List ItemData) → flat_map (item_faults outer) items ≡ []
-        → GivenSpeaks is_there (given_by scope items)
+        → GivenSpeaks (is_there whole) (given_by scope items)
     items_there items none = record {
       start = given_there which.Start items none;
       end = given_there which.End items none;
@@ -220,11 +216,11 @@ module _ (whole : List Site) where
 
     -- what a body speaks of is there, and the owners of its targets stand above
     pub record BodyThere (body : BodyData) : Type 0 where
-      pub said : BodySpeaks is_there body
+      pub said : BodySpeaks (is_there whole) body
       pub owns : list_all (λ target. list_any (is_same target.owner) above) (targets_of body) ≡ true
 
     record TargetThere (target : plan.TargetData) : Type 0 where
-      pub said : list_all is_there (references_of_target target) ≡ true
+      pub said : list_all (is_there whole) (references_of_target target) ≡ true
       pub owns : list_any (is_same target.owner) above ≡ true
 
     target_there : (name : Identifier) (index : Option expr.Term)
@@ -243,18 +239,18 @@ module _ (whole : List Site) where
         }
 
     one_target : (target : plan.TargetData) → TargetThere target
-        → list_all is_there (flat_map references_of_target (target ∷ [])) ≡ true
-    one_target target own = list_all-append is_there (references_of_target target) [] ∙ and_from _ _ own.said refl
+        → list_all (is_there whole) (flat_map references_of_target (target ∷ [])) ≡ true
+    one_target target own = list_all-append (is_there whole) (references_of_target target) [] ∙ and_from _ _ own.said refl
 
     pairs_there : (pairs : List PairData) → flat_map (λ pair. faults_as told_types outer pair.value) pairs ≡ []
-        → list_all (speaks is_there) (map (λ pair. pair.value) (map (pair_of scope) pairs)) ≡ true
+        → list_all (speaks (is_there whole)) (map (λ pair. pair.value) (map (pair_of scope) pairs)) ≡ true
     pairs_there [] none = refl
     pairs_there (first ∷ rest) none =
         let parts = neither (faults_as told_types outer first.value) _ none in
         and_from _ _ (judged_there told_types first.value parts.0) (pairs_there rest parts.1)
 
     call_there : (call : CallData) → call_faults outer call ≡ []
-        → list_all (speaks is_there) (resolved_each scope call.args) ≡ true
+        → list_all (speaks (is_there whole)) (resolved_each scope call.args) ≡ true
     call_there call none =
         let command = declared outer.commands call.name.name in
         terms_there (parameters_of command) call.args

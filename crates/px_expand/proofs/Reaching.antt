@@ -4,8 +4,8 @@ use Rattle.px_value.specs.Name.{generated_name}
 use Rattle.px_value.proofs.General.{cut_at}
 use Rattle.px_syntax.specs.declared.block.Action.{Action, out-Action}
 use Rattle.px_syntax.specs.declared.block.Guarded.{Guarded}
-use Rattle.px_syntax.specs.Block.{ElseIfs, NoElseIfs, ElseIf, actions_in_turn, else_ifs_in_turn, body_of, action_of, guarded_of}
-use Rattle.px_syntax.proofs.Trees.{action_is}
+use Rattle.px_syntax.specs.Block.{ElseIfs, NoElseIfs, ElseIf, else_ifs_in_turn, body_of, guarded_of}
+use Rattle.px_syntax.proofs.Trees.{in_turn, action_is}
 use Rattle.px_expand.specs.Core.{name_of}
 use Rattle.px_expand.specs.Names.{named}
 use Rattle.px_expand.specs.Size.{actions_nodes, action_nodes, body_nodes, guarded_nodes, else_if_nodes, through, actions_reach, action_reach, body_reach, else_if_reach}
@@ -15,22 +15,22 @@ use Rattle.px_expand.specs.Size.{actions_nodes, action_nodes, body_nodes, guarde
 module _ (actions : List Action) (index : ℕ) (action : Action) (within : index < length actions)
     (is : action ≡ get_or actions index action) where
   pub action_counted :
-      actions_nodes (actions_in_turn (map action_of (drop index actions)))
+      actions_nodes (in_turn (drop index actions))
       ≡ body_nodes (body_of (out-Action action).body)
-      + actions_nodes (actions_in_turn (map action_of (drop (index + 1) actions)))
+      + actions_nodes (in_turn (drop (index + 1) actions))
   action_counted =
-      ap (λ left. actions_nodes (actions_in_turn (map action_of left))) (cut_at actions index action within is)
-      ∙ ap (λ tree. action_nodes tree + actions_nodes (actions_in_turn (map action_of (drop (index + 1) actions))))
+      ap (λ left. actions_nodes (in_turn left)) (cut_at actions index action within is)
+      ∙ ap (λ tree. action_nodes tree + actions_nodes (in_turn (drop (index + 1) actions)))
       (action_is action)
 
   pub action_reached : (place : ℕ)
-      → actions_reach (suc place) (actions_in_turn (map action_of (drop index actions)))
+      → actions_reach (suc place) (in_turn (drop index actions))
       ≡ max
       (through (named (out-Action action).label (generated_name (place + 1))) (body_reach (body_of (out-Action action).body)))
-      (actions_reach (suc (place + 1)) (actions_in_turn (map action_of (drop (index + 1) actions))))
+      (actions_reach (suc (place + 1)) (in_turn (drop (index + 1) actions)))
   action_reached place =
-      let rest = actions_in_turn (map action_of (drop (index + 1) actions)) in
-      ap (λ left. actions_reach (suc place) (actions_in_turn (map action_of left))) (cut_at actions index action within is)
+      let rest = in_turn (drop (index + 1) actions) in
+      ap (λ left. actions_reach (suc place) (in_turn left)) (cut_at actions index action within is)
       ∙ ap (λ tree. max (through (name_of (suc place) tree) (action_reach tree)) (actions_reach (suc (suc place)) rest))
       (action_is action)
       ∙ ap

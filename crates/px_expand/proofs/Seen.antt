@@ -1,8 +1,8 @@
 -- What is seen somewhere in a tree is there in its core plan: nodes, which are Commands where the text says so, and variables.
 use Rattle.std.proofs.Common.{◌≡◌, ℕ, Bool, true, false, not, cond, List, [], ◌∷◌, ◌++◌, Option, Some, None, refl, sym, ap, ◌∙◌, subst}
 use Rattle.std.specs.Prelude.{◌&&◌, slice_get}
-use Rattle.std.specs.List.{list_any, find}
-use Rattle.std.specs.Option.{option_map, option_and_then, option_or, unwrap_or}
+use Rattle.std.specs.List.{list_any, find, AllZip}
+use Rattle.std.specs.Option.{is_some, option_map, option_and_then, option_or, unwrap_or}
 use Rattle.std.specs.Str.{bytes_eq}
 use Rattle.std.proofs.lemmas.Bool.{and_from, or_left, or_right, or_from}
 use Rattle.std.proofs.lemmas.List.Folds.{find-append}
@@ -12,7 +12,7 @@ use Rattle.px_syntax.specs.declared.expr.NodeReference.{NodeReference}
 use Rattle.px_syntax.specs.declared.expr.NodeReference.TheVariants as nodes
 use Rattle.px_syntax.specs.Scope as seen
 use Rattle.px_syntax.specs.Scope.{Visible, Head, is_named, searched, variable_named}
-use Rattle.px_core.specs.Fit.{has_site, is_command, is_array}
+use Rattle.px_core.specs.Fit.{has_site, is_command, declares_in}
 use Rattle.px_core.specs.Plan.{VariableData, Site, is_same}
 use Rattle.px_core.proofs.Paths.{same-self}
 use Rattle.px_scope.specs.Scope.{Scope, Frame, here, or_else, declared_in, declared_from, owner_of, child_named, itself_named, named_in, named_from, path_meant}
@@ -20,18 +20,9 @@ use Rattle.px_expand.proofs.Declaring.{names_of_variables}
 
 -- ---- variables of a list
 
--- a variable of this name is declared, an array or a scalar
-abbrev pub declares_in : Bool → List ℕ → List VariableData → Bool
-declares_in true name variables = list_any (λ variable. is_same variable.name name && is_array variable.size) variables
-declares_in false name variables = list_any (λ variable. is_same variable.name name && not (is_array variable.size)) variables
-
 -- variables of the text and those of the core plan are the same
 abbrev pub SameShown : List Visible → List VariableData → Type 0
-SameShown [] [] = Unit {0}
-SameShown [] (variable ∷ variables) = ⊥
-SameShown (visible ∷ visibles) [] = ⊥
-SameShown (visible ∷ visibles) (variable ∷ variables) =
-    (visible.name ≡ variable.name) × (visible.is_array ≡ is_array variable.size) × SameShown visibles variables
+SameShown = AllZip (λ visible variable. (visible.name ≡ variable.name) × (visible.is_array ≡ is_some variable.size))
 
 pub shown-append : (front back : List Visible) (first rest : List VariableData) → SameShown front first → SameShown back rest
     → SameShown (front ++ back) (first ++ rest)
@@ -39,19 +30,19 @@ shown-append [] back [] rest one two = two
 shown-append [] back (variable ∷ first) rest one two = absurd one
 shown-append (visible ∷ front) back [] rest one two = absurd one
 shown-append (visible ∷ front) back (variable ∷ first) rest one two =
-    (one.0, one.1, shown-append front back first rest one.2 two)
+    (one.0, shown-append front back first rest one.1 two)
 
 declares_first : (as_array : Bool) (name : List ℕ) (variable : VariableData) (variables : List VariableData)
-    → is_same variable.name name ≡ true → as_array ≡ is_array variable.size
+    → is_same variable.name name ≡ true → as_array ≡ is_some variable.size
     → declares_in as_array name (variable ∷ variables) ≡ true
 declares_first true name variable variables same array = or_left _ _ (and_from _ _ same (sym array))
 declares_first false name variable variables same array = or_left _ _ (and_from _ _ same (ap not (sym array)))
 
 declares_rest : (as_array : Bool) (name : List ℕ) (variable : VariableData) (variables : List VariableData)
     → declares_in as_array name variables ≡ true → declares_in as_array name (variable ∷ variables) ≡ true
-declares_rest true name variable variables passes = or_right (is_same variable.name name && is_array variable.size) _ passes
+declares_rest true name variable variables passes = or_right (is_same variable.name name && is_some variable.size) _ passes
 declares_rest false name variable variables passes =
-    or_right (is_same variable.name name && not (is_array variable.size)) _ passes
+    or_right (is_same variable.name name && not (is_some variable.size)) _ passes
 
 abbrev pub FrontFound : List ℕ → List VariableData → Option Visible → Type 0
 FrontFound name variables None = list_any (is_same name) (names_of_variables variables) ≡ false
@@ -70,19 +61,19 @@ front_found name [] [] shown = refl
 front_found name [] (variable ∷ variables) shown = absurd shown
 front_found name (visible ∷ visibles) [] shown = absurd shown
 front_found name (visible ∷ visibles) (variable ∷ variables) shown =
-    of_test (bytes_eq name visible.name) refl (front_found name visibles variables shown.2)
+    of_test (bytes_eq name visible.name) refl (front_found name visibles variables shown.1)
   where
     of_test : (test : Bool) → is_same name visible.name ≡ test
         → FrontFound name variables (find (λ visible. bytes_eq name visible.name) visibles)
         → FrontFound name (variable ∷ variables) (cond test (Some visible) (find (λ visible. bytes_eq name visible.name) visibles))
     of_test true same more =
-        let equal = (bytes_eq-Decides name visible.name).0 same ∙ shown.0 in (
+        let equal = (bytes_eq-Decides name visible.name).0 same ∙ shown.0.0 in (
           or_left _ _ (ap (is_same name) (sym equal) ∙ same-self name),
           declares_first visible.is_array name variable variables (ap (λ text. is_same text name) (sym equal) ∙ same-self name)
-              shown.1,
+              shown.0.1,
         )
     of_test false other more =
-        front_rest name variable variables _ (ap (is_same name) (sym shown.0) ∙ other) more
+        front_rest name variable variables _ (ap (is_same name) (sym shown.0.0) ∙ other) more
 
 -- ---- what is there
 
@@ -132,10 +123,7 @@ module _ (whole : List Site) where
     pub children : (name : List ℕ) → AgreesOn name (find (is_named name) node.children) (child_named name frame)
 
   abbrev pub SeenNodes : List seen.Node → Scope → Type 0
-  SeenNodes [] [] = Unit {0}
-  SeenNodes [] (frame ∷ scope) = ⊥
-  SeenNodes (node ∷ nodes) [] = ⊥
-  SeenNodes (node ∷ nodes) (frame ∷ scope) = IsFrameOf node frame × SeenNodes nodes scope
+  SeenNodes = AllZip IsFrameOf
 
   named_agrees : (name : List ℕ) (nodes : List seen.Node) (scope : Scope) → SeenNodes nodes scope
       → AgreesOn name (find (is_named name) (searched nodes)) (named_from name scope)

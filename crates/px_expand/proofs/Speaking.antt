@@ -175,10 +175,8 @@ module _ (there : Reference → Bool) where
       (references_of_site (site_under above (node_at place kind paths given priority variables body NoNode).head)) ≡ true
   node_speaks place kind paths given priority variables body above added own end said =
       let terms = terms_of_conditions (conditions kind place.path paths (with_added place.added given)) in
-      list_all-append there (flat_map references terms ++ flat_map references (terms_of body))
-      (flat_map references_of_target (targets_of body))
-      ∙ and_from _ _
-      (list_all-append there (flat_map references terms) (flat_map references (terms_of body))
+      list_all-append there (flat_map references terms)
+      (flat_map references (terms_of body) ++ flat_map references_of_target (targets_of body))
       ∙ and_from _ _ (each_speaks terms (conditions_speak kind place.path paths given place.added own added end))
-      (each_speaks (terms_of body) said.terms))
-      said.targets
+      (list_all-append there (flat_map references (terms_of body)) (flat_map references_of_target (targets_of body))
+      ∙ and_from _ _ (each_speaks (terms_of body) said.terms) said.targets)

@@ -3,7 +3,7 @@ use Rattle.std.proofs.Common.{◌≡◌, ℕ, suc, Bool, true, false, cond, List
 use Rattle.std.specs.Prelude.{◌||◌}
 use Rattle.std.specs.List.{list_any, fold}
 use Rattle.std.specs.Map.{lookup}
-use Rattle.std.proofs.Math.Bool.{or_assoc, or_comm, or-false}
+use Rattle.std.proofs.Math.Bool.{or_assoc, or-false}
 use Rattle.std.proofs.lemmas.List.Folds.{list_any-append}
 use Rattle.std.proofs.lemmas.Slice.Eq.{bytes_eq-Decides}
 use Rattle.indexmap.specs.IndexMap.{insert_entry}
@@ -19,104 +19,29 @@ use Rattle.px_expand.proofs.Naming.{names_from}
 
 -- ---- children
 
--- a name is put to others, where it isn't one of them
-abbrev put : List (List ℕ) → List ℕ → List (List ℕ)
-put [] name = name ∷ []
-put (first ∷ names) name = cond (is_same name first) (first ∷ names) (first ∷ put names name)
-
 entry_put : (parent : List ℕ) (known : List (List ℕ)) (name : List ℕ)
-    → insert_entry is_same (map (seen parent) known) name (below parent name) ≡ map (seen parent) (put known name)
+    → insert_entry is_same (map (seen parent) known) name (below parent name) ≡ map (seen parent) (insert_key is_same known name)
 entry_put parent [] name = refl
 entry_put parent (first ∷ known) name =
-    of_test (is_same name first) (bytes_eq-Decides name first).0 (entry_put parent known name)
+    of_test (is_same name first) (list_any (is_same name) known) (bytes_eq-Decides name first).0 (entry_put parent known name)
   where
-    of_test : (test : Bool) → (test ≡ true → name ≡ first)
-        → insert_entry is_same (map (seen parent) known) name (below parent name) ≡ map (seen parent) (put known name)
+    of_test : (test among : Bool) → (test ≡ true → name ≡ first)
+        → insert_entry is_same (map (seen parent) known) name (below parent name) ≡ map (seen parent) (cond among known (known ++ name ∷ []))
         → cond test ((first, below parent name) ∷ map (seen parent) known)
         (seen parent first ∷ insert_entry is_same (map (seen parent) known) name (below parent name))
-        ≡ map (seen parent) (cond test (first ∷ known) (first ∷ put known name))
-    of_test true same more = ap (λ text. (first, below parent text) ∷ map (seen parent) known) (same refl)
-    of_test false same more = ap (λ rest. seen parent first ∷ rest) more
-
-put_among : (name : List ℕ) (known : List (List ℕ)) (added : List ℕ)
-    → list_any (is_same name) (put known added) ≡ (list_any (is_same name) known || is_same name added)
-put_among name [] added = or_comm (is_same name added) false
-put_among name (first ∷ known) added =
-    of_test (is_same added first) (λ same. ap (is_same name) ((bytes_eq-Decides added first).0 same)) (put_among name known added)
-  where
-    twice : (a b : Bool) → (a || b) ≡ ((a || b) || a)
-    twice true b = refl
-    twice false true = refl
-    twice false false = refl
-
-    of_test : (test : Bool) → (test ≡ true → is_same name added ≡ is_same name first)
-        → list_any (is_same name) (put known added) ≡ (list_any (is_same name) known || is_same name added)
-        → list_any (is_same name) (cond test (first ∷ known) (first ∷ put known added))
-        ≡ ((is_same name first || list_any (is_same name) known) || is_same name added)
-    of_test true same more =
-        twice (is_same name first) (list_any (is_same name) known)
-        ∙ ap (λ test. (is_same name first || list_any (is_same name) known) || test) (sym (same refl))
-    of_test false same more =
-        ap (λ rest. is_same name first || rest) more
-        ∙ sym (or_assoc (is_same name first) (list_any (is_same name) known) (is_same name added))
+        ≡ map (seen parent) (cond (test || among) (first ∷ known) (first ∷ (known ++ name ∷ [])))
+    of_test true among same more = ap (λ text. (first, below parent text) ∷ map (seen parent) known) (same refl)
+    of_test false true same more = ap (λ rest. seen parent first ∷ rest) more
+    of_test false false same more = ap (λ rest. seen parent first ∷ rest) more
 
 all_put : (parent : List ℕ) (known names : List (List ℕ))
     → fold (λ entries child. insert_entry is_same entries child.0 child.1) (map (seen parent) known) (map (seen parent) names)
-    ≡ map (seen parent) (fold put known names)
+    ≡ map (seen parent) (fold (insert_key is_same) known names)
 all_put parent known [] = refl
 all_put parent known (name ∷ names) =
     ap (λ entries. fold (λ entries child. insert_entry is_same entries child.0 child.1) entries (map (seen parent) names))
     (entry_put parent known name)
-    ∙ all_put parent (put known name) names
-
-all_among : (name : List ℕ) (known names : List (List ℕ))
-    → list_any (is_same name) (fold put known names) ≡ (list_any (is_same name) known || list_any (is_same name) names)
-all_among name known [] = sym (or-false (list_any (is_same name) known))
-all_among name known (first ∷ names) =
-    all_among name (put known first) names
-    ∙ ap (λ test. test || list_any (is_same name) names) (put_among name known first)
-    ∙ or_assoc (list_any (is_same name) known) (is_same name first) (list_any (is_same name) names)
-
-found_below : (parent name : List ℕ) (known : List (List ℕ))
-    → lookup (is_same name) (map (seen parent) known) ≡ cond (list_any (is_same name) known) (Some (below parent name)) None
-found_below parent name [] = refl
-found_below parent name (first ∷ known) =
-    of_test (is_same name first) (bytes_eq-Decides name first).0 (found_below parent name known)
-  where
-    of_test : (test : Bool) → (test ≡ true → name ≡ first)
-        → lookup (is_same name) (map (seen parent) known) ≡ cond (list_any (is_same name) known) (Some (below parent name)) None
-        → cond test (Some (below parent first)) (lookup (is_same name) (map (seen parent) known))
-        ≡ cond (test || list_any (is_same name) known) (Some (below parent name)) None
-    of_test true same more = ap (λ text. Some (below parent text)) (sym (same refl))
-    of_test false same more = more
-
--- the child of a name is below its parent, if there is one
-pub child_found : (parent name : List ℕ) (names : List (List ℕ))
-    → lookup (is_same name) (table (map (seen parent) names))
-    ≡ cond (list_any (is_same name) names) (Some (below parent name)) None
-child_found parent name names =
-    ap (lookup (is_same name)) (all_put parent [] names)
-    ∙ found_below parent name (fold put [] names)
-    ∙ ap (λ test. cond test (Some (below parent name)) None) (all_among name [] names)
-
-pub actions_named_so : (path : List ℕ) (place : ℕ) (actions : Actions)
-    → actions_seen path place actions ≡ map (seen path) (names_from place actions)
-actions_named_so path place NoActions = refl
-actions_named_so path place (More first rest) =
-    ap (λ others. seen path (name_of place first) ∷ others) (actions_named_so path (suc place) rest)
-
--- the names of the children that the text has of a block
-abbrev pub names_in : Shape → Actions → List (List ℕ)
-names_in Children all = names_from 1 all
-names_in _ all = []
-
-pub children_named_so : (shape : Shape) (path : List ℕ) (all : Actions)
-    → children_seen shape path all ≡ map (seen path) (names_in shape all)
-children_named_so Rest path all = refl
-children_named_so (OneAction body) path all = refl
-children_named_so Children path all = actions_named_so path 1 all
-
--- ---- variables
+    ∙ all_put parent (insert_key is_same known name) names
 
 once_among : (name : List ℕ) (known names : List (List ℕ))
     → list_any (is_same name) (fold (insert_key is_same) known names)
@@ -149,6 +74,47 @@ once_among name known (first ∷ names) =
         ≡ (list_any (is_same name) known || is_same name first)
     of_test true same = same refl
     of_test false same = pushed
+
+found_below : (parent name : List ℕ) (known : List (List ℕ))
+    → lookup (is_same name) (map (seen parent) known) ≡ cond (list_any (is_same name) known) (Some (below parent name)) None
+found_below parent name [] = refl
+found_below parent name (first ∷ known) =
+    of_test (is_same name first) (bytes_eq-Decides name first).0 (found_below parent name known)
+  where
+    of_test : (test : Bool) → (test ≡ true → name ≡ first)
+        → lookup (is_same name) (map (seen parent) known) ≡ cond (list_any (is_same name) known) (Some (below parent name)) None
+        → cond test (Some (below parent first)) (lookup (is_same name) (map (seen parent) known))
+        ≡ cond (test || list_any (is_same name) known) (Some (below parent name)) None
+    of_test true same more = ap (λ text. Some (below parent text)) (sym (same refl))
+    of_test false same more = more
+
+-- the child of a name is below its parent, if there is one
+pub child_found : (parent name : List ℕ) (names : List (List ℕ))
+    → lookup (is_same name) (table (map (seen parent) names))
+    ≡ cond (list_any (is_same name) names) (Some (below parent name)) None
+child_found parent name names =
+    ap (lookup (is_same name)) (all_put parent [] names)
+    ∙ found_below parent name (each_once names)
+    ∙ ap (λ test. cond test (Some (below parent name)) None) (once_among name [] names)
+
+pub actions_named_so : (path : List ℕ) (place : ℕ) (actions : Actions)
+    → actions_seen path place actions ≡ map (seen path) (names_from place actions)
+actions_named_so path place NoActions = refl
+actions_named_so path place (More first rest) =
+    ap (λ others. seen path (name_of place first) ∷ others) (actions_named_so path (suc place) rest)
+
+-- the names of the children that the text has of a block
+abbrev pub names_in : Shape → Actions → List (List ℕ)
+names_in Children all = names_from 1 all
+names_in _ all = []
+
+pub children_named_so : (shape : Shape) (path : List ℕ) (all : Actions)
+    → children_seen shape path all ≡ map (seen path) (names_in shape all)
+children_named_so Rest path all = refl
+children_named_so (OneAction body) path all = refl
+children_named_so Children path all = actions_named_so path 1 all
+
+-- ---- variables
 
 pub variable_found : (name : List ℕ) (names : List (List ℕ))
     → list_any (is_same name) (each_once names) ≡ list_any (is_same name) names

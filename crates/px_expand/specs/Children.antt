@@ -1,5 +1,6 @@
 -- The children that the text has of a node, and the scope inside it.
-use Rattle.std.specs.Prelude.{ℕ, List, ◌∷◌, map}
+use Rattle.std.specs.Prelude.{ℕ, List, ◌∷◌}
+use Rattle.std.specs.Map.{keys_of, values_of}
 use Rattle.px_value.specs.Path.{below}
 use Rattle.px_forms.specs.Nodes.{Place}
 use Rattle.px_scope.specs.Scope.{Scope, Table, table, each_once}
@@ -9,10 +10,10 @@ abbrev pub seen : List ℕ → List ℕ → List ℕ × List ℕ
 seen parent name = (name, below parent name)
 
 abbrev pub names_of : Table → List (List ℕ)
-names_of = map (λ child. child.0)
+names_of = keys_of
 
 abbrev pub paths_of : Table → List (List ℕ)
-paths_of = map (λ child. child.1)
+paths_of = values_of
 
 -- the scope inside a node of the text with these children and with variables of these names
 abbrev pub inside : Scope → Place → Table → List (List ℕ) → Scope

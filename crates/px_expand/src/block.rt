@@ -1,19 +1,19 @@
 // The nodes that blocks and actions are.
-ghost use Rattle.std.specs.Prelude.{◌≡◌, ◌+◌, ◌<◌, ◌≤◌, max, length, map, drop, None, IfOk, IfSome, OnOk};
+ghost use Rattle.std.specs.Prelude.{◌≡◌, ◌+◌, ◌<◌, ◌≤◌, max, length, map, None, IfOk, IfSome, OnOk};
 ghost use Rattle.std.specs.Option.{option_copied, option_map};
-ghost use Rattle.px_core.specs.Plan.{Tree};
+ghost use Rattle.px_core.specs.Plan.{Tree, trees_of};
 ghost use Rattle.px_syntax.specs.Block.{action_of, actions_in_turn, For, While, block_of, body_of, branch_of, else_ifs_in_turn, else_of, guarded_of};
 ghost use Rattle.px_syntax.specs.Expr.{term_of as text_of};
-ghost use Rattle.px_expand.specs.Chain.{all_closed, closed, open_scope, stands};
+ghost use Rattle.px_expand.specs.Chain.{closed, open_scope, stands};
 ghost use Rattle.px_expand.specs.Core.{actions_core, actions_in, block_core, body_core, branch_name, actions_seen, block_seen, chain_core, else_core, follows, form_of, if_core};
 ghost use Rattle.px_forms.specs.Forms.{where_not_found};
 ghost use Rattle.px_expand.specs.Kinds.{Children, shape_of};
 ghost use Rattle.px_forms.specs.Names.{body_name, else_name, then_name};
 ghost use Rattle.px_forms.specs.Nodes.{alone, child};
 ghost use Rattle.px_expand.specs.Children.{names_of, paths_of};
-ghost use Rattle.px_forms.specs.Placed.{place_terms, tree_in, trees_of};
+ghost use Rattle.px_forms.specs.Placed.{place_terms, tree_in};
 ghost use Rattle.px_scope.specs.Scope.{here};
-ghost use Rattle.px_expand.specs.Size.{actions_reach, block_reach, body_reach, branch_reach, else_if_reach, else_reach, guarded_reach};
+ghost use Rattle.px_expand.specs.Size.{actions_reach, block_reach, body_reach, else_if_reach, else_reach, guarded_reach};
 
 use crate::branches::{Entered, EnteredFor, into_for, into_if, into_while};
 use crate::children::Listed;

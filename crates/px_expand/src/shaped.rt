@@ -1,12 +1,12 @@
 // The nodes that blocks and simple actions are, of what is in them.
 ghost use Rattle.std.specs.Prelude.{◌≡◌, ◌<◌, length, map, IfOk, OnOk};
 ghost use Rattle.px_syntax.specs.Block.{block_of, body_of as text_of};
-ghost use Rattle.px_core.specs.Plan.{body_data, variable_data};
+ghost use Rattle.px_core.specs.Plan.{body_data, variable_data, trees_of};
 ghost use Rattle.px_expand.specs.Core.{form_of, formed, items_of, shaped_as, simple};
 ghost use Rattle.px_scope.specs.Items.{priority_of, variables_of};
 ghost use Rattle.px_expand.specs.Items.{given_by};
 ghost use Rattle.px_forms.specs.Nodes.{alone, leaf, list};
-ghost use Rattle.px_forms.specs.Placed.{place_terms, tree_in, trees_of};
+ghost use Rattle.px_forms.specs.Placed.{place_terms, tree_in};
 ghost use Rattle.px_forms.specs.Shown.{given_terms};
 
 use crate::entering::{Inside, enter_simple};

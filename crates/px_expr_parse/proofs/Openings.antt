@@ -1,5 +1,5 @@
 -- What a tree is by the token that it begins with.
-use Rattle.std.proofs.Common.{◌≡◌, ℕ, zero, suc, ◌+◌, ◌≤◌, ◌⊎◌, inl, inr, refl, sym, ap, subst, ◌∙◌, List, Option, Some, None, true, false, arith}
+use Rattle.std.proofs.Common.{◌≡◌, ℕ, zero, suc, ◌+◌, ◌≤◌, ◌⊎◌, inl, inr, refl, sym, ap, subst, ◌∙◌, List, Option, Some, true, false, arith}
 use Rattle.std.specs.Option.{option_map, option_and_then}
 use Rattle.std.proofs.lemmas.Option.{same_Some}
 use Rattle.px_lex.specs.declared.keyword.Keyword.{Keyword}
@@ -28,6 +28,7 @@ use Rattle.px_value.specs.declared.enums.Failure.TheVariants as failures
 use Rattle.px_value.specs.declared.enums.Handle.TheVariants as handles
 use Rattle.px_value.specs.declared.enums.NodeState.TheVariants as states
 use Rattle.px_value.specs.declared.enums.Outcome.TheVariants as outcomes
+use Rattle.px_value.proofs.General.{option_map_some}
 use Rattle.px_syntax.specs.Expr.{Term, Terms, Literal, Enumerated, Variable, Element, Attribute, Look, UnaryCall, BinaryCall, Unary, Binary}
 use Rattle.px_syntax.specs.ExprGrammar.{operand, bare, term_level, literal_kind, enumerated_keyword, look_keyword, unary_keyword, binary_keyword}
 use Rattle.px_syntax.specs.Form.{Form, kind_at, identifier, in_pairs, sign, ◌then◌}
@@ -162,18 +163,12 @@ token_of (kinds.Keyword words.CommandDenied) = (words.CommandDenied, (refl, refl
 token_of (kinds.Keyword words.CommandSuccess) = (words.CommandSuccess, (refl, refl))
 token_of (kinds.Keyword word) = tt
 
-mapped :
-    (kind : Option TokenKind) (opening : Opening) → option_map opening_of kind ≡ Some opening
-    → (found : TokenKind) × (kind ≡ Some found) × (opening_of found ≡ opening)
-mapped None opening e = cc
-mapped (Some found) opening e = (found, refl, let same : opening_of found ≡ opening = cc in same)
-
 -- the token at a place where something begins
 pub token_there :
     (tokens : List Token) (place : ℕ) (opening : Opening) → Begins tokens place opening
     → (kind : TokenKind) × (kind_at tokens place ≡ Some kind) × Token_of opening kind
 token_there tokens place opening begins =
-    let found = mapped (kind_at tokens place) opening begins.opens in
+    let found = option_map_some opening_of (kind_at tokens place) opening begins.opens in
     (found.0, found.1, subst (λ (which : Opening). Token_of which found.0) found.2 (token_of found.0))
 
 -- nothing else begins with an operator before an operand
@@ -426,7 +421,7 @@ module _ (tokens : List Token) (from : ℕ) where
   prefix_of operator is tree end o =
       elim (opened tree end o) [
         | inl found ↦
-            let begun = mapped (kind_at tokens from) found.opening found.opens in
+            let begun = option_map_some opening_of (kind_at tokens from) found.opening found.opens in
             let here : unary_of begun.0 ≡ Some operator = sym (ap (option_and_then unary_of) begun.1) ∙ is in
             let same : found.opening ≡ openings.Nothing = sym begun.2 ∙ unary_opens begun.0 operator here in
             absurd (subst (λ (which : Opening). Rest which tokens from tree end) same found.rest)

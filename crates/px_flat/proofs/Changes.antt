@@ -1,27 +1,18 @@
 -- A change of one node's cells or of what it has under way is a change of its record alone.
 use Rattle.std.proofs.Common.{◌≡◌, ◌≢◌, ℕ, zero, suc, ◌+◌, ◌-◌, ◌<◌, ◌≤◌, List, [], ◌∷◌, length, set, map, sum, take, drop, refl, ap, sym, ◌∙◌, arith, if◌then◌else◌}
-use Rattle.std.specs.List.{enumerate_from}
 use Rattle.std.proofs.lemmas.List.{take-set-le, drop-set-add}
 use Rattle.std.proofs.lemmas.List.Sums.{sum_by-cons}
 use Rattle.px_value.specs.declared.value.Value.{Value}
 use Rattle.px_core.specs.Fit.{cells_of, AreDistinct}
 use Rattle.px_core.specs.Plan.{Site, VariableData, is_same}
 use Rattle.px_core.proofs.Paths.{same-self, same-other}
-use Rattle.px_sem.specs.Events.{with_record}
+use Rattle.px_sem.specs.Events.{with_entry, with_record}
 use Rattle.px_sem.specs.World.{World, NodeRecord, LookState, Report}
 use Rattle.px_flat.specs.declared.act.Act.{Act}
-use Rattle.px_flat.specs.Parts.{values_in, record_in, world_of}
+use Rattle.px_flat.specs.Parts.{values_in, record_in, entries, world_of}
 use Rattle.px_flat.specs.Row.{site_in}
 
 -- ---- the records of all nodes but one stay
-
--- the entries of nodes from a number on, with this record of each
-abbrev pub entries : (ℕ → NodeRecord) → ℕ → List Site → List (List ℕ × NodeRecord)
-entries f first plan = map (λ entry. (entry.1.path, f entry.0)) (enumerate_from first plan)
-
--- with another record of the node at a path
-abbrev with_entry : List ℕ → NodeRecord → List (List ℕ × NodeRecord) → List (List ℕ × NodeRecord)
-with_entry path r nodes = map (λ entry. (entry.0, if is_same entry.0 path then r else entry.1)) nodes
 
 -- none of these nodes is at the path
 untouched : (plan : List Site) (f g : ℕ → NodeRecord) (first : ℕ) (path : List ℕ) (r : NodeRecord)
@@ -105,3 +96,16 @@ values_in-behind (variable ∷ variables) cells cell value behind =
     ∙ ap (λ behind. take (cells_of variable) cells ∷ values_in variables behind) rest
     ∙ ap (λ more. take (cells_of variable) cells ∷ more)
     (values_in-behind variables (drop (cells_of variable) cells) (cell - cells_of variable) value (omega arith))
+
+-- ---- the records of all nodes, where each is what the node's site tells
+
+pub nodes_are : (plan : List Site) (first : ℕ) (f : ℕ → NodeRecord) (g : Site → NodeRecord)
+    → ((k : ℕ) → k < length plan → f (first + k) ≡ g (site_in plan k))
+    → entries f first plan ≡ map {B = List ℕ × NodeRecord} (λ site. (site.path, g site)) plan
+nodes_are [] first f g same = refl
+nodes_are (site ∷ plan) first f g same =
+    let zero_more : first ≡ first + 0 = omega arith in
+    let next : (k : ℕ) → k < length plan → f (first + 1 + k) ≡ g (site_in plan k) = λ k within.
+    let there : first + 1 + k ≡ first + suc k = omega arith in
+    ap f there ∙ same (suc k) (omega (arith, within)) in
+    (λ i. (site.path, (ap f zero_more ∙ same 0 (omega arith)) i) ∷ nodes_are plan (first + 1) f g next i)

@@ -1,11 +1,12 @@
 -- The number after the last descendant, by the tree and by the list of nodes.
 use Rattle.std.proofs.Common.{◌≡◌, ℕ, zero, suc, ◌+◌, ◌-◌, ◌<◌, ◌≤◌, Bool, true, false, ◌||◌, ◌&&◌, cond, List, [], ◌∷◌, ◌++◌, length, get_or, drop, refl, ap, sym, ◌∙◌, arith, inl, inr, append_assoc, append-nil, length-append}
-use Rattle.std.specs.List.{list_all, list_any, prefix_len}
+use Rattle.std.specs.List.{list_all, list_any, prefix_len, AllByRecursion}
 use Rattle.std.proofs.Math.Bool.{or-true}
-use Rattle.std.proofs.lemmas.Bool.{cases_lt, and_parts}
+use Rattle.std.proofs.lemmas.Bool.{cases_lt}
 use Rattle.std.proofs.lemmas.Grind.{common_steps}
 use Rattle.std.proofs.lemmas.List.{get_or_append_left, get_or-append-add, drop-drop, drop_at}
 use Rattle.std.proofs.lemmas.List.Folds.{length-prefix_len, list_all-append}
+use Rattle.px_value.proofs.General.{each_map, prefix_run}
 use Rattle.px_core.specs.Plan.{Tree, NoNode, Branch, Site, no_site, is_same, count_of, path_under, site_under, sites_under, sites}
 use Rattle.px_core.proofs.Paths.{same-self, same-other}
 use Rattle.px_flat.specs.Laying.{ends_from}
@@ -34,16 +35,16 @@ self_among own above = ap (λ b. b || list_any (is_same own) above) (same-self o
 
 -- each path has fewer bytes
 abbrev pub Shorter : ℕ → List (List ℕ) → Type 0
-Shorter n [] = Unit {0}
-Shorter n (path ∷ paths) = (length path < n) × Shorter n paths
+Shorter n paths = AllByRecursion (λ path. length path < n) paths
 
 pub shorter_more : (n m : ℕ) (paths : List (List ℕ)) → n ≤ m → Shorter n paths → Shorter m paths
-shorter_more n m [] le h = tt
-shorter_more n m (path ∷ paths) le h = let lt : length path < n = h.0 in (omega arith, shorter_more n m paths le h.1)
+shorter_more n m paths le h =
+    each_map (λ (path : List ℕ). length path < n) (λ path. length path < m) paths (λ path less. omega (arith, less, le)) h
 
 pub not_among : (own : List ℕ) (paths : List (List ℕ)) → Shorter (length own) paths → list_any (is_same own) paths ≡ false
 not_among own [] h = refl
-not_among own (path ∷ paths) h = grind (arith, common_steps, same-other, not_among own paths h.1)
+not_among own (path ∷ paths) h =
+    let less : length path < length own = h.0 in grind (arith, common_steps, same-other, not_among own paths h.1)
 
 -- the least length of the paths under these ancestors
 abbrev pub depth : List (List ℕ) → ℕ
@@ -70,17 +71,9 @@ abbrev pub FirstFails : (Site → Bool) → List Site → Type 0
 FirstFails p [] = Unit {0}
 FirstFails p (site ∷ sites) = p site ≡ false
 
-run_none : (p : Site → Bool) (sites : List Site) → FirstFails p sites → prefix_len p sites ≡ 0
+pub run_none : (p : Site → Bool) (sites : List Site) → FirstFails p sites → prefix_len p sites ≡ 0
 run_none p [] h = refl
 run_none p (site ∷ sites) h = ap (λ b. cond b (1 + prefix_len p sites) 0) h
-
-pub run_all : (p : Site → Bool) (front behind : List Site) → list_all p front ≡ true → FirstFails p behind
-    → prefix_len p (front ++ behind) ≡ length front
-run_all p [] behind all fails = run_none p behind fails
-run_all p (site ∷ front) behind all fails =
-    let both = and_parts (p site) (list_all p front) all in
-    ap (λ b. cond b (1 + prefix_len p (front ++ behind)) 0) both.0
-    ∙ omega (arith, run_all p front behind both.1 fails)
 
 first_fails : (own : List ℕ) (n : ℕ) (sites : List Site) → n ≤ length own → FirstShorter n sites
     → FirstFails (is_below own) sites
@@ -170,8 +163,8 @@ ends_at number above (Branch head children rest) behind i stem first within =
     by in_children in_rest zero within =
         let run : prefix_len (is_below own) ((inner ++ outer) ++ behind) ≡ count_of children =
         ap (prefix_len (is_below own)) (append_assoc inner outer behind)
-        ∙ run_all (is_below own) inner (outer ++ behind) (all_below own (own ∷ above) children (self_among own above))
-        (first_fails own (depth above) (outer ++ behind) long first_outer)
+        ∙ prefix_run (is_below own) inner (outer ++ behind) (all_below own (own ∷ above) children (self_among own above))
+        (run_none (is_below own) (outer ++ behind) (first_fails own (depth above) (outer ++ behind) long first_outer))
         ∙ length-sites_under (own ∷ above) children in
         omega (arith, run)
     by in_children in_rest (suc i) within = elim (cases_lt i (count_of children)) [

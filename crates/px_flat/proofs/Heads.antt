@@ -5,17 +5,17 @@ use Rattle.std.specs.Borrow.{Bor}
 use Rattle.std.proofs.lemmas.List.{get_or-map, length-map, map-append}
 use Rattle.px_core.proofs.Trees.{node_tree}
 use Rattle.px_core.specs.declared.node.CoreNode.{CoreNode}
-use Rattle.px_core.specs.Plan.{Tree, NoNode, Branch, Site, no_site, path_under, sites, sites_under}
-use Rattle.px_flat.specs.Laying.{trees, below_it, heads_in, heads_of}
+use Rattle.px_core.specs.Plan.{Tree, NoNode, Branch, Site, no_site, path_under, sites, sites_under, trees_of}
+use Rattle.px_flat.specs.Laying.{below_it, heads_in, heads_of}
 use Rattle.px_flat.specs.Row.{site_in}
 use Rattle.px_flat.proofs.Trees.{node_head}
 
 pub heads_of_more : (nodes more : List CoreNode)
-    → heads_in (trees (nodes ++ more)) ≡ heads_in (trees nodes) ++ heads_in (trees more)
+    → heads_in (trees_of (nodes ++ more)) ≡ heads_in (trees_of nodes) ++ heads_in (trees_of more)
 heads_of_more [] more = refl
 heads_of_more (node ∷ nodes) more = grind (arith, common_steps, node_tree, append_assoc, heads_of_more nodes more)
 
-pub heads_of_one : (node : CoreNode) → heads_in (trees (node ∷ [])) ≡ node_head node ∷ heads_in (below_it node)
+pub heads_of_one : (node : CoreNode) → heads_in (trees_of (node ∷ [])) ≡ node_head node ∷ heads_in (below_it node)
 heads_of_one node =
     ap heads_in (node_tree node NoNode) ∙ ap (λ all. node_head node ∷ all) (append-nil (heads_in (below_it node)))
 

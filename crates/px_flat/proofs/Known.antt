@@ -1,5 +1,5 @@
 -- All that the expressions of a fit plan speak of and look up is the plan's.
-use Rattle.std.proofs.Common.{◌≡◌, ℕ, zero, suc, ◌<◌, ◌≤◌, Bool, true, false, ◌&&◌, List, [], ◌∷◌, ◌++◌, length, get_or, fold, refl, ap, sym, ◌∙◌, subst, arith, append_assoc, if◌then◌else◌}
+use Rattle.std.proofs.Common.{◌≡◌, ℕ, zero, suc, ◌<◌, ◌≤◌, Bool, true, false, ◌&&◌, List, [], ◌∷◌, ◌++◌, length, get_or, fold, refl, ap, sym, ◌∙◌, subst, arith, if◌then◌else◌}
 use Rattle.std.specs.List.{list_all, list_any, flat_map, All}
 use Rattle.std.proofs.Math.Logic.{∥∥₁_elim}
 use Rattle.std.proofs.Props.{props}
@@ -8,8 +8,8 @@ use Rattle.std.proofs.lemmas.Grind.{common_steps}
 use Rattle.std.proofs.lemmas.List.Folds.{list_all-append, list_any-append}
 use Rattle.std.proofs.lemmas.List.Sums.{AllPass-from_list_all}
 use Rattle.px_core.specs.Expr.{Term}
-use Rattle.px_core.specs.Fit.{Reference, references, references_of_site, references_of_target, terms_of, terms_of_conditions, targets_of, path_is_there, variable_is_there, paths_are_there, variables_are_there, has_right_variables, AreDistinct}
-use Rattle.px_core.specs.Plan.{Site, Head, no_site, is_same}
+use Rattle.px_core.specs.Fit.{Reference, references, references_of_site, path_is_there, variable_is_there, paths_are_there, variables_are_there, has_right_variables, AreDistinct, is_there}
+use Rattle.px_core.specs.Plan.{Site, no_site, is_same}
 use Rattle.px_core.proofs.Paths.{same-self}
 use Rattle.px_flat.specs.declared.names.Names.{Names}
 use Rattle.px_flat.specs.Extents.{AreBelow}
@@ -21,10 +21,6 @@ use Rattle.px_flat.specs.Row.{site_in, after_last}
 use Rattle.px_flat.proofs.Numbers.{distinct_sites}
 use Rattle.px_flat.proofs.Subtrees.{are_below}
 use Rattle.px_flat.proofs.Trees.{length-sites_under}
-
--- what is spoken of is there
-abbrev pub is_there : List Site → Reference → Bool
-is_there plan mention = path_is_there plan mention && variable_is_there plan mention
 
 -- all that expressions speak of and look up is the plan's
 pub record AreKnown (plan : List Site) (mentions : List Reference) (names : List (List ℕ)) : Type 0 where
@@ -148,23 +144,12 @@ part_passes p f (x ∷ xs) (suc i) d all within =
     (and_parts (list_all p (f x)) (list_all p (flat_map f xs)) (sym (list_all-append p (f x) (flat_map f xs)) ∙ all)).1
     (omega arith)
 
--- what a node speaks of, in its conditions and then in its body
-abbrev pub mentions_of : Head → List Reference
-mentions_of head =
-    flat_map references (terms_of_conditions head.conditions)
-    ++ (flat_map references (terms_of head.body) ++ flat_map references_of_target (targets_of head.body))
-
 pub site_known : (plan : List Site) → IsSound plan → (node : ℕ) → node < length plan
-    → AreKnown plan (mentions_of (site_in plan node).head) (lookups_in_head (site_in plan node).head)
-site_known plan sound node within =
-    let head : Head = (site_in plan node).head in
-    record {
-      mentioned = subst (λ mentions. list_all (is_there plan) mentions ≡ true)
-          (append_assoc (flat_map references (terms_of_conditions head.conditions))
-          (flat_map references (terms_of head.body)) (flat_map references_of_target (targets_of head.body)))
-          (both_pass (path_is_there plan) (variable_is_there plan) (references_of_site (site_in plan node))
-          (AllPass-from_list_all (paths_are_there plan) plan sound.spoken node no_site within)
-          (AllPass-from_list_all (variables_are_there plan) plan sound.declared node no_site within));
-      looked_up = part_passes (λ name. list_any (is_same name) (lookups_of plan)) (λ site. lookups_in_head site.head) plan
-          node no_site (all_added [] (flat_map (λ site. lookups_in_head site.head) plan)) within;
-    }
+    → AreKnown plan (references_of_site (site_in plan node)) (lookups_in_head (site_in plan node).head)
+site_known plan sound node within = record {
+  mentioned = both_pass (path_is_there plan) (variable_is_there plan) (references_of_site (site_in plan node))
+      (AllPass-from_list_all (paths_are_there plan) plan sound.spoken node no_site within)
+      (AllPass-from_list_all (variables_are_there plan) plan sound.declared node no_site within);
+  looked_up = part_passes (λ name. list_any (is_same name) (lookups_of plan)) (λ site. lookups_in_head site.head) plan
+      node no_site (all_added [] (flat_map (λ site. lookups_in_head site.head) plan)) within;
+}

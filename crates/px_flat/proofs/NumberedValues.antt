@@ -1,12 +1,12 @@
 -- The value of a numbered expression is that of the plan's own expression, in the world that parts stand for.
-use Rattle.std.proofs.Common.{◌≡◌, ℕ, Bool, true, not, ◌&&◌, List, [], ◌∷◌, refl, ap, sym, ◌∙◌}
+use Rattle.std.proofs.Common.{◌≡◌, ℕ, Bool, true, not, ◌&&◌, List, [], ◌∷◌, is_some, refl, ap, sym, ◌∙◌}
 use Rattle.std.specs.List.{list_all, list_any}
 use Rattle.std.proofs.lemmas.Bool.{and_parts}
 use Rattle.std.proofs.lemmas.List.Sums.{AllPass-from_list_all}
 use Rattle.px_value.specs.declared.value.Value.{Value}
 use Rattle.px_core.specs.Expr as terms
 use Rattle.px_core.specs.Expr.{Term, Terms, NoTerms, More}
-use Rattle.px_core.specs.Fit.{Reference, Node, CommandNode, UpdateNode, Scalar, Array, references, references_of_each, path_is_there, variable_is_there, has_right_variables, declares_scalar, declares_array, is_array}
+use Rattle.px_core.specs.Fit.{Reference, Node, CommandNode, UpdateNode, Scalar, Array, references, references_of_each, path_is_there, variable_is_there, has_right_variables, declares_scalar, declares_array, is_there}
 use Rattle.px_core.specs.Plan.{Site, VariableData, no_site, is_same}
 use Rattle.px_sem.specs.Expressions.{value, value_of_each, element, looked_up, unary_value, binary_value}
 use Rattle.px_sem.specs.World.{LookState, Report, cells_at}
@@ -16,7 +16,7 @@ use Rattle.px_flat.specs.Numbered.{numbered, each_numbered, numbered_value, numb
 use Rattle.px_flat.specs.Parts.{IsParts, world_of}
 use Rattle.px_flat.specs.Lookups.{lookups_in, lookups_in_each, lookups_of}
 use Rattle.px_flat.specs.Row.{site_in}
-use Rattle.px_flat.proofs.Known.{IsSound, AreKnown, is_there, front, back}
+use Rattle.px_flat.proofs.Known.{IsSound, AreKnown, front, back}
 use Rattle.px_flat.proofs.NodeValues.{state_value, outcome_of_value, failure_of_value, handle_of_value, acknowledged_value}
 use Rattle.px_flat.proofs.VariableValues.{has_place, IsPlaced, placed, name_at}
 use Rattle.px_flat.proofs.Worlds.{IsThere, site_there}
@@ -51,10 +51,10 @@ mutual
       → numbered_value plan cells reports (numbered plan term) ≡ value plan (world_of plan cells reports acts) term
   numbered_value-numbered plan cells reports acts (terms.Literal given) sound parts known = refl
   numbered_value-numbered plan cells reports acts (terms.Var owner name) sound parts known =
-      (variable_at plan cells reports acts owner name (λ variable. not (is_array variable.size)) sound
+      (variable_at plan cells reports acts owner name (λ variable. not (is_some variable.size)) sound
       (site_there (declares_scalar name) owner plan (first_variable plan (Scalar owner name) [] [] known))).first_is
   numbered_value-numbered plan cells reports acts (terms.Cell owner name index) sound parts known =
-      let at = variable_at plan cells reports acts owner name (λ variable. is_array variable.size) sound
+      let at = variable_at plan cells reports acts owner name (λ variable. is_some variable.size) sound
       (site_there (declares_array name) owner plan
       (first_variable plan (Array owner name) (references index) (lookups_in index) known)) in
       let rest : AreKnown plan (references index) (lookups_in index) =

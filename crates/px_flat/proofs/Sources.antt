@@ -1,8 +1,9 @@
 -- An expression has the same value wherever all its sources are the same.
 use Rattle.std.proofs.Common.{◌≡◌, ℕ, ◌+◌, ◌<◌, List, [], ◌∷◌, ◌++◌, length, take, drop, get_or, refl, ap, sym, ◌∙◌, subst, arith, All, rules}
-use Rattle.std.proofs.lemmas.List.{ext_get_or, get_or_append_left, get_or-append-add, get_or-drop, get_or-take, length-append, length-drop, length-take}
+use Rattle.std.proofs.lemmas.List.{ext_get_or, get_or-append-add, get_or-drop, get_or-take, length-append, length-drop, length-take}
 use Rattle.std.proofs.lemmas.List.Elements.{All-head, All-tail}
 use Rattle.px_value.specs.declared.value.Value.TheVariants.{Unknown}
+use Rattle.px_value.proofs.General.{All-front}
 use Rattle.px_core.specs.Plan.{Site}
 use Rattle.px_sem.specs.Expressions.{element, unary_value, binary_value}
 use Rattle.px_flat.specs.Layout.{state_cell, outcome_cell, failure_cell, handle_cell, acknowledgement_cell}
@@ -14,12 +15,7 @@ module _ (plan : List Site) (one other : Present) (long : length one.cells ≡ l
   abbrev AreSame : List Source → Type 0
   AreSame sources = All (IsSame plan one other) sources
 
-  -- what is true of all of two lists is true of each of them
-  front : (xs ys : List Source) → AreSame (xs ++ ys) → AreSame xs
-  front xs ys all k d inside =
-      subst (IsSame plan one other) (get_or_append_left xs ys d k inside)
-      (all k d (omega (arith, inside, length-append xs ys)))
-
+  -- what is true of all of two lists is true of all of the second
   back : (xs ys : List Source) → AreSame (xs ++ ys) → AreSame ys
   back xs ys all k d inside =
       subst (IsSame plan one other) (get_or-append-add xs ys k d)
@@ -69,14 +65,14 @@ module _ (plan : List Site) (one other : Present) (long : length one.cells ≡ l
     same_value (Unary op arg) all = ap (unary_value op) (same_value arg all)
     same_value (Binary op left right) all =
         (λ i. binary_value op
-        (same_value left (front (sources_in plan left) (sources_in plan right) all) i)
+        (same_value left (All-front (IsSame plan one other) (sources_in plan left) (sources_in plan right) all) i)
         (same_value right (back (sources_in plan left) (sources_in plan right) all) i))
 
     pub same_values : (args : EachNumbered) → AreSame (sources_in_each plan args)
         → numbered_values plan one.cells one.reports args ≡ numbered_values plan other.cells other.reports args
     same_values NoneNumbered all = refl
     same_values (MoreNumbered first rest) all =
-        (λ i. same_value first (front (sources_in plan first) (sources_in_each plan rest) all) i
+        (λ i. same_value first (All-front (IsSame plan one other) (sources_in plan first) (sources_in_each plan rest) all) i
         ∷ same_values rest (back (sources_in plan first) (sources_in_each plan rest) all) i)
 
 pub read_only_sources : (plan : List Site) → ReadOnlySources plan

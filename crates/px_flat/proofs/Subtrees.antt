@@ -1,46 +1,44 @@
 -- The nodes below a node are those behind it, up to the number after its last descendant.
 use Rattle.std.proofs.Common.{◌≡◌, ◌≢◌, ℕ, zero, suc, ◌+◌, ◌-◌, ◌<◌, ◌≤◌, Bool, true, false, ◌&&◌, nat_lt, List, [], ◌∷◌, ◌++◌, length, get_or, drop, take_while, refl, ap, sym, ◌∙◌, subst, arith, ◌⊎◌, inl, inr, append_assoc, length-append, rules}
-use Rattle.std.specs.List.{list_all, list_any}
+use Rattle.std.specs.List.{list_all, list_any, AllByRecursion as Each}
 use Rattle.std.proofs.lemmas.Bool.{cases_lt, lt-ltb, le-ltb, or_parts, or_from, false_from_ne_true, true≢false}
 use Rattle.std.proofs.lemmas.List.{get_or_append_left, get_or-append-add, drop_at}
+use Rattle.std.proofs.lemmas.List.Elements.{All-from_get_or, recursion_from_All}
 use Rattle.std.proofs.lemmas.List.Folds.{length-prefix_len, list_any-append, list_any_at}
 use Rattle.std.proofs.lemmas.List.Sums.{AllPass-from_list_all}
 use Rattle.std.proofs.Math.Seq.{get_or-append_seam}
+use Rattle.px_value.proofs.General.{each-append, each_front, each_back, each_map, prefix_run}
 use Rattle.px_core.specs.Fit.{AreDistinct}
 use Rattle.px_core.specs.Plan.{Tree, NoNode, Branch, Site, no_site, is_same, count_of, path_under, site_under, sites_under, sites}
-use Rattle.px_core.proofs.Each.{Each, Differ, each-append, each_front, each_back, each_map, each_from}
+use Rattle.px_core.proofs.Differing.{Differ}
 use Rattle.px_core.proofs.Paths.{same-other}
 use Rattle.px_flat.specs.Extents.{AreBelow}
 use Rattle.px_flat.specs.FitPlan.{IsFitPlan}
 use Rattle.px_flat.specs.Row.{site_in, is_below, after_last}
-use Rattle.px_flat.proofs.Descendants.{Shorter, shorter_more, depth, own_long, not_among, all_below, self_among, FirstFails, run_all}
+use Rattle.px_flat.proofs.Descendants.{Shorter, shorter_more, depth, own_long, not_among, all_below, self_among, FirstFails, run_none}
 use Rattle.px_flat.proofs.Trees.{length-sites_under}
 
 -- ---- nodes of different paths
 
--- what holds of each node of a list holds of one between others
-each_between : (P : Site → Type 0) (front : List Site) (site : Site) (behind : List Site) → Each P (front ++ site ∷ behind) → P site
-each_between P [] site behind each = each.0
-each_between P (first ∷ front) site behind each = each_between P front site behind each.1
-
 differ_front : (xs ys : List Site) → Differ (xs ++ ys) → Differ xs
 differ_front [] ys differ = tt
-differ_front (x ∷ xs) ys differ = (each_front (λ other. x.path ≢ other.path) xs ys differ.0, differ_front xs ys differ.1)
+differ_front (x ∷ xs) ys differ = (each_front (λ (other : Site). x.path ≢ other.path) xs ys differ.0, differ_front xs ys differ.1)
 
 differ_back : (xs ys : List Site) → Differ (xs ++ ys) → Differ ys
 differ_back [] ys differ = differ
 differ_back (x ∷ xs) ys differ = differ_back xs ys differ.1
 
 -- those of the first list differ from those of the second
-differ_apart : (xs ys : List Site) → Differ (xs ++ ys) → Each (λ x. Each (λ y. x.path ≢ y.path) ys) xs
+differ_apart : (xs ys : List Site) → Differ (xs ++ ys) → Each (λ (x : Site). Each (λ y. x.path ≢ y.path) ys) xs
 differ_apart [] ys differ = tt
-differ_apart (x ∷ xs) ys differ = (each_back (λ other. x.path ≢ other.path) xs ys differ.0, differ_apart xs ys differ.1)
+differ_apart (x ∷ xs) ys differ = (each_back (λ (other : Site). x.path ≢ other.path) xs ys differ.0, differ_apart xs ys differ.1)
 
 differ_from : (plan : List Site) → AreDistinct plan → Differ plan
 differ_from [] distinct = tt
 differ_from (site ∷ plan) distinct = (
-  each_from (λ other. site.path ≢ other.path) plan no_site (λ i within same.
-      let e : 0 ≡ suc i = distinct 0 (suc i) (omega arith) (omega arith) same in absurd (omega arith)),
+  recursion_from_All (λ (other : Site). site.path ≢ other.path) plan
+      (All-from_get_or (λ (other : Site). site.path ≢ other.path) plan no_site (λ i within same.
+      let e : 0 ≡ suc i = distinct 0 (suc i) (omega arith) (omega arith) same in absurd (omega arith))),
   differ_from plan (λ i j hi hj same.
       let e : suc i ≡ suc j = distinct (suc i) (suc j) (omega arith) (omega arith) same in omega arith),
 )
@@ -60,8 +58,8 @@ none_below own above (Branch head children rest) free apart =
     or_from (list_any (is_same own) above) (list_any (is_below own) (inner ++ outer)) free
     (list_any-append (is_below own) inner outer
     ∙ or_from (list_any (is_below own) inner) (list_any (is_below own) outer)
-    (none_below own (next ∷ above) children deeper (each_front (λ site. own ≢ site.path) inner outer apart.1))
-    (none_below own above rest free (each_back (λ site. own ≢ site.path) inner outer apart.1)))
+    (none_below own (next ∷ above) children deeper (each_front (λ (site : Site). own ≢ site.path) inner outer apart.1))
+    (none_below own above rest free (each_back (λ (site : Site). own ≢ site.path) inner outer apart.1)))
 
 -- each path of a tree is longer than those above it
 long_paths : (n : ℕ) (above : List (List ℕ)) (tree : Tree) → n ≤ depth above
@@ -71,7 +69,7 @@ long_paths n above (Branch head children rest) le =
     let own : List ℕ = path_under above head.name in
     let long : depth above ≤ length own = own_long above head.name in (
       omega (arith, long),
-      each-append (λ site. n ≤ length site.path) (sites_under (own ∷ above) children) (sites_under above rest)
+      each-append (λ (site : Site). n ≤ length site.path) (sites_under (own ∷ above) children) (sites_under above rest)
           (long_paths n (own ∷ above) children (omega (arith, long))) (long_paths n above rest le),
     )
 
@@ -91,7 +89,7 @@ pub record IsSplit (plan : List Site) (i : ℕ) : Type 0 where
 -- the node of a split is one of the plan's
 split_each : (P : Site → Type 0) (plan : List Site) (i : ℕ) (split : IsSplit plan i) → Each P plan → P split.site
 split_each P plan i split each =
-    each_between P split.front split.site (split.inner ++ split.behind) (subst (Each P) split.is each)
+    (each_back P split.front (split.site ∷ (split.inner ++ split.behind)) (subst (Each P) split.is each)).0
 
 -- none above a tree is a node of it
 split_free : (above : List (List ℕ)) (top : List (List ℕ)) (tree : Tree) (i : ℕ) (split : IsSplit (sites_under above tree) i)
@@ -160,7 +158,7 @@ split_at above (Branch head children rest) i stem differ within =
         let path : List ℕ = split.site.path in
         let free = split_free above above rest k split stem (omega arith) in
         let other : path ≢ own = λ same. split_each (λ site. own ≢ site.path) outer k split
-        (each_back (λ site. own ≢ site.path) inner outer differ.0) (sym same) in
+        (each_back (λ (site : Site). own ≢ site.path) inner outer differ.0) (sym same) in
         record {
           front = first ∷ (inner ++ split.front);
           site = split.site;
@@ -174,7 +172,7 @@ split_at above (Branch head children rest) i stem differ within =
               ∙ or_from (list_any (is_below path) inner) (list_any (is_below path) split.front)
               (none_below path (own ∷ above) children
               (or_from (is_same path own) (list_any (is_same path) above) (same-other path own other) free)
-              (each_map (λ x. Each (λ y. x.path ≢ y.path) outer) (λ x. path ≢ x.path) inner
+              (each_map (λ (x : Site). Each (λ y. x.path ≢ y.path) outer) (λ x. path ≢ x.path) inner
               (λ x apart same. split_each (λ y. x.path ≢ y.path) outer k split apart (sym same))
               (differ_apart inner outer differ.1)))
               split.none_before);
@@ -195,7 +193,7 @@ split_at above (Branch head children rest) i stem differ within =
       none_before = refl;
       not_itself = own_free;
       all_inner = all_below own (own ∷ above) children (self_among own above);
-      none_behind = none_below own above rest own_free (each_back (λ site. own ≢ site.path) inner outer differ.0);
+      none_behind = none_below own above rest own_free (each_back (λ (site : Site). own ≢ site.path) inner outer differ.0);
     }
     by (suc i) within children_split rest_split = elim (cases_lt i (count_of children)) [
       | inl inside ↦ in_children i (children_split i inside)
@@ -242,7 +240,7 @@ below_split plan node other split within =
     end = ap (λ n. suc node + n)
         ((λ i. length (take_while (is_below (here i).path) (rest i)))
         ∙ length-prefix_len p more
-        ∙ run_all p split.inner split.behind split.all_inner (first_of_none p split.behind split.none_behind))
+        ∙ prefix_run p split.inner split.behind split.all_inner (run_none p split.behind (first_of_none p split.behind split.none_behind)))
 
     all : length plan ≡ node + (1 + (length split.inner + length split.behind))
     all = ap length split.is ∙ omega (

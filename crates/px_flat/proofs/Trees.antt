@@ -19,12 +19,12 @@ use Rattle.px_core.specs.declared.node.CoreNode.{CoreNode}
 use Rattle.px_core.specs.declared.node.CoreNode.TheViews.{out-CoreNode}
 use Rattle.px_core.specs.declared.node.CoreNode.TheFolds.{fold-CoreNode}
 use Rattle.px_core.specs.Plan.{Tree, Branch, NoNode, Head, count_of, Site, no_site, branch, head_of, path_under}
-use Rattle.px_core.specs.Plan.{site_under, sites_under, sites}
+use Rattle.px_core.specs.Plan.{site_under, sites_under, sites, trees_of}
 use Rattle.px_core.specs.Fit.{siblings_differ, has_short_path, has_name, AreDistinct}
 use Rattle.px_flat.specs.declared.row.Row.{Row}
 use Rattle.px_flat.specs.Row.{head_data}
 use Rattle.px_flat.specs.Rows.{above_in, site_of, sites_of, path_at, IsBefore, IsLaid, IsLinked, IsNamed}
-use Rattle.px_flat.specs.Laying.{trees, below_it, ends_from, IsRowUnder, IsRootRow}
+use Rattle.px_flat.specs.Laying.{below_it, ends_from, IsRowUnder, IsRootRow}
 use Rattle.px_core.proofs.SitePaths.{paths_differ}
 use Rattle.px_flat.proofs.Sites.{length-sites_of, site_at_linked, grown-push}
 
@@ -34,20 +34,20 @@ node_head node = head_of (out-CoreNode node)
 
 -- the sites of nodes side by side are those of the first ones and those of the rest
 pub sites_of_more : (above : List (List ℕ)) (nodes more : List CoreNode)
-    → sites_under above (trees (nodes ++ more)) ≡ sites_under above (trees nodes) ++ sites_under above (trees more)
+    → sites_under above (trees_of (nodes ++ more)) ≡ sites_under above (trees_of nodes) ++ sites_under above (trees_of more)
 sites_of_more above [] more = refl
 sites_of_more above (node ∷ nodes) more =
     grind (arith, common_steps, node_tree, append_assoc, sites_of_more above nodes more)
 
 -- one node: its own site, and those below it
 pub sites_of_one : (above : List (List ℕ)) (node : CoreNode)
-    → sites_under above (trees (node ∷ []))
+    → sites_under above (trees_of (node ∷ []))
     ≡ site_under above (node_head node) ∷ sites_under (path_under above (node_head node).name ∷ above) (below_it node)
 sites_of_one above node = grind (arith, common_steps, node_tree, append-nil)
 
 -- the first nodes are laid
 pub record LaidSoFar (old rows : List Row) (parent : ℕ) (done : List CoreNode) : Type 0 where
-  pub sites : sites_of rows ≡ sites_of old ++ sites_under (above_in (sites_of old) (Some parent)) (trees done)
+  pub sites : sites_of rows ≡ sites_of old ++ sites_under (above_in (sites_of old) (Some parent)) (trees_of done)
   pub linked : IsLinked rows
   pub named : IsNamed rows
 
@@ -94,12 +94,12 @@ pub record NextIsShort (above : List (List ℕ)) (node : CoreNode) : Type 0 wher
 
 -- the first node's part, and that of the nodes behind it
 short_parts : (above : List (List ℕ)) (node : CoreNode) (nodes : List CoreNode)
-    → list_all has_short_path (sites_under above (trees (node ∷ nodes))) ≡ true
-    → NextIsShort above node × (list_all has_short_path (sites_under above (trees nodes)) ≡ true)
+    → list_all has_short_path (sites_under above (trees_of (node ∷ nodes))) ≡ true
+    → NextIsShort above node × (list_all has_short_path (sites_under above (trees_of nodes)) ≡ true)
 short_parts above node nodes short = grind (arith, common_steps, and_parts, node_tree, list_all-append)
 
 pub next_is_short : (above : List (List ℕ)) (nodes : List CoreNode) (i : ℕ) (d : CoreNode) → i < length nodes
-    → list_all has_short_path (sites_under above (trees nodes)) ≡ true → NextIsShort above (get_or nodes i d)
+    → list_all has_short_path (sites_under above (trees_of nodes)) ≡ true → NextIsShort above (get_or nodes i d)
 next_is_short above [] i d h short = absurd (omega arith)
 next_is_short above (node ∷ nodes) zero d h short = (short_parts above node nodes short).0
 next_is_short above (node ∷ nodes) (suc i) d h short =
@@ -180,11 +180,11 @@ next_room old rows parent done node h so_far is_short = grind (arith, common_ste
 
 -- a child has fewer nodes below it than its parent
 pub child_smaller : (nodes : List CoreNode) (i : ℕ) (d : CoreNode) → i < length nodes
-    → count_of (below_it (get_or nodes i d)) < count_of (trees nodes)
+    → count_of (below_it (get_or nodes i d)) < count_of (trees_of nodes)
 child_smaller [] i d h = absurd (omega arith)
-child_smaller (node ∷ nodes) zero d h = omega (arith, ap count_of (node_tree node (trees nodes)))
+child_smaller (node ∷ nodes) zero d h = omega (arith, ap count_of (node_tree node (trees_of nodes)))
 child_smaller (node ∷ nodes) (suc i) d h =
-    omega (arith, ap count_of (node_tree node (trees nodes)), child_smaller nodes i d (omega arith))
+    omega (arith, ap count_of (node_tree node (trees_of nodes)), child_smaller nodes i d (omega arith))
 
 -- ---- how many they are
 
@@ -201,43 +201,43 @@ length-sites_under above (Branch head children rest) =
 
 -- the first nodes, the next one and those below it are no more than all
 pub count_next : (nodes : List CoreNode) (i : ℕ) (d : CoreNode) → i < length nodes
-    → count_of (trees (take i nodes)) + (1 + count_of (below_it (get_or nodes i d))) ≤ count_of (trees nodes)
+    → count_of (trees_of (take i nodes)) + (1 + count_of (below_it (get_or nodes i d))) ≤ count_of (trees_of nodes)
 count_next [] i d h = absurd (omega arith)
-count_next (node ∷ nodes) zero d h = omega (arith, ap count_of (node_tree node (trees nodes)))
+count_next (node ∷ nodes) zero d h = omega (arith, ap count_of (node_tree node (trees_of nodes)))
 count_next (node ∷ nodes) (suc i) d h = grind (arith, common_steps, node_tree, count_next nodes i d (omega arith))
 
 -- how many rows are laid
 pub laid_count : (old rows : List Row) (parent : ℕ) (done : List CoreNode) → LaidSoFar old rows parent done
-    → length rows ≡ length old + count_of (trees done)
+    → length rows ≡ length old + count_of (trees_of done)
 laid_count old rows parent done so_far = search (rules, length-append, length-sites_under, length-sites_of)
 
 -- ---- the ends
 
 pub ends_of_more : (number : ℕ) (nodes more : List CoreNode)
-    → ends_from number (trees (nodes ++ more))
-    ≡ ends_from number (trees nodes) ++ ends_from (number + count_of (trees nodes)) (trees more)
-ends_of_more number [] more = ap (λ n. ends_from n (trees more)) (omega arith)
+    → ends_from number (trees_of (nodes ++ more))
+    ≡ ends_from number (trees_of nodes) ++ ends_from (number + count_of (trees_of nodes)) (trees_of more)
+ends_of_more number [] more = ap (λ n. ends_from n (trees_of more)) (omega arith)
 ends_of_more number (node ∷ nodes) more =
     let inner : List ℕ = ends_from (number + 1) (below_it node) in
     let after : ℕ = number + 1 + count_of (below_it node) in
-    let same : after + count_of (trees nodes) ≡ number + count_of (trees (node ∷ nodes)) =
-    omega (arith, ap count_of (node_tree node (trees nodes))) in
-    ap (ends_from number) (node_tree node (trees (nodes ++ more)))
+    let same : after + count_of (trees_of nodes) ≡ number + count_of (trees_of (node ∷ nodes)) =
+    omega (arith, ap count_of (node_tree node (trees_of nodes))) in
+    ap (ends_from number) (node_tree node (trees_of (nodes ++ more)))
     ∙ ap (λ rest. after ∷ (inner ++ rest)) (ends_of_more after nodes more)
-    ∙ ap (λ all. after ∷ all) (sym (append_assoc inner (ends_from after (trees nodes))
-    (ends_from (after + count_of (trees nodes)) (trees more))))
-    ∙ ap (λ n. (after ∷ (inner ++ ends_from after (trees nodes))) ++ ends_from n (trees more)) same
-    ∙ ap (λ tree. ends_from number tree ++ ends_from (number + count_of (trees (node ∷ nodes))) (trees more))
-    (sym (node_tree node (trees nodes)))
+    ∙ ap (λ all. after ∷ all) (sym (append_assoc inner (ends_from after (trees_of nodes))
+    (ends_from (after + count_of (trees_of nodes)) (trees_of more))))
+    ∙ ap (λ n. (after ∷ (inner ++ ends_from after (trees_of nodes))) ++ ends_from n (trees_of more)) same
+    ∙ ap (λ tree. ends_from number tree ++ ends_from (number + count_of (trees_of (node ∷ nodes))) (trees_of more))
+    (sym (node_tree node (trees_of nodes)))
 
 pub ends_of_one : (number : ℕ) (node : CoreNode)
-    → ends_from number (trees (node ∷ []))
+    → ends_from number (trees_of (node ∷ []))
     ≡ (number + 1 + count_of (below_it node)) ∷ ends_from (number + 1) (below_it node)
 ends_of_one number node =
     ap (ends_from number) (node_tree node NoNode)
     ∙ ap (λ all. (number + 1 + count_of (below_it node)) ∷ all) (append-nil (ends_from (number + 1) (below_it node)))
 
-pub count_of_one : (node : CoreNode) → count_of (trees (node ∷ [])) ≡ 1 + count_of (below_it node)
+pub count_of_one : (node : CoreNode) → count_of (trees_of (node ∷ [])) ≡ 1 + count_of (below_it node)
 count_of_one node = omega (arith, ap count_of (node_tree node NoNode))
 
 pub length-ends_from : (number : ℕ) (tree : Tree) → length (ends_from number tree) ≡ count_of tree
@@ -280,26 +280,15 @@ rooted front rows root row none is root_is = subst (λ ps. IsRooted ps root)
     at : List ℕ → List (List ℕ) → Head → Site
     at path above head = record { path = path; above = above; head = head }
 
--- the sites of a tree of one root
-pub sites_of_root : (root : CoreNode)
-    → sites (fold-CoreNode (Tree → Tree) branch root NoNode)
-    ≡ site_under [] (node_head root) ∷ sites_under ((node_head root).name ∷ []) (below_it root)
-sites_of_root root = grind (arith, common_steps, node_tree, append-nil)
-
 pub above_root : (rows : List Row) (root : CoreNode) → IsRooted rows root
     → above_in (sites_of rows) (Some 0) ≡ (node_head root).name ∷ []
 above_root rows root is = ap (λ all. (get_or all 0 no_site).path ∷ (get_or all 0 no_site).above) is.sites
-
-pub short_below : (root : CoreNode)
-    → list_all has_short_path (sites (fold-CoreNode (Tree → Tree) branch root NoNode)) ≡ true
-    → list_all has_short_path (sites_under ((node_head root).name ∷ []) (below_it root)) ≡ true
-short_below root short = grind (arith, common_steps, and_parts, sites_of_root)
 
 -- all is laid
 pub all_laid : (rows rows' : List Row) (root : CoreNode) → IsRooted rows root
     → sites_of rows' ≡ sites_of rows ++ sites_under (above_in (sites_of rows) (Some 0)) (below_it root)
     → sites_of rows' ≡ sites (fold-CoreNode (Tree → Tree) branch root NoNode)
-all_laid rows rows' root is inner = grind (arith, common_steps, above_root, sites_of_root)
+all_laid rows rows' root is inner = grind (arith, common_steps, above_root, sites_of_one [] root)
 
 pub laid : (rows : List Row) (tree : Tree) (spare : Row) → sites_of rows ≡ sites tree
     → siblings_differ tree ≡ true → IsLinked rows → IsNamed rows → IsLaid rows

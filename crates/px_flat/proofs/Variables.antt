@@ -1,5 +1,5 @@
 -- What a node of a fit plan writes is declared, and a cell belongs to one variable at most.
-use Rattle.std.proofs.Common.{◌≡◌, ℕ, ◌+◌, ◌<◌, ◌≤◌, Bool, true, false, not, ◌&&◌, List, [], ◌∷◌, length, refl, ap, sym, ◌∙◌, subst, arith, inl, inr, Option, Some, None, if◌then◌else◌, rules}
+use Rattle.std.proofs.Common.{◌≡◌, ℕ, ◌+◌, ◌<◌, ◌≤◌, Bool, true, false, not, ◌&&◌, List, [], ◌∷◌, ◌++◌, length, refl, ap, sym, ◌∙◌, subst, arith, inl, inr, Option, Some, None, is_some, if◌then◌else◌}
 use Rattle.std.specs.List.{list_all, list_any, flat_map}
 use Rattle.std.specs.Cmp.Lexicographic.{same_text}
 use Rattle.std.proofs.lemmas.Bool.{and_parts, cases_lt}
@@ -8,8 +8,8 @@ use Rattle.std.proofs.lemmas.List.{take-take}
 use Rattle.std.proofs.lemmas.List.Folds.{list_all-append}
 use Rattle.std.proofs.lemmas.List.Sums.{AllPass-from_list_all}
 use Rattle.px_core.specs.Expr.{Term}
-use Rattle.px_core.specs.Fit.{Scalar, Array, references, references_of_target, targets_of, variable_is_there, declares_scalar, declares_array, is_array, cells_of, cells_of_site, has_right_variables}
-use Rattle.px_core.specs.Plan.{Site, BodyData, Nothing, Assign, Command, Update, TargetData, VariableData, no_site, is_same}
+use Rattle.px_core.specs.Fit.{Scalar, Array, Reference, references, references_of_target, terms_of, terms_of_conditions, targets_of, variable_is_there, variables_are_there, declares_scalar, declares_array, cells_of, cells_of_site, has_right_variables}
+use Rattle.px_core.specs.Plan.{Site, Head, BodyData, Nothing, Assign, Command, Update, TargetData, VariableData, no_site, is_same}
 use Rattle.px_sem.specs.Conflicts.{target_of}
 use Rattle.px_flat.specs.Layout.{Place, place_from, first_cell}
 use Rattle.px_flat.specs.Numbered.{place_of}
@@ -52,7 +52,7 @@ pub record IsDeclared (plan : List Site) (owner name : List ℕ) : Type 0 where
   pub path_is : (site_in plan node).path ≡ owner
   pub has : HasPlace (first_cell plan node) (site_in plan node).head.variables name
 
-declared : (plan : List Site) (owner name : List ℕ) (form : VariableData → Bool) → IsSound plan
+pub declared : (plan : List Site) (owner name : List ℕ) (form : VariableData → Bool) → IsSound plan
     → IsThere plan owner (λ site. list_any (λ variable. is_same variable.name name && form variable) site.head.variables)
     → IsDeclared plan owner name
 declared plan owner name form sound there = record {
@@ -63,15 +63,20 @@ declared plan owner name form sound there = record {
       (AllPass-from_list_all has_right_variables plan sound.arrays there.node no_site there.within) there.is;
 }
 
+-- its place is that of its node
+pub place_at : (plan : List Site) (owner name : List ℕ) → IsSound plan → (its : IsDeclared plan owner name)
+    → place_of plan owner name ≡ its.has.place
+place_at plan owner name sound its = place_of-node plan owner name its.node sound.distinct its.within its.path_is its.has
+
 reference_declared : (plan : List Site) (owner name : List ℕ) (index : Option Term) → IsSound plan
     → list_all (variable_is_there plan) (references_of_target (record { owner = owner; name = name; index = index })) ≡ true
     → IsDeclared plan owner name
 reference_declared plan owner name None sound there =
-    declared plan owner name (λ variable. not (is_array variable.size)) sound
+    declared plan owner name (λ variable. not (is_some variable.size)) sound
     (site_there (declares_scalar name) owner plan
     (and_parts (variable_is_there plan (Scalar owner name)) true there).0)
 reference_declared plan owner name (Some index) sound there =
-    declared plan owner name (λ variable. is_array variable.size) sound
+    declared plan owner name (λ variable. is_some variable.size) sound
     (site_there (declares_array name) owner plan
     (and_parts (variable_is_there plan (Array owner name)) (list_all (variable_is_there plan) (references index)) there).0)
 
@@ -89,7 +94,17 @@ its_target plan (Update pairs) target is there = absurd (cc)
 pub target_declared : (plan : List Site) (node : ℕ) (target : TargetData) → IsSound plan → node < length plan
     → target_of (site_in plan node).head.body ≡ Some target → IsDeclared plan target.owner target.name
 target_declared plan node target sound within is =
-    search (rules, AllPass-from_list_all, reference_declared, its_target, and_parts, list_all-append)
+    let head : Head = (site_in plan node).head in
+    let there : Reference → Bool = variable_is_there plan in
+    let conditions : List Reference = flat_map references (terms_of_conditions head.conditions) in
+    let terms : List Reference = flat_map references (terms_of head.body) in
+    let targets : List Reference = flat_map references_of_target (targets_of head.body) in
+    let all : list_all there (conditions ++ (terms ++ targets)) ≡ true =
+    AllPass-from_list_all (variables_are_there plan) plan sound.declared node no_site within in
+    let body = and_parts (list_all there conditions) (list_all there (terms ++ targets))
+    (sym (list_all-append there conditions (terms ++ targets)) ∙ all) in
+    let written = and_parts (list_all there terms) (list_all there targets) (sym (list_all-append there terms targets) ∙ body.1) in
+    reference_declared plan target.owner target.name target.index sound (its_target plan head.body target is written.1)
 
 -- ---- one cell, one variable
 
@@ -167,4 +182,4 @@ one_variable plan owner name other_owner other_name sound a b same =
   where
     first_is : (owner name : List ℕ) (d : IsDeclared plan owner name) → (place_of plan owner name).first ≡ d.has.place.first
     first_is owner name d =
-        ap (λ (place : Place). place.first) (place_of-node plan owner name d.node sound.distinct d.within d.path_is d.has)
+        ap (λ (place : Place). place.first) (place_at plan owner name sound d)

@@ -1,15 +1,13 @@
 -- The numbers in what a node of a fit plan computes lie within the plan's tables and cells.
-use Rattle.std.proofs.Common.{◌≡◌, ℕ, zero, suc, ◌+◌, ◌<◌, Bool, true, not, ◌&&◌, List, [], ◌∷◌, ◌++◌, length, map, refl, ap, sym, ◌∙◌, subst, arith, Option, Some, None}
+use Rattle.std.proofs.Common.{◌≡◌, ℕ, zero, suc, ◌+◌, ◌<◌, Bool, true, not, ◌&&◌, List, [], ◌∷◌, ◌++◌, length, map, refl, ap, sym, ◌∙◌, subst, arith, Option, Some, None, is_some}
 use Rattle.std.specs.List.{list_all, list_any, flat_map, All}
 use Rattle.std.specs.Option.{option_map}
 use Rattle.std.proofs.lemmas.Bool.{and_parts}
-use Rattle.std.proofs.lemmas.List.Sums.{AllPass-from_list_all}
 use Rattle.px_core.specs.Expr as terms
 use Rattle.px_core.specs.Expr.{Term, Terms, NoTerms, More}
-use Rattle.px_core.specs.Fit.{Node, CommandNode, UpdateNode, Scalar, Array, Reference, references, references_of_each, references_of_target, terms_of, terms_of_conditions, targets_of, declares_scalar, declares_array, is_array, is_command, is_update, cells_of_site, has_right_variables}
+use Rattle.px_core.specs.Fit.{Node, CommandNode, UpdateNode, Scalar, Array, Reference, references, references_of_each, references_of_target, terms_of, terms_of_conditions, targets_of, declares_scalar, declares_array, is_command, is_update, cells_of_site}
 use Rattle.px_core.specs.Plan as core
 use Rattle.px_core.specs.Plan.{Site, Head, ConditionTerms, TargetData, BodyData, PairData, VariableData, no_site, no_term, is_same}
-use Rattle.px_flat.specs.Layout.{first_cell}
 use Rattle.px_flat.specs.Lookups.{lookups_in, lookups_in_each, lookups_in_target, lookups_in_body, lookups_of}
 use Rattle.px_flat.specs.Numbered.{numbered, each_numbered, numbered_target, numbered_body, numbered_conditions, numbered_node, node_of, place_of}
 use Rattle.px_flat.specs.Row.{site_in}
@@ -17,7 +15,8 @@ use Rattle.px_flat.specs.Within.{IsPlace, IsWithin, AreWithin, IsTargetWithin, I
 use Rattle.px_flat.proofs.Known.{IsSound, AreKnown, front, back, each_known, site_known}
 use Rattle.px_flat.proofs.NumberedValues.{first_path, first_variable}
 use Rattle.px_flat.proofs.Sums.{sum_more, sum_front}
-use Rattle.px_flat.proofs.VariableValues.{HasPlace, has_place, place_of-node, number_within}
+use Rattle.px_flat.proofs.VariableValues.{number_within}
+use Rattle.px_flat.proofs.Variables.{IsDeclared, declared, place_at}
 use Rattle.px_flat.proofs.Worlds.{IsThere, site_there, node_of-path}
 
 -- a node that is there has its number
@@ -32,17 +31,15 @@ place_within : (plan : List Site) (owner name : List ℕ) (form : VariableData �
     → IsThere plan owner (λ site. list_any (λ variable. is_same variable.name name && form variable) site.head.variables)
     → IsPlace plan (place_of plan owner name)
 place_within plan owner name form sound there =
-    let has : HasPlace (first_cell plan there.node) (site_in plan there.node).head.variables name =
-    has_place form (first_cell plan there.node) (site_in plan there.node).head.variables name
-    (AllPass-from_list_all has_right_variables plan sound.arrays there.node no_site there.within) there.is in
-    subst (IsPlace plan) (sym (place_of-node plan owner name there.node sound.distinct there.within there.path_is has))
+    let own : IsDeclared plan owner name = declared plan owner name form sound there in
+    subst (IsPlace plan) (sym (place_at plan owner name sound own))
     (record {
-      some = has.some_cells;
+      some = own.has.some_cells;
       within = omega (
         arith,
-        has.within,
-        sum_more cells_of_site plan there.node no_site there.within,
-        sum_front cells_of_site plan (there.node + 1),
+        own.has.within,
+        sum_more cells_of_site plan own.node no_site own.within,
+        sum_front cells_of_site plan (own.node + 1),
       );
     })
 
@@ -51,11 +48,11 @@ mutual
       → IsWithin plan (numbered plan term)
   numbered_within plan (terms.Literal value) sound known = tt
   numbered_within plan (terms.Var owner name) sound known =
-      let place = place_within plan owner name (λ variable. not (is_array variable.size)) sound
+      let place = place_within plan owner name (λ variable. not (is_some variable.size)) sound
       (site_there (declares_scalar name) owner plan (first_variable plan (Scalar owner name) [] [] known)) in
       omega (arith, place.some, place.within)
   numbered_within plan (terms.Cell owner name index) sound known = (
-    place_within plan owner name (λ variable. is_array variable.size) sound
+    place_within plan owner name (λ variable. is_some variable.size) sound
         (site_there (declares_array name) owner plan
         (first_variable plan (Array owner name) (references index) (lookups_in index) known)),
     numbered_within plan index sound (back plan (Array owner name ∷ []) (references index) [] (lookups_in index) known),
@@ -120,7 +117,7 @@ target_within plan target sound known = by target.index refl
         subst (λ index. AreKnown plan (references_of_target (record { owner = target.owner; name = target.name; index = index }))
         (lookups_in_target (record { owner = target.owner; name = target.name; index = index }))) is known in
         record {
-          place = place_within plan target.owner target.name (λ variable. not (is_array variable.size)) sound
+          place = place_within plan target.owner target.name (λ variable. not (is_some variable.size)) sound
               (site_there (declares_scalar target.name) target.owner plan
               (first_variable plan (Scalar target.owner target.name) [] [] here));
           index = λ made some. absurd (cc (sym some ∙ ap (option_map (numbered plan)) is));
@@ -132,7 +129,7 @@ target_within plan target sound known = by target.index refl
         let inner : IsWithin plan (numbered plan index) = numbered_within plan index sound
         (back plan (Array target.owner target.name ∷ []) (references index) [] (lookups_in index) here) in
         record {
-          place = place_within plan target.owner target.name (λ variable. is_array variable.size) sound
+          place = place_within plan target.owner target.name (λ variable. is_some variable.size) sound
               (site_there (declares_array target.name) target.owner plan
               (first_variable plan (Array target.owner target.name) (references index) (lookups_in index) here));
           index = λ made some.

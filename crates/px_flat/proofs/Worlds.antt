@@ -1,6 +1,5 @@
 -- The world that parts stand for, node by node.
-use Rattle.std.proofs.Common.{◌≡◌, ◌≢◌, ℕ, zero, suc, ◌+◌, ◌<◌, Bool, true, false, ◌&&◌, cond, List, [], ◌∷◌, length, map, take, drop, refl, ap, sym, ◌∙◌, arith, inl, inr, Some, if◌then◌else◌}
-use Rattle.std.specs.List.{enumerate_from}
+use Rattle.std.proofs.Common.{◌≡◌, ◌≢◌, ℕ, zero, suc, ◌+◌, ◌<◌, Bool, true, false, ◌&&◌, cond, List, [], ◌∷◌, length, take, drop, refl, ap, sym, ◌∙◌, arith, inl, inr, Some, if◌then◌else◌}
 use Rattle.std.specs.Map.{lookup}
 use Rattle.std.specs.Option.{unwrap_or}
 use Rattle.std.specs.Cmp.Lexicographic.{same_text}
@@ -17,7 +16,7 @@ use Rattle.px_sem.specs.World.{NodeRecord, LookState, Report, no_record, record_
 use Rattle.px_flat.specs.declared.act.Act.{Act}
 use Rattle.px_flat.specs.declared.act.Act.TheVariants as under_way
 use Rattle.px_flat.specs.Layout.{Place, place_from}
-use Rattle.px_flat.specs.Parts.{state_in, outcome_in, failure_in, action_in, values_in, record_in, world_of, is_state, is_outcome, is_failure, is_handle_of, is_acknowledgement_of}
+use Rattle.px_flat.specs.Parts.{state_in, outcome_in, failure_in, action_in, values_in, record_in, entries, world_of, is_state, is_outcome, is_failure, is_handle_of, is_acknowledgement_of}
 use Rattle.px_flat.specs.Row.{site_in}
 use Rattle.px_flat.specs.Numbered.{node_of}
 use Rattle.px_flat.proofs.Numbers.{number_is}
@@ -25,7 +24,7 @@ use Rattle.px_flat.proofs.Numbers.{number_is}
 -- ---- the record of a node
 
 found_among : (plan : List Site) (f : ℕ → NodeRecord) (first i : ℕ) → AreDistinct plan → i < length plan
-    → lookup (λ key. is_same key (site_in plan i).path) (map (λ entry. (entry.1.path, f entry.0)) (enumerate_from first plan))
+    → lookup (λ key. is_same key (site_in plan i).path) (entries f first plan)
     ≡ Some (f (first + i))
 found_among [] f first i distinct within = absurd (omega arith)
 found_among (site ∷ plan) f first zero distinct within = grind (arith, common_steps, same-self)
@@ -36,9 +35,7 @@ found_among (site ∷ plan) f first (suc i) distinct within =
     let behind : AreDistinct plan = λ j k hj hk same.
     let e : suc j ≡ suc k = distinct (suc j) (suc k) (omega arith) (omega arith) same in omega arith in
     let there : first + 1 + i ≡ first + suc i = omega arith in
-    ap (λ b. cond b (Some (f first))
-    (lookup (λ key. is_same key own) (map (λ entry. (entry.1.path, f entry.0)) (enumerate_from (first + 1) plan))))
-    (same-other site.path own other)
+    ap (λ b. cond b (Some (f first)) (lookup (λ key. is_same key own) (entries f (first + 1) plan))) (same-other site.path own other)
     ∙ found_among plan f (first + 1) i behind (omega arith)
     ∙ ap (λ n. Some (f n)) there
 

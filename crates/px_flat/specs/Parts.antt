@@ -80,12 +80,13 @@ record_in plan cells acts node = record {
       (held cells (acknowledgement_cell plan node));
 }
 
+-- the entries of nodes from a number on, with this record of each
+abbrev pub entries : (ℕ → NodeRecord) → ℕ → List Site → List (List ℕ × NodeRecord)
+entries f first plan = map (λ entry. (entry.1.path, f entry.0)) (enumerate_from first plan)
+
 -- the world that cells, reports and acts stand for
 abbrev pub world_of : List Site → List Value → List (LookState × Report) → List Act → World
-world_of plan cells reports acts = record {
-  nodes = map (λ entry. (entry.1.path, record_in plan cells acts entry.0)) (enumerate_from 0 plan);
-  reports = reports;
-}
+world_of plan cells reports acts = record { nodes = entries (record_in plan cells acts) 0 plan; reports = reports }
 
 -- ---- whether parts stand for a world
 

@@ -1,7 +1,7 @@
 // The number after the last descendant of each node.
 ghost use Rattle.std.specs.Prelude.{◌≡◌, ◌+◌, ◌≤◌, ◌++◌, ◌∷◌, [], length, IfOk, OnOk};
-ghost use Rattle.px_core.specs.Plan.{count_of, tree_of};
-ghost use Rattle.px_flat.specs.Laying.{trees, ends_from};
+ghost use Rattle.px_core.specs.Plan.{count_of, tree_of, trees_of};
+ghost use Rattle.px_flat.specs.Laying.{ends_from};
 
 use px_core::{CoreNode, Plan};
 use px_value::NoMemory;
@@ -9,9 +9,9 @@ use std::alloc::Global;
 
 // Appends the ends of a node and of all below it.
 fn push_ends(node: &CoreNode, ends: &mut Vec<u32>) -> Result<(), NoMemory>
-    requires few { length ends.old.items + count_of (trees (node.now ∷ [])) ≤ 4096 }
+    requires few { length ends.old.items + count_of (trees_of (node.now ∷ [])) ≤ 4096 }
     ensures { OnOk result (ends.new.items
-        ≡ ends.old.items ++ ends_from (length ends.old.items) (trees (node.now ∷ []))) }
+        ≡ ends.old.items ++ ends_from (length ends.old.items) (trees_of (node.now ∷ []))) }
 {
     let number = ends.len();
     ends.push(0)?;

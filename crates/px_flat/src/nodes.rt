@@ -1,7 +1,7 @@
 // The nodes of a plan in preorder, lent by the plan.
 ghost use Rattle.std.specs.Prelude.{◌≡◌, ◌++◌, [], ◌∷◌, IfOk, OnOk};
-ghost use Rattle.px_core.specs.Plan.{tree_of};
-ghost use Rattle.px_flat.specs.Laying.{heads_in, heads_of, trees};
+ghost use Rattle.px_core.specs.Plan.{tree_of, trees_of};
+ghost use Rattle.px_flat.specs.Laying.{heads_in, heads_of};
 
 use px_core::{CoreNode, Plan};
 use px_value::NoMemory;
@@ -10,7 +10,7 @@ use std::alloc::Global;
 // Appends a node and all below it.
 fn push_nodes<'a>(node: &'a CoreNode, nodes: &mut Vec<&'a CoreNode>) -> Result<(), NoMemory>
     ensures { OnOk result (heads_of nodes.new.items
-        ≡ heads_of nodes.old.items ++ heads_in (trees (node.now ∷ []))) }
+        ≡ heads_of nodes.old.items ++ heads_in (trees_of (node.now ∷ []))) }
 {
     nodes.push(node)?;
     for child in &node.children {

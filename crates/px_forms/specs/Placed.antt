@@ -1,9 +1,7 @@
 -- What the code has of places and nodes, with terms in place of expressions and lists in place of vectors.
-use Rattle.std.specs.Prelude.{List, map}
 use Rattle.std.specs.Global.{Box}
-use Rattle.px_core.specs.Plan.{Tree, in_order, branch, head_of, tree_of_node}
+use Rattle.px_core.specs.Plan.{Tree, head_of, tree_of_node, trees_of}
 use Rattle.px_core.specs.declared.node.CoreNode.{CoreNode}
-use Rattle.px_core.specs.declared.node.CoreNode.TheFolds.{fold-CoreNode}
 use Rattle.px_core.specs.declared.node.CoreNode.TheViews.{out-CoreNode}
 use Rattle.px_forms.specs.declared.place.Place.{Place as PlaceData}
 use Rattle.px_forms.specs.Nodes.{Place, Node}
@@ -15,10 +13,6 @@ place_terms place = record { path = place.path; name = place.name; added = added
 -- what is in a box
 abbrev pub tree_in : Box CoreNode → Tree
 tree_in boxed = tree_of_node boxed.value
-
--- nodes side by side
-abbrev pub trees_of : List CoreNode → Tree
-trees_of nodes = in_order (map (fold-CoreNode (Tree → Tree) branch) nodes)
 
 -- a node without those beside it
 abbrev pub node_of : CoreNode → Node

@@ -2,7 +2,7 @@
 ghost use Rattle.std.specs.Prelude.{◌≡◌, ◌+◌, ◌<◌, ◌≤◌, ◌∷◌, [], length, map, Some, IfOk, OnOk};
 ghost use Rattle.px_core.specs.Expr.{Binary as BinaryTerm, Unary as UnaryTerm, Var as VarTerm, term_in};
 ghost use Rattle.px_value.specs.Path.{below};
-ghost use Rattle.px_core.specs.Plan.{Nothing, body_data, variable_data};
+ghost use Rattle.px_core.specs.Plan.{Nothing, body_data, variable_data, trees_of};
 ghost use Rattle.px_forms.specs.Adding.{nothing};
 ghost use Rattle.px_forms.specs.Conditions.{none_given};
 ghost use Rattle.px_forms.specs.Forms as rows;
@@ -10,7 +10,7 @@ ghost use Rattle.px_core.specs.Defaults.{default_priority};
 ghost use Rattle.px_forms.specs.Joining.{all, some};
 ghost use Rattle.px_forms.specs.Names.{generated, loop_name, step_name};
 ghost use Rattle.px_forms.specs.Nodes.{alone, before, child};
-ghost use Rattle.px_forms.specs.Placed.{node_of, place_terms, tree_in, trees_of};
+ghost use Rattle.px_forms.specs.Placed.{node_of, place_terms, tree_in};
 ghost use Rattle.px_forms.specs.Shown.{added_terms, given_terms};
 
 use crate::conditions::{Added, Given, add};

@@ -1,10 +1,10 @@
 // Where nodes of the core plan stand.
 ghost use Rattle.std.specs.Prelude.{◌≡◌, ◌+◌, ◌<◌, ◌∷◌, ◌++◌, [], length, map, IfOk, OnOk};
 ghost use Rattle.px_value.specs.Path.{below};
-ghost use Rattle.px_core.specs.Plan.{Branch, NoNode, body_data, condition_terms, tree_of_node, variable_data};
+ghost use Rattle.px_core.specs.Plan.{Branch, NoNode, body_data, condition_terms, tree_of_node, variable_data, trees_of};
 ghost use Rattle.px_forms.specs.Names.{generated};
 ghost use Rattle.px_forms.specs.Nodes.{alone, child, node_at};
-ghost use Rattle.px_forms.specs.Placed.{place_terms, tree_in, trees_of};
+ghost use Rattle.px_forms.specs.Placed.{place_terms, tree_in};
 ghost use Rattle.px_forms.specs.Shown.{added_terms, given_terms};
 
 use crate::conditions::{Added, Given};

@@ -1,9 +1,9 @@
 -- What each moment of an append leaves: the two writes, each synced before the next.
-use Rattle.std.proofs.Common.{◌≡◌, ◌≤◌, ◌<◌, ◌+◌, inl, inr, ℕ, true, false, List, [], ◌∷◌, ◌++◌, length, take, drop, refl, sym, ◌∙◌, ap, subst, arith, append_assoc, length-append, IsTrue}
+use Rattle.std.proofs.Common.{◌≡◌, ◌≤◌, ◌<◌, ◌+◌, inl, inr, ℕ, Bool, true, false, List, [], ◌∷◌, ◌++◌, length, take, drop, refl, sym, ◌∙◌, ap, subst, arith, append_assoc, length-append, IsTrue}
 use Rattle.std.proofs.lemmas.List.{take_at, drop_at, drop-drop, drop_all, length-drop}
-use Rattle.std.specs.Prelude.{Some, None, Result, Ok}
+use Rattle.std.specs.Prelude.{Some, Result, Ok}
 use Rattle.std.specs.Option.{ForSome, option_map}
-use Rattle.std.proofs.lemmas.Bool.{cases_lt, cases_Bool}
+use Rattle.std.proofs.lemmas.Bool.{cases_lt, cases_Bool, false≢true}
 use Rattle.px_event.specs.declared.named.NamedEntry.{NamedEntry}
 use Rattle.px_ports.specs.Moment.{Images, Torn, Elapses, overwritten}
 use Rattle.px_ports.specs.declared.moment.Moment.{Moment}
@@ -20,17 +20,16 @@ use Rattle.px_journal.proofs.Torn.{torn_below, torn_above, torn_length, written_
 pub same_told : (told : Told) (a b : List ℕ) → told ≡ Some a → told ≡ Some b → a ≡ b
 same_told told a b first second = cc
 
--- what is told after a write was told before it
-pub told_before : (was mid : Told) (write : List ℕ → List ℕ) (after : List ℕ) → mid ≡ option_map write was → mid ≡ Some after → (told : List ℕ) × (was ≡ Some told)
-told_before None mid write after written is = absurd (let none : None ≡ Some after = sym written ∙ is in cc)
-told_before (Some told) mid write after written is = (told, refl)
-
--- a closed gate is within the bytes
-pub closed_within : (gate : ℕ) (bytes : List ℕ) → IsTrue (is_closed (drop gate bytes)) → gate < length bytes
-closed_within gate bytes closed = elim (cases_lt gate (length bytes)) [
+-- a gate at which something stands is within the bytes
+pub gate_within : (test : List ℕ → Bool) (gate : ℕ) (bytes : List ℕ) → test [] ≡ false → test (drop gate bytes) ≡ true → gate < length bytes
+gate_within test gate bytes none stands = elim (cases_lt gate (length bytes)) [
   | inl within ↦ within
-  | inr past ↦ absurd (let shut : is_closed [] ≡ true = sym (ap is_closed (drop_all gate bytes past)) ∙ closed in cc)
+  | inr past ↦ absurd (false≢true (sym none ∙ sym (ap test (drop_all gate bytes past)) ∙ stands))
 ]
+
+-- a closed gate
+pub closed_within : (gate : ℕ) (bytes : List ℕ) → IsTrue (is_closed (drop gate bytes)) → gate < length bytes
+closed_within gate bytes = gate_within is_closed gate bytes refl
 
 -- what isn't closed is open
 pub open_or_closed : (bytes : List ℕ) → 1 ≤ length bytes → is_closed bytes ≡ false → IsTrue (is_open bytes)

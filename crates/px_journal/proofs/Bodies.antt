@@ -3,7 +3,7 @@ use Rattle.std.proofs.Common.{rules, ◌≡◌, ◌≤◌, inl, inr, ℕ, true, 
 use Rattle.std.specs.Prelude.{◌&&◌, ◌==◌, is_none}
 use Rattle.std.specs.Option.{option_map}
 use Rattle.std.proofs.lemmas.Bool.{and_parts, and_from, cases_Bool}
-use Rattle.std.proofs.lemmas.Option.{same_Some}
+use Rattle.px_value.proofs.General.{option_map_some}
 use Rattle.px_event.specs.Fit.{is_fit_entry, is_interface, is_report_name}
 use Rattle.px_event.specs.Names.{name_of, are_names}
 use Rattle.px_event.specs.Reading.{decoded, decoded_named}
@@ -28,10 +28,6 @@ unnamed_is : (name : Option (List ℕ)) (entry : Entry) → is_none name ≡ tru
 unnamed_is None entry none = refl
 unnamed_is (Some name) entry none = absurd cc
 
-some_unnamed : (read : Option Entry) (named : NamedEntry) → option_map unnamed read ≡ Some named → (entry : Entry) × (read ≡ Some entry) × (unnamed entry ≡ named)
-some_unnamed None named e = absurd cc
-some_unnamed (Some entry) named e = (entry, refl, same_Some (unnamed entry) named e)
-
 -- in either version the entry is fit
 pub entry_fits : (version : Version) (named : NamedEntry) → is_fit version named ≡ true → is_fit_entry named.entry ≡ true
 entry_fits versions.One named fit = (and_parts (is_none named.name) (is_fit_entry named.entry) fit).1
@@ -46,7 +42,7 @@ body_of versions.Two bytes = decoded_named bytes
 pub body_takes : (version : Version) (bytes : List ℕ) (named : NamedEntry) → IsBytes bytes → body_of version bytes ≡ Some named
     → (is_fit version named ≡ true) × (bytes ≡ body_bytes version named)
 body_takes versions.One bytes named fits e =
-    let read = some_unnamed (decoded bytes) named e in
+    let read = option_map_some unnamed (decoded bytes) named e in
     subst (λ (n : NamedEntry). (is_fit versions.One n ≡ true) × (bytes ≡ body_bytes versions.One n)) (read.2) (decoded_takes bytes (read.0) fits (read.1))
 body_takes versions.Two bytes named fits e = named_decoded_takes bytes named fits e
 

@@ -1,10 +1,11 @@
 -- What each moment of a creation leaves: the closed master gate, what goes behind it, and the open one.
-use Rattle.std.proofs.Common.{◌≡◌, ◌≢◌, ◌≤◌, ◌<◌, ◌+◌, ◌⊎◌, inl, inr, ⊎_elim, ℕ, true, false, List, [], ◌∷◌, ◌++◌, length, take, drop, refl, sym, ◌∙◌, ap, subst, arith, append_assoc, IsTrue}
-use Rattle.std.specs.Prelude.{Some, None, Result, Ok, Err, OnOk, IsFalse, is_some, nat_lt, slice_range, slice_index}
+use Rattle.std.proofs.Common.{◌≡◌, ◌≤◌, ◌<◌, ◌+◌, ◌⊎◌, inl, inr, ⊎_elim, ℕ, true, false, List, [], ◌∷◌, ◌++◌, length, take, drop, refl, sym, ◌∙◌, ap, subst, arith, append_assoc, IsTrue}
+use Rattle.std.specs.Prelude.{Some, None, Result, Ok, Err, OnOk, IsFalse, is_some, nat_lt, slice_range}
 use Rattle.std.specs.Option.{ForSome, option_map}
 use Rattle.std.proofs.lemmas.Bool.{cases_Bool, or_left, or_right, or_from}
 use Rattle.std.proofs.lemmas.Bool.Decides.{nat_tests}
-use Rattle.std.proofs.lemmas.List.{take_at, drop_at, drop-drop}
+use Rattle.std.proofs.lemmas.List.{take_at, drop_at, drop-drop, length-take}
+use Rattle.px_value.proofs.General.{option_map_some}
 use Rattle.px_ports.specs.Disk.{Told}
 use Rattle.px_ports.specs.Moment.{Images, Torn, Elapses, Stays, overwritten}
 use Rattle.px_ports.specs.declared.disk.DiskFault.{DiskFault}
@@ -12,9 +13,10 @@ use Rattle.px_ports.specs.declared.moment.Moment.{Moment}
 use Rattle.px_journal.specs.Crash.{Puts, LeavesOnly, OldOrNewAs}
 use Rattle.px_journal.specs.Layout.{heading, is_open, is_closed, is_nothing, next_gate, StandsAs}
 use Rattle.px_journal.specs.declared.version.Version.{Version}
-use Rattle.px_journal.proofs.Appending.{closed_within, open_or_closed, same_told, told_before}
+use Rattle.px_journal.proofs.Appending.{closed_within, open_or_closed, same_told}
 use Rattle.px_journal.proofs.Fronts.{is_closed-front}
 use Rattle.px_journal.proofs.Moments.{leaves, leaves_more, leaves_on}
+use Rattle.px_journal.proofs.Reading.{part_is}
 use Rattle.px_journal.proofs.Torn.{torn_below, torn_above, written_below, written_from, written_above}
 
 short_test : (n : ℕ) → n < 13 → nat_lt n 13 ≡ true
@@ -33,15 +35,10 @@ pub not_nothing : (bytes : List ℕ) → 13 ≤ length bytes → is_closed bytes
 not_nothing bytes long shut = or_from _ _ (long_test (length bytes) long) shut
 
 -- the first byte that was read
-pub gate_closed : (told gate : List ℕ) → 13 ≤ length told → gate ≡ slice_range told 0 1 → slice_index gate 0 ≡ 0 → IsTrue (is_closed told)
-gate_closed [] gate long read zero = absurd (omega arith)
-gate_closed (byte ∷ rest) gate long read zero = let is : byte ≡ 0 = sym (ap (λ (l : List ℕ). slice_index l 0) read) ∙ zero in rw is refl
-
-pub gate_open : (told gate : List ℕ) → 13 ≤ length told → gate ≡ slice_range told 0 1 → slice_index gate 0 ≢ 0 → is_closed told ≡ false
-gate_open [] gate long read other = absurd (omega arith)
-gate_open (byte ∷ rest) gate long read other =
-    let differs : byte ≢ 0 = λ is. other (ap (λ (l : List ℕ). slice_index l 0) read ∙ is) in
-    grind (arith, nat_tests, differs)
+pub gate_read : (told gate : List ℕ) → 13 ≤ length told → gate ≡ slice_range told 0 1 → (gate ≡ take 1 told) × (1 ≤ length gate)
+gate_read told gate long read =
+    let first : gate ≡ take 1 told = read ∙ part_is told 0 1 in
+    (first, omega (arith, long, ap length first, length-take 1 told))
 
 module _ (images : Images) (old : List Moment) where
   pub same_leaves : (new : List Moment) → Elapses images Stays old new → LeavesOnly images (λ image. images old image ⊎ IsTrue (is_nothing image)) old new
@@ -146,8 +143,8 @@ pub if_opened : (version : Version) (images : Images) (was mid then : Told) (old
     → OnOk result (ForSome then (λ now. StandsAs version now text []))
 if_opened version images was mid then old half new text content (Err fault) short content_is closed synced first second = tt
 if_opened version images was mid then old half new text content (Ok unit) short content_is closed synced first second = λ now now_is.
-    let middle = told_before mid then (overwritten 0 (1 ∷ [])) now second.written now_is in
-    let told = told_before was mid (overwritten 1 content) (middle.0) first.written (middle.1) in
+    let middle = option_map_some (overwritten 0 (1 ∷ [])) mid now (sym second.written ∙ now_is) in
+    let told = option_map_some (overwritten 1 content) was (middle.0) (sym first.written ∙ middle.1) in
     opened_told version text (told.0) content short content_is (closed (told.0) (told.1)) images was mid old half (told.1) (synced (told.0) (told.1)) first then new second now now_is
 
 -- what was told before is told after

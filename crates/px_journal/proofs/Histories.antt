@@ -7,9 +7,9 @@ use Rattle.byteorder.specs.Endian.{big_bytes}
 use Rattle.byteorder.specs.Numbers.{length-bytes_high_first}
 use Rattle.px_event.specs.declared.entry.Entry.{Entry}
 use Rattle.px_event.specs.declared.named.NamedEntry.{NamedEntry}
-use Rattle.px_ports.specs.Moment.{Images, LeftSince}
+use Rattle.px_ports.specs.Moment.{Images}
 use Rattle.px_ports.specs.declared.moment.Moment.{Moment}
-use Rattle.px_journal.specs.Crash.{WithOrWithout, WithOrWithoutAs, LeavesOnly, KeepsHistories, KeepsNames, KeepsSinceAs}
+use Rattle.px_journal.specs.Crash.{WithOrWithout, WithOrWithoutAs, LeavesOnly, KeepsHistories, KeepsNames, KeptSince, KeepsSinceAs}
 use Rattle.px_journal.specs.Layout.{magic, digit, body_bytes, entries, is_fit, heading, record_bytes, records_size, next_gate, Stands, StandsAs}
 use Rattle.px_journal.specs.declared.version.Version.{Version}
 use Rattle.px_journal.proofs.Bodies.{body_short}
@@ -20,12 +20,9 @@ use Rattle.px_journal.proofs.Moments.{told_since, left_before_or_after}
 -- of lists that bytes stand for, at most one text and one list for the same bytes
 module _ {X : Type 0} (Stand : List ℕ → List ℕ → List X → Type 0)
     (one : (bytes text other : List ℕ) (list others : List X) → Stand bytes text list → Stand bytes other others → (text ≡ other) × (list ≡ others)) where
-  abbrev KeptSince : Images → ℕ → List ℕ → List X → List Moment → Type 0
-  KeptSince images t text front moments = (image : List ℕ) → LeftSince images moments t image → (later : List X) × Stand image text (front ++ later)
-
   keeps : (images : Images) (old new : List Moment) (told text : List ℕ) (list : List X) (next : X) → images old told → Stand told text list
       → LeavesOnly images (λ image. Stand image text list ⊎ Stand image text (list ++ next ∷ [])) old new
-      → (t : ℕ) → t ≤ length old → (text' : List ℕ) (front : List X) → KeptSince images t text' front old → KeptSince images t text' front new
+      → (t : ℕ) → t ≤ length old → (text' : List ℕ) (front : List X) → KeptSince Stand images t text' front old → KeptSince Stand images t text' front new
   keeps images old new told text list next left stands leaves t early text' front before image since = ⊎_elim
       (λ was. before image was)
       (λ is.

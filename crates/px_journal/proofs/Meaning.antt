@@ -3,6 +3,7 @@ use Rattle.std.proofs.Common.{rules, ◌≡◌, ◌≤◌, ◌<◌, ◌+◌, ◌
 use Rattle.std.proofs.lemmas.List.{take_at, drop_at, drop-drop, take-take, drop-take, get_or-drop}
 use Rattle.std.proofs.lemmas.Bool.{and_parts}
 use Rattle.std.specs.Prelude.{slice_index}
+use Rattle.std.specs.Io.{StartsWith}
 use Rattle.std.specs.List.{list_all}
 use Rattle.byteorder.specs.Endian.{big_bytes, big_number}
 use Rattle.byteorder.specs.Numbers.{length-bytes_high_first, big_number-reads_back}
@@ -15,7 +16,7 @@ use Rattle.px_journal.proofs.Digits.{one_digit}
 
 -- the bytes stand at the front of a list
 abbrev pub Starts : List ℕ → List ℕ → Type 0
-Starts front bytes = take (length front) bytes ≡ front
+Starts front bytes = StartsWith bytes front
 
 module _ (a b bytes : List ℕ) (starts : Starts (a ++ b) bytes) where
   pub starts_first : Starts a bytes

@@ -2,11 +2,10 @@
 use Rattle.std.proofs.Common.{◌≡◌, ◌≢◌, ◌≤◌, ◌<◌, ◌+◌, ◌-◌, ◌⊎◌, inl, inr, ⊎_elim, ℕ, zero, suc, List, [], ◌∷◌, length, take, drop, refl, sym, ◌∙◌, ap, subst, arith, IsTrue}
 use Rattle.std.specs.Prelude.{slice_index, slice_range, IsErrOf, Err}
 use Rattle.std.proofs.lemmas.Bool.Decides.{nat_tests}
-use Rattle.std.proofs.lemmas.List.{take-take, take_all, length-take, length-drop, get_or-drop, get_or-take}
-use Rattle.byteorder.specs.Endian.{big_bytes, big_number}
+use Rattle.std.proofs.lemmas.List.{take-take, length-take, length-drop, get_or-drop, get_or-take}
+use Rattle.byteorder.specs.Endian.{big_number}
 use Rattle.byteorder.specs.Numbers.{big_from-take}
 use Rattle.px_event.specs.declared.named.NamedEntry.{NamedEntry}
-use Rattle.px_event.proofs.Fields.{IsBytes, four_back}
 use Rattle.px_journal.specs.Damage as Damage
 use Rattle.px_journal.specs.Damage.{body, body_length, text_length, IsNoBody}
 use Rattle.px_journal.specs.Damage.Damaged.{magic_differs, version_differs, text_is_cut}
@@ -100,25 +99,14 @@ module _ (rest front : List ℕ) (n : ℕ) (is : front ≡ take n rest) where
 pub damaged_at : {T : Type 0} (a b : ℕ) → IsErrOf {T = T} (Err (Damaged a)) (Damaged b) → b ≡ a
 damaged_at a b same = cc
 
--- the length that the first 13 bytes tell is spelled there
-pub told_back : (heading : List ℕ) (n : ℕ) → length heading ≡ 13 → IsBytes heading → n ≡ big_number 4 (drop 9 heading) → take 4 (drop 9 heading) ≡ big_bytes 4 n
-told_back heading n long bytes n_is =
-    let four : length (drop 9 heading) ≡ 4 = omega (arith, long, length-drop 9 heading) in
-    take_all 4 (drop 9 heading) (omega (arith, four))
-    ∙ sym (four_back.back (drop 9 heading) four (λ i. rw get_or-drop (bytes (9 + i))))
-    ∙ ap (λ (k : ℕ). big_bytes 4 k) (sym n_is)
-
 -- ---- the first 13 bytes
 
 module _ (told heading : List ℕ) (is : heading ≡ take 13 told) (long : length heading ≡ 13) where
-  heading_same : take 13 heading ≡ take 13 told
-  heading_same = ap (λ (l : List ℕ). take 13 l) is ∙ take-take 13 13 told (omega arith)
-
   pub heading_magic : take 7 (drop 1 heading) ≡ take 7 (drop 1 told)
-  heading_magic = same_part 13 1 7 heading told heading_same (omega arith)
+  heading_magic = same_part 13 1 7 heading told (same told heading 13 is) (omega arith)
 
   pub heading_number : take 4 (drop 9 heading) ≡ take 4 (drop 9 told)
-  heading_number = same_part 13 9 4 heading told heading_same (omega arith)
+  heading_number = same_part 13 9 4 heading told (same told heading 13 is) (omega arith)
 
   heading_byte : slice_index told 8 ≡ slice_index heading 8
   heading_byte = sym (get_or-take 13 told 8 0 (omega arith)) ∙ ap (λ (l : List ℕ). slice_index l 8) (sym is)

@@ -1,10 +1,9 @@
 -- Bytes that stand for a text and a history are not damaged, and others are damaged at one place.
-use Rattle.std.proofs.Common.{rules, ◌≡◌, ◌≢◌, ◌≤◌, ◌<◌, ◌+◌, ◌^◌, ◌⊎◌, inl, inr, ⊎_elim, ℕ, true, false, List, [], ◌∷◌, length, take, drop, refl, sym, ◌∙◌, ap, subst, arith, IsTrue}
+use Rattle.std.proofs.Common.{rules, ◌≡◌, ◌≢◌, ◌≤◌, ◌<◌, ◌+◌, ◌^◌, ◌⊎◌, inl, inr, ⊎_elim, ℕ, false, List, [], ◌∷◌, length, take, drop, refl, sym, ◌∙◌, ap, subst, arith, IsTrue}
 use Rattle.std.specs.Prelude.{slice_index}
 use Rattle.std.specs.List.{list_all}
-use Rattle.std.proofs.lemmas.Bool.{and_parts, cases_lt}
-use Rattle.std.proofs.lemmas.Bool.Decides.{nat_tests}
-use Rattle.std.proofs.lemmas.List.{drop-drop, drop_all, get_or-drop, get_or-take, append-nil}
+use Rattle.std.proofs.lemmas.Bool.{and_parts, cases_lt, false_from_ne_true}
+use Rattle.std.proofs.lemmas.List.{drop-drop, get_or-drop, get_or-take, append-nil}
 use Rattle.byteorder.specs.Endian.{big_bytes, big_number}
 use Rattle.byteorder.specs.Numbers.{big_from-take, big_number-reads_back, length-bytes_high_first}
 use Rattle.px_event.specs.declared.entry.Entry.{Entry}
@@ -14,14 +13,13 @@ use Rattle.px_journal.specs.Damage as Damage
 use Rattle.px_journal.specs.Damage.Damaged.{magic_differs, version_differs, text_is_cut, record_is}
 use Rattle.px_journal.specs.Layout.{magic, body_bytes, heading, is_fit, is_open, is_closed, record_bytes, records_size, next_gate, Opens, Records, Front, Stands, StandsAs}
 use Rattle.px_journal.specs.declared.version.Version.{Version}
-use Rattle.px_journal.proofs.Appending.{closed_within}
+use Rattle.px_journal.proofs.Appending.{closed_within, gate_within}
 use Rattle.px_journal.proofs.Bodies.{body_short}
 use Rattle.px_journal.proofs.Histories.{length-heading, length-record}
 use Rattle.px_journal.proofs.Meaning.{Starts, starts_first, starts_second, one_record, one_heading, one_version, has_version, text_starts, open_and_closed}
 
 pub open_not_closed : (bytes : List ℕ) → IsTrue (is_open bytes) → is_closed bytes ≡ false
-open_not_closed [] opened = refl
-open_not_closed (gate ∷ rest) opened = grind (arith, nat_tests, opened)
+open_not_closed bytes opened = false_from_ne_true (is_closed bytes) (open_and_closed bytes opened)
 
 -- the number that is spelled at the front
 spelled : (n x : ℕ) (bytes : List ℕ) → x < 256 ^ n → Starts (big_bytes n x) bytes → big_number n bytes ≡ x
@@ -34,10 +32,7 @@ spelled n x bytes fits starts =
 
 -- an open gate is within the bytes
 open_within : (gate : ℕ) (bytes : List ℕ) → IsTrue (is_open (drop gate bytes)) → gate < length bytes
-open_within gate bytes opened = elim (cases_lt gate (length bytes)) [
-  | inl within ↦ within
-  | inr past ↦ absurd (let none : is_open [] ≡ true = sym (ap is_open (drop_all gate bytes past)) ∙ opened in cc)
-]
+open_within gate bytes = gate_within is_open gate bytes refl
 
 -- a byte of a magic that is whole is right
 right_byte : (bytes : List ℕ) (n i : ℕ) → take n (drop 1 bytes) ≡ take n magic → i < n → slice_index bytes (1 + i) ≡ slice_index magic i

@@ -32,7 +32,7 @@ two_spelled bytes fits long =
     sym (two_back.back (take 2 (drop 1 bytes)) (omega (arith, long, length-take 2 (drop 1 bytes), length-drop 1 bytes)) (part_bytes 2 1 bytes fits))
     ∙ ap (λ (n : ℕ). big_bytes 2 n) (big_from-take 0 2 2 (drop 1 bytes) (omega arith))
 
-four_spelled : (bytes : List ℕ) → IsBytes bytes → 13 ≤ length bytes → take 4 (drop 9 bytes) ≡ big_bytes 4 (text_length bytes)
+pub four_spelled : (bytes : List ℕ) → IsBytes bytes → 13 ≤ length bytes → take 4 (drop 9 bytes) ≡ big_bytes 4 (text_length bytes)
 four_spelled bytes fits long =
     sym (four_back.back (take 4 (drop 9 bytes)) (omega (arith, long, length-take 4 (drop 9 bytes), length-drop 9 bytes)) (part_bytes 4 9 bytes fits))
     ∙ ap (λ (n : ℕ). big_bytes 4 n) (big_from-take 0 4 4 (drop 9 bytes) (omega arith))

@@ -45,10 +45,15 @@ pub record LeavesOnly (images : Images) (left : List ℕ → Type 0) (old new : 
   pub grows : take (length old) new ≡ old
   pub each : (image : List ℕ) → LeftSince images new (length old) image → left image
 
--- each image since t stands for the text and a history that begins with this one
+-- each image since t stands for the text and a list that begins with this one
+abbrev pub KeptSince :
+    {X : Type 0} → (List ℕ → List ℕ → List X → Type 0) → Images → ℕ → List ℕ → List X → List Moment → Type 0
+KeptSince {X} Stand images t text front moments =
+    (image : List ℕ) → LeftSince images moments t image → (later : List X) × Stand image text (front ++ later)
+
+-- for a history
 abbrev pub KeepsSince : Images → ℕ → List ℕ → List Entry → List Moment → Type 0
-KeepsSince images t text front moments =
-    (image : List ℕ) → LeftSince images moments t image → (later : List Entry) × Stands image text (front ++ later)
+KeepsSince = KeptSince Stands
 
 -- what each image since some moment keeps, it keeps after the call too
 abbrev pub KeepsHistories : Images → List Moment → List Moment → Type 0
@@ -58,9 +63,7 @@ KeepsHistories images old new =
 
 -- the same of a journal of one version, with the names of its entries
 abbrev pub KeepsSinceAs : Version → Images → ℕ → List ℕ → List NamedEntry → List Moment → Type 0
-KeepsSinceAs version images t text front moments =
-    (image : List ℕ) → LeftSince images moments t image
-    → (later : List NamedEntry) × StandsAs version image text (front ++ later)
+KeepsSinceAs version = KeptSince (StandsAs version)
 
 abbrev pub KeepsNames : Images → List Moment → List Moment → Type 0
 KeepsNames images old new =

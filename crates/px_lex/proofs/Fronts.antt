@@ -1,5 +1,5 @@
 -- What stands at the front of a text, as a function of the text: each way to stand and each fault is one of its answers.
-use Rattle.std.proofs.Common.{◌≡◌, ℕ, ◌≤◌, ◌^◌, Bool, true, false, not, ◌==◌, List, [], ◌∷◌, ◌++◌, length, take, drop, Option, Some, None, refl, sym, ap, ◌∙◌, arith, inl, inr}
+use Rattle.std.proofs.Common.{◌≡◌, ℕ, ◌≤◌, ◌^◌, Bool, true, false, not, ◌==◌, List, [], ◌∷◌, ◌++◌, length, take, drop, Option, Some, None, refl, ap, ◌∙◌, arith, inl, inr}
 use Rattle.std.specs.Prelude.{codes, pos, is_none, if◌then◌else◌}
 use Rattle.std.specs.List.{list_all, prefix_len}
 use Rattle.std.specs.Str.{bytes_eq}
@@ -8,13 +8,13 @@ use Rattle.std.proofs.lemmas.Bool.{and_parts, and_from, or_parts, or_left, cases
 use Rattle.std.proofs.lemmas.Bool.Decides.{nat_tests}
 use Rattle.std.proofs.lemmas.Option.{none-some}
 use Rattle.px_value.specs.Name.{is_digit, begins_identifier, continues_identifier}
-use Rattle.px_value.proofs.General.{none_from, is_none-None}
+use Rattle.px_value.proofs.General.{is_none-None, prefix_run}
 use Rattle.px_lex.specs.declared.keyword.Keyword.{Keyword}
 use Rattle.px_lex.specs.declared.sign.Sign.{Sign}
 use Rattle.px_lex.specs.declared.token.TokenKind.{TokenKind}
 use Rattle.px_lex.specs.declared.token.TokenKind.TheVariants as kinds
 use Rattle.px_lex.specs.Gap.{begins, is_white_space, is_in_line, after_close, IsGap}
-use Rattle.px_lex.specs.Keyword.{keyword_rows, keyword_of}
+use Rattle.px_lex.specs.Keyword.{keyword_of}
 use Rattle.px_lex.specs.Word.{IsWord}
 use Rattle.px_lex.specs.Number.{IsNumber, number_of}
 use Rattle.px_lex.specs.String.{is_quote, read_string}
@@ -22,6 +22,7 @@ use Rattle.px_lex.specs.Sign.{sign_rows, sign_of, opens_comment, ends_sign}
 use Rattle.px_lex.specs.Token.{IsToken}
 use Rattle.px_lex.specs.Fault.{FaultKind, Bad, is_other, word_fault, number_fault, string_fault, IsFaulty}
 use Rattle.px_lex.specs.Lexer.{Stands}
+use Rattle.px_lex.proofs.Keywords.{no_keyword}
 use Rattle.px_lex.proofs.Signs.{row_of-all, sign_is_short}
 
 -- what stands at the front
@@ -139,19 +140,15 @@ class_other (c ∷ cs) h closed =
 
 -- ---- gaps
 
-prefix_of : (p : ℕ → Bool) (run rest : List ℕ) → list_all p run ≡ true → begins p rest ≡ false → prefix_len p (run ++ rest) ≡ length run
-prefix_of p [] [] pass stop = refl
-prefix_of p [] (c ∷ cs) pass stop = rw stop
-prefix_of p (x ∷ xs) rest pass stop =
-    let parts : (p x ≡ true) × (list_all p xs ≡ true) = and_parts (p x) (list_all p xs) pass in
-    let more : prefix_len p (xs ++ rest) ≡ length xs = prefix_of p xs rest parts.1 stop in
-    rw parts.0 (omega arith)
+none_of : (p : ℕ → Bool) (rest : List ℕ) → begins p rest ≡ false → prefix_len p rest ≡ 0
+none_of p [] stop = refl
+none_of p (c ∷ cs) stop = rw stop
 
 left_of : (p : ℕ → Bool) (run rest : List ℕ) → list_all p run ≡ true → begins p rest ≡ false → drop (prefix_len p (run ++ rest)) (run ++ rest) ≡ rest
-left_of p run rest pass stop = ap (λ n. drop n (run ++ rest)) (prefix_of p run rest pass stop) ∙ drop-append_seam run rest
+left_of p run rest pass stop = ap (λ n. drop n (run ++ rest)) (prefix_run p run rest pass (none_of p rest stop)) ∙ drop-append_seam run rest
 
 taken_of : (p : ℕ → Bool) (run rest : List ℕ) → list_all p run ≡ true → begins p rest ≡ false → take (prefix_len p (run ++ rest)) (run ++ rest) ≡ run
-taken_of p run rest pass stop = ap (λ n. take n (run ++ rest)) (prefix_of p run rest pass stop) ∙ take-append_seam run rest
+taken_of p run rest pass stop = ap (λ n. take n (run ++ rest)) (prefix_run p run rest pass (none_of p rest stop)) ∙ take-append_seam run rest
 
 line_front : (tail rest : List ℕ) → list_all is_in_line tail ≡ true → begins is_in_line rest ≡ false → front (codes "//" ++ tail ++ rest) ≡ piece None rest
 line_front tail rest pass stop = ap (λ t. piece None t) (left_of is_in_line (codes "//" ++ tail) rest pass stop)
@@ -185,11 +182,8 @@ word_is (c ∷ cs) rest w =
     let on : continues_identifier c ≡ true = or_left (begins_identifier c) (is_digit c) parts.0 in
     run_is (c ∷ cs) rest on (and_from (continues_identifier c) (list_all continues_identifier cs) on parts.1) w.longest ∙ rw (letter_no_digit c parts.0)
 
-keyword_is : (p : List ℕ → Bool) → list_all (λ (row : List ℕ × Keyword). p row.0) keyword_rows ≡ true → (word : List ℕ) → p word ≡ false → keyword_of word ≡ None
-keyword_is p each word h = none_from (keyword_of word) (λ k found. false≢true (sym h ∙ row_of-all p keyword_rows word k each found))
-
 fault_is_no_keyword : (word : List ℕ) (kind : FaultKind) → word_fault word ≡ Some kind → keyword_of word ≡ None
-fault_is_no_keyword word kind h = keyword_is (λ w. is_none (word_fault w)) refl word (rw h)
+fault_is_no_keyword word kind h = no_keyword (λ w. is_none (word_fault w)) refl word (rw h)
 
 -- ---- signs
 

@@ -15,7 +15,7 @@ use Rattle.px_lex.proofs.Cuts.{cut_behind}
 use Rattle.px_lex.proofs.Spans.{Span, span}
 
 -- a blank
-ascii_blank : (c : ℕ) → is_white_space c ≡ true → is_ascii c ≡ true
+pub ascii_blank : (c : ℕ) → is_white_space c ≡ true → is_ascii c ≡ true
 ascii_blank c h = grind (arith, nat_tests)
 
 pub blank_cut : (text : List ℕ) → begins is_white_space text ≡ true → IsUtf8 text → IsCharBoundary text 1

@@ -1,5 +1,6 @@
 -- How the pieces of a text grow by one.
-use Rattle.std.proofs.Common.{◌≡◌, ℕ, ◌+◌, ◌-◌, List, [], ◌∷◌, ◌++◌, length, Option, Some, None, refl, sym, ap, ◌∙◌, subst, arith, append_assoc, append-nil, length-append}
+use Rattle.std.proofs.Common.{◌≡◌, ℕ, ◌+◌, ◌-◌, List, [], ◌∷◌, ◌++◌, length, Option, Some, None, sym, ap, ◌∙◌, subst, arith, append_assoc, append-nil, length-append}
+use Rattle.std.proofs.lemmas.Grind.{flat_map-append}
 use Rattle.px_lex.specs.declared.fault.LexFault.{LexFault}
 use Rattle.px_lex.specs.declared.token.Token.{Token}
 use Rattle.px_lex.specs.declared.token.TokenKind.{TokenKind}
@@ -12,15 +13,10 @@ pub record SoFar (text rest : List ℕ) (tokens : List Token) : Type 0 where
   pub stand : AllStand pieces rest
   pub listed : tokens ≡ tokens_from 0 pieces
 
--- pieces, one list behind another
-pub spelled-append : (ps qs : List Piece) → spelled (ps ++ qs) ≡ spelled ps ++ spelled qs
-spelled-append [] qs = refl
-spelled-append (p ∷ ps) qs = ap (λ t. p.spelling ++ t) (spelled-append ps qs) ∙ sym (append_assoc p.spelling (spelled ps) (spelled qs))
-
 pub stand-append : (ps qs : List Piece) (rest : List ℕ) → AllStand ps (spelled qs ++ rest) → AllStand qs rest → AllStand (ps ++ qs) rest
 stand-append [] qs rest first second = second
 stand-append (p ∷ ps) qs rest first second = (
-  subst (Stands p.kind p.spelling) (sym (append_assoc (spelled ps) (spelled qs) rest) ∙ ap (λ t. t ++ rest) (sym (spelled-append ps qs))) first.0,
+  subst (Stands p.kind p.spelling) (sym (append_assoc (spelled ps) (spelled qs) rest) ∙ ap (λ t. t ++ rest) (sym (flat_map-append (λ (piece : Piece). piece.spelling) ps qs))) first.0,
   stand-append ps qs rest first.1 second,
 )
 
@@ -41,7 +37,7 @@ step text rest behind tokens kind s b =
     let there : length text - length rest ≡ 0 + length (spelled s.pieces) = omega (arith, place text rest tokens s) in
     record {
       pieces = s.pieces ++ (p ∷ []);
-      whole = s.whole ∙ ap (λ t. spelled s.pieces ++ t) b.split ∙ sym (append_assoc (spelled s.pieces) b.spelling behind) ∙ ap (λ t. t ++ behind) (sym (spelled-append s.pieces (p ∷ []) ∙ ap (λ t. spelled s.pieces ++ t) spelling));
+      whole = s.whole ∙ ap (λ t. spelled s.pieces ++ t) b.split ∙ sym (append_assoc (spelled s.pieces) b.spelling behind) ∙ ap (λ t. t ++ behind) (sym (flat_map-append (λ (piece : Piece). piece.spelling) s.pieces (p ∷ []) ∙ ap (λ t. spelled s.pieces ++ t) spelling));
       stand = stand-append s.pieces (p ∷ []) behind (subst (AllStand s.pieces) (b.split ∙ ap (λ t. t ++ behind) (sym spelling)) s.stand) (b.stands, tt);
       listed = ap (λ ts. ts ++ token_at (length text - length rest) kind) s.listed ∙ ap (λ n. tokens_from 0 s.pieces ++ token_at n kind) there ∙ sym (tokens_from-push 0 s.pieces p);
     }

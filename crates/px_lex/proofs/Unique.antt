@@ -17,11 +17,12 @@ record Agree (at : ℕ) (ps qs : List Piece) (r s : List ℕ) : Type 0 where
   pub tokens : tokens_from at ps ≡ tokens_from at qs
   pub rest : r ≡ s
 
-abbrev rest_of : Front → List ℕ
+-- what stands there, and what is behind it
+abbrev pub rest_of : Front → List ℕ
 rest_of (piece kind rest) = rest
 rest_of other = []
 
-abbrev kind_of : Front → Option TokenKind
+abbrev pub kind_of : Front → Option TokenKind
 kind_of (piece kind rest) = kind
 kind_of other = None
 

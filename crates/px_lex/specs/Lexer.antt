@@ -1,5 +1,6 @@
 -- A whole text as gaps and tokens in turn, and the first fault of one that isn't.
 use Rattle.std.specs.Prelude.{◌≡◌, ℕ, ◌+◌, ◌<◌, List, [], ◌∷◌, ◌++◌, length, Option, Some, None}
+use Rattle.std.specs.List.{flat_map}
 use Rattle.px_lex.specs.declared.fault.LexFault.{LexFault}
 use Rattle.px_lex.specs.declared.fault.LexFault.TheVariants as faults
 use Rattle.px_lex.specs.declared.token.Token.{Token}
@@ -27,8 +28,7 @@ pub record Begins (kind : Option TokenKind) (text rest : List ℕ) : Type 0 wher
 
 -- the text of pieces
 abbrev pub spelled : List Piece → List ℕ
-spelled [] = []
-spelled (piece ∷ pieces) = piece.spelling ++ spelled pieces
+spelled = flat_map (λ piece. piece.spelling)
 
 -- each piece stands before those behind it and the rest
 abbrev pub AllStand : List Piece → List ℕ → Type 0

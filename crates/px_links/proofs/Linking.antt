@@ -4,8 +4,9 @@ use Rattle.std.specs.Option.{option_or}
 use Rattle.std.proofs.lemmas.Bool.{eqb-true, eq-eqb, or_left, or_right}
 use Rattle.std.proofs.lemmas.Bool.Decides.{eqb_tells}
 use Rattle.std.proofs.lemmas.Grind.{common_steps}
+use Rattle.px_value.specs.General.{is_number}
 use Rattle.px_links.specs.Lists.{has, without, behind}
-use Rattle.px_links.specs.Keeping.{walk, AreLinked, is_number}
+use Rattle.px_links.specs.Keeping.{walk, AreLinked}
 use Rattle.px_links.specs.Relinking.{past}
 
 -- what a list has

@@ -9,10 +9,11 @@ use Rattle.std.proofs.lemmas.Grind.{common_steps}
 use Rattle.std.proofs.lemmas.List.{get_or-set_same, get_or-set_other}
 use Rattle.std.proofs.lemmas.List.Folds.{list_any_at}
 use Rattle.std.proofs.lemmas.List.Quantifiers.{all_pairs_push}
+use Rattle.px_value.specs.General.{is_number}
 use Rattle.px_links.specs.declared.cell.Cell.{Cell}
 use Rattle.px_links.specs.declared.cell.Ends.{Ends}
 use Rattle.px_links.specs.Lists.{has, nth, with_last}
-use Rattle.px_links.specs.Keeping.{cell_at, ends_at, AreLinked, is_number, IsTable}
+use Rattle.px_links.specs.Keeping.{cell_at, ends_at, AreLinked, IsTable}
 use Rattle.px_links.specs.Relinking.{with_next}
 use Rattle.px_links.proofs.Linking.{linked_same, linked_push, number_here}
 use Rattle.px_links.proofs.Reading.{holder-read}

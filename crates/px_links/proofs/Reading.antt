@@ -8,12 +8,13 @@ use Rattle.std.proofs.lemmas.List.{get_or_default, get_or_past, get_or-set_same,
 use Rattle.std.proofs.Math.ListN.{get_or-map}
 use Rattle.std.proofs.lemmas.Grind.{common_steps}
 use Rattle.std.proofs.lemmas.List.Sums.{position_or_len_is}
+use Rattle.px_value.specs.General.{is_number}
 use Rattle.px_links.specs.declared.cell.Cell.{Cell}
 use Rattle.px_links.specs.declared.cell.Ends.{Ends}
 use Rattle.px_links.specs.declared.links.Links.TheInside.{Inside}
 use Rattle.px_links.specs.Links.{LinksData, first_of, last_of, holder_of, next_of}
 use Rattle.px_links.specs.Lists.{has, without, behind, nth, without_cell}
-use Rattle.px_links.specs.Keeping.{cell_at, ends_at, AreLinked, is_number, IsTable, IsKept, links_data, lists_in}
+use Rattle.px_links.specs.Keeping.{cell_at, ends_at, AreLinked, IsTable, IsKept, links_data, lists_in}
 use Rattle.px_links.proofs.Linking.{leads_back, linked_first, linked_last, linked_behind, number_here}
 use Rattle.px_links.proofs.Tables.{next_in, before_in, first_in, list_within, first_within, last_within, next_within, one_holder}
 

@@ -6,10 +6,11 @@ use Rattle.std.proofs.lemmas.Grind.{common_steps}
 use Rattle.std.proofs.lemmas.List.{get_or-map, get_or_default, length-set, length-map, same_lists}
 use Rattle.std.proofs.lemmas.Map.Made.{IsDistinct-from_AllPairs}
 use Rattle.std.proofs.lemmas.Map.Steps.{length-le_from_distinct_below}
+use Rattle.px_value.specs.General.{is_number}
 use Rattle.px_links.specs.declared.cell.Cell.{Cell}
 use Rattle.px_links.specs.declared.cell.Ends.{Ends}
 use Rattle.px_links.specs.Lists.{has, nth}
-use Rattle.px_links.specs.Keeping.{cell_at, ends_at, walk, lists_in, is_number, IsTable}
+use Rattle.px_links.specs.Keeping.{cell_at, ends_at, walk, lists_in, IsTable}
 use Rattle.px_links.specs.Relinking.{with_next}
 use Rattle.px_links.proofs.Linking.{LeadsOn, LeadsBack, walk-list, leads_on, leads_back, first_is, last_is, here_number, if_some}
 

@@ -9,10 +9,11 @@ use Rattle.std.proofs.Math.ListN.{get_or-map}
 use Rattle.std.proofs.lemmas.Grind.{common_steps}
 use Rattle.std.proofs.lemmas.List.Kept.{AllPairs-filter}
 use Rattle.std.proofs.lemmas.Map.Views.{any-filter_same}
+use Rattle.px_value.specs.General.{is_number}
 use Rattle.px_links.specs.declared.cell.Cell.{Cell}
 use Rattle.px_links.specs.declared.cell.Ends.{Ends}
 use Rattle.px_links.specs.Lists.{has, without, nth, without_cell}
-use Rattle.px_links.specs.Keeping.{cell_at, ends_at, AreLinked, is_number, IsTable}
+use Rattle.px_links.specs.Keeping.{cell_at, ends_at, AreLinked, IsTable}
 use Rattle.px_links.specs.Relinking.{past, with_next, with_before}
 use Rattle.px_links.proofs.Linking.{leads_apart, linked_without, number_here, here_number, if_some}
 use Rattle.px_links.proofs.Reading.{holder-read}

@@ -1,5 +1,6 @@
 -- Which links stand for lists.
-use Rattle.std.specs.Prelude.{ℕ, zero, suc, ◌≡◌, ◌≢◌, Bool, false, nat_eq, List, [], ◌∷◌, map, length, slice_index_or, Option, Some, None, AllPairs}
+use Rattle.std.specs.Prelude.{ℕ, zero, suc, ◌≡◌, ◌≢◌, List, [], ◌∷◌, map, length, slice_index_or, Option, Some, None, AllPairs}
+use Rattle.px_value.specs.General.{is_number}
 use Rattle.px_links.specs.declared.cell.Cell.{Cell}
 use Rattle.px_links.specs.declared.cell.Ends.{Ends}
 use Rattle.px_links.specs.declared.links.Links.TheInside.{Inside}
@@ -29,11 +30,6 @@ abbrev pub AreLinked : (ℕ → Option ℕ) → (ℕ → Option ℕ) → Option 
 AreLinked next before ahead first [] last = (first ≡ None) × (last ≡ ahead)
 AreLinked next before ahead first (cell ∷ list) last =
     (first ≡ Some cell) × (before cell ≡ ahead) × AreLinked next before (Some cell) (next cell) list last
-
--- whether it is this number
-abbrev pub is_number : Option ℕ → ℕ → Bool
-is_number None number = false
-is_number (Some other) number = nat_eq other number
 
 -- The cells and the ends stand for lists: each list is linked and has no cell twice, each cell has the number of the
 -- list that has it, and an absent one leads nowhere.

@@ -1,7 +1,8 @@
 -- What the code does to one link, or to one end.
 use Rattle.std.specs.Prelude.{ℕ, List, set, Option, Some, None, if◌then◌else◌}
+use Rattle.px_value.specs.General.{is_number}
 use Rattle.px_links.specs.declared.cell.Cell.{Cell}
-use Rattle.px_links.specs.Keeping.{cell_at, is_number}
+use Rattle.px_links.specs.Keeping.{cell_at}
 
 -- what was to the cell is to the other one instead
 abbrev pub past : ℕ → Option ℕ → Option ℕ → Option ℕ

@@ -1,10 +1,11 @@
 -- Each tolerance has latched a value in each report, whatever is reported and taken back.
-use Rattle.std.proofs.Common.{◌≡◌, ℕ, zero, suc, ◌-◌, Bool, true, false, List, [], ◌∷◌, ◌++◌, length, map, slice_get, take, Option, Some, None, IfSome, is_some, nat_eq, All, refl, ap, sym, subst, ◌∙◌, if◌then◌else◌}
+use Rattle.std.proofs.Common.{◌≡◌, ℕ, zero, suc, ◌-◌, Bool, true, false, List, [], ◌∷◌, ◌++◌, length, map, slice_get, Option, Some, None, IfSome, is_some, nat_eq, All, refl, ap, sym, subst, ◌∙◌, if◌then◌else◌}
 use Rattle.std.specs.Borrow.{Bor}
 use Rattle.std.specs.List.{list_any}
 use Rattle.std.specs.Map.{keys_of, lookup, values_of}
 use Rattle.std.specs.Option.{option_copied}
-use Rattle.std.proofs.lemmas.List.Elements.{All-cons, All-get_or, All-head, All-nil, All-push, All-tail}
+use Rattle.std.proofs.lemmas.List.{take-map}
+use Rattle.std.proofs.lemmas.List.Elements.{All-cons, All-get_or, All-head, All-nil, All-push, All-tail, All-take}
 use Rattle.std.proofs.lemmas.Map.Made.{is_some-lookup}
 use Rattle.std.proofs.lemmas.Map.Views.{IfSome-lookup_from_All}
 use Rattle.std.proofs.lemmas.Option.{get_or_from_slice_get, slice_get_within}
@@ -50,18 +51,12 @@ module _ (P : Report → Type 0) where
       All-cons P e.1 (values_of (set_value_at es at old)) (All-head P e.1 (values_of es) all)
       (set_all es at old (All-tail P e.1 (values_of es) all) holds)
 
-  front_all : (count : ℕ) (es : List (LookState × Report)) → All P (values_of es) → All P (values_of (take count es))
-  front_all zero es all = All-nil P
-  front_all (suc count) [] all = All-nil P
-  front_all (suc count) (e ∷ es) all =
-      All-cons P e.1 (values_of (take count es)) (All-head P e.1 (values_of es) all)
-      (front_all count es (All-tail P e.1 (values_of es) all))
-
 pub undone_latches : (tolerances : List ℕ) (change : Change) (es : List (LookState × Report))
     → All (LatchEach tolerances) (values_of es) → HadLatchedEach tolerances change
     → All (LatchEach tolerances) (values_of (undone change es))
 undone_latches tolerances (changes.Replaced at old) es all had = set_all (LatchEach tolerances) es at old all had
-undone_latches tolerances changes.Added es all had = front_all (LatchEach tolerances) (length es - 1) es all
+undone_latches tolerances changes.Added es all had =
+    subst (All (LatchEach tolerances)) (take-map (λ (e : LookState × Report). e.1) (length es - 1) es) (All-take (LatchEach tolerances) (length es - 1) (values_of es) all)
 
 -- a report that took the place of one
 pub replaced_change : (tolerances : List ℕ) (given : Value) (es : List (LookState × Report)) (at : ℕ) (old : Report)
@@ -89,14 +84,6 @@ added_change tolerances state given m nowhere = record {
       (first_each tolerances given);
   had = λ _. tt;
 }
-
--- all but the last, and the last
-pub all_parts : (P : Change → Type 0) (earlier : List Change) (change : Change) → All P (earlier ++ change ∷ [])
-    → All P earlier × P change
-all_parts P [] change all = (All-nil P, All-head P change [] all)
-all_parts P (first ∷ earlier) change all =
-    let rest = all_parts P earlier change (All-tail P first (earlier ++ change ∷ []) all) in
-    (All-cons P first earlier (All-head P first (earlier ++ change ∷ []) all) rest.0, rest.1)
 
 -- the changes so far, and one more where it is kept
 pub noted_all : (P : Change → Type 0) (is_kept : Bool) (changes noted : List Change) (change : Change)

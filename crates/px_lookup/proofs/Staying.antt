@@ -1,5 +1,6 @@
 -- What a tolerance has latched is as at the mark where no change since has another value.
 use Rattle.std.proofs.Common.{◌≡◌, ℕ, zero, suc, Bool, true, false, cond, List, [], ◌∷◌, slice_get, Option, Some, None, IsSome, All, refl, ap, ◌∙◌, if◌then◌else◌}
+use Rattle.std.specs.List.{AllZip}
 use Rattle.std.specs.Option.{ForSome, option_and_then, unwrap_or}
 use Rattle.std.proofs.lemmas.List.Elements.{All-head, All-tail}
 use Rattle.indexmap.specs.IndexMap.{set_value_at}
@@ -12,15 +13,11 @@ use Rattle.px_lookup.specs.Undoing.{IsAsLatched, undone_each}
 module _ (tolerance : ℕ) where
   -- the same states in the same order, and of each the same latched value
   abbrev AreAlike : List (LookState × Report) → List (LookState × Report) → Type 0
-  AreAlike [] [] = Unit {0}
-  AreAlike [] (y ∷ ys) = ⊥
-  AreAlike (x ∷ xs) [] = ⊥
-  AreAlike (x ∷ xs) (y ∷ ys) =
-      (x.0 ≡ y.0) × ((latched_at x.1 tolerance ≡ latched_at y.1 tolerance) × AreAlike xs ys)
+  AreAlike = AllZip (λ x y. (x.0 ≡ y.0) × (latched_at x.1 tolerance ≡ latched_at y.1 tolerance))
 
   alike_itself : (xs : List (LookState × Report)) → AreAlike xs xs
   alike_itself [] = tt
-  alike_itself (x ∷ xs) = (refl, (refl, alike_itself xs))
+  alike_itself (x ∷ xs) = ((refl, refl), alike_itself xs)
 
   -- still alike where a report stands in place of one that has the same latched value
   alike_set : (xs ys : List (LookState × Report)) (at : ℕ) (old : Report) → AreAlike xs ys
@@ -29,8 +26,8 @@ module _ (tolerance : ℕ) where
   alike_set [] [] at old alike same = tt
   alike_set [] (y ∷ ys) at old alike same = absurd alike
   alike_set (x ∷ xs) [] at old alike same = absurd alike
-  alike_set (x ∷ xs) (y ∷ ys) zero old alike same = (alike.0, (same y refl, alike.1.1))
-  alike_set (x ∷ xs) (y ∷ ys) (suc at) old alike same = (alike.0, (alike.1.0, alike_set xs ys at old alike.1.1 same))
+  alike_set (x ∷ xs) (y ∷ ys) zero old alike same = ((alike.0.0, same y refl), alike.1)
+  alike_set (x ∷ xs) (y ∷ ys) (suc at) old alike same = (alike.0, alike_set xs ys at old alike.1 same)
 
   alike_before : (changes : List Change) (now : List (LookState × Report)) → All (IsAsLatched now tolerance) changes
       → AreAlike (undone_each changes now) now
@@ -48,15 +45,15 @@ module _ (tolerance : ℕ) where
   alike_latched [] (y ∷ ys) state alike = absurd alike
   alike_latched (x ∷ xs) [] state alike = absurd alike
   alike_latched (x ∷ xs) (y ∷ ys) state alike =
-      ap (λ key. latched (cond (is_same_state key state) (Some x.1) (report_at xs state))) alike.0
-      ∙ by (is_same_state y.0 state) (alike_latched xs ys state alike.1.1)
+      ap (λ key. latched (cond (is_same_state key state) (Some x.1) (report_at xs state))) alike.0.0
+      ∙ by (is_same_state y.0 state) (alike_latched xs ys state alike.1)
     where
       latched : Option Report → Option Value
       latched found = option_and_then (λ report. latched_at report tolerance) found
 
       by : (same : Bool) → latched (report_at xs state) ≡ latched (report_at ys state)
           → latched (cond same (Some x.1) (report_at xs state)) ≡ latched (cond same (Some y.1) (report_at ys state))
-      by true rest = alike.1.0
+      by true rest = alike.0.1
       by false rest = rest
 
   stayed : (changes : List Change) (now : List (LookState × Report)) → All (IsAsLatched now tolerance) changes

@@ -75,8 +75,8 @@ pub arrival_now : (parts : Parts) (kept : Kept) (node : ℕ) → AreStanding par
     → node < length (plan_in parts)
     → arrival_of parts kept node ≡ destination (plan_in parts) (world_in parts) (site_in (plan_in parts) node)
 arrival_now parts kept node stand right now here =
-    (λ i. dest (site_in (plan_in parts) node).head.kind (own_now parts node kept now i).state
-    (guards_in (site_in (plan_in parts) node).head.kind (own_now parts node kept now i)
+    (λ i. dest (site_in (plan_in parts) node).head.kind (own_now parts node now.seen i).state
+    (guards_in (site_in (plan_in parts) node).head.kind (own_now parts node now.seen i)
     (parent_now parts kept node right now here i) (told_now parts kept node (node + 1) stand right now here (omega arith) i)
     (rest_now parts kept node right now here i) (truths_now parts kept node stand right now here i)))
     ∙ ap (dest (site_in (plan_in parts) node).head.kind (record_of parts node).state) (guards_are parts node here)

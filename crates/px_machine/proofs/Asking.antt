@@ -27,7 +27,7 @@ pub asks_now : (parts : Parts) (kept : Kept) (node : ℕ) → AreStanding parts 
     → own_at kept.told node ≡ asks_at (plan_in parts) (world_in parts) (site_in (plan_in parts) node).path
 asks_now parts kept node stand right now here =
     (right.caught_up node here (now.nobody node)).asks
-    ∙ (λ i. asks_in (own_now parts node kept now i) (kept_truth kept.conditions node which.Exit)
+    ∙ (λ i. asks_in (own_now parts node now.seen i) (kept_truth kept.conditions node which.Exit)
     (kept_truth kept.conditions node which.Invariant) (kept_truth kept.conditions node which.End))
     ∙ asks_are parts node (truths_of kept node) here (truths_now parts kept node stand right now here)
 

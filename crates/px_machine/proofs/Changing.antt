@@ -14,6 +14,7 @@ use Rattle.px_claims.proofs.Contested.{nobody_as_before}
 use Rattle.px_cached.specs.Cached.{kept_truth}
 use Rattle.px_cached.specs.Cached as cached
 use Rattle.px_micro.specs.Above.{asks_in}
+use Rattle.px_micro.specs.Going.{is_start}
 use Rattle.px_assign.specs.Conflicts.{is_writer}
 use Rattle.px_links.specs.Links.{LinksData, holder_of, is_absent}
 use Rattle.px_told.specs.declared.asks.Asks.{Asks}
@@ -28,7 +29,7 @@ use Rattle.px_machine.specs.CatchingUp.{HasTakenState, IsAskedFor}
 use Rattle.px_machine.specs.Kept.{arrival_of, is_rest, kept_state, own_seen, parent_state, kept_truths}
 use Rattle.px_machine.specs.Queue.{IsBehind, Wakes, behind_in}
 use Rattle.px_machine.specs.Right.{IsRight}
-use Rattle.px_machine.specs.Still.{IsStill, claims_now, is_marked, is_start}
+use Rattle.px_machine.specs.Still.{IsStill, claims_now, is_marked}
 use Rattle.px_machine.specs.Told.{Agrees, IsCaughtUp}
 use Rattle.px_machine.proofs.Arrivals.{HasTheSame, same_arrival}
 use Rattle.px_machine.proofs.Places.{parents_at}

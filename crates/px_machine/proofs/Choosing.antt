@@ -12,15 +12,14 @@ use Rattle.std.proofs.lemmas.List.Sorted.{All-permutation, Contains-permutation,
 use Rattle.std.proofs.lemmas.Map.Keys.{IsDistinct-IsPermutation}
 use Rattle.std.proofs.lemmas.Map.Made.{AllPairs-from_IsDistinct, IsDistinct-from_AllPairs}
 use Rattle.std.proofs.lemmas.Map.Views.{Contains-from_any, list_any-from_Contains}
-use Rattle.std.proofs.Math.Bool.{and-false}
 use Rattle.px_value.proofs.General.{same_bool, pairs_append}
 use Rattle.px_value.specs.declared.enums.NodeState.TheVariants as states
 use Rattle.px_core.specs.Plan.{Site, TargetData}
 use Rattle.px_sem.specs.declared.guards.Arrival.{Arrival}
 use Rattle.px_sem.specs.Conflicts.{destination, holds_variable, keeps_back, target_of, transition, would_start}
 use Rattle.px_sem.specs.Conflicts as semantics
-use Rattle.px_sem.specs.Guards.{is_active, is_waiting}
-use Rattle.px_sem.specs.World.{NodeRecord, World, state_at}
+use Rattle.px_sem.specs.Guards.{is_active}
+use Rattle.px_sem.specs.World.{World, state_at}
 use Rattle.px_flat.specs.Row.{site_in}
 use Rattle.px_assign.specs.Conflicts.{is_loser_in, is_writer, AreWriters}
 use Rattle.px_assign.proofs.Ties.{first_of, written_is}
@@ -29,37 +28,32 @@ use Rattle.px_claims.proofs.Winning.{among_numbers, flag_is}
 use Rattle.px_parts.specs.declared.parts.Parts.{Parts}
 use Rattle.px_parts.specs.Parts.{AreStanding, plan_in, world_in}
 use Rattle.px_micro.specs.declared.sight.Going.{Going}
-use Rattle.px_micro.specs.Going.{AreAllGoing, with_node}
-use Rattle.px_micro.proofs.Choosing.{start_goes}
+use Rattle.px_micro.specs.Going.{AreAllGoing, is_start, with_node}
+use Rattle.px_micro.proofs.Choosing.{start_goes, would_start_is}
 use Rattle.px_micro.proofs.Resting.{state_is}
 use Rattle.px_machine.specs.declared.kept.Kept.{Kept}
 use Rattle.px_machine.specs.Contest.{HasLooked, IsEachGoing}
 use Rattle.px_machine.specs.Kept.{arrival_of, own_seen}
 use Rattle.px_machine.specs.Queue.{IsGoer}
 use Rattle.px_machine.specs.Right.{IsNow, IsRight}
-use Rattle.px_machine.specs.Still.{claims_now, free_arrival, is_start}
+use Rattle.px_machine.specs.Still.{claims_now, free_arrival}
 use Rattle.px_machine.proofs.Arrivals.{arrival_now}
-use Rattle.px_machine.proofs.Present.{own_now}
+use Rattle.px_machine.proofs.Present.{state_seen}
 use Rattle.px_machine.proofs.Resting.{state_now}
 
 -- ---- starts
 
 -- a start by what is kept is a start in the world
-starts_are : (plan : List Site) (world : World) (site : Site) (to : Option Arrival) → destination plan world site ≡ to
-    → is_start (state_at world site.path) to ≡ would_start plan world site
-starts_are plan world site None is = rw is (sym (and-false (is_waiting (state_at world site.path))))
-starts_are plan world site (Some arrival) is = rw is refl
-
 pub claims_are : (parts : Parts) (kept : Kept) (node : ℕ) → AreStanding parts → IsRight parts kept → IsNow parts kept → node < length (plan_in parts)
     → claims_now parts kept node ≡ (is_writer (plan_in parts) node && would_start (plan_in parts) (world_in parts) (site_in (plan_in parts) node))
 claims_are parts kept node stand right now here =
     let plan : List Site = plan_in parts in
     let site : Site = site_in plan node in
     let state : (own_seen parts node).state ≡ state_at (world_in parts) site.path =
-    ap (λ (r : NodeRecord). r.state) (own_now parts node kept now) ∙ sym (state_is parts node here) in
+    state_seen parts node now.seen ∙ sym (state_is parts node here) in
     ap (λ starts. is_writer plan node && starts)
     ((λ i. is_start (state i) (arrival_now parts kept node stand right now here i))
-    ∙ starts_are plan (world_in parts) site (destination plan (world_in parts) site) refl)
+    ∙ sym (would_start_is plan (world_in parts) site))
 
 -- a loser would start, and writes a variable
 pub writer_loses : (plan : List Site) (world : World) (node : ℕ) → is_loser_in plan world node ≡ true

@@ -1,10 +1,11 @@
 -- How far a look over the woken nodes has come.
-use Rattle.std.proofs.Common.{◌≡◌, ◌≢◌, ℕ, zero, suc, ◌+◌, ◌<◌, Bool, true, false, ◌&&◌, [], ◌∷◌, ◌++◌, append-nil, List, length, get_or, Option, Some, None, All, AllPairs, Contains, IsSome, map, refl, ap, sym, ◌∙◌, subst, arith, inl, inr, if◌then◌else◌}
+use Rattle.std.proofs.Common.{◌≡◌, ◌≢◌, ℕ, suc, ◌+◌, ◌<◌, Bool, true, false, ◌&&◌, [], ◌∷◌, ◌++◌, append-nil, List, length, get_or, Option, Some, None, All, AllPairs, Contains, IsSome, map, refl, ap, sym, ◌∙◌, subst, arith, inl, inr, if◌then◌else◌}
 use Rattle.std.specs.List.{concat, cons_option}
 use Rattle.std.proofs.lemmas.Bool.{cases_eq, eqb-true, false≢true}
 use Rattle.std.proofs.lemmas.List.{get_or-append-add, get_or_append_left, get_or-set_other, length-append, length-set, map-append}
 use Rattle.std.proofs.lemmas.List.Elements.{All-nil, All-push, Contains-append_left, Contains-append_right}
 use Rattle.std.proofs.lemmas.List.Quantifiers.{all_pairs_push, position-Some}
+use Rattle.std.proofs.lemmas.Map.Made.{Contains-tail}
 use Rattle.std.proofs.lemmas.Map.Views.{Contains-from_any}
 use Rattle.px_sem.specs.declared.guards.Arrival.{Arrival}
 use Rattle.px_sem.specs.Conflicts.{destination, is_loser, transition}
@@ -18,14 +19,14 @@ use Rattle.px_claims.specs.Claims.{ClaimsData}
 use Rattle.px_parts.specs.declared.parts.Parts.{Parts}
 use Rattle.px_parts.specs.Parts.{AreStanding, plan_in, world_in}
 use Rattle.px_micro.specs.declared.sight.Going.{Going}
-use Rattle.px_micro.specs.Going.{with_node}
+use Rattle.px_micro.specs.Going.{is_start, with_node}
 use Rattle.px_machine.specs.declared.kept.Kept.{Kept}
 use Rattle.px_machine.specs.Contest.{HasLooked, IsSimulation}
 use Rattle.px_machine.specs.Kept.{arrival_of, own_seen, parent_state}
 use Rattle.px_machine.specs.Looking.{HasLookedAt, IsSameButMark, with_mark}
 use Rattle.px_machine.specs.Queue.{IsGoer, IsWoken, NobodyIsBehind}
 use Rattle.px_machine.specs.Right.{IsNow, IsRight}
-use Rattle.px_machine.specs.Still.{claims_now, free_arrival, is_marked, is_start}
+use Rattle.px_machine.specs.Still.{claims_now, free_arrival, is_marked}
 use Rattle.px_machine.proofs.Arrivals.{HasTheSame, arrival_now, same_arrival}
 use Rattle.px_machine.proofs.Changing.{still_same}
 use Rattle.px_machine.proofs.Choosing.{claims_are, writer_loses}
@@ -101,14 +102,6 @@ looked_at_none parts kept right nobody = record {
 
 -- ---- one more
 
--- who is ahead of some is ahead of one more
-more_ahead : (node : ℕ) (ahead : List ℕ) (other : ℕ) → Contains ahead other → Contains (node ∷ ahead) other
-more_ahead node ahead other there = (suc there.0, omega (arith, there.1), there.2)
-
-not_ahead : (node : ℕ) (ahead : List ℕ) (other : ℕ) → other ≢ node → (Contains ahead other → ⊥) → Contains (node ∷ ahead) other → ⊥
-not_ahead node ahead other apart behind (zero, within, is) = apart (sym is)
-not_ahead node ahead other apart behind (suc k, within, is) = behind (k, omega (arith, within), is)
-
 module _ (parts : Parts) (old : Kept) (node : ℕ) (wants : Bool) (before after : List Going) (ahead : List ℕ)
     (here : node < length (plan_in parts)) (looked : HaveLookedBut parts old before (node ∷ ahead))
     (at : HasLookedAt parts (with_mark old node wants) node before after) (once : Contains ahead node → ⊥) where
@@ -120,20 +113,20 @@ module _ (parts : Parts) (old : Kept) (node : ℕ) (wants : Bool) (before after 
     | inl same ↦ subst (λ node. is_marked remarked node ≡ claims_now parts remarked node) (sym same) at.marked
     | inr differs ↦
         get_or-set_other old.claims.wanting node other wants false differs
-        ∙ looked.marked other there (not_ahead node ahead other differs apart) ∙ sym (claims_marked parts old remarked.claims other)
+        ∙ looked.marked other there (λ among. apart (Contains-tail node ahead other (λ same. differs (sym same)) among)) ∙ sym (claims_marked parts old remarked.claims other)
   ]
 
   each : All (λ one. free_arrival parts remarked one.node ≡ Some one.arrival) before
   each k d inside = free_marked parts old remarked.claims (get_or before k d).node ∙ looked.each k d inside
 
   behind : All (λ one. Contains ahead one.node → ⊥) before
-  behind k d inside there = looked.behind k d inside (more_ahead node ahead (get_or before k d).node there)
+  behind k d inside there = looked.behind k d inside (Contains-append_right (node ∷ []) ahead (get_or before k d).node there)
 
   -- a node that went before is another one
   all_others : (other : ℕ) → other < length (plan_in parts) → other ≢ node → (Contains ahead other → ⊥)
       → IsSome (free_arrival parts remarked other) → IsGoer before other
   all_others other there differs apart goes =
-      looked.all other there (not_ahead node ahead other differs apart) (subst IsSome (free_marked parts old remarked.claims other) goes)
+      looked.all other there (λ among. apart (Contains-tail node ahead other (λ same. differs (sym same)) among)) (subst IsSome (free_marked parts old remarked.claims other) goes)
 
   looked_to : (to : Option Arrival) → free_arrival parts remarked node ≡ to
       → HaveLookedBut parts remarked (before ++ cons_option (with_node node to) []) ahead

@@ -24,7 +24,7 @@ use Rattle.px_flat.proofs.Tables.{flat_sound}
 use Rattle.px_flat.proofs.Withins.{node_is_within}
 use Rattle.px_links.specs.Links.{is_absent}
 use Rattle.px_claims.specs.Claims.{AreOf}
-use Rattle.px_cached.specs.Cached.{CachedData, HasTouchedCell, IsTouchedAt, TellsChanged, is_touched, kept_truth, present_in}
+use Rattle.px_cached.specs.Cached.{CachedData, HasTouchedCell, IsTouchedAt, SeenIn, TouchedIn, TellsChanged, is_touched, kept_truth, present_in}
 use Rattle.px_cached.specs.Cached as cached
 use Rattle.px_cached.specs.Conditions.{condition_in, number_of, source_number}
 use Rattle.px_cached.specs.Firsts.{HasCell}
@@ -67,12 +67,6 @@ same_or now seen news d others k = by (list_any (nat_eq k) news) refl
     by false is = inl (same_at now seen k d (others k (λ there. absurd (cc (sym (list_any-from_Contains nat_eq_equiv k news there) ∙ is)))))
 
 -- ---- one cell more, or one act
-
--- of each condition, with these sites
-abbrev TouchedIn : List Site → CachedData → ℕ → Type 0
-TouchedIn sites conditions cell = (node : ℕ) (kind : ConditionKind) → node < length sites
-    → All (λ source. HasCell source cell → is_touched conditions (source_number sites source) ≡ true)
-    (sources_in sites (condition_in sites node kind))
 
 -- what was touched is
 still_touched : (old new : CachedData) (cell : ℕ) → new.flat ≡ old.flat
@@ -218,12 +212,6 @@ module _ (old new : Parts) (before middle after : Kept) (stand : AreStanding old
   plan_is : cached.plan_in after.conditions ≡ plan
   plan_is = framed.of_plan.conditions
 
-  abbrev SeenIn : List Site → Type 0
-  SeenIn sites = (node : ℕ) (kind : ConditionKind) → node < length sites
-      → All (λ source. is_touched after.conditions (source_number sites source) ≡ false
-      → IsSame sites after.conditions.seen (present_in new.cells new.reports) source)
-      (sources_in sites (condition_in sites node kind))
-
   touched_at : All (TouchedIn plan after.conditions) old.cells.news
   touched_at = subst (λ (sites : List Site). All (TouchedIn sites after.conditions) old.cells.news) plan_is
       (subst (λ conditions. All (IsTouchedAt conditions) old.cells.news) (sym acts.conditions) cells.touched)
@@ -251,7 +239,7 @@ module _ (old new : Parts) (before middle after : Kept) (stand : AreStanding old
       ∙ seen.reports lookup tolerance there (was_untouched before.conditions after.conditions (source_number plan (Reports lookup tolerance)) kept_touched untouched) args
       ∙ (λ i. reported_of (sym same.reports i).reports (get_or (lookups_of plan) lookup []) args tolerance)
 
-  seen_in : SeenIn plan
+  seen_in : SeenIn plan after.conditions (present_in new.cells new.reports)
   seen_in node kind here k d inside =
       let expr : Numbered = condition_in plan node kind in
       let within : IsWithin plan expr =
@@ -264,7 +252,7 @@ module _ (old new : Parts) (before middle after : Kept) (stand : AreStanding old
   pub noticed : IsNoticed new after
   noticed = record {
     seen = all;
-    touched = subst SeenIn (sym plan_is) seen_in;
+    touched = subst (λ (sites : List Site). SeenIn sites after.conditions (present_in new.cells new.reports)) (sym plan_is) seen_in;
     right = right_framed old new before after framed right;
     nobody = nobody_after;
   }

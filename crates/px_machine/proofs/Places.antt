@@ -1,5 +1,5 @@
 -- Where each node of a plan stands, as a tree in preorder.
-use Rattle.std.proofs.Common.{◌≡◌, ℕ, ◌<◌, ◌≤◌, true, false, ◌&&◌, ◌||◌, nat_eq, nat_lt, List, length, get_or, Option, Some, None, All, IfSome, refl, ap, sym, ◌∙◌, subst, arith, inl, inr}
+use Rattle.std.proofs.Common.{◌≡◌, ℕ, ◌<◌, ◌≤◌, true, false, ◌&&◌, ◌||◌, nat_eq, nat_lt, List, [], ◌∷◌, length, get_or, Option, Some, None, All, IfSome, refl, ap, sym, ◌∙◌, subst, arith, inl, inr}
 use Rattle.std.specs.List.{list_any}
 use Rattle.std.proofs.lemmas.Bool.{cases_lt, eq-eqb, eqb-true, le-ltb, ne_eqb}
 use Rattle.std.proofs.lemmas.List.FromFn.{get_or-map-range_with_len, length-map-range_with_len}
@@ -16,6 +16,7 @@ use Rattle.px_told.specs.Preorder.{IsPreorder, end_of, is_below, is_under, paren
 use Rattle.px_assign.specs.Conflicts.{variable_of}
 use Rattle.px_claims.specs.Claims.{AreOf, ClaimsData}
 use Rattle.px_micro.proofs.Ancestors.{placed}
+use Rattle.px_micro.proofs.Chains.{chain_within}
 use Rattle.px_micro.proofs.Families.{end_within, same_node}
 use Rattle.px_machine.specs.Kept.{place_in, places_of, parents_of}
 
@@ -107,17 +108,7 @@ module _ (flat : Flat) where
         ];
   }
 
--- A parent is a node: by `placed`, it stands before its child.
-pub parents_within : (flat : Flat) (node parent : ℕ) → node < length (plan_of flat)
-    → parent_number (plan_of flat) node ≡ Some parent → parent < length (plan_of flat)
-parents_within flat node parent here is = elim (placed flat node here) [
-  | inl top ↦ absurd (cc (sym top.number ∙ is))
-  | inr under ↦
-      let same : Some under.parent ≡ Some parent = sym under.number ∙ is in
-      let one : under.parent ≡ parent = (cc) in
-      omega (arith, one, under.before, here)
-]
-
+-- a parent is a node
 pub all_parents : (flat : Flat) → All (λ parent. IfSome parent (λ parent. parent < length (plan_of flat))) (parents_of (plan_of flat))
 all_parents flat k d inside =
     subst (λ parent. IfSome parent (λ parent. parent < length (plan_of flat)))
@@ -129,4 +120,4 @@ all_parents flat k d inside =
 
     by : (parent : Option ℕ) → parent_number (plan_of flat) k ≡ parent → IfSome parent (λ parent. parent < length (plan_of flat))
     by None is = tt
-    by (Some parent) is = parents_within flat k parent here is
+    by (Some parent) is = chain_within flat k (parent ∷ []) parent here (is, refl)

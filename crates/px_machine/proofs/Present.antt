@@ -19,13 +19,13 @@ use Rattle.px_machine.specs.Kept.{own_in, own_seen, parent_state, truths_of}
 use Rattle.px_machine.specs.Right.{IsNow, IsRight}
 
 -- its record, its variables apart: the seen cells and acts are the present ones
-pub own_now : (parts : Parts) (node : ℕ) (kept : Kept) → IsNow parts kept
+pub own_now : (parts : Parts) (node : ℕ) → AreAllSeen parts
     → own_seen parts node ≡ record (record_of parts node) { variables = [] }
-own_now parts node kept now i = own_in (plan_in parts) (now.seen.cells.0 i) (now.seen.actions.0 i) node
+own_now parts node seen i = own_in (plan_in parts) (seen.cells.0 i) (seen.actions.0 i) node
 
 -- so its state is the one that was seen
 pub state_seen : (parts : Parts) (node : ℕ) → AreAllSeen parts → (own_seen parts node).state ≡ (record_of parts node).state
-state_seen parts node seen i = (own_in (plan_in parts) (seen.cells.0 i) (seen.actions.0 i) node).state
+state_seen parts node seen = ap (λ (r : NodeRecord). r.state) (own_now parts node seen)
 
 -- its parent's state
 pub parent_now : (parts : Parts) (kept : Kept) (node : ℕ) → IsRight parts kept → IsNow parts kept → node < length (plan_in parts)
@@ -35,7 +35,7 @@ parent_now parts kept node right now here = elim (placed parts.flat node here) [
   | inr under ↦
       ap (parent_state kept) under.number
       ∙ (right.caught_up under.parent (omega (arith, under.before, here)) (now.nobody under.parent)).state
-      ∙ ap (λ (r : NodeRecord). r.state) (own_now parts under.parent kept now)
+      ∙ state_seen parts under.parent now.seen
       ∙ parent_is parts node under here
 ]
 

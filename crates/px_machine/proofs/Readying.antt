@@ -37,6 +37,7 @@ use Rattle.px_machine.specs.declared.kept.Kept.{Kept}
 use Rattle.px_machine.specs.Begun.{IsMarkedFor, IsUnderWay, begun_in, heard_of, is_event}
 use Rattle.px_machine.specs.Hearing.{HasHeard, heard_by}
 use Rattle.px_machine.specs.Kept.{own_in}
+use Rattle.px_machine.specs.Machine.{state_with}
 use Rattle.px_machine.specs.Queue.{HaveGone, HaveRested}
 use Rattle.px_machine.specs.Right.{IsRight}
 use Rattle.px_machine.specs.Seen.{IsSameReport}
@@ -61,14 +62,12 @@ latched_by parts latching = record {
 numbers_set : IsSet (List ℕ)
 numbers_set = hlevel codes
 
-same_latching : (parts : Parts) (one other : parts.reports.tolerances ≡ tolerances (plan_in parts)) → one ≡ other
-same_latching parts one other = numbers_set parts.reports.tolerances (tolerances (plan_in parts)) one other
-
 -- what is said of parts is said of these
 pub relatched : (P : Parts → Type 0) (parts : Parts) (latching : parts.reports.tolerances ≡ tolerances (plan_in parts))
     → P parts → P (latched_by parts latching)
 relatched P parts latching holds =
-    subst (λ latching. P (latched_by parts latching)) (same_latching parts parts.latching latching) holds
+    subst (λ latching. P (latched_by parts latching))
+    (numbers_set parts.reports.tolerances (tolerances (plan_in parts)) parts.latching latching) holds
 
 -- ---- what is kept
 
@@ -288,10 +287,6 @@ same_stand old new same stand =
     (subst (λ (done : List Act). IsParts (plan_in old) old.cells.contents.values done) (λ i. (sym same.actions i).values) stand))
 
 -- ---- the stepper's state
-
-abbrev pub state_with : Begun → Parts → stepper.State
-state_with now parts =
-    record { nodes = plan_in parts; world = world_in parts; pending = begun_in now (marked_world parts) }
 
 pub same_state : (now : Begun) (old new : Parts) → AreSame old new → state_with now new ≡ state_with now old
 same_state now old new same i = record {

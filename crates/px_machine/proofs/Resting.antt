@@ -1,31 +1,29 @@
 -- Whether all children of a node are at rest, by who is counted as busy.
-use Rattle.std.proofs.Common.{◌≡◌, ℕ, ◌<◌, ◌≤◌, Bool, true, false, not, ◌||◌, List, length, get_or, Some, None, refl, ap, sym, ◌∙◌, subst, arith, inl, inr}
+use Rattle.std.proofs.Common.{◌≡◌, ℕ, ◌<◌, ◌≤◌, Bool, true, false, not, List, length, get_or, Some, None, refl, ap, sym, ◌∙◌, arith, inl, inr}
 use Rattle.std.proofs.lemmas.Bool.{cases_lt, eq-eqb, eqb-true, not-false}
-use Rattle.std.proofs.lemmas.List.{get_or_default, get_or_past}
-use Rattle.std.proofs.lemmas.List.Folds.{list_all_at}
-use Rattle.std.proofs.lemmas.List.Sums.{list_all-from_AllPass}
+use Rattle.std.proofs.lemmas.List.{get_or_past}
 use Rattle.px_value.proofs.General.{same_bool}
-use Rattle.px_core.specs.Plan.{Site, is_child_of, no_site}
+use Rattle.px_core.specs.Plan.{Site, is_child_of}
 use Rattle.px_sem.specs.Guards.{each_child, is_at_rest}
-use Rattle.px_sem.specs.World.{NodeRecord, state_at}
+use Rattle.px_sem.specs.World.{state_at}
 use Rattle.px_flat.specs.Row.{site_in, parent_number}
 use Rattle.px_tally.specs.Tally.{is_counted, total}
 use Rattle.px_tally.proofs.Counting.{count-none, none-count}
 use Rattle.px_parts.specs.declared.parts.Parts.{Parts}
 use Rattle.px_parts.specs.Parts.{plan_in, world_in}
 use Rattle.px_micro.proofs.Families.{child_is, is_child}
-use Rattle.px_micro.proofs.Resting.{state_is}
+use Rattle.px_micro.proofs.Resting.{each_rests, one_works, state_is}
 use Rattle.px_machine.specs.declared.kept.Kept.{Kept}
 use Rattle.px_machine.specs.Kept.{is_rest, kept_state, parents_of}
 use Rattle.px_machine.specs.Right.{IsNow, IsRight}
 use Rattle.px_machine.proofs.Places.{parents_at, parents_long}
-use Rattle.px_machine.proofs.Present.{own_now}
+use Rattle.px_machine.proofs.Present.{state_seen}
 
 -- the state of a node in the world is the one that is kept
 pub state_now : (parts : Parts) (kept : Kept) (node : ℕ) → IsRight parts kept → IsNow parts kept → node < length (plan_in parts)
     → kept_state kept node ≡ state_at (world_in parts) (site_in (plan_in parts) node).path
 state_now parts kept node right now here =
-    (right.caught_up node here (now.nobody node)).state ∙ ap (λ (r : NodeRecord). r.state) (own_now parts node kept now)
+    (right.caught_up node here (now.nobody node)).state ∙ state_seen parts node now.seen
     ∙ sym (state_is parts node here)
 
 -- who is no node has no parent
@@ -40,9 +38,6 @@ module _ (parts : Parts) (kept : Kept) (node : ℕ) (right : IsRight parts kept)
   abbrev own : List ℕ
   own = (site_in plan node).path
 
-  abbrev test : Site → Bool
-  test site = not (is_child_of own site) || is_at_rest (state_at (world_in parts) site.path)
-
   -- who is counted of the node's children
   counted : (child : ℕ) → child < length plan
       → is_counted kept.busy child ≡ not (is_at_rest (state_at (world_in parts) (site_in plan child).path))
@@ -54,14 +49,13 @@ module _ (parts : Parts) (kept : Kept) (node : ℕ) (right : IsRight parts kept)
       ap (λ parents. get_or parents child None) right.of_plan.parents ∙ parents_at plan child there
 
   -- nobody is counted, so each child is at rest
-  each_rests : is_rest kept node ≡ true → (k : ℕ) → k < length plan → (b : Bool) → is_child_of own (site_in plan k) ≡ b
-      → test (site_in plan k) ≡ true
-  each_rests rest k there false is = rw is refl
-  each_rests rest k there true is =
-      let busy : is_counted kept.busy k ≡ false =
-      none-count node kept.busy.group_of kept.busy.counting (eqb-true (total kept.busy node) 0 rest) k
-      (group k there ∙ child_is parts.flat node k here there is) in
-      rw is (not-false (is_at_rest (state_at (world_in parts) (site_in plan k).path)) (sym (counted k there) ∙ busy))
+  one_rests : is_rest kept node ≡ true → (child : ℕ) → child < length plan → is_child_of own (site_in plan child) ≡ true
+      → is_at_rest (state_at (world_in parts) (site_in plan child).path) ≡ true
+  one_rests rest child there is =
+      let busy : is_counted kept.busy child ≡ false =
+      none-count node kept.busy.group_of kept.busy.counting (eqb-true (total kept.busy node) 0 rest) child
+      (group child there ∙ child_is parts.flat node child here there is) in
+      not-false (is_at_rest (state_at (world_in parts) (site_in plan child).path)) (sym (counted child there) ∙ busy)
 
   -- each child is at rest, so nobody is counted
   nobody_counts : each_child is_at_rest plan (world_in parts) own ≡ true → (child : ℕ)
@@ -76,14 +70,10 @@ module _ (parts : Parts) (kept : Kept) (node : ℕ) (right : IsRight parts kept)
       by : (rests : Bool) → is_at_rest (state_at (world_in parts) (site_in plan child).path) ≡ rests → child < length plan
           → is_child_of own (site_in plan child) ≡ true → not rests ≡ false
       by true is there is_one = refl
-      by false is there is_one =
-          let fails : test (site_in plan child) ≡ false = rw is_one is in
-          absurd (cc (sym (list_all_at test plan child no_site there fails) ∙ all))
+      by false is there is_one = absurd (cc (sym (one_works plan (world_in parts) own child there is_one is) ∙ all))
 
   pub rest_now : is_rest kept node ≡ each_child is_at_rest plan (world_in parts) own
   rest_now =
       same_bool (is_rest kept node) (each_child is_at_rest plan (world_in parts) own)
-      (λ rest. list_all-from_AllPass test plan (λ k d there.
-      subst (λ site. test site ≡ true) (get_or_default plan k no_site d there)
-      (each_rests rest k there (is_child_of own (site_in plan k)) refl)))
+      (λ rest. each_rests plan (world_in parts) own (one_rests rest))
       (λ all. eq-eqb (total kept.busy node) 0 (count-none node kept.busy.group_of kept.busy.counting (nobody_counts all)))

@@ -1,10 +1,10 @@
 -- The queue's two lists.
-use Rattle.std.proofs.Common.{◌≡◌, ◌≢◌, ◌⊎◌, ℕ, zero, suc, ◌<◌, Bool, true, false, nat_eq, List, [], ◌∷◌, ◌++◌, length, map, Contains, Option, Some, None, is_none, refl, ap, sym, ◌∙◌, subst, arith, inl, inr, if◌then◌else◌}
+use Rattle.std.proofs.Common.{◌≡◌, ◌≢◌, ◌⊎◌, ℕ, ◌<◌, Bool, true, false, nat_eq, List, [], ◌∷◌, ◌++◌, length, map, Contains, Option, Some, None, is_none, refl, ap, sym, ◌∙◌, subst, arith, inl, inr, if◌then◌else◌}
 use Rattle.std.specs.Cmp.{nat_eq_equiv}
 use Rattle.std.specs.List.{list_any}
-use Rattle.std.proofs.lemmas.Bool.{cases_eq, cases_lt, eq-eqb, eqb-true, false≢true, ne_eqb}
+use Rattle.std.proofs.lemmas.Bool.{cases_eq, cases_lt, eq-eqb, eqb-true, false_from_ne_true, false≢true, ne_eqb}
 use Rattle.std.proofs.lemmas.List.{get_or-set_other, map-append}
-use Rattle.std.proofs.lemmas.List.Elements.{Contains-append_cases, Contains-append_left, Contains-append_right}
+use Rattle.std.proofs.lemmas.List.Elements.{Contains-append_left, Contains-append_right, Contains-push_cases}
 use Rattle.std.proofs.lemmas.List.Quantifiers.{position-Some}
 use Rattle.std.proofs.lemmas.Map.Views.{Contains-from_any, list_any-from_Contains}
 use Rattle.px_links.specs.Links.{LinksData, HoldsOthersAsBefore, SameCounts, holder_of, is_absent, pushed}
@@ -65,10 +65,8 @@ none_woken old new falls nobody node woken = elim (falls.added node) [
 -- who waited waits
 pub still_waits : (list : ℕ) (old new : LinksData) (node : ℕ) → AddsTo list old new → is_absent old node ≡ false
     → is_absent new node ≡ false
-still_waits list old new node added waits = elim (added node) [
-  | inl same ↦ ap is_none same ∙ waits
-  | inr pushed ↦ absurd (cc (sym pushed.0 ∙ waits))
-]
+still_waits list old new node added waits =
+    false_from_ne_true (is_absent new node) (λ absent. false≢true (sym waits ∙ was_absent old new list node added absent))
 
 -- pushes into one list, one after another
 pub adds_both : (list : ℕ) (first middle last : LinksData) → AddsTo list first middle → AddsTo list middle last → AddsTo list first last
@@ -153,10 +151,10 @@ module _ (first old new : LinksData) (some : List Going) (one : Going) (gone : H
       | inl same ↦ subst (IsBehind new) same (behind_now (is_absent old one.node) refl)
       | inr apart ↦
           elsewhere old new one.node 0 holders node (ne_eqb one.node node apart)
-          ∙ elim (Contains-append_cases (nodes_of some) (one.node ∷ []) node
+          ∙ elim (Contains-push_cases (nodes_of some) one.node node
           (subst (λ nodes. Contains nodes node) (map-append (λ (one : Going). one.node) some (one ∷ [])) goes)) [
             | inl before ↦ gone.gone node before
-            | inr this ↦ absurd (apart (only this))
+            | inr this ↦ absurd (apart this)
           ]
     ];
     others = λ node apart.
@@ -169,7 +167,3 @@ module _ (first old new : LinksData) (some : List Going) (one : Going) (gone : H
         (Contains-append_left (nodes_of some) (one.node ∷ []) node goes)));
     counts = (counts.0 ∙ gone.counts.0, counts.1 ∙ gone.counts.1);
   }
-    where
-      only : {cell node : ℕ} → Contains (cell ∷ []) node → cell ≡ node
-      only (zero, within, is) = is
-      only (suc k, within, is) = absurd (omega (arith, within))

@@ -5,17 +5,20 @@ use Rattle.px_sem.specs.Conflicts.{is_quiet}
 use Rattle.px_sem.specs.Step.{moves}
 use Rattle.px_sem.specs.Stepper.{State, stepped}
 use Rattle.px_parts.specs.Marks.{marked_world}
+use Rattle.px_parts.specs.declared.parts.Parts.{Parts}
 use Rattle.px_parts.specs.Parts.{plan_in, world_in}
 use Rattle.px_micro.specs.Stepping.{moves_after}
+use Rattle.px_machine.specs.declared.begun.Begun.{Begun}
 use Rattle.px_machine.specs.declared.machine.Machine.{Machine}
 use Rattle.px_machine.specs.Begun.{begun_in}
 
+-- the state of a stepper with these parts, where this is begun
+abbrev pub state_with : Begun → Parts → State
+state_with now parts =
+    record { nodes = plan_in parts; world = world_in parts; pending = begun_in now (marked_world parts) }
+
 abbrev pub state_in : Machine → State
-state_in machine = record {
-  nodes = plan_in machine.parts;
-  world = world_in machine.parts;
-  pending = begun_in machine.begun (marked_world machine.parts);
-}
+state_in machine = state_with machine.begun machine.parts
 
 -- Where it answers true, the world was not quiet, and took one micro step; else nothing changed, and there are no moves.
 abbrev pub StepsOn : Bool → State → State → List Move → List Move → Bool → Type 0

@@ -1,19 +1,13 @@
 -- STILL: a node that waits in no list stays by what is kept, or it waits for its variable and is marked.
-use Rattle.std.specs.Prelude.{◌≡◌, ℕ, ◌<◌, Bool, true, false, ◌&&◌, length, slice_index_or, Option, Some, None, if◌then◌else◌}
-use Rattle.px_value.specs.declared.enums.NodeState.{NodeState}
+use Rattle.std.specs.Prelude.{◌≡◌, ℕ, ◌<◌, Bool, true, false, ◌&&◌, length, slice_index_or, Option, None, if◌then◌else◌}
 use Rattle.px_sem.specs.declared.guards.Arrival.{Arrival}
-use Rattle.px_sem.specs.Guards.{is_waiting, is_executing}
 use Rattle.px_links.specs.Links.{is_absent}
 use Rattle.px_assign.specs.Conflicts.{is_writer}
 use Rattle.px_parts.specs.declared.parts.Parts.{Parts}
 use Rattle.px_parts.specs.Parts.{plan_in}
+use Rattle.px_micro.specs.Going.{is_start}
 use Rattle.px_machine.specs.declared.kept.Kept.{Kept}
 use Rattle.px_machine.specs.Kept.{arrival_of, own_seen}
-
--- a row that leads from WAITING to EXECUTING
-abbrev pub is_start : NodeState → Option Arrival → Bool
-is_start state None = false
-is_start state (Some arrival) = is_waiting state && is_executing arrival.to
 
 -- the node is marked as one that would start
 abbrev pub is_marked : Kept → ℕ → Bool

@@ -1,6 +1,6 @@
 -- Terms are told apart by their labels in postorder, from which they are built again: so an equation of plans has one proof at
 -- most.
-use Rattle.std.specs.Prelude.{ℕ, List, [], ◌∷◌, Option}
+use Rattle.std.specs.Prelude.{ℕ, List, [], ◌∷◌, drop, Option}
 use Rattle.std.specs.Coded.{Coded, codes, code_by}
 use Rattle.std.proofs.Common.{◌≡◌, refl, ap, ◌∙◌}
 use Rattle.px_value.specs.declared.value.Value.{Value}
@@ -54,17 +54,9 @@ abbrev pub top : List Term → Term
 top [] = Literal values.Unknown
 top (term ∷ terms) = term
 
-abbrev pub below : List Term → List Term
-below [] = []
-below (term ∷ terms) = terms
-
 abbrev pub top_arguments : List Terms → Terms
 top_arguments [] = NoTerms
 top_arguments (args ∷ more) = args
-
-abbrev pub below_arguments : List Terms → List Terms
-below_arguments [] = []
-below_arguments (args ∷ more) = more
 
 -- with one term in place of so many
 abbrev pub with_term : Term → List Term → List Terms → Built
@@ -74,19 +66,19 @@ with_term term terms arguments = record { terms = term ∷ terms; arguments = ar
 abbrev pub built : Label → List Term → List Terms → Built
 built (ALiteral value) terms arguments = with_term (Literal value) terms arguments
 built (AVar owner name) terms arguments = with_term (Var owner name) terms arguments
-built (ACell owner name) terms arguments = with_term (Cell owner name (top terms)) (below terms) arguments
+built (ACell owner name) terms arguments = with_term (Cell owner name (top terms)) (drop 1 terms) arguments
 built (AState path) terms arguments = with_term (StateOf path) terms arguments
 built (AnOutcome path) terms arguments = with_term (OutcomeOf path) terms arguments
 built (AFailure path) terms arguments = with_term (FailureOf path) terms arguments
 built (AHandle path) terms arguments = with_term (HandleOf path) terms arguments
 built (AnAcknowledgement path) terms arguments = with_term (Acknowledged path) terms arguments
 built (ALook word name tolerance) terms arguments =
-    with_term (Look word name (top_arguments arguments) tolerance) terms (below_arguments arguments)
-built (AUnary op) terms arguments = with_term (Unary op (top terms)) (below terms) arguments
-built (ABinary op) terms arguments = with_term (Binary op (top (below terms)) (top terms)) (below (below terms)) arguments
+    with_term (Look word name (top_arguments arguments) tolerance) terms (drop 1 arguments)
+built (AUnary op) terms arguments = with_term (Unary op (top terms)) (drop 1 terms) arguments
+built (ABinary op) terms arguments = with_term (Binary op (top (drop 1 terms)) (top terms)) (drop 2 terms) arguments
 built NoArgument terms arguments = record { terms = terms; arguments = NoTerms ∷ arguments }
 built AnArgument terms arguments =
-    record { terms = below terms; arguments = More (top terms) (top_arguments arguments) ∷ below_arguments arguments }
+    record { terms = drop 1 terms; arguments = More (top terms) (top_arguments arguments) ∷ drop 1 arguments }
 
 abbrev pub built_all : List Label → Built → Built
 built_all [] so_far = so_far

@@ -4,13 +4,12 @@ ghost use Rattle.std.specs.List.{cons_option};
 ghost use Rattle.px_flat.specs.Flat.{plan_of};
 ghost use Rattle.px_assign.specs.Conflicts.{is_writer};
 ghost use Rattle.px_parts.specs.Parts.{AreStanding, plan_in};
-ghost use Rattle.px_micro.specs.Going.{with_node};
+ghost use Rattle.px_micro.specs.Going.{is_start, with_node};
 ghost use Rattle.px_parts.specs.Seen.{AreAllSeen};
 ghost use Rattle.px_machine.specs.Contest.{HasLooked, IsSimulation};
 ghost use Rattle.px_machine.specs.Kept.{IsOfPlan, arrival_of};
 ghost use Rattle.px_machine.specs.Looking.{HasLookedAt, IsSameButMark};
 ghost use Rattle.px_machine.specs.Right.{IsNow, IsRight};
-ghost use Rattle.px_machine.specs.Still.{is_start};
 
 use crate::kept::Kept;
 use crate::queue::WOKEN;

@@ -1,7 +1,7 @@
 -- The cells and the act of a node after the turns of all that go.
-use Rattle.std.proofs.Common.{◌≡◌, ◌≢◌, ℕ, ◌+◌, ◌<◌, true, false, List, length, set, fold, nat_eq, refl, sym, ◌∙◌, subst, arith, All, AllPairs}
+use Rattle.std.proofs.Common.{◌≡◌, ◌≢◌, ℕ, ◌+◌, ◌<◌, false, List, length, set, fold, nat_eq, refl, sym, ◌∙◌, subst, arith, All, AllPairs}
 use Rattle.std.specs.List.{find}
-use Rattle.std.proofs.lemmas.Bool.{eqb-true, eqb-false, false_from_ne_true}
+use Rattle.std.proofs.lemmas.Bool.{eqb-true, eqb-false}
 use Rattle.std.proofs.lemmas.Grind.{common_steps}
 use Rattle.std.proofs.lemmas.List.{get_or-set_same, get_or-set_other, length-set}
 use Rattle.px_value.specs.declared.value.Value.{Value}
@@ -18,8 +18,8 @@ use Rattle.px_command.proofs.Nodes.{elsewhere}
 use Rattle.px_micro.specs.declared.effects.UnderWay.{UnderWay}
 use Rattle.px_micro.specs.declared.effects.UnderWay.TheVariants as under_way
 use Rattle.px_micro.specs.declared.turns.Turn.{Turn}
-use Rattle.px_micro.specs.Moving.{with_said, with_turn, with_turn_act}
-use Rattle.px_micro.proofs.Hits.{hit_by, fold_keeps, none_hit, one_hit}
+use Rattle.px_micro.specs.Moving.{with_said, arrived, with_turn, with_turn_act}
+use Rattle.px_micro.proofs.Hits.{hit_by, fold_keeps, none_hit, one_hit, keys_apart}
 
 -- ---- one turn
 
@@ -61,12 +61,6 @@ abbrev pub act_then : UnderWay → Act → Act
 act_then under_way.Kept old = old
 act_then (under_way.Begun act) old = act
 act_then (under_way.Aborting index) old = acts.Sent index aborts.Sent
-
-abbrev arrived : List Site → List Value → Turn → List Value
-arrived plan cells turn =
-    set (set (set cells (state_cell plan turn.going.node) (values.State turn.going.arrival.to))
-    (outcome_cell plan turn.going.node) (outcome_value turn.going.arrival.outcome))
-    (failure_cell plan turn.going.node) (failure_value turn.going.arrival.failure)
 
 arrived_length : (plan : List Site) (cells : List Value) (turn : Turn) → length (arrived plan cells turn) ≡ length cells
 arrived_length plan cells turn = grind (arith, common_steps, length-set)
@@ -249,12 +243,6 @@ AreWithin plan turns = All (λ turn. turn.going.node < length plan) turns
 abbrev pub Rise : List Turn → Type 0
 Rise turns = AllPairs (λ a b. a.going.node < b.going.node) turns
 
-turns_apart : (turns : List Turn) (node : ℕ) → Rise turns
-    → AllPairs (λ a b. nat_eq a.going.node node ≡ true → nat_eq b.going.node node ≡ false) turns
-turns_apart turns node rise i j d before within hit =
-    false_from_ne_true _ (λ other.
-    omega (arith, rise i j d before within, eqb-true _ node hit, eqb-true _ node other))
-
 pub all_length : (plan : List Site) (turns : List Turn) (cells : List Value) → AreWithin plan turns
     → length cells ≡ all_cells plan → length (fold (with_turn plan) cells turns) ≡ all_cells plan
 all_length plan turns cells within all =
@@ -291,7 +279,7 @@ said_then plan turns cells node within rise all =
     (λ cells turn inside long here.
     subst (λ node. said_in plan node (with_turn plan cells turn) ≡ said_after turn (said_in plan node cells))
     (eqb-true turn.going.node node here) (said_now plan cells turn inside long))
-    turns cells within all (turns_apart turns node rise)
+    turns cells within all (keys_apart (λ (turn : Turn). turn.going.node) turns node rise)
 
 act_kept : (under : List Act) (turn : Turn) (node : ℕ) → node ≢ turn.going.node
     → act_of (with_turn_act under turn) node ≡ act_of under node
@@ -313,4 +301,4 @@ acts_then plan turns under node within rise all =
     (λ under turn inside long here.
     subst (λ node. act_of (with_turn_act under turn) node ≡ act_then turn.under_way (act_of under node))
     (eqb-true turn.going.node node here) (act_now under turn (omega (arith, inside, long))))
-    turns under within all (turns_apart turns node rise)
+    turns under within all (keys_apart (λ (turn : Turn). turn.going.node) turns node rise)

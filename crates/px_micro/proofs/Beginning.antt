@@ -27,8 +27,7 @@ use Rattle.px_parts.specs.Parts.{plan_in, record_of}
 use Rattle.px_micro.specs.Turns.{from_cell, initial_in}
 use Rattle.px_micro.proofs.Initial.{as_many_of_each}
 use Rattle.px_micro.proofs.Blocks.{values_in-same, values_in-initial, begun_off, begun_at, set_length, fold-flat_map}
-use Rattle.px_micro.proofs.Goers.{goers_apart}
-use Rattle.px_micro.proofs.Hits.{hit_by, one_hit}
+use Rattle.px_micro.proofs.Hits.{hit_by, one_hit, keys_apart}
 
 -- whether a node begins to wait
 abbrev pub begins : Parts → Going → Bool
@@ -114,7 +113,7 @@ begun_cell parts going cells node i rise within all node_in few =
     subst (λ node. i < cells_of_site (site_in plan node)
     → held (step parts cells one) (first_cell plan node + i) ≡ begun parts i one (held cells (first_cell plan node + i))) is
     (λ few. hit parts cells one i inside few long) few)
-    going cells within all (goers_apart going node rise)
+    going cells within all (keys_apart (λ (one : Going). one.node) going node rise)
 
 pub begun_variables : (parts : Parts) (going : List Going) (cells : List Value) (node : ℕ) (found : Option Going)
     → AllPairs (λ a b. a.node < b.node) going → All (λ one. one.node < length (plan_in parts)) going

@@ -13,27 +13,23 @@ use Rattle.std.proofs.lemmas.Grind.{common_steps}
 use Rattle.px_core.specs.Plan.{Site}
 use Rattle.px_sem.specs.declared.guards.Arrival.{Arrival}
 use Rattle.px_sem.specs.Conflicts.{destination, transition, would_start, holds_variable, is_loser}
-use Rattle.px_sem.specs.Guards.{is_waiting, is_executing, is_active}
+use Rattle.px_sem.specs.Guards.{is_waiting, is_active}
 use Rattle.px_sem.specs.World.{World, state_at}
 use Rattle.px_flat.specs.Row.{site_in}
 use Rattle.px_assign.specs.Conflicts.{AreWriters, is_loser_in}
 use Rattle.px_micro.specs.declared.sight.Going.{Going}
 use Rattle.px_micro.specs.Candidates.{AreCandidates}
-use Rattle.px_micro.specs.Going.{with_node, wanted, wanting, holding, going, AreAllGoing}
+use Rattle.px_micro.specs.Going.{with_node, is_start, wanted, wanting, holding, going, AreAllGoing}
 use Rattle.px_micro.proofs.Lists.{in_range}
 
 -- ---- those that would start
 
 -- whether a node would start, by where it goes
-abbrev starts_to : World → Site → Option Arrival → Bool
-starts_to now site None = false
-starts_to now site (Some to) = is_waiting (state_at now site.path) && is_executing to.to
-
-would_start_is : (plan : List Site) (now : World) (site : Site)
-    → would_start plan now site ≡ starts_to now site (destination plan now site)
+pub would_start_is : (plan : List Site) (now : World) (site : Site)
+    → would_start plan now site ≡ is_start (state_at now site.path) (destination plan now site)
 would_start_is plan now site = by (destination plan now site) refl
   where
-    by : (to : Option Arrival) → destination plan now site ≡ to → would_start plan now site ≡ starts_to now site to
+    by : (to : Option Arrival) → destination plan now site ≡ to → would_start plan now site ≡ is_start (state_at now site.path) to
     by None is = rw is (and-false (is_waiting (state_at now site.path)))
     by (Some to) is = rw is refl
 
@@ -53,17 +49,17 @@ wanting_are plan now (node ∷ nodes) =
 
     step : (to : Option Arrival) → wanting plan now (wanted plan now nodes) ≡ filter (starting plan now) nodes
         → wanting plan now (cons_option (with_node node to) (wanted plan now nodes))
-        ≡ cond (starts_to now site to) (node ∷ filter (starting plan now) nodes) (filter (starting plan now) nodes)
+        ≡ cond (is_start (state_at now site.path) to) (node ∷ filter (starting plan now) nodes) (filter (starting plan now) nodes)
     step None rest = rest
-    step (Some to) rest = test (starts_to now site (Some to))
+    step (Some to) rest = test (is_start (state_at now site.path) (Some to))
       where
         one : Going
         one = record { node = node; arrival = to }
 
         test : (b : Bool)
             → map (λ (one : Going). one.node)
-            (cond b (one ∷ filter (λ one. starts_to now (site_in plan one.node) (Some one.arrival)) (wanted plan now nodes))
-            (filter (λ one. starts_to now (site_in plan one.node) (Some one.arrival)) (wanted plan now nodes)))
+            (cond b (one ∷ filter (λ one. is_start (state_at now (site_in plan one.node).path) (Some one.arrival)) (wanted plan now nodes))
+            (filter (λ one. is_start (state_at now (site_in plan one.node).path) (Some one.arrival)) (wanted plan now nodes)))
             ≡ cond b (node ∷ filter (starting plan now) nodes) (filter (starting plan now) nodes)
         test true = ap (λ rest. node ∷ rest) rest
         test false = rest
@@ -82,7 +78,7 @@ pub start_goes : (plan : List Site) (now : World) (site : Site) → would_start 
     → IsSome (destination plan now site)
 start_goes plan now site starts = by (destination plan now site) (sym (would_start_is plan now site) ∙ starts)
   where
-    by : (to : Option Arrival) → starts_to now site to ≡ true → IsSome to
+    by : (to : Option Arrival) → is_start (state_at now site.path) to ≡ true → IsSome to
     by None never = absurd (cc never)
     by (Some to) starts = refl
 

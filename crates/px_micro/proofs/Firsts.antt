@@ -8,10 +8,10 @@ use Rattle.std.proofs.lemmas.Grind.{common_steps}
 use Rattle.std.proofs.lemmas.List.Elements.{All-head, All-nil, All-push, All-tail}
 use Rattle.std.proofs.lemmas.List.Folds.{find-append, list_any_none}
 use Rattle.std.proofs.lemmas.List.Quantifiers.{all_pairs_push}
+use Rattle.px_value.proofs.General.{none_found}
 use Rattle.px_flat.proofs.Subtrees.{one_fails}
 use Rattle.px_micro.specs.declared.effects.CellWrite.{CellWrite}
 use Rattle.px_micro.specs.Turns.{with_write, first_writes}
-use Rattle.px_micro.proofs.Hits.{none_found}
 
 -- a write of this variable
 abbrev pub writes_to : ℕ → CellWrite → Bool

@@ -1,18 +1,17 @@
 -- The nodes that go, against the nodes of the plan in order.
-use Rattle.std.proofs.Common.{◌≡◌, ◌≢◌, ℕ, suc, zero, ◌+◌, ◌<◌, ◌≤◌, true, false, List, [], ◌∷◌, length, get_or, map, refl, ap, sym, ◌∙◌, subst, arith, Option, Some, None, IsSome, nat_eq, All, AllPairs, Contains}
-use Rattle.std.specs.List.{filter_map, cons_option, find, enumerate_from}
+use Rattle.std.proofs.Common.{◌≡◌, ◌≢◌, ℕ, suc, zero, ◌+◌, ◌<◌, ◌≤◌, false, List, [], ◌∷◌, length, get_or, map, refl, ap, sym, ◌∙◌, subst, arith, Option, Some, None, IsSome, nat_eq, All, AllPairs, Contains}
+use Rattle.std.specs.List.{filter_map, cons_option, find}
 use Rattle.std.specs.Option.{option_map}
-use Rattle.std.proofs.lemmas.Bool.{eqb-true, false_from_ne_true}
 use Rattle.std.specs.Cmp.{nat_eq_equiv}
 use Rattle.std.proofs.lemmas.List.{get_or-map, length-map}
+use Rattle.px_value.proofs.General.{none_found}
 use Rattle.px_core.specs.Plan.{Site, no_site}
 use Rattle.px_sem.specs.declared.guards.Arrival.{Arrival}
 use Rattle.px_sem.specs.Conflicts.{transition}
-use Rattle.px_sem.specs.World.{World, NodeRecord}
+use Rattle.px_sem.specs.World.{World}
 use Rattle.px_flat.specs.Row.{site_in}
 use Rattle.px_micro.specs.declared.sight.Going.{Going}
 use Rattle.px_micro.specs.Going.{AreAllGoing}
-use Rattle.px_micro.proofs.Hits.{none_found}
 
 -- These are all that go of the nodes from a number on.
 record AreAllFrom (goes : ℕ → Option Arrival) (first count : ℕ) (going : List Going) : Type 0 where
@@ -154,23 +153,3 @@ stays plan now going node are within none = by (transition plan now (site_in pla
             let missed : nat_eq (get_or going i one).node node ≡ false =
             none_found (λ (one : Going). nat_eq one.node node) going none i one few in
             absurd (cc (sym missed ∙ ap (λ n. nat_eq n node) there ∙ nat_eq_equiv.refl node))
-
--- of those that go one node is one
-pub goers_apart : (going : List Going) (node : ℕ) → AllPairs (λ a b. a.node < b.node) going
-    → AllPairs (λ a b. nat_eq a.node node ≡ true → nat_eq b.node node ≡ false) going
-goers_apart going node rise i j d before within hit =
-    false_from_ne_true (nat_eq (get_or going j d).node node) (λ other.
-    omega (arith, rise i j d before within, eqb-true (get_or going i d).node node hit, eqb-true (get_or going j d).node node other))
-
--- the nodes of a plan, with a record of each
-pub nodes_are : (plan : List Site) (first : ℕ) (f : ℕ → NodeRecord) (g : Site → NodeRecord)
-    → ((i : ℕ) → i < length plan → f (first + i) ≡ g (site_in plan i))
-    → map {B = List ℕ × NodeRecord} (λ entry. (entry.1.path, f entry.0)) (enumerate_from first plan)
-    ≡ map {B = List ℕ × NodeRecord} (λ site. (site.path, g site)) plan
-nodes_are [] first f g same = refl
-nodes_are (site ∷ plan) first f g same =
-    let zero_more : first ≡ first + 0 = omega arith in
-    let next : (i : ℕ) → i < length plan → f (first + 1 + i) ≡ g (site_in plan i) = λ i within.
-    let there : first + 1 + i ≡ first + suc i = omega arith in
-    ap f there ∙ same (suc i) (omega (arith, within)) in
-    (λ i. (site.path, (ap f zero_more ∙ same 0 (omega arith)) i) ∷ nodes_are plan (first + 1) f g next i)

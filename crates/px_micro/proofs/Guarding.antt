@@ -1,5 +1,5 @@
 -- The guards of a node by what is seen of it are those that the semantics asks.
-use Rattle.std.proofs.Common.{◌≡◌, ℕ, ◌<◌, List, length, ap, ◌∙◌, arith}
+use Rattle.std.proofs.Common.{◌≡◌, ℕ, ◌<◌, List, length, ap, sym, ◌∙◌, arith}
 use Rattle.std.proofs.lemmas.Grind.{common_steps}
 use Rattle.px_value.specs.declared.enums.NodeState.{NodeState}
 use Rattle.px_core.specs.declared.node.Kind.TheVariants as kinds
@@ -34,7 +34,10 @@ seen plan now site r node =
 pub guards_are : (parts : Parts) (node : ℕ) → node < length (plan_in parts)
     → seen (plan_in parts) (world_in parts) (site_in (plan_in parts) node) (record_of parts node) node
     ≡ guards_at parts node
-guards_are parts node here = grind (arith, common_steps, record_is, ready_is)
+guards_are parts node here =
+    ap (λ r. seen (plan_in parts) (world_in parts) (site_in (plan_in parts) node) r node) (sym (record_is parts node here))
+    ∙ ap (λ ready. record (guards_at parts node) { ready = ready })
+    (sym (ready_is (plan_in parts) (world_in parts) (site_in (plan_in parts) node)))
 
 -- what is read of a node, by what is asked of it and by its numbered conditions
 abbrev looked : Parts → ℕ → Asks → Truths → Guards

@@ -1,8 +1,8 @@
 -- A fold of which at most one item has to do with what is looked at.
-use Rattle.std.proofs.Common.{◌≡◌, suc, Bool, true, false, cond, List, [], ◌∷◌, fold, refl, ap, ◌∙◌, arith, Option, Some, None, All, AllPairs}
-use Rattle.std.proofs.lemmas.Grind.{common_steps}
+use Rattle.std.proofs.Common.{◌≡◌, ℕ, suc, ◌<◌, Bool, true, false, cond, List, [], ◌∷◌, get_or, fold, nat_eq, refl, ap, ◌∙◌, arith, Option, Some, None, All, AllPairs}
 use Rattle.std.specs.List.{find}
-use Rattle.std.proofs.lemmas.List.Elements.{All-cons, All-head, All-nil, All-tail}
+use Rattle.std.proofs.lemmas.Bool.{eqb-true, false_from_ne_true}
+use Rattle.std.proofs.lemmas.List.Elements.{All-head, All-tail}
 
 -- what is seen after the item that was found, where one was
 abbrev pub hit_by : {A V : Type 0} → (A → V → V) → V → Option A → V
@@ -55,9 +55,9 @@ one_hit step see hits Ok Fits f keeps missed hit (item ∷ items) s fit ok apart
         ∙ hit s item here ok is
     by false is rest = rest ∙ ap (λ old. hit_by f old (find hits items)) (missed s item here ok is)
 
--- ---- what is found
-
--- where none is found none passes
-pub none_found : {A : Type 0} (p : A → Bool) (items : List A) → find p items ≡ None → All (λ item. p item ≡ false) items
-none_found p [] is = All-nil (λ item. p item ≡ false)
-none_found p (first ∷ items) is = grind (arith, common_steps, All-cons, none_found p items)
+-- where their keys rise, one item at most has a key
+pub keys_apart : {A : Type 0} (key : A → ℕ) (items : List A) (node : ℕ) → AllPairs (λ a b. key a < key b) items
+    → AllPairs (λ a b. nat_eq (key a) node ≡ true → nat_eq (key b) node ≡ false) items
+keys_apart key items node rise i j d before within hit =
+    false_from_ne_true (nat_eq (key (get_or items j d)) node) (λ other.
+    omega (arith, rise i j d before within, eqb-true (key (get_or items i d)) node hit, eqb-true (key (get_or items j d)) node other))

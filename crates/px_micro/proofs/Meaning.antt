@@ -1,5 +1,5 @@
 -- What a move does in numbers is what the semantics has it do.
-use Rattle.std.proofs.Common.{◌≡◌, ℕ, suc, ◌+◌, ◌^◌, ◌<◌, ◌≤◌, true, nat_lt, pos, negsuc, List, [], ◌∷◌, length, map, refl, ap, sym, ◌∙◌, subst, arith, Option, Some, None, is_some, IsTrue}
+use Rattle.std.proofs.Common.{◌≡◌, ℕ, suc, ◌+◌, ◌^◌, ◌<◌, ◌≤◌, true, nat_lt, pos, negsuc, List, [], ◌∷◌, length, map, refl, ap, sym, ◌∙◌, subst, arith, Option, Some, None, is_some}
 use Rattle.std.specs.List.{All}
 use Rattle.std.specs.Option.{ForSome, option_map, option_and_then}
 use Rattle.std.proofs.lemmas.Bool.{and_parts, ltb-true}
@@ -10,14 +10,13 @@ use Rattle.px_value.specs.Value.{value_index}
 use Rattle.px_core.specs.Expr.{Term}
 use Rattle.px_core.specs.Fit.{terms_of, targets_of}
 use Rattle.px_core.specs.Plan.{Site, BodyData, Nothing, Assign, Command, Update, TargetData, PairData}
-use Rattle.px_sem.specs.declared.guards.Arrival.{Arrival}
 use Rattle.px_sem.specs.declared.moves.Effect.TheVariants as effects
 use Rattle.px_sem.specs.Conflicts.{target_of}
 use Rattle.px_sem.specs.Effects as sem
-use Rattle.px_sem.specs.Effects.{as_kind, cell_of, index_of, move_kind, told_write, taken_as}
+use Rattle.px_sem.specs.Effects.{as_kind, cell_of, index_of, move_kind, row_of, told_write, taken_as}
 use Rattle.px_sem.specs.Expressions.{value}
 use Rattle.px_sem.specs.World as world
-use Rattle.px_sem.specs.World.{World, NodeRecord, Action, NoAction, record_at, cells_at}
+use Rattle.px_sem.specs.World.{World, NodeRecord, Action, NoAction, cells_at}
 use Rattle.px_eval.specs.Arrays.{place_in}
 use Rattle.px_flat.specs.declared.act.Abort.{Abort}
 use Rattle.px_flat.specs.declared.act.Abort.TheVariants as aborts
@@ -42,58 +41,11 @@ use Rattle.px_micro.specs.Doing.{silent, assigned, sent, updated, failed, done, 
 use Rattle.px_parts.specs.Parts.{plan_in, world_in, record_of, value_in, AreStanding}
 use Rattle.px_micro.specs.declared.places.Place.{Place}
 use Rattle.px_micro.specs.Places.{place_data, place_now}
-use Rattle.px_micro.specs.Turns.{in_cells, act_after, action_after, effects_in, AreEffects}
+use Rattle.px_micro.specs.Turns.{effects_in, IsDone, AreEffects}
 use Rattle.px_micro.proofs.Seeing.{record_is}
 use Rattle.px_micro.proofs.Targets.{HasCells, has_cells, value_held, place_is}
 
--- ---- the table of the semantics, by the move and the body
-
-abbrev pub row_of : List Site → World → NodeRecord → sem.MoveKind → BodyData → sem.Effects
-row_of plan now old sem.Initializes body = sem.silent NoAction
-row_of plan now old sem.Resets body = sem.silent NoAction
-row_of plan now old sem.Starts Nothing = sem.silent NoAction
-row_of plan now old sem.Starts (Assign target right) = sem.assigns plan now target right
-row_of plan now old sem.Starts (Command name args result) = sem.sends plan now name args result
-row_of plan now old sem.Starts (Update pairs) = sem.updates plan now pairs
-row_of plan now old sem.Fails Nothing = sem.silent NoAction
-row_of plan now old sem.Fails (Assign target right) = sem.writes_back target old.action
-row_of plan now old sem.Fails (Command name args result) = sem.aborts name old.action
-row_of plan now old sem.Fails (Update pairs) = sem.silent old.action
-row_of plan now old sem.Other Nothing = sem.silent NoAction
-row_of plan now old sem.Other body = sem.silent old.action
-
-pub row_is : (plan : List Site) (now : World) (site : Site) (arrival : Arrival) (move : sem.MoveKind) (body : BodyData)
-    → move_kind (record_at now site.path).state arrival.to ≡ move → site.head.body ≡ body
-    → sem.effects_of plan now site arrival ≡ row_of plan now (record_at now site.path) move body
-row_is plan now site arrival sem.Initializes Nothing m b = rw (m, b) refl
-row_is plan now site arrival sem.Initializes (Assign target right) m b = rw (m, b) refl
-row_is plan now site arrival sem.Initializes (Command name args result) m b = rw (m, b) refl
-row_is plan now site arrival sem.Initializes (Update pairs) m b = rw (m, b) refl
-row_is plan now site arrival sem.Resets Nothing m b = rw (m, b) refl
-row_is plan now site arrival sem.Resets (Assign target right) m b = rw (m, b) refl
-row_is plan now site arrival sem.Resets (Command name args result) m b = rw (m, b) refl
-row_is plan now site arrival sem.Resets (Update pairs) m b = rw (m, b) refl
-row_is plan now site arrival sem.Starts Nothing m b = rw (m, b) refl
-row_is plan now site arrival sem.Starts (Assign target right) m b = rw (m, b) refl
-row_is plan now site arrival sem.Starts (Command name args result) m b = rw (m, b) refl
-row_is plan now site arrival sem.Starts (Update pairs) m b = rw (m, b) refl
-row_is plan now site arrival sem.Fails Nothing m b = rw (m, b) refl
-row_is plan now site arrival sem.Fails (Assign target right) m b = rw (m, b) refl
-row_is plan now site arrival sem.Fails (Command name args result) m b = rw (m, b) refl
-row_is plan now site arrival sem.Fails (Update pairs) m b = rw (m, b) refl
-row_is plan now site arrival sem.Other Nothing m b = rw (m, b) refl
-row_is plan now site arrival sem.Other (Assign target right) m b = rw (m, b) refl
-row_is plan now site arrival sem.Other (Command name args result) m b = rw (m, b) refl
-row_is plan now site arrival sem.Other (Update pairs) m b = rw (m, b) refl
-
 -- ---- one row
-
--- what is made has these effects at a node with this body
-record IsDone (parts : Parts) (node : ℕ) (body : BodyData) (made : Effects) (effects : sem.Effects) : Type 0 where
-  write : made.write ≡ option_map (in_cells (plan_in parts)) effects.write
-  action : action_after parts node made.under_way ≡ effects.action
-  fits : IsTrue (fits (plan_in parts) body (act_after parts node made.under_way))
-  told : made.told ≡ effects.told
 
 abbrev own_act : Parts → ℕ → Act
 own_act parts node = act_of parts.actions.contents.values node
@@ -378,8 +330,14 @@ each_row parts node move body stand here is = by move body is
     by : (move : sem.MoveKind) (body : BodyData) → (site_in plan node).head.body ≡ body
         → IsDone parts node body (done parts own move body (numbered_body plan body))
         (row_of plan (world_in parts) (record_of parts node) move body)
-    by sem.Initializes body is = fresh parts node body
-    by sem.Resets body is = fresh parts node body
+    by sem.Initializes Nothing is = fresh parts node Nothing
+    by sem.Initializes (Assign target right) is = fresh parts node (Assign target right)
+    by sem.Initializes (Command name args result) is = fresh parts node (Command name args result)
+    by sem.Initializes (Update pairs) is = fresh parts node (Update pairs)
+    by sem.Resets Nothing is = fresh parts node Nothing
+    by sem.Resets (Assign target right) is = fresh parts node (Assign target right)
+    by sem.Resets (Command name args result) is = fresh parts node (Command name args result)
+    by sem.Resets (Update pairs) is = fresh parts node (Update pairs)
     by sem.Starts Nothing is = nothing parts node (fit Nothing is)
     by sem.Starts (Assign target right) is =
         assigns_as parts node target.owner target.name target.index right
@@ -420,17 +378,10 @@ effects_are parts going stand here =
     let node : ℕ = going.node in
     let site : Site = site_in plan node in
     let move : sem.MoveKind = move_kind (record_of parts node).state going.arrival.to in
-    let row = each_row parts node move site.head.body stand here refl in
     let are : effects_in parts going ≡ row_of plan now (record_of parts node) move site.head.body =
-    row_is plan now site going.arrival move site.head.body
-    (ap (λ (r : NodeRecord). move_kind r.state going.arrival.to) (record_is parts node here)) refl
-    ∙ ap (λ (r : NodeRecord). row_of plan now r move site.head.body) (record_is parts node here) in
-    record {
-      write = row.write ∙ ap (λ (made : sem.Effects). option_map (in_cells plan) made.write) (sym are);
-      action = row.action ∙ ap (λ (made : sem.Effects). made.action) (sym are);
-      fits = row.fits;
-      told = row.told ∙ ap (λ (made : sem.Effects). made.told) (sym are);
-    }
+    ap (λ (r : NodeRecord). row_of plan now r (move_kind r.state going.arrival.to) site.head.body) (record_is parts node here) in
+    subst (IsDone parts node site.head.body (done_by parts going)) (sym are)
+    (each_row parts node move site.head.body stand here refl)
 
 -- by what is seen of the node
 pub done_as : (parts : Parts) (going : Going) (move : sem.MoveKind) (act : Act) (body : BodyData) (numbered : BodyNumbered)

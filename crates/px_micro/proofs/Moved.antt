@@ -24,6 +24,7 @@ use Rattle.px_flat.specs.Layout.{all_cells, first_cell, state_cell, outcome_cell
 use Rattle.px_flat.specs.Numbered.{held}
 use Rattle.px_flat.specs.Parts.{IsNode, IsParts, action_in, act_of, fits, values_in, record_in, world_of, state_in, outcome_in, failure_in, is_state, is_outcome, is_failure, is_handle_of, is_acknowledgement_of}
 use Rattle.px_flat.specs.Row.{site_in}
+use Rattle.px_flat.proofs.Changes.{nodes_are}
 use Rattle.px_flat.proofs.Tables.{flat_sound}
 use Rattle.px_command.proofs.Writes.{cells_within}
 use Rattle.px_micro.specs.declared.effects.CellWrite.{CellWrite}
@@ -42,7 +43,7 @@ use Rattle.px_micro.proofs.Arriving.{Said, said_in, said_after, handle_after, ac
 use Rattle.px_micro.proofs.Beginning.{begins, begun_as, begun_variables, initial_small}
 use Rattle.px_micro.proofs.Blocks.{values_in-same, set_length, set_off}
 use Rattle.px_micro.proofs.Firsts.{firsts_all}
-use Rattle.px_micro.proofs.Goers.{nodes_are, stays}
+use Rattle.px_micro.proofs.Goers.{stays}
 use Rattle.px_micro.proofs.Hits.{hit_by}
 use Rattle.px_micro.proofs.Seeing.{record_is}
 use Rattle.px_micro.proofs.Writing.{IsWriteOf, written_in, writes_inside, writes_small, written_variables}

@@ -15,8 +15,8 @@ use Rattle.px_sem.specs.World.{cells_at}
 use Rattle.px_flat.specs.Layout.{Place}
 use Rattle.px_flat.specs.Numbered.{held, numbered, numbered_target, place_of}
 use Rattle.px_flat.proofs.Tables.{flat_sound}
-use Rattle.px_flat.proofs.VariableValues.{placed, place_of-node}
-use Rattle.px_flat.proofs.Variables.{IsDeclared}
+use Rattle.px_flat.proofs.VariableValues.{placed}
+use Rattle.px_flat.proofs.Variables.{IsDeclared, place_at}
 use Rattle.px_eval.proofs.Elements.{index_is}
 use Rattle.px_parts.specs.declared.parts.Parts.{Parts}
 use Rattle.px_micro.specs.declared.places.Place.TheVariants as places
@@ -42,8 +42,7 @@ has_cells parts owner name stand declared within =
     let all : List Value = parts.cells.contents.values in
     let are = placed plan all parts.reports.reports parts.actions.contents.values owner name declared.node
     (flat_sound parts.flat).distinct declared.within declared.path_is declared.has in
-    let is : place ≡ declared.has.place =
-    place_of-node plan owner name declared.node (flat_sound parts.flat).distinct declared.within declared.path_is declared.has in
+    let is : place ≡ declared.has.place = place_at plan owner name (flat_sound parts.flat) declared in
     record {
       cells = are.values_are;
       long = ap length are.values_are

@@ -1,8 +1,8 @@
 -- The turns of one more node that goes.
-use Rattle.std.proofs.Common.{◌≡◌, Bool, true, false, List, [], ◌∷◌, ◌++◌, fold, map, append-nil, refl, ap, sym, ◌∙◌, subst, Option, arith}
+use Rattle.std.proofs.Common.{◌≡◌, Bool, true, false, List, [], ◌∷◌, ◌++◌, fold, map, append-nil, refl, ap, sym, ◌∙◌, subst, Option}
 use Rattle.std.specs.List.{filter_map, flat_map, cons_option, All}
 use Rattle.std.specs.Option.{option_map}
-use Rattle.std.proofs.lemmas.Grind.{flat_map-append, common_steps}
+use Rattle.std.proofs.lemmas.Grind.{flat_map-append}
 use Rattle.std.proofs.lemmas.List.{map-append}
 use Rattle.std.proofs.lemmas.List.Elements.{All-push, filter_map-append}
 use Rattle.std.proofs.lemmas.List.Sums.{fold-append}
@@ -10,7 +10,7 @@ use Rattle.px_value.specs.declared.value.Value.{Value}
 use Rattle.px_sem.specs.declared.moves.Move.{Move}
 use Rattle.px_sem.specs.Step.{move_of}
 use Rattle.px_sem.specs.Tolerances.{tolerances}
-use Rattle.px_cells.specs.Marked.{MarkedData}
+use Rattle.px_cells.specs.Marked.{Contents, MarkedData}
 use Rattle.px_flat.specs.declared.act.Act.{Act}
 use Rattle.px_flat.specs.Flat.{plan_of}
 use Rattle.px_flat.specs.Row.{site_in}
@@ -76,4 +76,16 @@ with_room parts latching cells acts = record {
 pub turns_stay : (parts : Parts) (latching : Latches parts) (cells : MarkedData Value) (acts : MarkedData Act)
     (going : List Going) (made : Turns) → cells.contents ≡ parts.cells.contents → acts.contents ≡ parts.actions.contents → AreTurns parts going made
     → AreTurns (with_room parts latching cells acts) going made
-turns_stay parts latching cells acts going made cells_same acts_same are = grind (arith, common_steps)
+turns_stay parts latching cells acts going made cells_same acts_same are =
+    subst (λ values. AreTurns (room values acts.contents) going made) (sym cells_same)
+    (subst (λ under_way. AreTurns (room parts.cells.contents under_way) going made) (sym acts_same) record {
+      writes = are.writes;
+      initial = are.initial;
+      goers = are.goers;
+      each = λ k d inside.
+          let turn = are.each k d inside in
+          record { within = turn.within; action = turn.action; fits = turn.fits };
+    })
+  where
+    room : Contents Value → Contents Act → Parts
+    room values under_way = with_room parts latching (record cells { contents = values }) (record acts { contents = under_way })

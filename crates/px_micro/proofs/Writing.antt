@@ -18,7 +18,7 @@ use Rattle.px_core.proofs.Paths.{same-self}
 use Rattle.px_sem.specs.declared.guards.Arrival.{Arrival}
 use Rattle.px_sem.specs.Conflicts.{target_of, transition}
 use Rattle.px_sem.specs.Effects as sem
-use Rattle.px_sem.specs.Effects.{Write, cell_of, effects_of, move_kind, write_at, write_to, written}
+use Rattle.px_sem.specs.Effects.{Write, cell_of, effects_of, move_kind, row_of, write_at, write_to, written}
 use Rattle.px_sem.specs.Expressions.{value}
 use Rattle.px_sem.specs.Step.{step_writes}
 use Rattle.px_sem.specs.World as world
@@ -32,8 +32,7 @@ use Rattle.px_flat.specs.Parts.{action_in, act_of, fits, values_in}
 use Rattle.px_flat.specs.Row.{site_in}
 use Rattle.px_flat.proofs.Known.{IsSound}
 use Rattle.px_flat.proofs.Tables.{flat_sound}
-use Rattle.px_flat.proofs.VariableValues.{place_of-node}
-use Rattle.px_flat.proofs.Variables.{IsDeclared, target_declared, one_cell}
+use Rattle.px_flat.proofs.Variables.{IsDeclared, place_at, target_declared, one_cell}
 use Rattle.px_eval.proofs.Elements.{index_is}
 use Rattle.px_command.proofs.Returns.{flat_differs}
 use Rattle.px_command.proofs.Writes.{cells_within}
@@ -48,7 +47,7 @@ use Rattle.px_micro.proofs.Blocks.{block_is}
 use Rattle.px_micro.proofs.Firsts.{writes_to, firsts_all, firsts_apart, firsts_find}
 use Rattle.px_micro.proofs.Goers.{gone}
 use Rattle.px_micro.proofs.Hits.{fold_keeps, hit_by, one_hit}
-use Rattle.px_micro.proofs.Meaning.{row_of, row_is, place_inside}
+use Rattle.px_micro.proofs.Meaning.{place_inside}
 use Rattle.px_micro.proofs.Seeing.{record_is}
 use Rattle.px_micro.proofs.Slots.{IsSlot, slot_has, values_in-by}
 use Rattle.px_micro.proofs.Targets.{HasCells, has_cells}
@@ -59,11 +58,6 @@ use Rattle.px_micro.proofs.Targets.{HasCells, has_cells}
 pub record IsInside (plan : List Site) (write : Write) : Type 0 where
   pub declared : IsDeclared plan write.owner write.name
   pub inside : cell_of write.place < declared.has.place.size
-
-place_at : (plan : List Site) (owner name : List ℕ) → IsSound plan → (declared : IsDeclared plan owner name)
-    → place_of plan owner name ≡ declared.has.place
-place_at plan owner name sound declared =
-    place_of-node plan owner name declared.node sound.distinct declared.within declared.path_is declared.has
 
 inside_of : (plan : List Site) (owner name : List ℕ) (place : world.Place) (value : Value) → IsSound plan
     → IsDeclared plan owner name → cell_of place < (place_of plan owner name).size
@@ -153,24 +147,20 @@ row_inside parts node move body stand here is = by move body is
 
     by : (move : sem.MoveKind) (body : BodyData) → (site_in plan node).head.body ≡ body
         → ForSome (row_of plan (world_in parts) (record_of parts node) move body).write (IsInside plan)
+    by move Nothing is = λ write none. absurd (cc none)
     by sem.Initializes body is = λ write none. absurd (cc none)
     by sem.Resets body is = λ write none. absurd (cc none)
-    by sem.Starts Nothing is = λ write none. absurd (cc none)
     by sem.Starts (Assign target right) is =
         assigns_inside parts target right (declared target right is) (cells target (declared target right is))
     by sem.Starts (Command name args result) is = λ write none. absurd (cc none)
     by sem.Starts (Update pairs) is = λ write none. absurd (cc none)
-    by sem.Fails Nothing is = λ write none. absurd (cc none)
     by sem.Fails (Assign target right) is =
         back_inside parts target right (act_of parts.actions.contents.values node) _ _ (declared target right is)
         (cells target (declared target right is))
         (ap (λ body. fits plan body (act_of parts.actions.contents.values node)) (sym is) ∙ (stand.nodes node here).act)
     by sem.Fails (Command name args result) is = λ write none. absurd (cc none)
     by sem.Fails (Update pairs) is = λ write none. absurd (cc none)
-    by sem.Other Nothing is = λ write none. absurd (cc none)
-    by sem.Other (Assign target right) is = λ write none. absurd (cc none)
-    by sem.Other (Command name args result) is = λ write none. absurd (cc none)
-    by sem.Other (Update pairs) is = λ write none. absurd (cc none)
+    by sem.Other body is = λ write none. absurd (cc none)
 
 write_inside : (parts : Parts) (one : Going) → AreStanding parts → one.node < length (plan_in parts)
     → ForSome (effects_in parts one).write (IsInside (plan_in parts))
@@ -180,9 +170,7 @@ write_inside parts one stand here =
     let site : Site = site_in plan one.node in
     let move : sem.MoveKind = move_kind (record_of parts one.node).state one.arrival.to in
     let are : effects_in parts one ≡ row_of plan now (record_of parts one.node) move site.head.body =
-    row_is plan now site one.arrival move site.head.body
-    (ap (λ (r : NodeRecord). move_kind r.state one.arrival.to) (record_is parts one.node here)) refl
-    ∙ ap (λ (r : NodeRecord). row_of plan now r move site.head.body) (record_is parts one.node here) in
+    ap (λ (r : NodeRecord). row_of plan now r (move_kind r.state one.arrival.to) site.head.body) (record_is parts one.node here) in
     subst (λ (effects : sem.Effects). ForSome effects.write (IsInside plan)) (sym are)
     (row_inside parts one.node move site.head.body stand here refl)
 

@@ -1,22 +1,15 @@
 -- What a node's ancestors ask of it: by an Exit, by an Invariant, by an End.
-use Rattle.std.specs.Prelude.{◌≡◌, ℕ, Bool, List, [], ◌∷◌, Option, Some, None}
-use Rattle.std.specs.List.{list_any}
+use Rattle.std.specs.Prelude.{◌≡◌, ℕ, List, [], ◌∷◌, Option, Some, None}
 use Rattle.std.specs.Option.{ForSome}
 use Rattle.px_value.specs.declared.enums.NodeState.{NodeState}
 use Rattle.px_value.specs.declared.enums.Failure.{Failure}
-use Rattle.px_core.specs.declared.conditions.ConditionKind.{ConditionKind}
 use Rattle.px_core.specs.declared.conditions.ConditionKind.TheVariants as which
 use Rattle.px_core.specs.Plan.{Site, site_at}
 use Rattle.px_sem.specs.World as world
 use Rattle.px_sem.specs.World.{record_at}
-use Rattle.px_sem.specs.Guards.{Truth, condition, exit_asks, invariant_asks, end_asks}
+use Rattle.px_sem.specs.Guards.{Truth, condition, exit_asks, invariant_asks, end_asks, some_asks}
 use Rattle.px_flat.specs.Row.{site_in, parent_number}
 use Rattle.px_told.specs.declared.asks.Asks.{Asks}
-
--- some node at these paths asks, by a condition
-abbrev pub some_asks : (world.NodeRecord → Truth → Bool) → ConditionKind → List Site → world.World → List (List ℕ) → Bool
-some_asks asks kind plan now paths =
-    list_any (λ path. asks (record_at now path) (condition plan now (site_at plan path) kind)) paths
 
 -- what the nodes at these paths ask together
 abbrev pub asked_by : List Site → world.World → List (List ℕ) → Asks

@@ -1,7 +1,8 @@
 -- The candidates that go, by number, with where they go.
-use Rattle.std.specs.Prelude.{◌≡◌, ℕ, ◌<◌, ◌&&◌, List, length, map, filter, Option, Some, All, AllPairs, Contains, IsSome}
+use Rattle.std.specs.Prelude.{◌≡◌, ℕ, ◌<◌, Bool, false, ◌&&◌, List, length, map, filter, Option, Some, None, All, AllPairs, Contains, IsSome}
 use Rattle.std.specs.List.{filter_map, range_with_len}
 use Rattle.std.specs.Option.{option_map}
+use Rattle.px_value.specs.declared.enums.NodeState.{NodeState}
 use Rattle.px_core.specs.Plan.{Site}
 use Rattle.px_sem.specs.declared.guards.Arrival.{Arrival}
 use Rattle.px_sem.specs.Conflicts.{destination, transition}
@@ -22,6 +23,11 @@ wanted plan world candidates =
 abbrev pub going : List Site → World → List ℕ → List Going
 going plan world candidates =
     filter_map (λ node. with_node node (transition plan world (site_in plan node))) candidates
+
+-- a row that leads from WAITING to EXECUTING
+abbrev pub is_start : NodeState → Option Arrival → Bool
+is_start state None = false
+is_start state (Some arrival) = is_waiting state && is_executing arrival.to
 
 -- those that would start, by number
 abbrev pub wanting : List Site → World → List Going → List ℕ

@@ -28,13 +28,16 @@ with_said plan node (under_way.Begun act) cells =
     set (set cells (handle_cell plan node) values.Unknown) (acknowledgement_cell plan node) (values.Boolean false)
 with_said plan node way cells = cells
 
+-- where a node arrives
+abbrev pub arrived : List Site → List Value → Turn → List Value
+arrived plan cells turn =
+    set (set (set cells (state_cell plan turn.going.node) (values.State turn.going.arrival.to))
+    (outcome_cell plan turn.going.node) (outcome_value turn.going.arrival.outcome))
+    (failure_cell plan turn.going.node) (failure_value turn.going.arrival.failure)
+
 -- the cells of a node itself
 abbrev pub with_turn : List Site → List Value → Turn → List Value
-with_turn plan cells turn =
-    with_said plan turn.going.node turn.under_way
-    (set (set (set cells (state_cell plan turn.going.node) (values.State turn.going.arrival.to))
-    (outcome_cell plan turn.going.node) (outcome_value turn.going.arrival.outcome))
-    (failure_cell plan turn.going.node) (failure_value turn.going.arrival.failure))
+with_turn plan cells turn = with_said plan turn.going.node turn.under_way (arrived plan cells turn)
 
 -- what a node has under way
 abbrev pub with_act : ℕ → UnderWay → List Act → List Act

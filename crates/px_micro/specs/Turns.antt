@@ -6,7 +6,7 @@ use Rattle.std.specs.Ordering.{nat_cmp}
 use Rattle.std.specs.Option.{option_map}
 use Rattle.px_value.specs.declared.value.Value.{Value}
 use Rattle.px_value.specs.declared.value.Value.TheVariants as values
-use Rattle.px_core.specs.Plan.{Site}
+use Rattle.px_core.specs.Plan.{Site, BodyData}
 use Rattle.px_sem.specs.declared.moves.Move.{Move}
 use Rattle.px_sem.specs.Effects as sem
 use Rattle.px_sem.specs.Effects.{Write, move_kind, is_initializing, initial_values, cell_of}
@@ -54,13 +54,17 @@ action_after parts node other = action_in (act_after parts node other)
 abbrev pub effects_in : Parts → Going → sem.Effects
 effects_in parts going = sem.effects_of (plan_in parts) (world_in parts) (site_in (plan_in parts) going.node) going.arrival
 
--- these are the effects of a node's move
-pub record AreEffects (parts : Parts) (going : Going) (made : Effects) : Type 0 where
-  pub write : made.write ≡ option_map (in_cells (plan_in parts)) (effects_in parts going).write
-  pub action : action_after parts going.node made.under_way ≡ (effects_in parts going).action
-  pub fits : IsTrue (fits (plan_in parts) (site_in (plan_in parts) going.node).head.body
-      (act_after parts going.node made.under_way))
-  pub told : made.told ≡ (effects_in parts going).told
+-- what is made has these effects at a node with this body
+pub record IsDone (parts : Parts) (node : ℕ) (body : BodyData) (made : Effects) (effects : sem.Effects) : Type 0 where
+  pub write : made.write ≡ option_map (in_cells (plan_in parts)) effects.write
+  pub action : action_after parts node made.under_way ≡ effects.action
+  pub fits : IsTrue (fits (plan_in parts) body (act_after parts node made.under_way))
+  pub told : made.told ≡ effects.told
+
+-- it has those of a node's move
+abbrev pub AreEffects : Parts → Going → Effects → Type 0
+AreEffects parts going made =
+    IsDone parts going.node (site_in (plan_in parts) going.node).head.body made (effects_in parts going)
 
 -- the initial values of a node that begins to wait, cell by cell
 abbrev pub from_cell : ℕ → List Value → List CellValue

@@ -8,12 +8,12 @@ use Rattle.px_event.specs.declared.entry.Entry.{Entry}
 use Rattle.px_event.specs.declared.reply.Reply.{Reply}
 use Rattle.px_event.specs.declared.reply.Reply.TheVariants as replies
 use Rattle.px_sem.specs.Events.{take as taken}
-use Rattle.px_sem.specs.Log.{Log, events_of, accepted, answer, world_after}
+use Rattle.px_sem.specs.Log.{Log, logged_as, events_of, accepted, answer, world_after}
 use Rattle.px_sem.specs.Run.{started, posted, settled_world, run_on, run}
 use Rattle.px_sem.specs.Stepper.{State, settled_state}
 use Rattle.px_sem.specs.Text.{start_text, heading_text, settled_text, events_trace, trace}
 use Rattle.px_sem.specs.World.{World, initial_world}
-use Rattle.px_sem.proofs.Logs.{IsPosting, posting_more, posting_then, logged_as, history_after, counted_after}
+use Rattle.px_sem.proofs.Logs.{IsPosting, posting_more, posting_then, history_after, counted_after}
 use Rattle.px_output.specs.Drafts.{Keeps, Holds, post_text}
 
 -- ---- what is kept

@@ -4,11 +4,10 @@ use Rattle.std.proofs.Common.{◌≡◌, ℕ, List, ◌++◌, Option, Some, None
 use Rattle.px_core.specs.Plan.{Site}
 use Rattle.px_event.specs.declared.entry.Entry.{Entry}
 use Rattle.px_script.specs.declared.stall.Stall.{Stall}
-use Rattle.px_sem.specs.declared.log.LogEntry.{LogEntry}
 use Rattle.px_sem.specs.World.{World, standing_of}
 use Rattle.px_sem.specs.Log.{Log, events_of, accepted}
 use Rattle.px_sem.specs.Run.{run}
-use Rattle.px_sem.specs.Text.{trace, log_lines, standing_text, text_of, reply_line, stall_line}
+use Rattle.px_sem.specs.Text.{trace, log_lines, standing_text, text_of, stall_line}
 use Rattle.px_sem.proofs.Texts.{text_of_is}
 use Rattle.px_output.specs.declared.printer.PrintFault.{PrintFault}
 use Rattle.px_output.specs.Printing.{Prints}
@@ -42,10 +41,7 @@ pub trace_prints : (nodes plan : List Site) (history : List Entry) (old new : Vi
     → Prints old p new q (trace nodes history) r → Prints old p new q (trace plan history) r
 trace_prints nodes plan history old new p q r n prints = subst (λ n. Prints old p new q (trace n history) r) n prints
 
--- ---- the lines of a log, and of a stalled script
-
-abbrev pub line_of : LogEntry → List ℕ
-line_of logged = reply_line logged.entry.thread logged.entry.line logged.reply
+-- ---- the line of a stalled thread
 
 abbrev pub wait_line : Stall → List ℕ
 wait_line stall = stall_line stall.thread stall.line stall.cond

@@ -1,5 +1,5 @@
 -- How what was printed adds up.
-use Rattle.std.proofs.Common.{◌≡◌, ℕ, ◌-◌, inl, inr, List, [], ◌++◌, Option, Some, None, Result, Ok, Err, IsErrAnd, take, drop, length, refl, ap, ◌∙◌, sym, arith, append_assoc, append-nil, subst}
+use Rattle.std.proofs.Common.{◌≡◌, ℕ, ◌-◌, ◌≤◌, inl, inr, List, [], ◌++◌, Option, Some, None, Result, Ok, Err, IsErrAnd, take, drop, length, refl, ap, ◌∙◌, sym, arith, append_assoc, append-nil, subst}
 use Rattle.std.proofs.lemmas.List.{take-append-drop, take_all, length-drop}
 use Rattle.px_ports.specs.declared.host.HostFault.{HostFault}
 use Rattle.px_ports.specs.Host.{Emits, EmitsFront, CountsWrites, CountsIdle}
@@ -29,9 +29,10 @@ only_more a b c one two = record {
   idle = omega arith;
 }
 
-faulted_later : (a b c : View) → OnlyPrints a b → Faulted b c → Faulted a c
-faulted_later a b c one (inl h) = inl (omega arith)
-faulted_later a b c one (inr h) = inr (omega arith)
+-- faults since a moment are faults since one before it
+pub faulted_later : (a b c : View) → a.write_faults ≤ b.write_faults → a.idle ≤ b.idle → Faulted b c → Faulted a c
+faulted_later a b c faults idle (inl h) = inl (omega (arith, faults))
+faulted_later a b c faults idle (inr h) = inr (omega (arith, idle))
 
 -- ---- what is printed, one text behind another
 
@@ -63,7 +64,7 @@ pub fails : (U : Type 0) {T : Type 0} (a b c : View) (p q q' rest told piece lat
     → whole ≡ told ++ (piece ++ later) → Prints a p c rest whole r
 fails U a b c p q q' rest told piece later whole fault (Ok answer) is buffers only prints w = absurd is
 fails U a b c p q q' rest told piece later whole SinkFailed (Err SinkFailed) is buffers only ((left, more), faulted) w =
-    ((left ++ later, rw (w, ← append_assoc told piece later) (buffers_more a c p left (told ++ piece) later (goes_on a b c p q left told piece buffers more))), faulted_later a b c only faulted)
+    ((left ++ later, rw (w, ← append_assoc told piece later) (buffers_more a c p left (told ++ piece) later (goes_on a b c p q left told piece buffers more))), faulted_later a b c only.write_faults only.idle faulted)
 fails U a b c p q q' rest told piece later whole NoMemory (Err SinkFailed) is buffers only prints w = cc
 fails U a b c p q q' rest told piece later whole SinkFailed (Err NoMemory) is buffers only prints w = cc
 fails U a b c p q q' rest told piece later whole NoMemory (Err NoMemory) is buffers only (left, more) w =

@@ -65,7 +65,7 @@ pub fn post_each_drafted<S: Stepper>(
     ensures holds { IfOk result (λ posted. Holds draft.new (trace (S.state stepper.old).nodes posted.history.items)) }
 {
     let mut posted = Posted {
-        history: Vec::new(alloc),
+        history: Vec::with_capacity(alloc, entries.len())?,
         log: Vec::with_capacity(alloc, entries.len())?,
     };
     for entry in entries {

@@ -7,27 +7,24 @@ use Rattle.px_value.specs.declared.value.Value.{Value}
 use Rattle.px_value.specs.declared.value.Value.TheVariants as values
 use Rattle.px_core.specs.Fit.{cells_of}
 use Rattle.px_core.specs.Plan.{Site, VariableData}
-use Rattle.px_sem.specs.World.{World, NodeRecord, NoAction, initial_record, initial_world}
+use Rattle.px_sem.specs.World.{World, NoAction, initial_record, initial_world}
 use Rattle.px_flat.specs.declared.act.Act.{Act}
 use Rattle.px_flat.specs.declared.act.Act.TheVariants as acts
 use Rattle.px_flat.specs.Layout.{variable_cells, first_cell, node_cell, state_cell, handle_cell, acknowledgement_cell, all_cells}
 use Rattle.px_flat.specs.Numbered.{held}
 use Rattle.px_flat.specs.Parts.{IsNode, IsParts, act_of, action_in, state_in, outcome_in, failure_in, record_in, values_in, world_of, is_state, is_outcome, is_failure, is_handle_of, is_acknowledgement_of, fits}
 use Rattle.px_flat.specs.Row.{site_in}
-use Rattle.px_flat.proofs.Changes.{entries}
+use Rattle.px_flat.proofs.Changes.{nodes_are}
 use Rattle.px_command.proofs.Writes.{cells_within}
 use Rattle.px_parts.specs.Fresh.{at_rest, all_at_rest, first_cells}
 
 -- ---- the cells of nodes
 
-one_behind : (nodes : ℕ) → all_at_rest nodes ++ at_rest ≡ all_at_rest (suc nodes)
-one_behind zero = refl
-one_behind (suc nodes) = ap (λ rest. at_rest ++ rest) (one_behind nodes)
-
 pub one_more_at_rest : (nodes : ℕ) → all_at_rest nodes ++ at_rest ≡ all_at_rest (nodes + 1)
-one_more_at_rest nodes =
-    let more : suc nodes ≡ nodes + 1 = omega arith in
-    one_behind nodes ∙ ap all_at_rest more
+one_more_at_rest zero = refl
+one_more_at_rest (suc nodes) =
+    let more : suc (nodes + 1) ≡ suc nodes + 1 = omega arith in
+    ap (λ rest. at_rest ++ rest) (one_more_at_rest nodes) ∙ ap all_at_rest more
 
 long_at_rest : (nodes : ℕ) → length (all_at_rest nodes) ≡ 5 * nodes
 long_at_rest zero = refl
@@ -103,16 +100,13 @@ all_unknown (variable ∷ variables) count behind within =
 record_at_rest : (plan : List Site) (node : ℕ) → node < length plan
     → record_in plan (first_cells plan) (replicate (length plan) acts.Idle) node ≡ initial_record (site_in plan node).head
 record_at_rest plan node within = λ i. record {
-  state = state_in (own_state i);
+  state = state_in (state_at_rest plan node within i);
   outcome = outcome_in (held_at_rest plan node 1 within (omega arith) i);
   failure = failure_in (held_at_rest plan node 2 within (omega arith) i);
   variables = variables i;
   action = action i;
 }
   where
-    own_state : held (first_cells plan) (state_cell plan node) ≡ values.State Inactive
-    own_state = state_at_rest plan node within
-
     own : List VariableData
     own = (site_in plan node).head.variables
 
@@ -137,23 +131,11 @@ record_at_rest plan node within = λ i. record {
 
 -- ---- the world
 
-each_at_rest : (plan : List Site) (f : ℕ → NodeRecord) (first : ℕ)
-    → ((k : ℕ) → k < length plan → f (first + k) ≡ initial_record (site_in plan k).head)
-    → entries f first plan ≡ map (λ site. (site.path, initial_record site.head)) plan
-each_at_rest [] f first same = refl
-each_at_rest (site ∷ plan) f first same =
-    let here : first ≡ first + 0 = omega arith in
-    let own : f first ≡ initial_record site.head = ap f here ∙ same 0 (omega arith) in
-    ap (λ r. (site.path, r) ∷ entries f (first + 1) plan) own
-    ∙ ap (λ (rest : List (List ℕ × NodeRecord)). (site.path, initial_record site.head) ∷ rest) (each_at_rest plan f (first + 1) (λ k within.
-    let there : first + 1 + k ≡ first + suc k = omega arith in
-    ap f there ∙ same (suc k) (omega arith)))
-
 pub world_at_rest : (plan : List Site)
     → world_of plan (first_cells plan) [] (replicate (length plan) acts.Idle) ≡ initial_world plan
 world_at_rest plan =
     ap (λ nodes. let made : World = record { nodes = nodes; reports = [] } in made)
-    (each_at_rest plan (record_in plan (first_cells plan) (replicate (length plan) acts.Idle)) 0 (λ k within.
+    (nodes_are plan 0 (record_in plan (first_cells plan) (replicate (length plan) acts.Idle)) (λ site. initial_record site.head) (λ k within.
     let there : 0 + k ≡ k = omega arith in
     ap (record_in plan (first_cells plan) (replicate (length plan) acts.Idle)) there ∙ record_at_rest plan k within))
 

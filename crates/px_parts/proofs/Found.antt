@@ -10,10 +10,10 @@ use Rattle.px_value.specs.declared.enums.Outcome.TheVariants.{Success}
 use Rattle.px_core.specs.Plan.{Site, is_same, root_of}
 use Rattle.px_sem.specs.declared.standing.Standing.TheVariants.{Finished}
 use Rattle.px_sem.specs.World.{World, NodeRecord, record_at, known_state, standing_of}
+use Rattle.px_flat.specs.Parts.{entries}
 use Rattle.px_flat.specs.Row.{site_in, paths_of, number_at}
 use Rattle.px_flat.proofs.Tables.{flat_sound}
 use Rattle.px_flat.proofs.Worlds.{record_at-world_of}
-use Rattle.px_flat.proofs.Changes.{entries}
 use Rattle.px_parts.specs.declared.parts.Parts.{Parts}
 use Rattle.px_parts.specs.Parts.{plan_in, world_in, record_of}
 

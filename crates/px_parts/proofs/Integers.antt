@@ -10,7 +10,7 @@ use Rattle.px_core.proofs.Cells.{cells_are}
 use Rattle.px_core.specs.declared.variable.Variable.{Variable}
 use Rattle.px_core.specs.Fit.{cells_of, AreDistinct}
 use Rattle.px_core.specs.Plan.{Site, VariableData, variable_data, is_same, no_site, site_at}
-use Rattle.px_sem.specs.World.{World, integer_at, record_at, of_variable, variable_at}
+use Rattle.px_sem.specs.World.{World, integer_at, record_at, of_variable, known_cells, variable_at}
 use Rattle.px_flat.specs.declared.row.Extent.{Extent}
 use Rattle.px_flat.specs.declared.row.Row.{Row}
 use Rattle.px_flat.specs.Extents.{extent_of}
@@ -70,11 +70,8 @@ declared (variable ∷ variables) cells cell name =
 
 -- ---- what the semantics reads there
 
-abbrev there : List Site → World → List ℕ → List ℕ → Option (List Value)
-there plan world owner name = of_variable name (site_at plan owner).head.variables (record_at world owner).variables
-
 of_scalar : (plan : List Site) (world : World) (owner name : List ℕ) (variable : VariableData) (value : Value)
-    → variable_at plan owner name ≡ Some variable → variable.size ≡ None → there plan world owner name ≡ Some (value ∷ [])
+    → variable_at plan owner name ≡ Some variable → variable.size ≡ None → known_cells plan world owner name ≡ Some (value ∷ [])
     → integer_in value ≡ integer_at plan world owner name
 of_scalar plan world owner name variable values.Unknown found size is = rw (found, size, is) refl
 of_scalar plan world owner name variable (values.Boolean truth) found size is = rw (found, size, is) refl
@@ -87,7 +84,7 @@ of_scalar plan world owner name variable (values.Handle handle) found size is = 
 
 read : (plan : List Site) (world : World) (owner name : List ℕ) (cells : List Value) (scalar_at : Option ℕ)
     → ((cell : ℕ) → scalar_at ≡ Some cell → cell < length cells)
-    → Declared cells (variable_at plan owner name) (there plan world owner name) scalar_at
+    → Declared cells (variable_at plan owner name) (known_cells plan world owner name) scalar_at
     → option_and_then (λ cell. integer_in (held cells cell)) scalar_at ≡ integer_at plan world owner name
 read plan world owner name cells None within (nothing none) = rw none refl
 read plan world owner name cells None within (array variable size found sized) = rw (found, sized) refl

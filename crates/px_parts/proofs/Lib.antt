@@ -4,3 +4,4 @@ pub mod Integers
 pub mod Refreshing
 pub mod Scalars
 pub mod Sending
+pub mod Taken

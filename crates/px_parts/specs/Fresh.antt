@@ -1,5 +1,6 @@
 -- The cells of a plan that has not begun.
-use Rattle.std.specs.Prelude.{◌≡◌, ℕ, zero, suc, false, List, [], ◌∷◌, ◌++◌, replicate, take, length, IsNone}
+use Rattle.std.specs.Prelude.{◌≡◌, ℕ, false, List, [], ◌∷◌, ◌++◌, replicate, take, length, IsNone}
+use Rattle.std.specs.List.{repeat}
 use Rattle.px_value.specs.declared.enums.NodeState.TheVariants.{Inactive}
 use Rattle.px_value.specs.declared.value.Value.{Value}
 use Rattle.px_value.specs.declared.value.Value.TheVariants as values
@@ -13,8 +14,7 @@ at_rest = values.State Inactive ∷ values.Unknown ∷ values.Unknown ∷ values
 
 -- those of so many nodes
 abbrev pub all_at_rest : ℕ → List Value
-all_at_rest zero = []
-all_at_rest (suc nodes) = at_rest ++ all_at_rest nodes
+all_at_rest nodes = repeat nodes at_rest
 
 -- no variable has a value
 abbrev pub first_cells : List Site → List Value

@@ -10,7 +10,7 @@ use Rattle.std.proofs.lemmas.Bool.Decides.{leb_tells}
 use Rattle.std.proofs.lemmas.List.Folds.{list_all-append, list_any-append}
 use Rattle.std.proofs.lemmas.List.Sums.{sum_by-append}
 use Rattle.std.proofs.lemmas.Option.{get_or_from_slice_get, slice_get_within}
-use Rattle.px_value.proofs.General.{no_filtered, range_more}
+use Rattle.px_value.proofs.General.{one_if, no_filtered, range_more}
 use Rattle.px_lex.specs.declared.token.Token.{Token}
 use Rattle.px_lex.specs.declared.token.TokenKind.{TokenKind}
 use Rattle.px_lex.specs.declared.token.TokenKind.TheVariants as kinds
@@ -26,23 +26,14 @@ use Rattle.px_plan_parse.specs.Walk.{counts, is_deep, walk_behind}
 range_suc : (a n : ℕ) → range_with_len a (suc n) ≡ range_with_len a n ++ (a + n) ∷ []
 range_suc a n = let e : suc n ≡ n + 1 = omega arith in ap (range_with_len a) e ∙ range_more a n
 
-abbrev one_if : Bool → ℕ
-one_if b = cond b 1 0
-
-count_append : {X : Type 0} (p : X → Bool) (xs ys : List X) → count_by p (xs ++ ys) ≡ count_by p xs + count_by p ys
-count_append p xs ys = sum_by-append (λ x. cond (p x) 1 0) xs ys
-
 count_one : {X : Type 0} (p : X → Bool) (x : X) → count_by p (x ∷ []) ≡ cond (p x) 1 0
 count_one p x = omega arith
 
 count_suc : (p : ℕ → Bool) (n : ℕ) → count_by p (range_with_len 0 (suc n)) ≡ count_by p (range_with_len 0 n) + cond (p n) 1 0
 count_suc p n =
     let e : 0 + n ≡ n = omega arith in
-    ap (count_by p) (range_suc 0 n) ∙ count_append p (range_with_len 0 n) ((0 + n) ∷ [])
+    ap (count_by p) (range_suc 0 n) ∙ sum_by-append (λ (k : ℕ). cond (p k) 1 0) (range_with_len 0 n) ((0 + n) ∷ [])
     ∙ ap (λ (k : ℕ). count_by p (range_with_len 0 n) + k) (count_one p (0 + n) ∙ ap (λ (k : ℕ). cond (p k) 1 0) e)
-
-count_more : (p : ℕ → Bool) (n : ℕ) → count_by p (range_with_len 0 (n + 1)) ≡ count_by p (range_with_len 0 n) + cond (p n) 1 0
-count_more p n = let e : n + 1 ≡ suc n = omega arith in ap (λ (k : ℕ). count_by p (range_with_len 0 k)) e ∙ count_suc p n
 
 all_range : (p q : ℕ → Bool) (n : ℕ) → ((k : ℕ) → k < n → p k ≡ q k) → list_all p (range_with_len 0 n) ≡ list_all q (range_with_len 0 n)
 all_range p q zero same = refl
@@ -105,7 +96,7 @@ filter_first p a (suc n) (suc i) below none is =
 module _ (xs : List Token) (t : Token) where
   count_snoc : (test : TokenKind → Bool) → count_of test (xs ++ t ∷ []) ≡ count_of test xs + cond (test t.kind) 1 0
   count_snoc test =
-      count_append (λ (token : Token). test token.kind) xs (t ∷ [])
+      sum_by-append (λ (token : Token). cond (test token.kind) 1 0) xs (t ∷ [])
       ∙ ap (λ (k : ℕ). count_of test xs + k) (count_one (λ (token : Token). test token.kind) t)
 
   fewer : List Token → ℕ → Bool
@@ -575,7 +566,8 @@ module _ (tokens : List Token) (at : ℕ) (t : Token) (is : slice_get tokens at 
       ∙ ap (λ (b : Bool). counts_as_operator tokens place && not b)
       (or-false (list_any (λ token. ends_statement token.kind) (slice_range tokens (place + 1) at)))) in
       let here = ap (λ (b : Bool). cond b 1 0) last_counts in
-      count_more (since (at + 1)) at ∙ ap (λ (k : ℕ). k + cond (since (at + 1) at) 1 0) rest
+      let next : at + 1 ≡ suc at = omega arith in
+      ap (λ (k : ℕ). count_by (since (at + 1)) (range_with_len 0 k)) next ∙ count_suc (since (at + 1)) at ∙ ap (λ (k : ℕ). k + cond (since (at + 1) at) 1 0) rest
       ∙ ap (λ (k : ℕ). operators_before tokens at + k) here
 
 -- ---- the walk

@@ -1,5 +1,6 @@
 -- The shortest of each part of a plan.
 use Rattle.std.proofs.Common.{ℕ, ◌+◌, pos, inl, refl, List, [], Option, Some, None, true}
+use Rattle.std.specs.Option.{unwrap_or}
 use Rattle.px_lex.specs.declared.keyword.Keyword.TheVariants as words
 use Rattle.px_lex.specs.declared.sign.Sign.TheVariants as signs
 use Rattle.px_lex.specs.declared.token.Token.{Token}
@@ -31,23 +32,19 @@ short_pair f g = short_both f g (λ others from middle end a b o r. ((a, b), (mi
 pub short_actions : Shortest closed_actions
 short_actions = in_one (kinds.Sign signs.CloseBrace) (λ others place has. (NoActions, (place, refl, (has, refl))))
 
--- the form of a block without NodeList
-abbrev plain_form : Option BlockForm → BlockForm
-plain_form None = forms.Plain
-plain_form (Some form) = form
-
-no_list_word : (word : Option BlockForm) (others : List Token) (place : ℕ) → list_word word (plain_form word) others place place
+-- a block without NodeList
+no_list_word : (word : Option BlockForm) (others : List Token) (place : ℕ) → list_word word (unwrap_or word forms.Plain) others place place
 no_list_word None others place = refl
 no_list_word (Some form) others place = (refl, refl)
 
 pub short_list : (word : Option BlockForm) → Shortest (both (list_word word) closed_actions)
 short_list word =
-    short_as short_actions (λ others from end actions o. ((plain_form word, actions), (from, no_list_word word others from, o)))
+    short_as short_actions (λ others from end actions o. ((unwrap_or word forms.Plain, actions), (from, no_list_word word others from, o)))
 
 pub short_tail : Shortest (each_of block_tail)
 short_tail =
     short_as short_actions (λ others from end actions o. (
-      λ word. ([], (plain_form word, actions)),
+      λ word. ([], (unwrap_or word forms.Plain, actions)),
       λ word. (from, refl, (from, no_list_word word others from, o)),
     ))
 

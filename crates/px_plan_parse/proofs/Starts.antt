@@ -1,5 +1,5 @@
 -- What begins with a token, and which token that is.
-use Rattle.std.proofs.Common.{◌≡◌, ℕ, ◌+◌, ◌≤◌, ◌⊎◌, inl, inr, refl, sym, ap, subst, ◌∙◌, List, Option, Some, None, Bool, true, false, arith}
+use Rattle.std.proofs.Common.{◌≡◌, ℕ, ◌+◌, ◌⊎◌, inl, inr, refl, sym, ap, subst, ◌∙◌, List, Option, Some, None, Bool, true, false, arith}
 use Rattle.std.specs.Option.{option_map_or}
 use Rattle.px_lex.specs.declared.keyword.Keyword.{Keyword}
 use Rattle.px_lex.specs.declared.keyword.Keyword.TheVariants as words
@@ -24,10 +24,7 @@ use Rattle.px_plan_parse.specs.Start.{is_item, keyword_start, start_at, start_of
 use Rattle.px_plan_parse.proofs.Parts.{HasKind, Makes, Splits, makes_by}
 use Rattle.px_plan_parse.specs.Tail.{test}
 
--- the start at a place in other tokens that agree
-pub start_too : (tokens others : List Token) (place last : ℕ) → place ≤ last → Agree tokens others last → start_at others place ≡ start_at tokens place
-start_too tokens others place last le agree = ap (λ (kind : Option TokenKind). option_map_or start_of kind starts.Nothing) (agree place le)
-
+-- the start at a place in other tokens that have the same there
 pub start_same : (tokens others : List Token) (place : ℕ) → kind_at others place ≡ kind_at tokens place → start_at others place ≡ start_at tokens place
 start_same tokens others place same = ap (λ (kind : Option TokenKind). option_map_or start_of kind starts.Nothing) same
 
@@ -225,13 +222,13 @@ start_nothing which no_brace tokens place has = start_here tokens place (kinds.S
 
 module _ (tokens : List Token) (at : ℕ) where
   pub starts_so : (start : Start) → start_at tokens at ≡ start → (others : List Token) → Agree tokens others at → (start_at others at ≡ start → ⊥) → ⊥
-  starts_so start is others agree none = none (start_too tokens others at at (omega arith) agree ∙ is)
+  starts_so start is others agree none = none (start_same tokens others at (agree at (omega arith)) ∙ is)
 
   -- a test of what begins there, which all parts of a form pass
   pub starts_there :
       (test : Start → Bool) → test (start_at tokens at) ≡ true → (others : List Token) → Agree tokens others at → test (start_at others at) ≡ false → ⊥
   starts_there test passes others agree fails =
-      let f : false ≡ true = sym fails ∙ ap test (start_too tokens others at at (omega arith) agree) ∙ passes in cc
+      let f : false ≡ true = sym fails ∙ ap test (start_same tokens others at (agree at (omega arith))) ∙ passes in cc
 
   module _ {A : Type 0} (form : A → Form) where
     pub not_so :
@@ -239,7 +236,7 @@ module _ (tokens : List Token) (at : ℕ) where
         → (start_at tokens at ≡ start → ⊥)
         → (others : List Token) → Agree tokens others at → (part : A) (end : ℕ) → form part others at end → ⊥
     not_so start starts none others agree part end o =
-        none (sym (start_too tokens others at at (omega arith) agree) ∙ starts others part at end o)
+        none (sym (start_same tokens others at (agree at (omega arith))) ∙ starts others part at end o)
 
     pub not_there :
         (test : Start → Bool) → ((part : A) (others : List Token) (from end : ℕ) → form part others from end → test (start_at others from) ≡ true)

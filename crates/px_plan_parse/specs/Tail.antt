@@ -4,7 +4,6 @@ use Rattle.px_lex.specs.declared.keyword.Keyword.TheVariants as words
 use Rattle.px_lex.specs.declared.sign.Sign.{Sign}
 use Rattle.px_lex.specs.declared.sign.Sign.TheVariants as signs
 use Rattle.px_lex.specs.declared.token.TokenKind.{TokenKind}
-use Rattle.px_lex.specs.declared.token.TokenKind.TheVariants as kinds
 use Rattle.px_syntax.specs.declared.block.ListedLiteral.{ListedLiteral}
 use Rattle.px_syntax.specs.declared.expr.Identifier.{Identifier}
 use Rattle.px_syntax.specs.declared.expr.Literal.{Literal}
@@ -17,19 +16,20 @@ use Rattle.px_syntax.specs.Block.{InitialData, VariableData, ItemData, PairData,
 use Rattle.px_syntax.specs.BlockGrammar.{branch, each_action, form_word, initial, item, listed, pair, signed, size_of, variable}
 use Rattle.px_syntax.specs.ExprGrammar.{expression, literal_kind}
 use Rattle.px_syntax.specs.Expr.{Term}
-use Rattle.px_syntax.specs.Form.{Form, kind_at, identifier, keyword, never, nothing, optional, sign, ◌then◌, maybe, each, with_commas, number}
+use Rattle.px_syntax.specs.Form.{Form, identifier, keyword, never, nothing, optional, sign, ◌then◌, maybe, each, with_commas, number}
 use Rattle.px_syntax.specs.Plan.{DeclarationData}
 use Rattle.px_syntax.specs.PlanGrammar.{declaration, parameter, parameters}
 use Rattle.px_expr_parse.specs.Tail.{closed}
+use Rattle.px_expr_parse.specs.Verdict.{HasSign}
 use Rattle.px_plan_parse.specs.Part.{Follow}
 
 -- anything but a sign
 abbrev pub Unless : Sign → Follow
-Unless which tokens place = kind_at tokens place ≡ Some (kinds.Sign which) → ⊥
+Unless which tokens place = HasSign tokens place which → ⊥
 
 -- nothing but a sign
 abbrev pub Only : Sign → Follow
-Only which tokens place = kind_at tokens place ≡ Some (kinds.Sign which)
+Only which tokens place = HasSign tokens place which
 
 -- ---- items
 

@@ -1,5 +1,6 @@
 -- What the calls of a host answer, and what they change.
-use Rattle.std.specs.Prelude.{◌≡◌, ◌≢◌, ◌<◌, ◌≤◌, ◌+◌, ◌-◌, ◌^◌, ℕ, min, List, ◌++◌, take, length, Option, Some, Result, IfOk, OnErr, IsErrOf, IsSomeAnd, find}
+use Rattle.std.specs.Prelude.{◌≡◌, ◌≢◌, ◌<◌, ◌≤◌, ◌+◌, ◌-◌, ◌^◌, ℕ, min, List, ◌++◌, take, length, Option, Some, Result, IfOk, OnErr, IsErrOf, IsSomeAnd}
+use Rattle.std.specs.Map.{lookup}
 use Rattle.std.specs.Option.{option_map, ForSome}
 use Rattle.std.specs.Str.{bytes_eq}
 use Rattle.px_ports.specs.declared.host.Fetched.{Fetched}
@@ -13,7 +14,7 @@ Files = List (List ℕ × List ℕ)
 
 -- the content under a name
 abbrev pub file_at : Files → List ℕ → Option (List ℕ)
-file_at files name = option_map (λ file. file.1) (find (λ file. bytes_eq file.0 name) files)
+file_at files name = lookup (λ key. bytes_eq key name) files
 
 -- a count after one more, where 2^64 - 1 is its last value
 abbrev pub counted : ℕ → ℕ

@@ -4,6 +4,7 @@ use Rattle.std.specs.Fmt.{signed_decimal}
 use Rattle.std.specs.List.{flat_map}
 use Rattle.std.specs.declared.vec.Vec.{Vec}
 use Rattle.std.proofs.Math.Seq.{take-append_seam}
+use Rattle.px_value.proofs.General.{joined_five}
 use Rattle.px_syntax.specs.declared.block.Action.{Action}
 use Rattle.px_syntax.specs.declared.block.Block.{Block, out-Block}
 use Rattle.px_syntax.specs.declared.block.Body.{Body}
@@ -27,10 +28,6 @@ use Rattle.px_print.specs.Layout.{parameter_text, parameters_text}
 joined_six : (out a b c d e f o1 o2 o3 o4 o5 new : List ℕ) → o1 ≡ out ++ a → o2 ≡ o1 ++ b → o3 ≡ o2 ++ c → o4 ≡ o3 ++ d
     → o5 ≡ o4 ++ e → new ≡ o5 ++ f → new ≡ out ++ (a then b then c then d then e then f)
 joined_six out a b c d e f o1 o2 o3 o4 o5 new e1 e2 e3 e4 e5 e6 = rw (e6, e5, e4, e3, e2, e1) (simp append_assoc)
-
-joined_five : (out a b c d e o1 o2 o3 o4 new : List ℕ) → o1 ≡ out ++ a → o2 ≡ o1 ++ b → o3 ≡ o2 ++ c → o4 ≡ o3 ++ d
-    → new ≡ o4 ++ e → new ≡ out ++ (a then b then c then d then e)
-joined_five out a b c d e o1 o2 o3 o4 new e1 e2 e3 e4 e5 = rw (e5, e4, e3, e2, e1) (simp append_assoc)
 
 joined_four : (out a b c d o1 o2 o3 new : List ℕ) → o1 ≡ out ++ a → o2 ≡ o1 ++ b → o3 ≡ o2 ++ c → new ≡ o3 ++ d
     → new ≡ out ++ (a then b then c then d)

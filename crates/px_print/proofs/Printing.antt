@@ -1,12 +1,13 @@
 -- Texts that are pieces before a rest, and forms that their tokens have wherever these stand.
-use Rattle.std.proofs.Common.{◌≡◌, ℕ, ◌+◌, ◌<◌, true, List, [], ◌∷◌, ◌++◌, length, Option, Some, None, refl, sym, ap, ◌∙◌, subst, arith, append_assoc, append-nil}
+use Rattle.std.proofs.Common.{◌≡◌, ℕ, ◌+◌, true, List, [], ◌∷◌, ◌++◌, length, Option, Some, None, refl, sym, ap, ◌∙◌, subst, append_assoc, append-nil}
 use Rattle.std.specs.List.{list_all}
 use Rattle.std.specs.Str.{IsUtf8}
-use Rattle.std.proofs.lemmas.Bool.{and_parts}
-use Rattle.std.proofs.lemmas.Bool.Decides.{nat_tests}
+use Rattle.std.proofs.lemmas.Bool.{and_parts, ltb-true}
+use Rattle.std.proofs.lemmas.Grind.{flat_map-append}
 use Rattle.std.proofs.lemmas.List.{length_push}
 use Rattle.std.proofs.lemmas.Str.{IsUtf8-append, IsUtf8-nil}
-use Rattle.px_lex.proofs.Pieces.{spelled-append, stand-append}
+use Rattle.px_lex.proofs.Gaps.{ascii_blank}
+use Rattle.px_lex.proofs.Pieces.{stand-append}
 use Rattle.px_lex.specs.declared.token.Token.{Token}
 use Rattle.px_lex.specs.declared.token.TokenKind.{TokenKind}
 use Rattle.px_lex.specs.Gap.{is_white_space, IsGap}
@@ -80,7 +81,7 @@ pub prints_then : {source : List ℕ} {f g : Form} {first second rest : List ℕ
     → Prints source (f then g) (first ++ second) rest
 prints_then {f = f} {g = g} {first = first} {second = second} {rest = rest} q p = record {
   pieces = p.pieces ++ q.pieces;
-  whole = (λ i. p.whole i ++ q.whole i) ∙ sym (spelled-append p.pieces q.pieces);
+  whole = (λ i. p.whole i ++ q.whole i) ∙ sym (flat_map-append (λ (piece : Piece). piece.spelling) p.pieces q.pieces);
   stand = stand-append p.pieces q.pieces rest (subst (λ t. AllStand p.pieces (t ++ rest)) q.whole p.stand) q.stand;
   reads = λ tokens from at.
       let both = stands_at-append p.pieces q.pieces tokens from at in
@@ -99,9 +100,6 @@ prints_token kind text rest is kept = record {
   kept = kept;
 }
 
-blank_ascii : (c : ℕ) → is_white_space c ≡ true → c < 128
-blank_ascii c h = grind (arith, nat_tests)
-
 -- white space before a text, or behind it
 pub prints_behind : {source : List ℕ} {f : Form} {text rest : List ℕ} (gap : List ℕ) → list_all is_white_space gap ≡ true → Prints source f text rest
     → Prints source f (gap ++ text) rest
@@ -114,7 +112,7 @@ prints_behind {text = text} (c ∷ gap) blank p =
       whole = ap (λ t. c ∷ t) more.whole;
       stand = (IsGap.blank c refl parts.0, more.stand);
       reads = λ tokens from at. more.reads tokens from at.1;
-      kept = λ u. ascii_then c (gap ++ text) (blank_ascii c parts.0) (more.kept u);
+      kept = λ u. ascii_then c (gap ++ text) (ltb-true c 128 (ascii_blank c parts.0)) (more.kept u);
     }
 
 pub prints_before : {source : List ℕ} {f : Form} {text : List ℕ} (gap rest : List ℕ) → list_all is_white_space gap ≡ true → Prints source f text (gap ++ rest)

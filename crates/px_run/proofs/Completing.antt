@@ -2,6 +2,7 @@
 use Rattle.std.proofs.Common.{◌≡◌, ℕ, false, ◌⊎◌, inl, inr, List, [], Option, Some, None, IsSome, IsTrue, IsFalse, refl, ap, subst, sym, ◌∙◌}
 use Rattle.std.specs.Option.{option_map, option_and_then}
 use Rattle.std.proofs.lemmas.Bool.{both_ways}
+use Rattle.px_value.proofs.General.{none_or_some}
 use Rattle.px_compile.specs.Compiled.{IsCompiled}
 use Rattle.px_compile.proofs.Refusals.{one_plan}
 use Rattle.px_core.specs.Plan.{Site, Tree, sites}
@@ -34,7 +35,7 @@ use Rattle.px_run.specs.Soak.{soak_plan, soak_lines, SoakCalls}
 use Rattle.px_run.specs.declared.finishing.Telling.{Telling}
 use Rattle.px_run.specs.declared.finishing.Telling.TheVariants as tellings
 use Rattle.px_run.proofs.Causing.{dry_run_status, soak_journal}
-use Rattle.px_run.proofs.Excluding.{none_or_some, some_or_none, same_text, same_first, same_tree, never_none, never_refused, one_status}
+use Rattle.px_run.proofs.Excluding.{some_or_none, same_text, same_first, same_tree, never_none, never_refused, one_status}
 use Rattle.px_run.proofs.FileKinds.{IsKind, plan_kind, script_kind, text_kind, holds_text, held, none_held}
 use Rattle.px_run.proofs.SeenFiles.{WhereDue}
 
@@ -155,7 +156,7 @@ module _ {D : Type 0} (members : Disk.Ghosts D) (words : List (List ℕ)) (befor
         → IsSome found
         → RunCallsBy members tellings.Summary (sites tree) soak_plan event_limit (soak_lines asked.0 asked.1) old new course (Some ending) found
         → ending.status ≡ 5
-    soak_exists_status journal course ending None some ends = absurd (none_or_some {A = World × ℕ} None refl some)
+    soak_exists_status journal course ending None some ends = absurd (none_or_some {X = World × ℕ} None refl some)
     soak_exists_status journal course ending (Some settled) some calls =
         let ((bytes, content, something), steady) = journal (soak_journal words asked) in
         new_refused steady _ (sites tree) soak_plan event_limit (soak_lines asked.0 asked.1) course (Some ending) bytes content something calls
@@ -326,7 +327,7 @@ module _ {D : Type 0} (members : Disk.Ghosts D) (words : List (List ℕ)) (befor
             -- the start of a plan behind a journal that doesn't fail
             start_refused : (text : List ℕ) (limit : ℕ) (script : Script) (course : Course) (ending : Ending) (found : Option (World × ℕ)) → IsSome found
                 → RunCallsBy members tellings.Text (sites tree) text limit script old new course (Some ending) found → ending.status ≡ 5
-            start_refused text limit script course ending None some ends = absurd (none_or_some {A = World × ℕ} None refl some)
+            start_refused text limit script course ending None some ends = absurd (none_or_some {X = World × ℕ} None refl some)
             start_refused text limit script course ending (Some settled) some calls =
                 let ((bytes, content, something), steady) = journal has_journal in
                 new_refused steady _ (sites tree) text limit script course (Some ending) bytes content something calls

@@ -1,13 +1,13 @@
 -- From what was performed to the headline.
-use Rattle.std.proofs.Common.{◌≡◌, ℕ, inl, inr, List, [], Option, Some, None, Ok, Err, refl, subst, sym, arith}
+use Rattle.std.proofs.Common.{◌≡◌, ℕ, inl, inr, List, [], Option, Some, None, Ok, Err, refl, subst, sym}
 use Rattle.px_core.specs.Plan.{Tree, sites}
 use Rattle.px_event.specs.declared.entry.Entry.{Entry}
 use Rattle.px_ports.specs.Host.{Emits}
 use Rattle.px_ports.specs.declared.disk.Disk
 use Rattle.px_output.specs.declared.printer.PrintFault.TheVariants.{SinkFailed}
 use Rattle.px_output.specs.Printing.{Prints}
-use Rattle.px_output.specs.View.{View, Faulted, EmitsPart, OnlyPrints, KeepsFiles}
-use Rattle.px_output.proofs.Printed.{emits_nothing, emitted_whole, emitted_part, piece_printed}
+use Rattle.px_output.specs.View.{View, EmitsPart, OnlyPrints, KeepsFiles}
+use Rattle.px_output.proofs.Printed.{faulted_later, emits_nothing, emitted_whole, emitted_part, piece_printed}
 use Rattle.px_script.specs.declared.script.Script.{Script}
 use Rattle.px_words.specs.Words.{Command, TraceStart, DryRun, Check, Format, Run, Resume, Trace, Names, Soak, command}
 use Rattle.px_run.specs.declared.ending.End.{End}
@@ -71,15 +71,11 @@ module _ (before mid now : View) (only : OnlyPrints mid now) where
     calls_later (Some (Names journal)) course due calls = calls
     calls_later (Some (Soak count seed journal)) course due calls = calls
 
-faulted_after : (before mid now : View) → KeepsFiles before mid → Faulted mid now → Faulted before now
-faulted_after before mid now keeps (inl h) = inl (omega (arith, keeps.write_faults))
-faulted_after before mid now keeps (inr h) = inr (omega (arith, keeps.idle))
-
 delivers_after : (before mid now : View) (ending : Ending) (status : ℕ) → KeepsFiles before mid → mid.emitted ≡ before.emitted
     → Delivers mid now ending status → Delivers before now ending status
 delivers_after before mid now ending _ keeps same (Delivers.whole emits) = Delivers.whole (rw (← same) emits)
 delivers_after before mid now ending _ keeps same (Delivers.sink_fault part fault) =
-    Delivers.sink_fault (rw (← same) part) (faulted_after before mid now keeps fault)
+    Delivers.sink_fault (rw (← same) part) (faulted_later before mid now keeps.write_faults keeps.idle fault)
 delivers_after before mid now ending _ keeps same (Delivers.no_memory part) = Delivers.no_memory (rw (← same) part)
 
 -- ---- from what a command has performed

@@ -4,6 +4,7 @@ use Rattle.std.proofs.Common.{◌≡◌, inl, inr, ℕ, List, [], ◌∷◌, ◌
 use Rattle.std.specs.Option.{ForSome}
 use Rattle.std.proofs.lemmas.Bool.{both_ways}
 use Rattle.std.proofs.lemmas.List.{map-append}
+use Rattle.px_value.proofs.General.{none_or_some}
 use Rattle.px_core.specs.Plan.{Site, Tree, sites}
 use Rattle.px_event.specs.declared.entry.Entry.{Entry}
 use Rattle.px_event.specs.declared.event.Event.{Event}
@@ -23,10 +24,6 @@ use Rattle.px_run.specs.Ending.{Ending, no_journal, journal_damaged, journal_pla
 use Rattle.px_run.specs.Journaled.{JournalRefuses, HasNoJournal, CannotRun}
 
 -- ---- runs
-
-pub none_or_some : {A : Type 0} (found : Option A) → found ≡ None → IsSome found → ⊥
-none_or_some None is some = cc
-none_or_some (Some x) is some = cc
 
 pub some_or_none : {A : Type 0} {found : Option A} (some : A) → found ≡ Some some → found ≡ None → ⊥
 some_or_none some has none = let both = sym none ∙ has in cc

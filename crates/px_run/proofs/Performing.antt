@@ -2,9 +2,9 @@
 use Rattle.std.proofs.Common.{◌≡◌, ℕ, ◌≤◌, inl, inr, List, [], Some, None, Result, Ok, Err, IsErrAnd, refl, arith, ◌∙◌}
 use Rattle.px_sem.specs.declared.settling.StepFault.{StepFault}
 use Rattle.px_sem.specs.declared.settling.StepFault.TheVariants as steps
-use Rattle.px_output.proofs.Printed.{emitted_whole, emitted_part}
+use Rattle.px_output.proofs.Printed.{faulted_later, emitted_whole, emitted_part}
 use Rattle.px_output.specs.Printing.{Prints}
-use Rattle.px_output.specs.View.{View, Faulted, OnlyPrints, OnlyReads}
+use Rattle.px_output.specs.View.{View, OnlyPrints, OnlyReads}
 use Rattle.px_output.specs.declared.printer.PrintFault.{PrintFault}
 use Rattle.px_output.specs.declared.printer.PrintFault.TheVariants.{SinkFailed, NoMemory}
 use Rattle.px_run.specs.Course.{Course, Due, AfterFile}
@@ -18,10 +18,6 @@ use Rattle.px_run.proofs.SeenFiles.{shows_later, reads_at_once, reads_kept}
 
 -- ---- what is performed, seen from further off
 
-pub faulted_since : (old mid new : View) → OnlyReads old mid → Faulted mid new → Faulted old new
-faulted_since old mid new only (inl h) = inl (omega arith)
-faulted_since old mid new only (inr h) = inr (omega arith)
-
 -- what is performed behind reads that touched nothing else
 pub performs_since : (old mid new : View) (Calls More : Due → Type 0) (r : Result End Stop) → OnlyReads old mid
     → ((due : Due) → Calls due → More due) → Performs mid new Calls r → Performs old new More r
@@ -30,7 +26,7 @@ performs_since old mid new Calls More (Ok end) only widen (ending, is, status, e
 performs_since old mid new Calls More (Err (stops.Refused refusal)) only widen (is, same) =
     (widen (Some (ending_of refusal)) is, same ∙ only.emitted)
 performs_since old mid new Calls More (Err stops.SinkFailed) only widen (ending, is, part, fault) =
-    (ending, widen (Some ending) is, rw (← only.emitted) part, faulted_since old mid new only fault)
+    (ending, widen (Some ending) is, rw (← only.emitted) part, faulted_later old mid new (omega (arith, only.write_faults)) (omega (arith, only.idle)) fault)
 performs_since old mid new Calls More (Err stops.NoMemory) only widen (inl (ending, is, part)) =
     inl (ending, widen (Some ending) is, rw (← only.emitted) part)
 performs_since old mid new Calls More (Err stops.NoMemory) only widen (inr (none, same)) = inr (widen None none, same ∙ only.emitted)

@@ -4,6 +4,7 @@ use Rattle.std.proofs.lemmas.List.{take_all}
 use Rattle.std.specs.Option.{ForSome}
 use Rattle.px_value.proofs.General.{begins_further}
 use Rattle.px_core.specs.Plan.{Site}
+use Rattle.px_crew.proofs.Gathering.{follows_nothing}
 use Rattle.px_event.specs.declared.entry.Entry.{Entry}
 use Rattle.px_exec.proofs.Images.{left_now}
 use Rattle.px_exec.proofs.Keeping.{told_of}
@@ -19,7 +20,6 @@ use Rattle.px_output.specs.View.{View}
 use Rattle.px_ports.specs.Moment.{LeftSince}
 use Rattle.px_ports.specs.declared.disk.Disk
 use Rattle.px_ports.specs.declared.moment.Moment.{Moment}
-use Rattle.px_script.specs.Follows.{Follows}
 use Rattle.px_script.specs.Remainder.{rest}
 use Rattle.px_script.specs.declared.script.Script.{Script}
 use Rattle.px_script.specs.declared.todo.Todo.{Todo}
@@ -45,13 +45,6 @@ abbrev IsUnnamed : Session → List ℕ → Type 0
 IsUnnamed session image = IsTrue (is_nothing image) ⊎ Stands image session.text []
 
 -- ---- what a crash may leave
-
--- an empty log follows whatever threads
-nothing_followed : (plan : List Site) (first : List Entry) (threads : List Todo) → Follows plan first [] threads
-nothing_followed plan first threads = record {
-  each = λ k d within. (0, record { walks = omega arith; entries = refl });
-  only = λ k d within. absurd (omega (arith, within));
-}
 
 -- bytes that stand for the text and no event are a front of each session over a new journal
 front_of_none : (session : Session) (text bytes : List ℕ) → session.text ≡ text → session.first ≡ [] → Stands bytes text []
@@ -239,7 +232,7 @@ module _ {D : Type 0} (members : Disk.Ghosts D) where
           same_text = refl;
           same_first = refl;
           legal = record { runs = starts; answers = tt };
-          follows = nothing_followed plan [] (rest threads []);
+          follows = follows_nothing plan [] [] (rest threads []) refl;
           due = tt;
           next = tt;
         }

@@ -1,5 +1,6 @@
 -- Files that were read, seen from further off, and what stops the reading of one.
-use Rattle.std.proofs.Common.{◌≡◌, ℕ, ◌≤◌, List, Some, None, Result, Ok, Err, IfErr, IsErrAnd, refl, ap, arith}
+use Rattle.std.proofs.Common.{◌≡◌, ℕ, ◌≤◌, List, Some, None, Result, IfErr, IsErrAnd, refl, ap, arith}
+use Rattle.px_value.proofs.General.{handed_on}
 use Rattle.px_compile.specs.Compiled.{IsRefused}
 use Rattle.px_core.specs.Plan.{Tree}
 use Rattle.px_syntax.specs.declared.fault.PlanFault.{PlanFault}
@@ -93,5 +94,5 @@ plan_stopped old new name bytes plans.NoMemory shows refused = tt
 
 pub plan_refused : {A : Type 0} (old new : View) (name bytes : List ℕ) (fault : PlanFault) (r : Result A Stop) → IsErrAnd r (λ e. e ≡ stop_of_plan fault)
     → Shows plan_file.limit old new name (Content bytes) → IsRefused bytes fault → IfErr r (StopsReading plan_file old new name)
-plan_refused old new name bytes fault (Ok read) is shows refused = absurd is
-plan_refused old new name bytes fault (Err e) is shows refused = rw is (plan_stopped old new name bytes fault shows refused)
+plan_refused old new name bytes fault r is shows refused =
+    handed_on (StopsReading plan_file old new name) (stop_of_plan fault) r is (plan_stopped old new name bytes fault shows refused)

@@ -1,6 +1,6 @@
 -- A soak, from its plan and its lines.
-use Rattle.std.proofs.Common.{◌≡◌, inr, ℕ, List, [], Some, None, Result, Ok, Err, IsErrAnd, IfErr, refl, sym, ◌∙◌, ap, subst}
-use Rattle.px_value.proofs.General.{is_some_at}
+use Rattle.std.proofs.Common.{◌≡◌, inr, ℕ, List, [], Some, None, Result, Err, IsErrAnd, IfErr, refl, sym, ◌∙◌, ap, subst}
+use Rattle.px_value.proofs.General.{handed_on, is_some_at}
 use Rattle.px_compile.specs.Compiled.{IsCompiled}
 use Rattle.px_core.specs.Plan.{Site, Tree, sites}
 use Rattle.px_output.specs.View.{View}
@@ -40,8 +40,7 @@ no_start tree steps.NoMemory compiled runaway = tt
 
 pub soak_not_started : {A : Type 0} (tree : Tree) (fault : StepFault) (r : Result A Stop) → IsErrAnd r (λ e. e ≡ stop_of_start fault)
     → IsCompiled soak_plan tree → (fault ≡ steps.Runaway → started (sites tree) ≡ None) → IfErr r IsSoakNotPrepared
-soak_not_started tree fault (Ok done) is compiled runaway = absurd is
-soak_not_started tree fault (Err stop) is compiled runaway = subst IsSoakNotPrepared (sym is) (no_start tree fault compiled runaway)
+soak_not_started tree fault r is compiled runaway = handed_on IsSoakNotPrepared (stop_of_start fault) r is (no_start tree fault compiled runaway)
 
 -- the script of these lines, in which no thread has a name
 pub of_soak : (script : Script) (count seed : ℕ) → script.threads ≡ soak_threads count seed → script.names ≡ [] → script ≡ soak_lines count seed

@@ -20,6 +20,7 @@ use Rattle.px_words.specs.Limited.{event_limit}
 use Rattle.px_run.specs.Course.{Untouched}
 use Rattle.px_run.specs.Ending.{runaway_at_start, start_ending, of_start, log_ending}
 use Rattle.px_run.specs.Headline.{IsDryRun, DryRunOf}
+use Rattle.px_run.proofs.Finished.{prints_session}
 
 -- where a start settles, its text is the empty log's
 pub start_is : (tree : Tree) (to : World) (count : ℕ) → started (sites tree) ≡ Some (to, count)
@@ -79,5 +80,4 @@ pub prints_log : (mid new : View) (nodes plan : List Site) (shown history : List
     → Prints mid [] new [] (text_of plan [] log) r
 prints_log mid new nodes plan shown history shown_log log r nodes_is entries_is log_is accepts prints =
     subst (λ (plan : List Site). Prints mid [] new [] (text_of plan [] log) r) nodes_is
-    (subst (λ l. Prints mid [] new [] (text_of nodes [] l) r) log_is
-    (prints [] (entries_is ∙ accepts ∙ ap accepted (sym log_is))))
+    (prints_session (text_of nodes) mid new shown history [] shown_log log r entries_is log_is accepts prints)

@@ -15,9 +15,12 @@ use Rattle.px_core.specs.Plan.{is_same}
 abbrev pub Table : Type 0
 Table = List (List ℕ × List ℕ)
 
--- Names with their paths as a table. Of two paths of one name the last counts; a tree without faults has none such.
+-- Names with their paths into a table. Of two paths of one name the last counts; a tree without faults has none such.
+abbrev pub inserted : Table → Table → Table
+inserted = fold (λ known child. insert_entry is_same known child.0 child.1)
+
 abbrev pub table : Table → Table
-table = fold (λ known child. insert_entry is_same known child.0 child.1) []
+table = inserted []
 
 -- names, each once
 abbrev pub each_once : List (List ℕ) → List (List ℕ)

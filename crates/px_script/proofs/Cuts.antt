@@ -1,36 +1,27 @@
 -- Where a text may be cut: round blanks and before signs.
 use Rattle.std.proofs.Common.{◌≡◌, ℕ, ◌+◌, ◌-◌, ◌<◌, ◌≤◌, true, List, [], ◌∷◌, suc, length, get_or, reverse, arith, inl, inr}
 use Rattle.std.specs.Char.{is_ascii}
-use Rattle.std.specs.List.{prefix_len, suffix_len, position_or_len}
+use Rattle.std.specs.List.{suffix_len, position_or_len}
 use Rattle.std.specs.Prelude.{not}
-use Rattle.std.specs.Str.{IsUtf8, IsCharBoundary}
-use Rattle.std.proofs.lemmas.Bool.{cases_Bool, cases_lt}
+use Rattle.std.specs.Str.{IsCharBoundary}
+use Rattle.std.proofs.lemmas.Bool.{cases_Bool, cases_lt, ltb-true}
 use Rattle.std.proofs.lemmas.Bool.Decides.{nat_tests}
 use Rattle.std.proofs.lemmas.List.{get_or-reverse}
 use Rattle.std.proofs.lemmas.List.Sums.{passes_at_first, prefix_len-le-length, prefix_len_passes, suffix_len-le-length}
 use Rattle.std.proofs.lemmas.Str.{IsCharBoundary-end, IsCharBoundary-before_ascii}
-use Rattle.px_value.proofs.Ascii.{list_all-weaker}
-use Rattle.px_lex.proofs.Cuts.{cut_behind}
-use Rattle.px_lex.proofs.Spans.{Span, span}
 use Rattle.px_script.specs.Place.{is_sign, ends_place, behind_byte, place_length}
 use Rattle.px_script.specs.Text.{is_blank}
 use Rattle.px_script.specs.declared.place.Quoting.{Quoting}
 use Rattle.px_script.specs.declared.place.Quoting.TheVariants.{Outside, Inside, Escaped}
 
-blank_small : (c : ℕ) → is_blank c ≡ true → c < 128
-blank_small c h = grind (arith, nat_tests)
-
-blank_ascii : (c : ℕ) → is_blank c ≡ true → is_ascii c ≡ true
+pub blank_ascii : (c : ℕ) → is_blank c ≡ true → is_ascii c ≡ true
 blank_ascii c h = grind (arith, nat_tests)
+
+blank_small : (c : ℕ) → is_blank c ≡ true → c < 128
+blank_small c h = ltb-true c 128 (blank_ascii c h)
 
 sign_small : (c : ℕ) → is_sign c ≡ true → c < 128
 sign_small c h = grind (arith, nat_tests)
-
--- behind the blanks at the front
-pub cut_start : (text : List ℕ) → IsUtf8 text → IsCharBoundary text (prefix_len is_blank text)
-cut_start text u =
-    let s : Span is_blank text = span is_blank text in
-    rw (← s.long) (cut_behind text s.front s.rest s.split (list_all-weaker is_blank is_ascii blank_ascii s.front s.pass) u)
 
 -- before the first blank
 pub cut_word : (text : List ℕ) → IsCharBoundary text (position_or_len is_blank text)

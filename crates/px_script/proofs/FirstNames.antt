@@ -11,6 +11,7 @@ use Rattle.px_value.proofs.General.{differs_turned}
 use Rattle.px_event.specs.Fit.{is_report_name}
 use Rattle.px_event.specs.Names.{name_of, are_names}
 use Rattle.px_event.specs.declared.names.ThreadName.{ThreadName}
+use Rattle.px_event.proofs.Naming.{or_row, name_push}
 use Rattle.px_script.specs.Naming.{is_another, with_name}
 use Rattle.px_script.specs.Script.{Said, said_from, name_given, names_given, earlier_lines, is_other_name, is_named_otherwise, first_names}
 use Rattle.px_script.specs.ThreadLine.{is_thread}
@@ -43,18 +44,6 @@ name_first thread [] = refl
 name_first thread (row ∷ rows) = elim (cases_Bool (row.thread == thread)) [
   | inl is ↦ rw is refl
   | inr isnt ↦ rw isnt (name-filter thread row.thread (first_names rows) isnt ∙ name_first thread rows)
-]
-
--- the name, where there is one more row behind those with this one
-abbrev or_row : ℕ → ThreadName → Option (List ℕ) → Option (List ℕ)
-or_row thread row None = cond (row.thread == thread) (Some row.name) None
-or_row thread row (Some name) = Some name
-
-name_push : (thread : ℕ) (rows : List ThreadName) (row : ThreadName) → name_of thread (rows ++ row ∷ []) ≡ or_row thread row (name_of thread rows)
-name_push thread [] row = refl
-name_push thread (first ∷ rows) row = elim (cases_Bool (first.thread == thread)) [
-  | inl is ↦ rw is refl
-  | inr isnt ↦ rw isnt (name_push thread rows row)
 ]
 
 -- ---- the first names, with one row more behind

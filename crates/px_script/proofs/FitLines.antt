@@ -1,14 +1,16 @@
 -- What a line says is fit.
 use Rattle.std.proofs.Common.{rules, ◌≡◌, ℕ, zero, suc, ◌≤◌, Bool, true, false, List, [], ◌∷◌, length, map, refl, arith, Option, Some, None, cond, inl, inr}
-use Rattle.std.specs.Prelude.{◌&&◌, ◌==◌, nat_le, codes}
-use Rattle.std.specs.List.{list_all}
+use Rattle.std.specs.Prelude.{◌&&◌, ◌==◌, nat_le, codes, IfSome, ⊤}
+use Rattle.std.specs.List.{list_all, AllByRecursion}
 use Rattle.std.specs.Option.{option_map, option_and_then, option_or, unwrap_or}
 use Rattle.std.specs.Str.{is_utf8}
 use Rattle.std.specs.Str.Parse.{digits_value}
-use Rattle.std.proofs.lemmas.Bool.{le-leb, and_from, cases_Bool}
+use Rattle.std.proofs.lemmas.Bool.{le-leb, and_from, cases_Bool, cond_both}
+use Rattle.std.proofs.lemmas.Option.{MatchOption-at_some}
 use Rattle.px_value.specs.Path.{is_path}
 use Rattle.px_value.specs.declared.value.Value.{Value}
 use Rattle.px_value.specs.declared.value.Value.TheVariants as values
+use Rattle.px_value.proofs.General.{IfSome-map, IfSome-and_then}
 use Rattle.px_lex.specs.Table.{row_of}
 use Rattle.px_core.specs.declared.node.Kind.{Kind}
 use Rattle.px_core.specs.declared.node.Kind.TheVariants as kinds
@@ -31,26 +33,13 @@ use Rattle.px_script.specs.declared.parsed_line.ParsedLine.TheVariants.{Nothing,
 
 -- ---- what is said of an option's value
 
-abbrev pub Of : {X : Type 0} → (X → Type 0) → Option X → Type 0
-Of P None = Unit {0}
-Of P (Some x) = P x
-
-of_cond : {X : Type 0} (P : X → Type 0) (b : Bool) (o p : Option X) → Of P o → Of P p → Of P (cond b o p)
+of_cond : {X : Type 0} (P : X → Type 0) (b : Bool) (o p : Option X) → IfSome o P → IfSome p P → IfSome (cond b o p) P
 of_cond P true o p left right = left
 of_cond P false o p left right = right
 
-of_or : {X : Type 0} (P : X → Type 0) (o p : Option X) → Of P o → Of P p → Of P (option_or o p)
+of_or : {X : Type 0} (P : X → Type 0) (o p : Option X) → IfSome o P → IfSome p P → IfSome (option_or o p) P
 of_or P None p left right = right
 of_or P (Some x) p left right = left
-
-of_map : {X Y : Type 0} (P : Y → Type 0) (f : X → Y) (o : Option X) → ((x : X) → P (f x)) → Of P (option_map f o)
-of_map P f None each = tt
-of_map P f (Some x) each = each x
-
-of_and_then : {X Y : Type 0} (P : Y → Type 0) (Q : X → Type 0) (f : X → Option Y) (o : Option X) → ((x : X) → Q x → Of P (f x)) → Of Q o
-    → Of P (option_and_then f o)
-of_and_then P Q f None each q = tt
-of_and_then P Q f (Some x) each q = each x q
 
 -- ---- values
 
@@ -60,15 +49,15 @@ IsPlain value = is_plain value ≡ true
 abbrev IsTold : Value → Type 0
 IsTold value = is_plain_or_unknown value ≡ true
 
-plain_fit : (value : Value) → Of IsPlain (plain value)
+plain_fit : (value : Value) → IfSome (plain value) IsPlain
 plain_fit value = search (rules, cases_Bool)
 
-all_fit_text : (read : Option (List ℕ × List ℕ)) → Of IsPlain (all_of read)
+all_fit_text : (read : Option (List ℕ × List ℕ)) → IfSome (all_of read) IsPlain
 all_fit_text None = tt
 all_fit_text (Some (content, [])) = plain_fit (values.Text content)
 all_fit_text (Some (content, c ∷ cs)) = tt
 
-argument_fit : (spelling : List ℕ) → Of IsPlain (argument_of spelling)
+argument_fit : (spelling : List ℕ) → IfSome (argument_of spelling) IsPlain
 argument_fit spelling =
     search (rules, of_or, of_cond, plain_fit, all_fit_text)
 
@@ -82,11 +71,11 @@ plain_told (values.Outcome outcome) is = is
 plain_told (values.Failure failure) is = is
 plain_told (values.Handle handle) is = is
 
-told_fit : (o : Option Value) → Of IsPlain o → Of IsTold o
+told_fit : (o : Option Value) → IfSome o IsPlain → IfSome o IsTold
 told_fit None is = tt
 told_fit (Some value) is = plain_told value is
 
-value_fit : (spelling : List ℕ) → Of IsTold (value_of spelling)
+value_fit : (spelling : List ℕ) → IfSome (value_of spelling) IsTold
 value_fit spelling =
     of_or IsTold _ _ (of_cond IsTold (is_same (codes "UNKNOWN") spelling) _ _ refl tt) (told_fit (argument_of spelling) (argument_fit spelling))
 
@@ -97,52 +86,53 @@ record AreFew (most : ℕ) (args : List Value) : Type 0 where
   plain : list_all is_plain args ≡ true
   few : length args ≤ most
 
-one_more : (value : Value) (most : ℕ) (o : Option (List Value)) → IsPlain value → Of (AreFew most) o → Of (AreFew (suc most)) (option_map (λ values. value ∷ values) o)
+one_more : (value : Value) (most : ℕ) (o : Option (List Value)) → IsPlain value → IfSome o (AreFew most) → IfSome (option_map (λ values. value ∷ values) o) (AreFew (suc most))
 one_more value most None is few = tt
 one_more value most (Some args) is few =
     record { plain = and_from (is_plain value) (list_all is_plain args) is few.plain; few = omega (arith, few.few) }
 
-arguments_fit : (places : List (List ℕ)) → Of (AreFew (length places)) (all_values (map argument_of places))
+arguments_fit : (places : List (List ℕ)) → IfSome (all_values (map argument_of places)) (AreFew (length places))
 arguments_fit [] = record { plain = refl; few = omega arith }
 arguments_fit (place ∷ places) = by (argument_of place) (argument_fit place) (arguments_fit places)
   where
-    by : (o : Option Value) → Of IsPlain o → Of (AreFew (length places)) (all_values (map argument_of places))
-        → Of (AreFew (suc (length places))) (all_values (o ∷ map argument_of places))
+    by : (o : Option Value) → IfSome o IsPlain → IfSome (all_values (map argument_of places)) (AreFew (length places))
+        → IfSome (all_values (o ∷ map argument_of places)) (AreFew (suc (length places)))
     by None is few = tt
     by (Some value) is few = one_more value (length places) (all_values (map argument_of places)) is few
 
 abbrev IsFew : ℕ → List (List ℕ) × List ℕ → Type 0
 IsFew most read = length read.0 ≤ most
 
-few_more : (arg : List ℕ) (most : ℕ) (o : Option (List (List ℕ) × List ℕ)) → Of (IsFew most) o → Of (IsFew (suc most)) (option_map (with_argument arg) o)
+few_more : (arg : List ℕ) (most : ℕ) (o : Option (List (List ℕ) × List ℕ)) → IfSome o (IsFew most) → IfSome (option_map (with_argument arg) o) (IsFew (suc most))
 few_more arg most None few = tt
 few_more arg most (Some read) few = omega (arith, few)
 
-few_from : (arg : List ℕ) (most : ℕ) (more : List ℕ → Option (List (List ℕ) × List ℕ)) (text : List ℕ) → ((text : List ℕ) → Of (IsFew most) (more text))
-    → Of (IsFew (suc most)) (arguments_from arg more text)
+few_from : (arg : List ℕ) (most : ℕ) (more : List ℕ → Option (List (List ℕ) × List ℕ)) (text : List ℕ) → ((text : List ℕ) → IfSome (more text) (IsFew most))
+    → IfSome (arguments_from arg more text) (IsFew (suc most))
 few_from arg most more [] each = tt
 few_from arg most more (c ∷ cs) each =
     of_cond (IsFew (suc most)) (c == 44) _ _ (few_more arg most (more cs) (each cs))
     (of_cond (IsFew (suc most)) (c == 41) (Some (arg ∷ [], cs)) None (omega arith) tt)
 
-few_in : (most : ℕ) (text : List ℕ) → Of (IsFew most) (arguments_in most text)
+few_in : (most : ℕ) (text : List ℕ) → IfSome (arguments_in most text) (IsFew most)
 few_in zero text = tt
 few_in (suc most) text = few_from (in_place text) most (arguments_in most) (behind_place text) (few_in most)
 
 abbrev HasFew : Setting → Type 0
 HasFew setting = length setting.args ≤ 8
 
-with_few : (name : List ℕ) (read : List (List ℕ) × List ℕ) → IsFew 8 read → Of HasFew (setting_with name read)
+with_few : (name : List ℕ) (read : List (List ℕ) × List ℕ) → IsFew 8 read → IfSome (setting_with name read) HasFew
 with_few name (args, behind) few =
-    of_cond HasFew (is_nothing (in_place behind)) _ _ (of_map HasFew _ (told_in (behind_place behind)) (λ value. few)) tt
+    of_cond HasFew (is_nothing (in_place behind)) _ _ (IfSome-map HasFew _ (told_in (behind_place behind)) (λ value is. few)) tt
 
-called_few : (name : List ℕ) (o : Option (List ℕ)) → Of HasFew (option_and_then (setting_with name) (option_and_then (arguments_in 8) o))
+called_few : (name : List ℕ) (o : Option (List ℕ)) → IfSome (option_and_then (setting_with name) (option_and_then (arguments_in 8) o)) HasFew
 called_few name None = tt
-called_few name (Some text) = of_and_then HasFew (IsFew 8) (setting_with name) (arguments_in 8 text) (with_few name) (few_in 8 text)
+called_few name (Some text) =
+    IfSome-and_then HasFew (setting_with name) (arguments_in 8 text) (λ read is. with_few name read (MatchOption-at_some ⊤ (IsFew 8) read is (few_in 8 text)))
 
-setting_few : (text : List ℕ) → Of HasFew (setting_of text)
+setting_few : (text : List ℕ) → IfSome (setting_of text) HasFew
 setting_few text =
-    search (rules, of_or, of_map, called_few)
+    search (rules, of_or, IfSome-map, called_few)
 
 -- what a line posts is fit, and what it names is a thread, by a name if there is one
 abbrev pub IsFitParsedLine : ParsedLine → Type 0
@@ -153,17 +143,22 @@ IsFitParsedLine (Thread number name) = (is_thread number ≡ true) × (is_interf
 IsFitParsedLine (Faulty kind) = Unit {0}
 
 report_fit : (name : List ℕ) (most : ℕ) (args : Option (List Value)) (value : Option Value) → is_report_name name ≡ true → most ≤ 8
-    → Of (AreFew most) args → Of IsTold value → IsFitParsedLine (report name args value)
+    → IfSome args (AreFew most) → IfSome value IsTold → IsFitParsedLine (report name args value)
 report_fit name most None value named small few told = tt
 report_fit name most (Some args) None named small few told = tt
 report_fit name most (Some args) (Some value) named small few told =
     search (rules, le-leb, and_from)
 
-says_fit : (setting : Setting) → HasFew setting → Of IsFitParsedLine (setting_says setting)
-says_fit setting few = search (rules, cases_Bool, report_fit, few, arguments_fit, value_fit)
+says_fit : (setting : Setting) → HasFew setting → IfSome (setting_says setting) IsFitParsedLine
+says_fit setting few =
+    cond_both (is_report_name setting.name) (Some (report setting.name (all_values (map argument_of setting.args)) (value_of setting.value))) None
+    (λ says. IfSome says IsFitParsedLine)
+    (λ named. report_fit setting.name (length setting.args) (all_values (map argument_of setting.args)) (value_of setting.value) named few
+    (arguments_fit setting.args) (value_fit setting.value)) (λ _. tt)
 
-set_fit : (text : List ℕ) → Of IsFitParsedLine (set_line text)
-set_fit text = of_and_then IsFitParsedLine HasFew setting_says (setting_of text) says_fit (setting_few text)
+set_fit : (text : List ℕ) → IfSome (set_line text) IsFitParsedLine
+set_fit text =
+    IfSome-and_then IsFitParsedLine setting_says (setting_of text) (λ setting is. says_fit setting (MatchOption-at_some ⊤ HasFew setting is (setting_few text)))
 
 -- ---- lines that tell of a node
 
@@ -173,25 +168,25 @@ command_fit plan path says fit = search (rules, cases_Bool)
 update_fit : (plan : List Site) (path : List ℕ) (says : ParsedLine) → (is_path path ≡ true → IsFitParsedLine says) → IsFitParsedLine (of_update (kind_at plan path) says)
 update_fit plan path says fit = search (rules, cases_Bool)
 
-returned_fit : (path : List ℕ) (value : Option Value) → Of IsTold value → is_path path ≡ true → IsFitParsedLine (returned path value)
+returned_fit : (path : List ℕ) (value : Option Value) → IfSome value IsTold → is_path path ≡ true → IsFitParsedLine (returned path value)
 returned_fit path None told is = tt
 returned_fit path (Some value) told is = and_from (is_path path) (is_plain_or_unknown value) is told
 
-handle_fit : (plan : List Site) (text : List ℕ) → Of IsFitParsedLine (handle_line plan text)
+handle_fit : (plan : List Site) (text : List ℕ) → IfSome (handle_line plan text) IsFitParsedLine
 handle_fit plan text =
-    of_map IsFitParsedLine _ (handle_of (behind_word text)) (λ handle.
-    command_fit plan (first_word text) (Posts (events.Handle (first_word text) handle)) (λ is. is))
+    IfSome-map IsFitParsedLine _ (handle_of (behind_word text)) (λ handle is.
+    command_fit plan (first_word text) (Posts (events.Handle (first_word text) handle)) (λ path. path))
 
-return_fit : (plan : List Site) (text : List ℕ) → Of IsFitParsedLine (return_line plan text)
+return_fit : (plan : List Site) (text : List ℕ) → IfSome (return_line plan text) IsFitParsedLine
 return_fit plan text =
     of_cond IsFitParsedLine (is_nothing (behind_word text)) _ _ tt
     (command_fit plan (first_word text) (returned (first_word text) (value_of (behind_word text))) (returned_fit (first_word text) (value_of (behind_word text)) (value_fit (behind_word text))))
 
-abort_fit : (plan : List Site) (text : List ℕ) → Of IsFitParsedLine (abort_line plan text)
+abort_fit : (plan : List Site) (text : List ℕ) → IfSome (abort_line plan text) IsFitParsedLine
 abort_fit plan text =
     of_cond IsFitParsedLine (is_one_word text) _ _ (command_fit plan (first_word text) (Posts (events.AbortDone (first_word text))) (λ is. is)) tt
 
-ack_fit : (plan : List Site) (text : List ℕ) → Of IsFitParsedLine (ack_line plan text)
+ack_fit : (plan : List Site) (text : List ℕ) → IfSome (ack_line plan text) IsFitParsedLine
 ack_fit plan text =
     of_cond IsFitParsedLine (is_one_word text) _ _ (update_fit plan (first_word text) (Posts (events.Acknowledged (first_word text))) (λ is. is)) tt
 
@@ -199,11 +194,10 @@ ack_fit plan text =
 
 -- each row of a table of lines says what is fit
 abbrev AllRows : List (List ℕ × (List ℕ → Option ParsedLine)) → Type 0
-AllRows [] = Unit {0}
-AllRows (row ∷ rows) = ((text : List ℕ) → Of IsFitParsedLine (row.1 text)) × AllRows rows
+AllRows rows = AllByRecursion (λ row. (text : List ℕ) → IfSome (row.1 text) IsFitParsedLine) rows
 
 row_fit : (rows : List (List ℕ × (List ℕ → Option ParsedLine))) (word text : List ℕ) → AllRows rows
-    → Of IsFitParsedLine (option_and_then (λ line. line text) (row_of rows word))
+    → IfSome (option_and_then (λ line. line text) (row_of rows word)) IsFitParsedLine
 row_fit [] word text all = tt
 row_fit (row ∷ rows) word text all = elim (cases_Bool (is_same row.0 word)) [
   | inl is ↦ rw is (all.0 text)
@@ -214,55 +208,50 @@ node_fit : (kind : Option Kind) (says : ParsedLine) → IsFitParsedLine says →
 node_fit None says fit = tt
 node_fit (Some kind) says fit = fit
 
-state_fit : (plan : List Site) (text : List ℕ) → Of IsFitParsedLine (state_wait plan text)
+state_fit : (plan : List Site) (text : List ℕ) → IfSome (state_wait plan text) IsFitParsedLine
 state_fit plan text =
-    of_map IsFitParsedLine _ (state_of (behind_word text)) (λ state.
+    IfSome-map IsFitParsedLine _ (state_of (behind_word text)) (λ state is.
     node_fit (kind_at plan (first_word text)) (Waits (State (first_word text) state)) tt)
 
-events_fit : (text : List ℕ) → Of IsFitParsedLine (events_wait text)
+events_fit : (text : List ℕ) → IfSome (events_wait text) IsFitParsedLine
 events_fit text = of_cond IsFitParsedLine (are_digits text && nat_le (length text) 6) _ _ tt tt
 
-wait_fit : (plan : List Site) (text : List ℕ) → Of IsFitParsedLine (wait_line plan text)
+wait_fit : (plan : List Site) (text : List ℕ) → IfSome (wait_line plan text) IsFitParsedLine
 wait_fit plan text = row_fit (waits plan) (first_word text) (behind_word text) (state_fit plan, (events_fit, tt))
 
 word_fit : (number : ℕ) (word : List ℕ) → is_thread number ≡ true
-    → Of IsFitParsedLine (cond (is_nothing word) (Some (Thread number None)) (cond (is_report_name word) (Some (Thread number (Some word))) None))
+    → IfSome (cond (is_nothing word) (Some (Thread number None)) (cond (is_report_name word) (Some (Thread number (Some word))) None)) IsFitParsedLine
 word_fit number word is = search (rules, cases_Bool, of_cond)
 
-named_fit : (number : ℕ) (word : List ℕ) → Of IsFitParsedLine (thread_named number word)
+named_fit : (number : ℕ) (word : List ℕ) → IfSome (thread_named number word) IsFitParsedLine
 named_fit number word = search (rules, cases_Bool, word_fit)
 
-thread_fit : (text : List ℕ) → Of IsFitParsedLine (thread_line text)
+thread_fit : (text : List ℕ) → IfSome (thread_line text) IsFitParsedLine
 thread_fit text =
     of_cond IsFitParsedLine (are_digits (first_word text) && is_nothing (behind_word (behind_word text))) _ _
     (named_fit (digits_value 10 (first_word text)) (first_word (behind_word text))) tt
 
 -- ---- what a line says
 
-text_fit : (plan : List Site) (text : List ℕ) → Of IsFitParsedLine (said_in_text plan text)
+text_fit : (plan : List Site) (text : List ℕ) → IfSome (said_in_text plan text) IsFitParsedLine
 text_fit plan text =
     row_fit (lines plan) (first_word text) (behind_word text) (set_fit, (handle_fit plan, (return_fit plan, (abort_fit plan, (ack_fit plan, (wait_fit plan, tt))))))
 
-said_fit : (plan : List Site) (line : List ℕ) → Of IsFitParsedLine (said plan line)
+said_fit : (plan : List Site) (line : List ℕ) → IfSome (said plan line) IsFitParsedLine
 said_fit plan line =
     of_cond IsFitParsedLine (is_same (codes "thread") (first_word line)) _ _ (thread_fit (behind_word line))
     (of_cond IsFitParsedLine (is_utf8 line) _ _ (text_fit plan line) tt)
 
-or_bad : (o : Option ParsedLine) → Of IsFitParsedLine o → IsFitParsedLine (unwrap_or o (Faulty BadLine))
+or_bad : (o : Option ParsedLine) → IfSome o IsFitParsedLine → IsFitParsedLine (unwrap_or o (Faulty BadLine))
 or_bad None fit = tt
 or_bad (Some says) fit = fit
 
-one_of : (b : Bool) (left right : ParsedLine) → IsFitParsedLine left → IsFitParsedLine right → IsFitParsedLine (cond b left right)
-one_of true left right l r = l
-one_of false left right l r = r
-
 pub parsed_line_fit : (plan : List Site) (line : List ℕ) → IsFitParsedLine (parsed_line plan line)
 parsed_line_fit plan line =
-    one_of (is_silent (content line)) _ _ tt (or_bad (said plan (content line)) (said_fit plan (content line)))
+    cond_both (is_silent (content line)) _ _ IsFitParsedLine (λ _. tt) (λ _. or_bad (said plan (content line)) (said_fit plan (content line)))
 
 abbrev pub AllFit : List ParsedLine → Type 0
-AllFit [] = Unit {0}
-AllFit (says ∷ more) = IsFitParsedLine says × AllFit more
+AllFit says = AllByRecursion IsFitParsedLine says
 
 pub all_fit : (plan : List Site) (lines : List (List ℕ)) → AllFit (map (parsed_line plan) lines)
 all_fit plan [] = tt

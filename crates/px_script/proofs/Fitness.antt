@@ -1,6 +1,6 @@
 -- What is read is fit.
 use Rattle.std.proofs.Common.{rules, ◌≡◌, ℕ, ◌+◌, ◌^◌, ◌<◌, ◌≤◌, true, List, [], ◌∷◌, ◌++◌, length, map, refl, sym, ap, ◌∙◌, arith, Option, Some, None, Result, Ok, Err, IfOk, cond, inl, inr}
-use Rattle.std.specs.Prelude.{◌==◌, nat_le, nat_lt}
+use Rattle.std.specs.Prelude.{◌==◌, nat_le, nat_lt, IfSome}
 use Rattle.std.specs.List.{list_all, filter, filter_map, cons_option, range_with_len}
 use Rattle.std.proofs.lemmas.List.{append_assoc, append-nil, length-map, length_push}
 use Rattle.std.proofs.lemmas.Bool.{lt-ltb, leb-false, ltb-true, and_from, eqb-true, cases_Bool}
@@ -18,7 +18,7 @@ use Rattle.px_script.specs.declared.script.Script.{Script}
 use Rattle.px_script.specs.declared.todo.Todo.{Todo}
 use Rattle.px_script.specs.declared.parsed_line.ParsedLine.{ParsedLine}
 use Rattle.px_script.specs.declared.parsed_line.ParsedLine.TheVariants.{Nothing, Posts, Waits, Thread, Faulty}
-use Rattle.px_script.proofs.FitLines.{Of, IsFitParsedLine, AllFit, all_fit}
+use Rattle.px_script.proofs.FitLines.{IsFitParsedLine, AllFit, all_fit}
 use Rattle.px_script.proofs.FirstNames.{given_all, first_all, first_are_names}
 use Rattle.px_script.proofs.Reading.{fault_after}
 use Rattle.px_script.proofs.Remainders.{rise-filter, list_all-filter, fit_from}
@@ -40,7 +40,7 @@ rise of low thread number (says ∷ more) above = elim (cases_Bool (thread == of
     lines : List Line
     lines = lines_of_thread of (said_from (thread_behind thread says) (number + 1) more)
 
-    by : ((low : ℕ) → low < number + 1 → rise_above low (map number_of lines) ≡ true) → (done : Option Line) → Of (λ (line : Line). line.number ≡ number) done
+    by : ((low : ℕ) → low < number + 1 → rise_above low (map number_of lines) ≡ true) → (done : Option Line) → IfSome done (λ (line : Line). line.number ≡ number)
         → rise_above low (map number_of (cons_option done lines)) ≡ true
     by later None is = later low (omega arith)
     by later (Some line) is =
@@ -49,7 +49,7 @@ rise of low thread number (says ∷ more) above = elim (cases_Bool (thread == of
 
 -- ---- each of them is fit
 
-done_fit : (thread number : ℕ) (says : ParsedLine) → number < 2 ^ 32 → IsFitParsedLine says → Of (λ line. is_fit_line line ≡ true) (done_at (say thread number says))
+done_fit : (thread number : ℕ) (says : ParsedLine) → number < 2 ^ 32 → IsFitParsedLine says → IfSome (done_at (say thread number says)) (λ line. is_fit_line line ≡ true)
 done_fit thread number Nothing below fit = tt
 done_fit thread number (Posts event) below fit = rw (lt-ltb number (2 ^ 32) below, fit) refl
 done_fit thread number (Waits cond) below fit = rw (lt-ltb number (2 ^ 32) below) refl
@@ -69,7 +69,7 @@ each_fit of thread number (says ∷ more) few fit = elim (cases_Bool (thread == 
     lines : List Line
     lines = lines_of_thread of (said_from (thread_behind thread says) (number + 1) more)
 
-    by : list_all is_fit_line lines ≡ true → (done : Option Line) → Of (λ line. is_fit_line line ≡ true) done → list_all is_fit_line (cons_option done lines) ≡ true
+    by : list_all is_fit_line lines ≡ true → (done : Option Line) → IfSome done (λ line. is_fit_line line ≡ true) → list_all is_fit_line (cons_option done lines) ≡ true
     by later None is = later
     by later (Some line) is = and_from (is_fit_line line) (list_all is_fit_line lines) is later
 
@@ -87,7 +87,7 @@ room_of : (number count : ℕ) → fault_after number count ≡ None → count <
 room_of number count none = search (rules, cases_Bool, count, fault_after, leb-false)
 
 has_room : (all : List Said) (thread number : ℕ) (says : ParsedLine) → fault_in all (say thread number says) ≡ None
-    → Of (λ (line : Line). lines_before (say thread number says) all < 100000) (done_at (say thread number says))
+    → IfSome (done_at (say thread number says)) (λ (line : Line). lines_before (say thread number says) all < 100000)
 has_room all thread number Nothing none = tt
 has_room all thread number (Posts event) none = room_of number (lines_before (say thread number (Posts event)) all) none
 has_room all thread number (Waits cond) none = room_of number (lines_before (say thread number (Waits cond)) all) none
@@ -117,7 +117,7 @@ short of all before thread number (says ∷ more) whole below none few =
     count : lines_before said all ≡ length (lines_of_thread thread before)
     count = count_is all before (said ∷ behind) thread number says whole below (omega arith, said_later number (thread_behind thread says) (number + 1) more (omega arith))
 
-    by : thread ≡ of → (done : Option Line) → Of (λ (line : Line). lines_before said all < 100000) done
+    by : thread ≡ of → (done : Option Line) → IfSome done (λ (line : Line). lines_before said all < 100000)
         → length (lines_of_thread of before ++ cons_option done []) ≤ 100000
     by same None room = rw (append-nil (lines_of_thread of before)) few
     by same (Some line) room =

@@ -1,19 +1,14 @@
 -- The node at a path, found by its kind.
 use Rattle.std.proofs.Common.{◌≡◌, ◌∙◌, ℕ, List, Option, Some, None, true, ap, sym, inl, inr, refl}
-use Rattle.std.specs.List.{find}
 use Rattle.std.specs.Option.{option_map}
 use Rattle.std.proofs.lemmas.Bool.{cases_Bool}
 use Rattle.px_value.specs.Path.{is_path}
 use Rattle.px_core.specs.declared.node.Kind.{Kind}
-use Rattle.px_core.specs.Plan.{Site, is_same}
-use Rattle.px_script.specs.NodeLine.{kind_at}
+use Rattle.px_core.specs.Plan.{Site}
+use Rattle.px_script.specs.NodeLine.{found_kind, kind_at}
 
 abbrev pub with_path : List ℕ → Kind → List ℕ × Kind
 with_path path kind = (path, kind)
-
--- the kind of the first node with this path
-abbrev pub found_kind : List Site → List ℕ → Option Kind
-found_kind plan path = option_map (λ site. site.head.kind) (find (λ site. is_same path site.path) plan)
 
 pub node_found : (plan : List Site) (text path : List ℕ) (kind : Kind) → path ≡ text → is_path text ≡ true
     → found_kind plan path ≡ Some kind → ◌≡◌ {A = Option (List ℕ × Kind)} (Some (path, kind)) (option_map (with_path text) (kind_at plan text))

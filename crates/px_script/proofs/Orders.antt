@@ -16,10 +16,7 @@ use Rattle.px_script.specs.declared.line.What.{What}
 use Rattle.px_script.specs.declared.line.What.TheVariants as whats
 use Rattle.px_script.specs.declared.todo.Todo.{Todo}
 use Rattle.px_script.specs.declared.script.Script.{Script}
-
--- a line of this number
-abbrev line_at : ℕ → What → Line
-line_at number what = record { number = number; what = what }
+use Rattle.px_script.proofs.Walks.{line_at}
 
 -- what one line posts, before other entries
 post_fit : (thread number : ℕ) (what : What) (entries : List Entry) → 0 < thread → thread ≤ 8 → 0 < number → is_fit_line (line_at number what) ≡ true

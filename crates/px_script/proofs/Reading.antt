@@ -26,14 +26,12 @@ use Rattle.px_script.specs.Threads.{lines_in, with_line, todos_from}
 use Rattle.px_script.proofs.FitLines.{IsFitParsedLine, AllFit}
 use Rattle.px_script.proofs.FirstNames.{AreKept, none_kept, kept_unnamed, kept_named, otherwise_is}
 use Rattle.px_script.proofs.SaidLines.{say, AllBelow, below_said, said_later, count_is, lines_push}
+use Rattle.px_script.proofs.Walks.{line_at}
 
 -- where the thread has room for one more line, what is behind that line
 abbrev pub with_room : List (List Line) → ℕ → ℕ → Reading → Reading
 with_room kept thread number behind =
     if nat_le 100000 (length (lines_in kept thread)) then Fault number (number_of TooManyLines) else behind
-
-abbrev pub line_of : ℕ → What → Line
-line_of number what = record { number = number; what = what }
 
 -- where a name that a line gives a thread is no other than the thread has, what is behind that line
 abbrev pub with_same : List ThreadName → ℕ → ℕ → Option (List ℕ) → Reading → Reading
@@ -44,9 +42,9 @@ abbrev pub read_on : List (List Line) → List ThreadName → ℕ → ℕ → Li
 read_on kept names thread number [] = Threads (filter has_a_line (todos_from 1 kept)) names
 read_on kept names thread number (Nothing ∷ more) = read_on kept names thread (number + 1) more
 read_on kept names thread number (Posts event ∷ more) =
-    with_room kept thread number (read_on (with_line kept thread (line_of number (whats.Post event))) names thread (number + 1) more)
+    with_room kept thread number (read_on (with_line kept thread (line_at number (whats.Post event))) names thread (number + 1) more)
 read_on kept names thread number (Waits cond ∷ more) =
-    with_room kept thread number (read_on (with_line kept thread (line_of number (whats.Wait cond))) names thread (number + 1) more)
+    with_room kept thread number (read_on (with_line kept thread (line_at number (whats.Wait cond))) names thread (number + 1) more)
 read_on kept names thread number (Thread to name ∷ more) =
     with_same names number to name (read_on kept (with_name names to name) to (number + 1) more)
 read_on kept names thread number (Faulty kind ∷ more) = Fault number (number_of kind)
@@ -127,15 +125,15 @@ module _ (all : List Said) where
       → IsKept (before ++ say thread number says ∷ []) lists names → AllBelow number before → is_thread to ≡ true
       → filter_map (fault_in all) before ≡ [] → fault_in all (say thread number says) ≡ None → read_on lists names to (number + 1) more ≡ reading all
   behind number more before lists names thread to says later whole is below named none sound =
-      search (rules, say, append_assoc, below_said, named, pass)
+      search (rules, say, append_assoc, below_said number before (say thread number says) below refl, named, pass)
 
   -- at a line at which its thread does something
   done : (number : ℕ) (more : List ParsedLine) (before : List Said) (kept : List (List Line)) (names : List ThreadName) (thread : ℕ) (says : ParsedLine) (what : What)
       → IsRead (number + 1) more → all ≡ before ++ say thread number says ∷ said_from thread (number + 1) more
       → IsKept before kept names → AllBelow number before → is_thread thread ≡ true → filter_map (fault_in all) before ≡ []
-      → done_at (say thread number says) ≡ Some (line_of number what) → name_given (say thread number says) ≡ None
+      → done_at (say thread number says) ≡ Some (line_at number what) → name_given (say thread number says) ≡ None
       → fault_in all (say thread number says) ≡ fault_after number (lines_before (say thread number says) all)
-      → with_room kept thread number (read_on (with_line kept thread (line_of number what)) names thread (number + 1) more) ≡ reading all
+      → with_room kept thread number (read_on (with_line kept thread (line_at number what)) names thread (number + 1) more) ≡ reading all
   done number more before kept names thread says what later whole is below named none does unnamed fault =
       let said : Said = say thread number says in
       let rest : List Said = said_from thread (number + 1) more in
@@ -143,12 +141,12 @@ module _ (all : List Said) where
       = count_is all before (said ∷ rest) thread number says whole below (omega arith, said_later number thread (number + 1) more (omega arith))
       ∙ sym (ap length (lines_there before kept thread named is.lines)) in
       let found : fault_in all said ≡ fault_after number (length (lines_in kept thread)) = fault ∙ ap (fault_after number) count in
-      let after : IsKept (before ++ said ∷ []) (with_line kept thread (line_of number what)) names
-      = record { lines = one_more before kept said (line_of number what) named is.lines does; named = kept_unnamed before names said unnamed is.named } in
+      let after : IsKept (before ++ said ∷ []) (with_line kept thread (line_at number what)) names
+      = record { lines = one_more before kept said (line_at number what) named is.lines does; named = kept_unnamed before names said unnamed is.named } in
       elim (cases_Bool (nat_le 100000 (length (lines_in kept thread)))) [
         | inl full ↦ rw full (stop all before rest said (number, TooManyLines) whole none (found ∙ rw full refl))
         | inr room ↦ rw room
-            (behind number more before (with_line kept thread (line_of number what)) names thread thread says later whole after below named none (found ∙ rw room refl))
+            (behind number more before (with_line kept thread (line_at number what)) names thread thread says later whole after below named none (found ∙ rw room refl))
       ]
 
   -- at a line that says nothing, or names a thread without a name for it

@@ -1,21 +1,21 @@
 -- The lines of a thread, among what is said.
 use Rattle.std.proofs.Common.{rules, ◌≡◌, ℕ, ◌+◌, ◌<◌, ◌≤◌, Bool, List, [], ◌∷◌, ◌++◌, length, refl, ap, ◌∙◌, arith, Option, Some, None, cond, inl, inr}
-use Rattle.std.specs.Prelude.{◌==◌, nat_lt}
-use Rattle.std.specs.List.{filter, filter_map, cons_option, count_by}
+use Rattle.std.specs.Prelude.{◌==◌, nat_lt, IfSome}
+use Rattle.std.specs.List.{filter, filter_map, cons_option, count_by, AllByRecursion}
 use Rattle.std.proofs.lemmas.List.Elements.{filter-append, filter_map-append}
 use Rattle.std.proofs.lemmas.List.Sums.{sum_by-append, sum_by-cons}
 use Rattle.std.proofs.lemmas.Bool.{lt-ltb, le-ltb, cases_Bool}
+use Rattle.px_value.proofs.General.{each-append, each_map}
 use Rattle.px_script.specs.declared.line.Line.{Line}
 use Rattle.px_script.specs.declared.parsed_line.ParsedLine.{ParsedLine}
 use Rattle.px_script.specs.declared.parsed_line.ParsedLine.TheVariants.{Nothing, Posts, Waits, Thread, Faulty}
 use Rattle.px_script.specs.Script.{Said, done_at, lines_of_thread, lines_before, said_from, thread_behind}
-use Rattle.px_script.proofs.FitLines.{Of}
 
 abbrev pub say : ℕ → ℕ → ParsedLine → Said
 say thread number says = record { thread = thread; number = number; says = says }
 
 -- what is done at a line has its number
-pub done_number : (thread number : ℕ) (says : ParsedLine) → Of (λ (line : Line). line.number ≡ number) (done_at (say thread number says))
+pub done_number : (thread number : ℕ) (says : ParsedLine) → IfSome (done_at (say thread number says)) (λ (line : Line). line.number ≡ number)
 done_number thread number Nothing = tt
 done_number thread number (Posts event) = refl
 done_number thread number (Waits cond) = refl
@@ -30,20 +30,14 @@ lines-append thread before more =
     ap (filter_map done_at) (filter-append (is_of thread) before more) ∙ filter_map-append done_at (filter (is_of thread) before) (filter (is_of thread) more)
 
 abbrev pub AllBelow : ℕ → List Said → Type 0
-AllBelow number [] = Unit {0}
-AllBelow number (said ∷ more) = (said.number < number) × AllBelow number more
-
-below_next : (number : ℕ) (before : List Said) → AllBelow number before → AllBelow (number + 1) before
-below_next number [] below = tt
-below_next number (said ∷ before) below = (omega arith, below_next number before below.1)
-
-below_push : (number : ℕ) (before : List Said) (said : Said) → AllBelow number before → said.number < number → AllBelow number (before ++ said ∷ [])
-below_push number [] said below last = (last, tt)
-below_push number (first ∷ before) said below last = (below.0, below_push number before said below.1 last)
+AllBelow number said = AllByRecursion (λ one. one.number < number) said
 
 -- one line further
 pub below_said : (number : ℕ) (before : List Said) (said : Said) → AllBelow number before → said.number ≡ number → AllBelow (number + 1) (before ++ said ∷ [])
-below_said number before said below is = below_push (number + 1) before said (below_next number before below) (omega arith)
+below_said number before said below is =
+    each-append (λ (one : Said). one.number < number + 1) before (said ∷ [])
+    (each_map (λ (one : Said). one.number < number) (λ one. one.number < number + 1) before (λ one less. omega (arith, less)) below)
+    (omega (arith, is), tt)
 
 abbrev is_before : ℕ → Line → Bool
 is_before number line = nat_lt line.number number
@@ -61,7 +55,7 @@ all_before thread number (said ∷ before) below = elim (cases_Bool (said.thread
     lines : List Line
     lines = lines_of_thread thread before
 
-    by : count_before number lines ≡ length lines → (done : Option Line) → Of (λ (line : Line). line.number ≡ said.number) done
+    by : count_before number lines ≡ length lines → (done : Option Line) → IfSome done (λ (line : Line). line.number ≡ said.number)
         → count_before number (cons_option done lines) ≡ length (cons_option done lines)
     by later None is = later
     by later (Some line) is =
@@ -71,8 +65,7 @@ all_before thread number (said ∷ before) below = elim (cases_Bool (said.thread
 
 -- these and what is behind them
 abbrev pub AllFrom : ℕ → List Said → Type 0
-AllFrom number [] = Unit {0}
-AllFrom number (said ∷ more) = (number ≤ said.number) × AllFrom number more
+AllFrom number said = AllByRecursion (λ one. number ≤ one.number) said
 
 pub said_later : (number thread start : ℕ) (more : List ParsedLine) → number ≤ start → AllFrom number (said_from thread start more)
 said_later number thread start [] from = tt
@@ -88,7 +81,7 @@ none_before thread number (said ∷ behind) from = elim (cases_Bool (said.thread
     lines : List Line
     lines = lines_of_thread thread behind
 
-    by : count_before number lines ≡ 0 → (done : Option Line) → Of (λ (line : Line). line.number ≡ said.number) done → count_before number (cons_option done lines) ≡ 0
+    by : count_before number lines ≡ 0 → (done : Option Line) → IfSome done (λ (line : Line). line.number ≡ said.number) → count_before number (cons_option done lines) ≡ 0
     by later None is = later
     by later (Some line) is =
         let here : number ≤ line.number = omega (arith, from.0) in

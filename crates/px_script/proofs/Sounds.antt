@@ -7,7 +7,7 @@ use Rattle.std.proofs.lemmas.List.Elements.{filter_map-append, All-nil, All-cons
 use Rattle.std.proofs.lemmas.List.Sums.{AllPass-from_list_all}
 use Rattle.std.proofs.lemmas.Option.{slice_get_within, get_or_from_slice_get}
 use Rattle.std.proofs.lemmas.Bool.{eqb-true, eq-eqb, cases_Bool}
-use Rattle.px_value.proofs.General.{All-unmap}
+use Rattle.px_value.proofs.General.{All-unmap, All-front}
 use Rattle.px_core.specs.Plan.{Site}
 use Rattle.px_event.specs.declared.entry.Entry.{Entry}
 use Rattle.px_script.specs.Fit.{rise_above, are_fit_lines, IsFitScript}
@@ -21,7 +21,7 @@ use Rattle.px_script.specs.declared.script.Script.{Script}
 use Rattle.px_script.specs.declared.todo.Todo.{Todo}
 use Rattle.px_script.proofs.OwnPosts.{posts_of}
 use Rattle.px_script.proofs.Remainders.{line_of, numbers_of, fit_parts}
-use Rattle.px_script.proofs.Thins.{All-front, All-unfilter, each_given, all_given, rise-front, rise-append, rise-take, lines_above_rise, posts_rise, numbers_of-append, accepted_rise}
+use Rattle.px_script.proofs.Thins.{All-unfilter, each_given, all_given, rise-front, rise-append, rise-take, lines_above_rise, posts_rise, numbers_of-append, accepted_rise}
 use Rattle.px_script.proofs.Walks.{line_at, posted_by}
 use Rattle.px_sem.specs.Log.{Log, is_accepted, posted_in, accepted}
 use Rattle.px_sem.specs.declared.log.LogEntry.{LogEntry}

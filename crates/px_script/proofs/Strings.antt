@@ -7,7 +7,6 @@ use Rattle.std.proofs.lemmas.List.{append-nil, append_assoc}
 use Rattle.px_value.specs.declared.value.Value.{Value}
 use Rattle.px_value.specs.declared.value.Value.TheVariants as values
 use Rattle.px_value.proofs.General.{neither}
-use Rattle.px_lex.proofs.Unique.{not_at_end}
 use Rattle.px_lex.specs.declared.fault.LexFault.{LexFault}
 use Rattle.px_lex.specs.declared.fault.LexFault.TheVariants as faults
 use Rattle.px_lex.specs.declared.token.Token.{Token}
@@ -17,7 +16,8 @@ use Rattle.px_lex.specs.Fault.{FaultKind, Bad, Real, TooLong, IsFaulty}
 use Rattle.px_lex.specs.Gap.{begins}
 use Rattle.px_lex.specs.Lexer.{Piece, spelled, AllStand, token_at, tokens_from, Splits, IsFault, FirstFault}
 use Rattle.px_lex.specs.String.{is_quote, string_from, read_string}
-use Rattle.px_lex.proofs.Fronts.{Front, nothing, piece, faulty, front, stands_front, fault_front}
+use Rattle.px_lex.proofs.Fronts.{piece, faulty, front, stands_front, fault_front}
+use Rattle.px_lex.proofs.Unique.{kind_of, rest_of, not_at_end}
 use Rattle.px_event.specs.Values.{is_plain}
 use Rattle.px_script.specs.Value.{plain, all_of, text_of}
 
@@ -39,16 +39,6 @@ first_front : (text rest : List ℕ) (p : Piece) (ps : List Piece) → text ≡ 
     → front text ≡ piece p.kind (spelled ps ++ rest)
 first_front text rest p ps whole stand =
     ap front (whole ∙ append_assoc p.spelling (spelled ps) rest) ∙ stands_front p.kind p.spelling (spelled ps ++ rest) stand.0
-
-abbrev kind_of : Front → Option TokenKind
-kind_of nothing = None
-kind_of (piece kind rest) = kind
-kind_of (faulty kind) = None
-
-abbrev rest_of : Front → List ℕ
-rest_of nothing = []
-rest_of (piece kind rest) = rest
-rest_of (faulty kind) = []
 
 clash : (kind : FaultKind) (other : Option TokenKind) (rest : List ℕ) → faulty kind ≡ piece other rest → ⊥
 clash kind other rest h = cc

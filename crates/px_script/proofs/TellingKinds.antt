@@ -1,9 +1,9 @@
 -- The kinds of nodes that are told one after another.
 use Rattle.std.proofs.Common.{◌≡◌, ℕ, zero, suc, ◌<◌, ◌++◌, Bool, true, false, List, [], ◌∷◌, length, get_or, refl, ap, sym, ◌∙◌, arith, append-nil, append_assoc, inl, inr, Option, Some, None, is_some, if◌then◌else◌}
 use Rattle.std.specs.Cmp.Lexicographic.{same_text}
-use Rattle.std.specs.List.{find, list_all}
+use Rattle.std.specs.List.{list_all}
 use Rattle.std.specs.Map.{lookup}
-use Rattle.std.specs.Option.{option_map, option_or}
+use Rattle.std.specs.Option.{option_or}
 use Rattle.std.proofs.lemmas.Bool.{and_parts, cases_Bool}
 use Rattle.std.proofs.lemmas.List.{map-append, nil_from_length}
 use Rattle.std.proofs.lemmas.List.Folds.{list_all-append, list_all-map}
@@ -12,9 +12,9 @@ use Rattle.px_core.proofs.Trees.{node_tree}
 use Rattle.px_core.specs.declared.node.CoreNode.{CoreNode}
 use Rattle.px_core.specs.declared.node.Kind.{Kind}
 use Rattle.px_core.specs.Fit.{has_short_path}
-use Rattle.px_core.specs.Plan.{Tree, NoNode, Branch, Site, sites_under, sites, tree_of_node, is_same}
-use Rattle.px_flat.specs.Laying.{trees, below_it}
-use Rattle.px_flat.proofs.Trees.{node_head, sites_of_root}
+use Rattle.px_core.specs.Plan.{Tree, NoNode, Branch, Site, sites_under, sites, tree_of_node, is_same, trees_of}
+use Rattle.px_flat.specs.Laying.{below_it}
+use Rattle.px_flat.proofs.Trees.{node_head, sites_of_one}
 use Rattle.px_script.specs.Telling.{TellKinds, all_kinds, kinds_under, has_short}
 
 abbrev Told : Type 0
@@ -33,15 +33,15 @@ inner parent node = kinds_under (path_of parent node) (below_it node)
 -- ---- nodes side by side
 
 more_kinds : (parent : List ℕ) (nodes more : List CoreNode)
-    → kinds_under parent (trees (nodes ++ more)) ≡ kinds_under parent (trees nodes) ++ kinds_under parent (trees more)
+    → kinds_under parent (trees_of (nodes ++ more)) ≡ kinds_under parent (trees_of nodes) ++ kinds_under parent (trees_of more)
 more_kinds parent [] more = refl
 more_kinds parent (node ∷ nodes) more =
-    ap (kinds_under parent) (node_tree node (trees (nodes ++ more)))
+    ap (kinds_under parent) (node_tree node (trees_of (nodes ++ more)))
     ∙ ap (λ rest. own parent node ∷ (inner parent node ++ rest)) (more_kinds parent nodes more)
-    ∙ ap (λ all. own parent node ∷ all) (sym (append_assoc (inner parent node) (kinds_under parent (trees nodes)) (kinds_under parent (trees more))))
-    ∙ ap (λ tree. kinds_under parent tree ++ kinds_under parent (trees more)) (sym (node_tree node (trees nodes)))
+    ∙ ap (λ all. own parent node ∷ all) (sym (append_assoc (inner parent node) (kinds_under parent (trees_of nodes)) (kinds_under parent (trees_of more))))
+    ∙ ap (λ tree. kinds_under parent tree ++ kinds_under parent (trees_of more)) (sym (node_tree node (trees_of nodes)))
 
-one_kind : (parent : List ℕ) (node : CoreNode) → kinds_under parent (trees (node ∷ [])) ≡ own parent node ∷ inner parent node
+one_kind : (parent : List ℕ) (node : CoreNode) → kinds_under parent (trees_of (node ∷ [])) ≡ own parent node ∷ inner parent node
 one_kind parent node =
     ap (kinds_under parent) (node_tree node NoNode) ∙ ap (λ all. own parent node ∷ all) (append-nil (inner parent node))
 
@@ -66,17 +66,17 @@ pub record IsShortChild (parent : List ℕ) (node : CoreNode) : Type 0 where
   pub own : has_short (own parent node) ≡ true
   pub inner : list_all has_short (inner parent node) ≡ true
 
-short_parts : (parent : List ℕ) (node : CoreNode) (nodes : List CoreNode) → list_all has_short (kinds_under parent (trees (node ∷ nodes))) ≡ true
-    → IsShortChild parent node × (list_all has_short (kinds_under parent (trees nodes)) ≡ true)
+short_parts : (parent : List ℕ) (node : CoreNode) (nodes : List CoreNode) → list_all has_short (kinds_under parent (trees_of (node ∷ nodes))) ≡ true
+    → IsShortChild parent node × (list_all has_short (kinds_under parent (trees_of nodes)) ≡ true)
 short_parts parent node nodes short =
-    let parts = and_parts (has_short (own parent node)) (list_all has_short (inner parent node ++ kinds_under parent (trees nodes)))
-    (sym (ap (λ tree. list_all has_short (kinds_under parent tree)) (node_tree node (trees nodes))) ∙ short) in
-    let rest = and_parts (list_all has_short (inner parent node)) (list_all has_short (kinds_under parent (trees nodes)))
-    (sym (list_all-append has_short (inner parent node) (kinds_under parent (trees nodes))) ∙ parts.1) in
+    let parts = and_parts (has_short (own parent node)) (list_all has_short (inner parent node ++ kinds_under parent (trees_of nodes)))
+    (sym (ap (λ tree. list_all has_short (kinds_under parent tree)) (node_tree node (trees_of nodes))) ∙ short) in
+    let rest = and_parts (list_all has_short (inner parent node)) (list_all has_short (kinds_under parent (trees_of nodes)))
+    (sym (list_all-append has_short (inner parent node) (kinds_under parent (trees_of nodes))) ∙ parts.1) in
     (record { own = parts.0; inner = rest.0 }, rest.1)
 
 pub short_child : (parent : List ℕ) (nodes : List CoreNode) (i : ℕ) (d : CoreNode) → i < length nodes
-    → list_all has_short (kinds_under parent (trees nodes)) ≡ true → IsShortChild parent (get_or nodes i d)
+    → list_all has_short (kinds_under parent (trees_of nodes)) ≡ true → IsShortChild parent (get_or nodes i d)
 short_child parent [] i d within short = absurd (omega arith)
 short_child parent (node ∷ nodes) zero d within short = (short_parts parent node nodes short).0
 short_child parent (node ∷ nodes) (suc i) d within short =
@@ -122,15 +122,15 @@ told_already entries path kind there other = by (lookup (is_same other) entries)
 
 -- one child more is told, and what is below it
 pub told_next : (parent : List ℕ) (old before own_told now : Told) (done : List CoreNode) (node : CoreNode)
-    → TellKinds before (old ++ kinds_under parent (trees done)) → TellKinds own_told (before ++ own parent node ∷ [])
-    → TellKinds now (own_told ++ inner parent node) → TellKinds now (old ++ kinds_under parent (trees (done ++ node ∷ [])))
+    → TellKinds before (old ++ kinds_under parent (trees_of done)) → TellKinds own_told (before ++ own parent node ∷ [])
+    → TellKinds now (own_told ++ inner parent node) → TellKinds now (old ++ kinds_under parent (trees_of (done ++ node ∷ [])))
 told_next parent old before own_told now done node front mine below path =
     below path
     ∙ both_tell own_told (before ++ own parent node ∷ []) (inner parent node) mine path
     ∙ ap (lookup (is_same path)) (append_assoc before (own parent node ∷ []) (inner parent node))
-    ∙ both_tell before (old ++ kinds_under parent (trees done)) (own parent node ∷ inner parent node) front path
-    ∙ ap (lookup (is_same path)) (append_assoc old (kinds_under parent (trees done)) (own parent node ∷ inner parent node)
-    ∙ ap (λ more. old ++ more) (sym (more_kinds parent done (node ∷ []) ∙ ap (λ more. kinds_under parent (trees done) ++ more) (one_kind parent node))))
+    ∙ both_tell before (old ++ kinds_under parent (trees_of done)) (own parent node ∷ inner parent node) front path
+    ∙ ap (lookup (is_same path)) (append_assoc old (kinds_under parent (trees_of done)) (own parent node ∷ inner parent node)
+    ∙ ap (λ more. old ++ more) (sym (more_kinds parent done (node ∷ []) ∙ ap (λ more. kinds_under parent (trees_of done) ++ more) (one_kind parent node))))
 
 -- the root is told, and then what is below it
 pub root_told : (root : CoreNode) (before own_told now : Told) (path copy : List ℕ) → length before ≡ 0
@@ -142,26 +142,10 @@ root_told root before own_told now path copy none here same mine below other =
     ∙ ap (lookup (is_same other)) (ap (λ before. (before ++ (copy, kind) ∷ []) ++ kinds_under path (below_it root)) (nil_from_length before none)
     ∙ ap (λ copy. (copy, kind) ∷ kinds_under path (below_it root)) (same ∙ here)
     ∙ ap (λ path. (name, kind) ∷ kinds_under path (below_it root)) here
-    ∙ sym (ap all_kinds (sites_of_root root) ∙ ap (λ all. (name, kind) ∷ all) (kinds_of_sites name [] (below_it root))))
+    ∙ sym (ap all_kinds (sites_of_one [] root) ∙ ap (λ all. (name, kind) ∷ all) (kinds_of_sites name [] (below_it root))))
   where
     name : List ℕ
     name = (node_head root).name
 
     kind : Kind
     kind = (node_head root).kind
-
--- ---- what is found
-
-pub kind_found : (plan : List Site) (path : List ℕ)
-    → lookup (is_same path) (all_kinds plan) ≡ option_map (λ site. site.head.kind) (find (λ site. is_same path site.path) plan)
-kind_found [] path = refl
-kind_found (site ∷ plan) path = by (is_same path site.path) (kind_found plan path)
-  where
-    kind_of : Site → Kind
-    kind_of site = site.head.kind
-
-    by : (here : Bool) → lookup (is_same path) (all_kinds plan) ≡ option_map kind_of (find (λ site. is_same path site.path) plan)
-        → (if here then Some site.head.kind else lookup (is_same path) (all_kinds plan))
-        ≡ option_map kind_of (if here then Some site else find (λ site. is_same path site.path) plan)
-    by true rest = refl
-    by false rest = rest

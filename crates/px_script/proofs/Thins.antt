@@ -20,10 +20,6 @@ use Rattle.px_sem.specs.Log.{Log, is_accepted, posted_in, accepted}
 
 -- ---- what holds of all that stays
 
-pub All-front : {X : Type 0} (P : X → Type 0) (xs ys : List X) → All P (xs ++ ys) → All P xs
-All-front P [] ys all = All-nil P
-All-front P (x ∷ xs) ys all = All-cons P x xs (All-head P x (xs ++ ys) all) (All-front P xs ys (All-tail P x (xs ++ ys) all))
-
 one_kept : {X : Type 0} (P : X → Type 0) (p : X → Bool) (x : X) (xs : List X) → p x ≡ true → All P (filter p (x ∷ xs)) → P x
 one_kept P p x xs is all = All-head P x (filter p xs) (rw is at all)
 

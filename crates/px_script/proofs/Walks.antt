@@ -8,13 +8,13 @@ use Rattle.px_event.specs.declared.entry.Entry.{Entry}
 use Rattle.px_event.specs.declared.cond.Cond.{Cond}
 use Rattle.px_event.specs.declared.event.Event.{Event}
 use Rattle.px_event.specs.declared.reply.Reply.{Reply}
+pub use Rattle.px_event.specs.Fit.{entry_of as posted_by}
 use Rattle.px_script.specs.Follows.{PassesAt, place_behind, Walks}
 use Rattle.px_script.specs.declared.line.Line.{Line}
 use Rattle.px_script.specs.declared.line.What.{What}
 use Rattle.px_script.specs.declared.line.What.TheVariants as whats
 use Rattle.px_sem.specs.Asking.{IsMetBehind}
-use Rattle.px_sem.specs.Log.{Log, accepted, posted_in}
-use Rattle.px_sem.specs.declared.log.LogEntry.{LogEntry}
+use Rattle.px_sem.specs.Log.{Log, logged_as, accepted, posted_in}
 
 -- an element stays with more behind the list
 pub slice_get-append : {X : Type 0} (xs ys : List X) (at : ℕ) (x : X) → slice_get xs at ≡ Some x → slice_get (xs ++ ys) at ≡ Some x
@@ -26,13 +26,6 @@ slice_get-append xs ys at x is =
 -- a line of this number
 abbrev pub line_at : ℕ → What → Line
 line_at number what = record { number = number; what = what }
-
--- the entry of a thread's line, and the entry with its reply
-abbrev pub posted_by : ℕ → ℕ → Event → Entry
-posted_by thread number event = record { thread = thread; line = number; event = event }
-
-abbrev pub answered : Entry → Reply → LogEntry
-answered entry reply = record { entry = entry; reply = reply }
 
 module _ (plan : List Site) (first : List Entry) where
   -- the place behind a line isn't before it
@@ -115,18 +108,18 @@ module _ (plan : List Site) (first : List Entry) where
   -- a line that posts is passed where its post has come, the last of all
   pub walks_post : (log others : Log) (thread from : ℕ) (lines : List Line) (number : ℕ) (event : Event) (reply : Reply)
       → Walks plan first log thread from lines
-      → Walks plan first (log ++ (others ++ answered (posted_by thread number event) reply ∷ [])) thread from (lines ++ line_at number (whats.Post event) ∷ [])
+      → Walks plan first (log ++ (others ++ logged_as (posted_by thread number event) reply ∷ [])) thread from (lines ++ line_at number (whats.Post event) ∷ [])
   walks_post log others thread from lines number event reply walk =
       let entry = posted_by thread number event in
-      let more = others ++ answered entry reply ∷ [] in
+      let more = others ++ logged_as entry reply ∷ [] in
       let stands : slice_get (posted_in (log ++ more)) (length (log ++ others)) ≡ Some entry
       = ap (λ (entries : List Entry). slice_get entries (length (log ++ others)))
-      (ap posted_in (sym (append_assoc log others (answered entry reply ∷ []))) ∙ map-append (λ logged. logged.entry) (log ++ others) (answered entry reply ∷ []))
+      (ap posted_in (sym (append_assoc log others (logged_as entry reply ∷ []))) ∙ map-append (λ logged. logged.entry) (log ++ others) (logged_as entry reply ∷ []))
       ∙ ap (λ (at : ℕ). slice_get (posted_in (log ++ others) ++ entry ∷ []) at) (sym (length-map (log ++ others) (λ logged. logged.entry)))
       ∙ slice_get-push (posted_in (log ++ others)) entry in
       walks_then plan first log more thread from lines (line_at number (whats.Post event)) (length (log ++ others)) walk
       (omega (arith, length-append log others))
-      (omega (arith, length-append log others, length-append log more, length_push others (answered entry reply)))
+      (omega (arith, length-append log others, length-append log more, length_push others (logged_as entry reply)))
       stands
 
   -- a wait is passed where its condition is met behind all that has come

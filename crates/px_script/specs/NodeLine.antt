@@ -17,10 +17,13 @@ use Rattle.px_script.specs.declared.fault.FaultKind.TheVariants.{BadNode, BadVal
 use Rattle.px_script.specs.declared.parsed_line.ParsedLine.{ParsedLine}
 use Rattle.px_script.specs.declared.parsed_line.ParsedLine.TheVariants.{Posts, Faulty}
 
+-- the kind of the first node with this path
+abbrev pub found_kind : List Site → List ℕ → Option Kind
+found_kind plan path = option_map (λ site. site.head.kind) (find (λ site. is_same path site.path) plan)
+
 -- the kind of the node at a path, where the plan has one there
 abbrev pub kind_at : List Site → List ℕ → Option Kind
-kind_at plan path =
-    if is_path path then option_map (λ site. site.head.kind) (find (λ site. is_same path site.path) plan) else None
+kind_at plan path = if is_path path then found_kind plan path else None
 
 -- what is said of a Command, of an Update; of another node, or of none, the line is at fault
 abbrev pub of_command : Option Kind → ParsedLine → ParsedLine

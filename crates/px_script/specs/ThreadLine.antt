@@ -5,6 +5,7 @@ use Rattle.std.specs.List.{list_all}
 use Rattle.std.specs.Str.Parse.{digits_value}
 use Rattle.px_value.specs.Name.{is_digit}
 use Rattle.px_event.specs.Fit.{is_report_name}
+pub use Rattle.px_event.specs.Fit.{is_thread}
 use Rattle.px_script.specs.Text.{first_word, behind_word, is_nothing}
 use Rattle.px_script.specs.declared.fault.FaultKind.TheVariants.{BadThread}
 use Rattle.px_script.specs.declared.parsed_line.ParsedLine.{ParsedLine}
@@ -13,10 +14,6 @@ use Rattle.px_script.specs.declared.parsed_line.ParsedLine.TheVariants.{Thread, 
 -- one digit or more
 abbrev pub are_digits : List ℕ → Bool
 are_digits text = nat_le 1 (length text) && list_all is_digit text
-
--- there are threads from 1 to 8
-abbrev pub is_thread : ℕ → Bool
-is_thread number = nat_le 1 number && nat_le number 8
 
 -- the lines behind belong to this thread, and the word is its name, if there is one; where there is no such thread, the line
 -- is at fault; none where the word is no identifier, or one of over 64 bytes

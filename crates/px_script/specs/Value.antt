@@ -1,9 +1,8 @@
 -- The values that VALUEs spell.
-use Rattle.std.specs.Prelude.{ℕ, Bool, true, false, ◌&&◌, ◌==◌, nat_le, List, [], ◌∷◌, length, Option, Some, None, codes, if◌then◌else◌}
-use Rattle.std.specs.List.{list_all}
+use Rattle.std.specs.Prelude.{ℕ, Bool, true, false, ◌==◌, List, [], ◌∷◌, Option, Some, None, codes, if◌then◌else◌}
 use Rattle.std.specs.Option.{option_or}
 use Rattle.std.specs.Str.Parse.{signed_digits_value}
-use Rattle.px_value.specs.Name.{is_digit}
+use Rattle.px_value.specs.Name.{is_digits}
 use Rattle.px_value.specs.declared.value.Value.{Value}
 use Rattle.px_value.specs.declared.value.Value.TheVariants as values
 use Rattle.px_lex.specs.String.{read_string}
@@ -17,14 +16,10 @@ plain value = if is_plain value then Some value else None
 abbrev pub truths : List (List ℕ × Value)
 truths = (codes "true", values.Boolean true) ∷ (codes "false", values.Boolean false) ∷ []
 
--- 1 to 10 digits
-abbrev pub is_digits : List ℕ → Bool
-is_digits digits = nat_le 1 (length digits) && nat_le (length digits) 10 && list_all is_digit digits
-
--- an optional - and then digits
+-- an optional - and then 1 to 10 digits
 abbrev pub is_number : List ℕ → Bool
 is_number [] = false
-is_number (c ∷ cs) = if c == 45 then is_digits cs else is_digits (c ∷ cs)
+is_number (c ∷ cs) = if c == 45 then is_digits 10 cs else is_digits 10 (c ∷ cs)
 
 abbrev pub integer_of : List ℕ → Option Value
 integer_of spelling = if is_number spelling then plain (values.Integer (signed_digits_value 10 spelling)) else None

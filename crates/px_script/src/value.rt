@@ -1,14 +1,14 @@
 // The values that VALUEs spell.
 ghost use Rattle.std.specs.Prelude.{◌≡◌, ◌↔◌, ℕ, [], ◌∷◌, List, true, Some, IsTrue, IfOk, IfSome};
 ghost use Rattle.std.specs.List.{list_all};
-ghost use Rattle.px_value.specs.Name.{is_digit};
+ghost use Rattle.px_value.specs.Name.{is_digit, is_digits};
 ghost use Rattle.px_lex.specs.Table.{row_of};
 ghost use Rattle.px_lex.specs.Gap.{begins};
 ghost use Rattle.px_lex.specs.String.{is_quote, read_string};
 ghost use Rattle.px_lex.specs.declared.token.Token.{Token as AnyToken};
 ghost use Rattle.px_lex.specs.declared.token.TokenKind.TheVariants as kinds;
 ghost use Rattle.px_event.specs.Values.{is_plain};
-ghost use Rattle.px_script.specs.Value.{truths, is_digits, is_number, integer_of, text_of, argument_of, value_of};
+ghost use Rattle.px_script.specs.Value.{truths, is_number, integer_of, text_of, argument_of, value_of};
 
 use crate::place::Quoting;
 use crate::text::is_word;
@@ -76,7 +76,7 @@ fn is_number(spelling: &[u8]) -> bool
 }
 
 fn is_digits(digits: &[u8]) -> bool
-    ensures { result ≡ is_digits digits.now }
+    ensures { result ≡ is_digits 10 digits.now }
 {
     !digits.is_empty() && digits.len() <= DIGIT_LIMIT && are_all_digits(digits)
 }

@@ -15,7 +15,7 @@ use Rattle.px_sem.specs.declared.standing.Standing.{Standing}
 use Rattle.px_sem.specs.declared.standing.Standing.TheVariants.{Running, Finished}
 use Rattle.px_sem.specs.World.{World, standing_of}
 use Rattle.px_sem.specs.Run.{posted, started, settled_world, run_on, run}
-use Rattle.px_sem.specs.Log.{Log, events_of, is_accepted, accepted, answer_by, answer, world_after, AnswersEach, PostsPart, IsLegal}
+use Rattle.px_sem.specs.Log.{Log, logged_as, events_of, is_accepted, accepted, answer_by, answer, world_after, AnswersEach, PostsPart, IsLegal}
 use Rattle.px_sem.specs.Stepper.{State, settled_state}
 
 pub run_on_none : (plan : List Site) (now : Option World) → run_on plan now [] ≡ now
@@ -126,9 +126,6 @@ history_after history entry (replies.Accepted position) = history ++ entry ∷ [
 history_after history entry replies.PlanFinished = history
 history_after history entry replies.Full = history
 history_after history entry replies.Runaway = history
-
-abbrev pub logged_as : Entry → Reply → LogEntry
-logged_as entry reply = record { entry = entry; reply = reply }
 
 history_grows : (history : List Entry) (entry : Entry) (reply : Reply)
     → history_after history entry reply ≡ history ++ accepted (logged_as entry reply ∷ [])

@@ -1,8 +1,10 @@
 -- When a world settles, from the worlds on its way.
-use Rattle.std.proofs.Common.{◌≡◌, ℕ, zero, suc, ◌+◌, ◌<◌, ◌≤◌, inl, inr, Bool, true, false, List, Option, Some, None, IsSome, cond, refl, arith, ap, sym, subst, ◌∙◌, add-one}
+use Rattle.std.proofs.Common.{◌≡◌, ℕ, zero, suc, ◌+◌, ◌<◌, ◌≤◌, inl, inr, Bool, true, false, List, get_or, Option, Some, None, IsSome, cond, refl, arith, ap, sym, subst, ◌∙◌, add-one}
 use Rattle.std.specs.List.{find, range_with_len}
 use Rattle.std.specs.Option.{option_map, unwrap_or}
 use Rattle.std.proofs.lemmas.Bool.{cases_lt}
+use Rattle.std.proofs.lemmas.List.FromFn.{get_or-range_with_len, length-range_with_len}
+use Rattle.px_value.proofs.General.{none_found}
 use Rattle.px_sem.specs.declared.moves.Move.{Move}
 use Rattle.px_core.specs.Plan.{Site}
 use Rattle.px_sem.specs.World.{World}
@@ -73,19 +75,6 @@ found_is test a (suc n) k is = by (found_is test (a + 1) n k) (test a) refl is
         }
     by rest false at e = later (rest e) at
 
-none_found : (test : ℕ → Bool) (a n : ℕ) → find test (range_with_len a n) ≡ None
-    → (j : ℕ) → a ≤ j → j < a + n → test j ≡ false
-none_found test a zero none j low high = absurd (omega arith)
-none_found test a (suc n) none j low high = by (none_found test (a + 1) n) (test a) refl none
-  where
-    by : (find test (range_with_len (a + 1) n) ≡ None → (j : ℕ) → a + 1 ≤ j → j < (a + 1) + n → test j ≡ false)
-        → (passes : Bool) → test a ≡ passes → cond passes (Some a) (find test (range_with_len (a + 1) n)) ≡ None → test j ≡ false
-    by rest true at e = cc
-    by rest false at e = elim (cases_lt a j) [
-      | inl after ↦ rest e j (omega arith) (omega arith)
-      | inr here ↦ let same : j ≡ a = omega arith in rw same at
-    ]
-
 -- ---- the least number that passes
 
 pub least_none : (test : ℕ → Bool) (bound : ℕ) → ((j : ℕ) → j ≤ bound → test j ≡ false) → least test bound ≡ None
@@ -110,7 +99,10 @@ least_found test bound k is =
 
 pub none_least : (test : ℕ → Bool) (bound : ℕ) → least test bound ≡ None → (j : ℕ) → j ≤ bound → test j ≡ false
 unfolding least
-none_least test bound none j within = none_found test 0 (bound + 1) none j (omega arith) (omega arith)
+none_least test bound none j within =
+    let at : get_or (range_with_len 0 (bound + 1)) j 0 ≡ j = omega (arith, get_or-range_with_len 0 (bound + 1) j 0 (omega arith)) in
+    ap test (sym at)
+    ∙ none_found test (range_with_len 0 (bound + 1)) none j 0 (omega (arith, length-range_with_len 0 (bound + 1)))
 
 -- ---- on the way
 

@@ -157,24 +157,24 @@ aborts name action = record { write = None; action = asked action; told = Some (
     asked (Commanded index handle abort) = Commanded index handle AbortSent
     asked other = other
 
--- The table of effects, by the move and the body: the first row that fits. A node without a body never has anything under
--- way. (The initial values, which INACTIVE to WAITING gives too, are those of `variables_after`.)
+-- The table of effects, by the record of a node, the move and the body: the first row that fits. A node without a body
+-- never has anything under way. (The initial values, which INACTIVE to WAITING gives too, are those of `variables_after`.)
+abbrev pub row_of : List Site → World → NodeRecord → MoveKind → BodyData → Effects
+row_of plan world old move Nothing = silent NoAction
+row_of plan world old Initializes body = silent NoAction
+row_of plan world old Resets body = silent NoAction
+row_of plan world old Starts (Assign target right) = assigns plan world target right
+row_of plan world old Starts (Command name args result) = sends plan world name args result
+row_of plan world old Starts (Update pairs) = updates plan world pairs
+row_of plan world old Fails (Assign target right) = writes_back target old.action
+row_of plan world old Fails (Command name args result) = aborts name old.action
+row_of plan world old move body = silent old.action
+
 abbrev pub effects_of : List Site → World → Site → Arrival → Effects
-effects_of plan world site arrival = row (move_kind old.state arrival.to) site.head.body
+effects_of plan world site arrival = row_of plan world old (move_kind old.state arrival.to) site.head.body
   where
     old : NodeRecord
     old = record_at world site.path
-
-    row : MoveKind → BodyData → Effects
-    row move Nothing = silent NoAction
-    row Initializes body = silent NoAction
-    row Resets body = silent NoAction
-    row Starts (Assign target right) = assigns plan world target right
-    row Starts (Command name args result) = sends plan world name args result
-    row Starts (Update pairs) = updates plan world pairs
-    row Fails (Assign target right) = writes_back target old.action
-    row Fails (Command name args result) = aborts name old.action
-    row move body = silent old.action
 
 -- ---- the variables after a step
 

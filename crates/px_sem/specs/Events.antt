@@ -38,11 +38,13 @@ reported tolerances state given (report ∷ reports) =
     if is_same_state report.0 state then (report.0, next_report report.1 given) ∷ reports
     else report ∷ reported tolerances state given reports
 
+-- records of nodes by their paths, with another record at one path
+abbrev pub with_entry : List ℕ → NodeRecord → List (List ℕ × NodeRecord) → List (List ℕ × NodeRecord)
+with_entry path r nodes = map (λ entry. (entry.0, if is_same entry.0 path then r else entry.1)) nodes
+
 -- the world with another record of one node
 abbrev pub with_record : World → List ℕ → NodeRecord → World
-with_record world path r = record world {
-  nodes = map (λ entry. (entry.0, if is_same entry.0 path then r else entry.1)) world.nodes;
-}
+with_record world path r = record world { nodes = with_entry path r world.nodes }
 
 -- the world with another action of one node
 abbrev pub with_action : World → List ℕ → Action → World

@@ -99,10 +99,10 @@ invariant_asks r invariant =
 abbrev pub end_asks : NodeRecord → Truth → Bool
 end_asks r end = (is_executing r.state && is_true end) || is_past_end r.state
 
--- some proper ancestor asks a node to leave: by its Exit, its Invariant, its End
-abbrev pub some_ancestor : (NodeRecord → Truth → Bool) → ConditionKind → List Site → World → Site → Bool
-some_ancestor asks kind plan world site =
-    list_any (λ path. asks (record_at world path) (condition plan world (site_at plan path) kind)) site.above
+-- some node at these paths asks all below it to leave: by its Exit, its Invariant, its End
+abbrev pub some_asks : (NodeRecord → Truth → Bool) → ConditionKind → List Site → World → List (List ℕ) → Bool
+some_asks asks kind plan world paths =
+    list_any (λ path. asks (record_at world path) (condition plan world (site_at plan path) kind)) paths
 
 -- the outside is done with a command (PLEXIL reference manual, "Command Handles")
 abbrev pub is_final_handle : Option Handle → Bool
@@ -136,9 +136,9 @@ guards plan world site = record {
   parent_waiting = is_waiting (parent_state world site);
   parent_executing = is_executing (parent_state world site);
   parent_finished = is_finished (parent_state world site);
-  ancestor_exit = some_ancestor exit_asks which.Exit plan world site;
-  ancestor_invariant = some_ancestor invariant_asks which.Invariant plan world site;
-  ancestor_end = some_ancestor end_asks which.End plan world site;
+  ancestor_exit = some_asks exit_asks which.Exit plan world site.above;
+  ancestor_invariant = some_asks invariant_asks which.Invariant plan world site.above;
+  ancestor_end = some_asks end_asks which.End plan world site.above;
   exit_true = is_true (condition plan world site which.Exit);
   skip_true = is_true (condition plan world site which.Skip);
   start_true = is_true (condition plan world site which.Start);

@@ -17,6 +17,10 @@ use Rattle.px_sem.specs.Stepper.{State, settled_state}
 abbrev pub Log : Type 0
 Log = List LogEntry
 
+-- an entry with its reply, as a log has it
+abbrev pub logged_as : Entry → Reply → LogEntry
+logged_as entry reply = record { entry = entry; reply = reply }
+
 abbrev pub events_of : List Entry → List Event
 events_of entries = map (λ entry. entry.event) entries
 
@@ -81,7 +85,7 @@ pub record IsLegal (plan : List Site) (history : List Entry) (limit : ℕ) (log 
 -- the entry would be accepted over the history, which may grow up to the limit
 abbrev pub WouldBeAccepted : List Site → ℕ → List Entry → Entry → Type 0
 WouldBeAccepted plan limit history entry =
-    IsLegal plan history limit (record { entry = entry; reply = replies.Accepted (length history + 1) } ∷ [])
+    IsLegal plan history limit (logged_as entry (replies.Accepted (length history + 1)) ∷ [])
 
 -- what runs the plan is settled, in the world that the run over the history is
 abbrev pub HasRun : List Site → List Entry → State → Type 0

@@ -1,7 +1,7 @@
 -- The text of a run, line by line.
-use Rattle.std.specs.Prelude.{ℕ, zero, suc, true, false, List, [], ◌∷◌, ◌++◌, map, Option, Some, None, codes, decimal}
+use Rattle.std.specs.Prelude.{ℕ, zero, suc, true, false, List, [], ◌∷◌, ◌++◌, Option, Some, None, codes, decimal}
 use Rattle.std.specs.Fmt.{signed_decimal}
-use Rattle.std.specs.List.{flat_map, zip}
+use Rattle.std.specs.List.{flat_map, join_by, zip}
 use Rattle.px_value.specs.declared.enums.Outcome.{Outcome}
 use Rattle.px_value.specs.declared.enums.Failure.{Failure}
 use Rattle.px_value.specs.declared.value.Value.{Value}
@@ -15,6 +15,7 @@ use Rattle.px_event.specs.declared.event.Event.{Event}
 use Rattle.px_event.specs.declared.event.Event.TheVariants as events
 use Rattle.px_event.specs.declared.reply.Reply.{Reply}
 use Rattle.px_event.specs.declared.reply.Reply.TheVariants as replies
+use Rattle.px_sem.specs.declared.log.LogEntry.{LogEntry}
 use Rattle.px_sem.specs.declared.moves.Move.{Move}
 use Rattle.px_sem.specs.declared.moves.Effect.{Effect}
 use Rattle.px_sem.specs.declared.moves.Effect.TheVariants as effects
@@ -44,13 +45,8 @@ value_text (values.Outcome outcome) = outcome_word outcome
 value_text (values.Failure failure) = failure_word failure
 value_text (values.Handle handle) = handle_word handle
 
--- things parted by commas
-abbrev pub parted : List (List ℕ) → List ℕ
-parted [] = []
-parted (first ∷ rest) = first ++ flat_map (λ text. codes ", " ++ text) rest
-
 abbrev pub arguments_text : List Value → List ℕ
-arguments_text args = codes "(" ++ parted (map value_text args) ++ codes ")"
+arguments_text args = codes "(" ++ join_by value_text (codes ", ") args ++ codes ")"
 
 -- ---- moves
 
@@ -82,7 +78,7 @@ effect_text (effects.Wrote owner name index value) =
     owner ++ codes "." ++ name ++ index_text index ++ codes " = " ++ value_text value
 effect_text (effects.Sent command args) = codes "command " ++ command ++ arguments_text args
 effect_text (effects.Aborted command) = codes "abort " ++ command
-effect_text (effects.Updated names values) = codes "update " ++ parted (map pair_text (zip names values))
+effect_text (effects.Updated names values) = codes "update " ++ join_by pair_text (codes ", ") (zip names values)
 
 -- its effect, on a line with four blanks
 abbrev pub effect_line : Option Effect → List ℕ
@@ -168,8 +164,11 @@ reply_text replies.Runaway = codes "refused runaway"
 abbrev pub reply_line : ℕ → ℕ → Reply → List ℕ
 reply_line thread number reply = line (source_text thread number ++ codes ": " ++ reply_text reply)
 
+abbrev pub log_line : LogEntry → List ℕ
+log_line logged = reply_line logged.entry.thread logged.entry.line logged.reply
+
 abbrev pub log_lines : Log → List ℕ
-log_lines log = flat_map (λ logged. reply_line logged.entry.thread logged.entry.line logged.reply) log
+log_lines log = flat_map log_line log
 
 -- the last line
 abbrev pub standing_text : Standing → List ℕ

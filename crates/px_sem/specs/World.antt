@@ -117,10 +117,12 @@ abbrev pub of_variable : {A : Type 0} → List ℕ → List VariableData → Lis
 of_variable name variables things =
     lookup (λ variable. is_same variable.name name) (zip variables things)
 
--- the values of the variable that a node declares
+-- the values of the variable of this name that a node declares, or none where it declares no such variable
+abbrev pub known_cells : List Site → World → List ℕ → List ℕ → Option (List Value)
+known_cells plan world owner name = of_variable name (site_at plan owner).head.variables (record_at world owner).variables
+
 abbrev pub cells_at : List Site → World → List ℕ → List ℕ → List Value
-cells_at plan world owner name =
-    unwrap_or (of_variable name (site_at plan owner).head.variables (record_at world owner).variables) []
+cells_at plan world owner name = unwrap_or (known_cells plan world owner name) []
 
 -- the Integer that a scalar variable holds
 abbrev pub integer_at : List Site → World → List ℕ → List ℕ → Option ℤ

@@ -1,5 +1,5 @@
 -- What the posts of a session have come to, by what the executive keeps.
-use Rattle.std.proofs.Common.{◌≡◌, inl, inr, ⊎_elim, ℕ, List, [], ◌∷◌, ◌++◌, map, Option, Some, None, IsSome, length, refl, sym, ◌∙◌, ap, subst, arith, append-nil, IsTrue}
+use Rattle.std.proofs.Common.{◌≡◌, inl, inr, ⊎_elim, ℕ, List, [], ◌∷◌, ◌++◌, Option, Some, None, IsSome, length, refl, sym, ◌∙◌, ap, subst, arith, append-nil, IsTrue}
 use Rattle.std.specs.List.{list_all}
 use Rattle.std.specs.Option.{option_map, ForSome}
 use Rattle.px_crew.specs.Crew.{failed_entry, Ends}
@@ -7,15 +7,16 @@ use Rattle.px_crew.proofs.Gathering.{unfailed as failed_none}
 use Rattle.px_event.specs.Fit.{is_fit_entry}
 use Rattle.px_event.specs.declared.entry.Entry.{Entry}
 use Rattle.px_event.specs.declared.named.NamedEntry.{NamedEntry}
-use Rattle.px_exec.specs.Executive.{Opening, Executive, Keeps, KeepsDisk, IsOpen, IsClosed, IsTextOf, TellsBytes, StandsNamed, StandsWithin, WasNamed, failed_entries, moments_now, moments_then, plan_of}
+use Rattle.px_exec.specs.Executive.{Opening, Executive, Keeps, KeepsDisk, IsClosed, IsTextOf, TellsBytes, StandsWithin, WasNamed, moments_now, moments_then, plan_of}
 use Rattle.px_exec.specs.declared.closing.Failed.{Failed}
+use Rattle.px_exec.proofs.Keeping.{open_of}
 use Rattle.px_exec.proofs.Tellings.{ready_now}
 use Rattle.px_journal.proofs.Going.{goes_told}
 use Rattle.px_journal.proofs.Ready.{ready_few, ready_fit, ready_stands, ready_synced}
 use Rattle.px_journal.proofs.Moments.{grows_length, told_since}
 use Rattle.px_journal.specs.Crash.{LeavesOnly}
 use Rattle.px_journal.specs.Goes.{Goes}
-use Rattle.px_journal.specs.Journal.{IsReady, IsReadyAs, with_name}
+use Rattle.px_journal.specs.Journal.{IsReady, IsReadyAs}
 use Rattle.px_journal.specs.Layout.{entries, Stands}
 use Rattle.px_ports.specs.declared.disk.Disk
 use Rattle.px_script.specs.declared.todo.Todo.{Todo}
@@ -36,9 +37,6 @@ ReadsAreLeft {D} members = (disk : D) → ForSome (members.content disk) (λ tol
 module _ {S D : Type 0} (runs : Stepper.Ghosts S) (members : Disk.Ghosts D) (exec : Executive S D) (keeps : Keeps runs members exec) where
   -- an executive without a failed append
   module _ (unfailed : exec.failed ≡ None) where
-    open_now : IsOpen members exec
-    open_now = subst (KeepsDisk runs members exec) unfailed keeps.disk
-
     no_entry : failed_entry exec ≡ None
     no_entry = ap (option_map (λ (f : Failed). f.entry)) unfailed
 
@@ -50,7 +48,7 @@ module _ {S D : Type 0} (runs : Stepper.Ghosts S) (members : Disk.Ghosts D) (exe
     leaves_open : TellsBytes members exec.opening.journal.disk → (text : List ℕ) → IsTextOf members exec text
         → LeavesSession members (session_of text exec) exec.opening.journal.disk exec.journal.disk
     leaves_open tells text is =
-        let ready = open_now.stands text is in
+        let ready = (open_of runs members exec keeps unfailed).stands text is in
         let stands : (told : List ℕ) → members.content exec.journal.disk ≡ Some told → IsEnd (session_of text exec) told =
         λ told here. inl (subst (Stands told text) keeps.grown (ready_stands _ _ _ _ ready told here)) in
         record {
@@ -59,7 +57,7 @@ module _ {S D : Type 0} (runs : Stepper.Ghosts S) (members : Disk.Ghosts D) (exe
             left = λ told here image left. subst (IsEnd (session_of text exec)) (sym (ready_synced _ _ _ _ ready told here image left)) (stands told here);
           };
           since = subst (λ (h : List Entry). LeavesOnly members.images (StandsWithin text exec.opening.history h) (members.moments exec.opening.journal.disk) (members.moments exec.journal.disk))
-              (whole text) (open_now.since tells text is);
+              (whole text) ((open_of runs members exec keeps unfailed).since tells text is);
         }
 
   -- one whose append has failed
@@ -105,15 +103,9 @@ module _ {S D : Type 0} (runs : Stepper.Ghosts S) (members : Disk.Ghosts D) (exe
     since = since;
   }
     where
-      the_failed : (f : Option Failed) → failed_entries f ≡ unsure (option_map (λ (f : Failed). f.entry) f)
-      the_failed None = refl
-      the_failed (Some failed) = refl
-
       since : LeavesOnly members.images (HasNames members exec.opening.journal text found (accepted exec.log ++ unsure (failed_entry exec)))
           (moments_then members exec) (moments_now members exec)
-      since = subst (λ (es : List Entry). LeavesOnly members.images (StandsNamed exec.opening.journal.version text found (map (with_name exec.opening.journal) (accepted exec.log ++ es)))
-          (moments_then members exec) (moments_now members exec))
-          (the_failed exec.failed) (keeps.naming.since tells text found was)
+      since = keeps.naming.since tells text found was
 
   -- the disk since the opening, by the entry of a failed append
   pub goes_since : Goes members (IsSome (failed_entry exec)) exec.opening.journal.disk exec.journal.disk

@@ -1,6 +1,6 @@
 -- A session over a journal, and what it leaves of the disk.
-use Rattle.std.specs.Prelude.{◌≡◌, ◌≤◌, ◌⊎◌, ℕ, List, [], ◌∷◌, ◌++◌, length, take, Option, Some, None}
-use Rattle.std.specs.Option.{ForSome}
+use Rattle.std.specs.Prelude.{◌≡◌, ◌≤◌, ◌⊎◌, ℕ, List, [], ◌++◌, length, take, Option, Some, None}
+use Rattle.std.specs.Option.{option_to_list, ForSome}
 use Rattle.px_event.specs.declared.entry.Entry.{Entry}
 use Rattle.px_journal.specs.Crash.{LeavesOnly}
 use Rattle.px_journal.specs.Layout.{Stands}
@@ -27,8 +27,7 @@ history_of session = session.first ++ accepted session.log
 
 -- the entry of a failed append, or none
 abbrev pub unsure : Option Entry → List Entry
-unsure None = []
-unsure (Some entry) = entry ∷ []
+unsure = option_to_list
 
 -- the longest history that the disk may have: with the entry whose append failed
 abbrev pub longest_of : Session → List Entry

@@ -1,5 +1,5 @@
 -- The trees of blocks, actions, branches and bodies from those of their parts.
-use Rattle.std.proofs.Common.{◌≡◌, ℤ, Option, Some, None, Global, map, option_map, ap, sym, ◌∙◌}
+use Rattle.std.proofs.Common.{◌≡◌, ℤ, List, Option, Some, None, Global, map, option_map, ap, sym, ◌∙◌}
 use Rattle.std.specs.declared.vec.Vec.{Vec}
 use Rattle.px_syntax.specs.declared.block.Action.{Action, out-Action, fold_out-Action}
 use Rattle.px_syntax.specs.declared.block.Block.{Block, out-Block, fold_out-Block}
@@ -11,8 +11,12 @@ use Rattle.px_syntax.specs.declared.block.Guarded.{Guarded, out-Guarded, fold_ou
 use Rattle.px_syntax.specs.declared.expr.Identifier.{Identifier}
 use Rattle.px_syntax.specs.declared.expr.SurfaceExpr.{SurfaceExpr}
 use Rattle.px_syntax.specs.Block as trees
-use Rattle.px_syntax.specs.Block.{BlockTree, ActionTree, BranchTree, GuardedTree, BodyTree, item_data, actions_in_turn, else_ifs_in_turn, else_of, block_of, body_of, action_of, branch_of, guarded_of, body_step, action_step, block_step, branch_step, guarded_step}
+use Rattle.px_syntax.specs.Block.{BlockTree, ActionTree, BranchTree, GuardedTree, BodyTree, Actions, item_data, actions_in_turn, else_ifs_in_turn, else_of, block_of, body_of, action_of, branch_of, guarded_of, body_step, action_step, block_step, branch_step, guarded_step}
 use Rattle.px_syntax.specs.Expr.{term_of}
+
+-- actions one after another
+abbrev pub in_turn : List Action → Actions
+in_turn actions = actions_in_turn (map action_of actions)
 
 pub block_is : (block : Block) → block_of block
     ≡ trees.Braces (out-Block block).form (map item_data (out-Block block).items.items)

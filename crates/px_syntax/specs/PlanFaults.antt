@@ -86,12 +86,15 @@ outermost plan = record {
   nodes = [];
 }
 
--- ALL FAULTS OF A PLAN, by their tokens and then by their kinds.
-abbrev pub faults : PlanTree → List Fault
-faults plan =
-    in_order
-    (global_faults (flat_map commands_in plan.declarations)
+-- the faults of a plan, one part after another
+abbrev pub all_faults : PlanTree → List Fault
+all_faults plan =
+    global_faults (flat_map commands_in plan.declarations)
     ++ global_faults (flat_map lookups_in plan.declarations)
     ++ block_faults (outermost plan) plan.label plan.root
     ++ passing_fault 0 (block_cells plan.root)
-    ++ passing_tolerance [] (block_tolerances plan.root))
+    ++ passing_tolerance [] (block_tolerances plan.root)
+
+-- ALL FAULTS OF A PLAN, by their tokens and then by their kinds.
+abbrev pub faults : PlanTree → List Fault
+faults plan = in_order (all_faults plan)

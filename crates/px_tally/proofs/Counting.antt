@@ -1,20 +1,18 @@
 -- How many of the members count, as one of them is marked.
-use Rattle.std.proofs.Common.{◌≡◌, ℕ, zero, suc, ◌+◌, ◌<◌, ◌≤◌, ◌^◌, Bool, true, false, not, ◌&&◌, cond, count_by, List, [], ◌∷◌, length, set, get_or, replicate, Option, Some, None, IfSome, All, refl, ap, sym, ◌∙◌, arith, inl, inr, subst}
+use Rattle.std.proofs.Common.{◌≡◌, ℕ, zero, suc, ◌+◌, ◌<◌, ◌≤◌, ◌^◌, Bool, true, false, not, ◌&&◌, count_by, List, [], ◌∷◌, length, set, get_or, replicate, Option, Some, None, IfSome, All, refl, ap, sym, ◌∙◌, arith, inl, inr, subst}
 use Rattle.std.specs.List.{zip}
 use Rattle.std.proofs.lemmas.Bool.{eq-eqb}
 use Rattle.std.proofs.lemmas.Bool.Decides.{eqb_tells}
 use Rattle.std.proofs.lemmas.List.{get_or-set_same, get_or-set_other, get_or-replicate, length-set, length-replicate}
 use Rattle.std.proofs.lemmas.List.Sums.{count_by-le-length, sum_by-cons, sum_by-set}
 use Rattle.std.proofs.lemmas.Slice.Zip.{get_or-zip, length-zip}
+use Rattle.px_value.proofs.General.{one_if}
 use Rattle.px_tally.specs.Keeping.{AreTotals}
 use Rattle.px_tally.specs.Tally.{is_group, total_in}
 
 -- whether a member is of the group and counts
 abbrev counts_for : ℕ → Option ℕ × Bool → Bool
 counts_for group member = member.1 && is_group group member.0
-
-abbrev one : Bool → ℕ
-one b = cond b 1 0
 
 zip-set : (groups : List (Option ℕ)) (counting : List Bool) (at : ℕ) (counts : Bool)
     → zip groups (set counting at counts) ≡ set (zip groups counting) at (get_or groups at None, counts)
@@ -26,13 +24,13 @@ zip-set (group ∷ groups) (first ∷ counting) (suc at) counts =
 
 -- the total of another group stays, and that of its own has one more or one less
 total-other : (group old new : ℕ) (counts : Bool) (of : Option ℕ) → is_group group of ≡ false
-    → new + one (not counts && is_group group of) ≡ old + one (counts && is_group group of) → old ≡ new
+    → new + one_if (not counts && is_group group of) ≡ old + one_if (counts && is_group group of) → old ≡ new
 total-other group old new true of other is = let same = rw other at is in omega (arith, same)
 total-other group old new false of other is = let same = rw other at is in omega (arith, same)
 
 total-own : (group old new : ℕ) (counts : Bool) (of : Option ℕ) → is_group group of ≡ true
-    → new + one (not counts && is_group group of) ≡ old + one (counts && is_group group of)
-    → new + one (not counts) ≡ old + one counts
+    → new + one_if (not counts && is_group group of) ≡ old + one_if (counts && is_group group of)
+    → new + one_if (not counts) ≡ old + one_if counts
 total-own group old new true of own is = rw own at is
 total-own group old new false of own is = rw own at is
 
@@ -40,7 +38,7 @@ total-own group old new false of own is = rw own at is
 total-nobody : (groups : List (Option ℕ)) (group : ℕ) → total_in groups (replicate (length groups) false) group ≡ 0
 total-nobody [] group = refl
 total-nobody (first ∷ groups) group =
-    sum_by-cons (λ member. one (counts_for group member)) (first, false) (zip groups (replicate (length groups) false))
+    sum_by-cons (λ member. one_if (counts_for group member)) (first, false) (zip groups (replicate (length groups) false))
     ∙ omega (arith, total-nobody groups group)
 
 pub totals-nobody : (many : ℕ) (groups : List (Option ℕ)) → length groups < 2 ^ 32
@@ -57,9 +55,9 @@ totals-nobody many groups few within = record {
 module _ (group : ℕ) where
   total-cons : (first : Option ℕ) (groups : List (Option ℕ)) (counts : Bool) (counting : List Bool)
       → total_in (first ∷ groups) (counts ∷ counting) group
-      ≡ one (counts && is_group group first) + total_in groups counting group
+      ≡ one_if (counts && is_group group first) + total_in groups counting group
   total-cons first groups counts counting =
-      sum_by-cons (λ member. one (counts_for group member)) (first, counts) (zip groups counting)
+      sum_by-cons (λ member. one_if (counts_for group member)) (first, counts) (zip groups counting)
 
   -- where none counts, no member does
   pub none-count : (groups : List (Option ℕ)) (counting : List Bool) → total_in groups counting group ≡ 0
@@ -68,7 +66,7 @@ module _ (group : ℕ) where
   none-count (first ∷ groups) [] none member of = refl
   none-count (first ∷ groups) (false ∷ counting) none zero of = refl
   none-count (first ∷ groups) (true ∷ counting) none zero of =
-      let here : one (is_group group first) ≡ 1 = ap (λ of. one (is_group group of)) of ∙ ap one (eq-eqb group group refl) in
+      let here : one_if (is_group group first) ≡ 1 = ap (λ of. one_if (is_group group of)) of ∙ ap one_if (eq-eqb group group refl) in
       absurd (omega (arith, none, total-cons first groups true counting, here))
   none-count (first ∷ groups) (counts ∷ counting) none (suc member) of =
       none-count groups counting (omega (arith, none, total-cons first groups counts counting)) member of
@@ -85,12 +83,12 @@ module _ (group : ℕ) where
       ∙ omega (arith, rest, nobody_first counts first (none 0))
     where
       nobody_first : (counts : Bool) (first : Option ℕ) → (first ≡ Some group → counts ≡ false)
-          → one (counts && is_group group first) ≡ 0
+          → one_if (counts && is_group group first) ≡ 0
       nobody_first false first none = refl
       nobody_first true None none = refl
       nobody_first true (Some other) none = elim (eqb_tells other group) [
         | inl same ↦ absurd (cc (none (ap Some same.1)))
-        | inr apart ↦ ap one apart.0
+        | inr apart ↦ ap one_if apart.0
       ]
 
 module _ (groups : List (Option ℕ)) (counting : List Bool) (sized : length counting ≡ length groups) where
@@ -108,23 +106,23 @@ module _ (groups : List (Option ℕ)) (counting : List Bool) (sized : length cou
 
     -- one member is marked
     total-set : (group : ℕ) (counts : Bool)
-        → total_in groups (set counting at counts) group + one (get_or counting at false && is_group group (get_or groups at None))
-        ≡ total_in groups counting group + one (counts && is_group group (get_or groups at None))
+        → total_in groups (set counting at counts) group + one_if (get_or counting at false && is_group group (get_or groups at None))
+        ≡ total_in groups counting group + one_if (counts && is_group group (get_or groups at None))
     total-set group counts =
         let pairs_set : zip groups (set counting at counts) ≡ set (zip groups counting) at (get_or groups at None, counts) =
         zip-set groups counting at counts in
-        ap (λ pairs. count_by (counts_for group) pairs + one (get_or counting at false && is_group group (get_or groups at None)))
+        ap (λ pairs. count_by (counts_for group) pairs + one_if (get_or counting at false && is_group group (get_or groups at None)))
         pairs_set
         ∙ ap (λ pair. count_by (counts_for group) (set (zip groups counting) at (get_or groups at None, counts))
-        + one (counts_for group pair)) (sym (pair (None, false)))
-        ∙ sum_by-set (λ member. one (counts_for group member)) (zip groups counting) at (get_or groups at None, counts)
+        + one_if (counts_for group pair)) (sym (pair (None, false)))
+        ∙ sum_by-set (λ member. one_if (counts_for group member)) (zip groups counting) at (get_or groups at None, counts)
         (None, false) (omega (arith, within, pairs))
 
     total-turned : (counts : Bool) → get_or counting at false ≡ not counts → (group : ℕ)
-        → total_in groups (set counting at counts) group + one (not counts && is_group group (get_or groups at None))
-        ≡ total_in groups counting group + one (counts && is_group group (get_or groups at None))
+        → total_in groups (set counting at counts) group + one_if (not counts && is_group group (get_or groups at None))
+        ≡ total_in groups counting group + one_if (counts && is_group group (get_or groups at None))
     total-turned counts turns group = ap (λ was. total_in groups (set counting at counts) group
-        + one (was && is_group group (get_or groups at None))) (sym turns) ∙ total-set group counts
+        + one_if (was && is_group group (get_or groups at None))) (sym turns) ∙ total-set group counts
 
 -- the totals stay right as a member turns
 module _ (totals : List ℕ) (groups : List (Option ℕ)) (counting : List Bool) (kept : AreTotals totals groups counting)
@@ -132,8 +130,8 @@ module _ (totals : List ℕ) (groups : List (Option ℕ)) (counting : List Bool)
   abbrev of : Option ℕ
   of = get_or groups at None
 
-  turned : (group : ℕ) → total_in groups (set counting at counts) group + one (not counts && is_group group of)
-      ≡ total_in groups counting group + one (counts && is_group group of)
+  turned : (group : ℕ) → total_in groups (set counting at counts) group + one_if (not counts && is_group group of)
+      ≡ total_in groups counting group + one_if (counts && is_group group of)
   turned = total-turned groups counting kept.sized at within counts turns
 
   stays : (group : ℕ) → is_group group of ≡ false → group < length totals
@@ -154,7 +152,7 @@ module _ (totals : List ℕ) (groups : List (Option ℕ)) (counting : List Bool)
   own_there own is = subst (λ group. IfSome group (λ group. group < length totals)) is (kept.within at None within)
 
   pub own_total : (own : ℕ) → of ≡ Some own
-      → (total_in groups (set counting at counts) own + one (not counts) ≡ get_or totals own 0 + one counts)
+      → (total_in groups (set counting at counts) own + one_if (not counts) ≡ get_or totals own 0 + one_if counts)
       × (total_in groups (set counting at counts) own < 2 ^ 32)
   own_total own is =
       let now = total-own own _ _ counts of (ap (is_group own) is ∙ eq-eqb own own refl) (turned own) in
@@ -163,7 +161,7 @@ module _ (totals : List ℕ) (groups : List (Option ℕ)) (counting : List Bool)
         omega (arith, kept.few, total-few groups (set counting at counts) sized own),
       )
 
-  pub totals-turn : (own total : ℕ) → of ≡ Some own → total + one (not counts) ≡ get_or totals own 0 + one counts
+  pub totals-turn : (own total : ℕ) → of ≡ Some own → total + one_if (not counts) ≡ get_or totals own 0 + one_if counts
       → AreTotals (set totals own total) groups (set counting at counts)
   totals-turn own total is changes = record {
     sized = length-set counting at counts ∙ kept.sized;

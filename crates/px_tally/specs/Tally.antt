@@ -1,6 +1,7 @@
 -- What a tally is to contracts: members by number, each of a group or of none, some of which count.
 use Rattle.std.specs.Prelude.{ℕ, ◌≡◌, Bool, false, ◌&&◌, nat_eq, List, length, replicate, set, slice_index_or, Option, Some, None, count_by, if◌then◌else◌}
 use Rattle.std.specs.List.{zip}
+use Rattle.px_value.specs.General.{is_number}
 
 -- how many groups there are, the group of each member, and whether it counts
 pub record TallyData : Type 0 where
@@ -10,8 +11,7 @@ pub record TallyData : Type 0 where
 
 -- whether it is this group
 abbrev pub is_group : ℕ → Option ℕ → Bool
-is_group group None = false
-is_group group (Some other) = nat_eq other group
+is_group group member = is_number member group
 
 -- how many of these members are of the group and count
 abbrev pub total_in : List (Option ℕ) → List Bool → ℕ → ℕ

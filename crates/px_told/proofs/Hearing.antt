@@ -47,15 +47,11 @@ module _ (links : LinksData) (list : ℕ) where
     lists = (ap (set links.lists list) (append-nil (nth links.lists list)) ∙ set-get_or links.lists list []) i;
   }
 
-  filter-more : (cells : List ℕ) (at : ℕ) → filter (is_absent links) (cells ++ at ∷ [])
-      ≡ filter (is_absent links) cells ++ cond (is_absent links at) (at ∷ []) []
-  filter-more cells at = filter-append (is_absent links) cells (at ∷ [])
-
   with-held : (cells : List ℕ) (at : ℕ) → is_absent links at ≡ false
       → with_absent links list cells ≡ with_absent links list (cells ++ at ∷ [])
   with-held cells at held = λ i. record {
     cells = links.cells;
-    lists = set links.lists list (nth links.lists list ++ (sym (filter-more cells at
+    lists = set links.lists list (nth links.lists list ++ (sym (filter-append (is_absent links) cells (at ∷ [])
         ∙ ap (λ b. filter (is_absent links) cells ++ cond b (at ∷ []) []) held ∙ append-nil _)) i);
   }
 
@@ -65,7 +61,7 @@ module _ (links : LinksData) (list : ℕ) where
       let behind = nth links.lists list ++ filter (is_absent links) cells in
       let more : behind ++ at ∷ [] ≡ nth links.lists list ++ filter (is_absent links) (cells ++ at ∷ []) =
       append_assoc (nth links.lists list) (filter (is_absent links) cells) (at ∷ [])
-      ∙ ap (λ rest. nth links.lists list ++ rest) (sym (filter-more cells at
+      ∙ ap (λ rest. nth links.lists list ++ rest) (sym (filter-append (is_absent links) cells (at ∷ [])
       ∙ ap (λ b. filter (is_absent links) cells ++ cond b (at ∷ []) []) absent)) in
       λ i. record {
         cells = links.cells;

@@ -1,7 +1,7 @@
 // The texts of what moves do.
-ghost use Rattle.std.specs.Prelude.{◌≡◌, ◌++◌, codes, map, OnOk, OnErr};
-ghost use Rattle.std.specs.List.{zip};
-ghost use Rattle.px_sem.specs.Text.{effect_text, index_text, pair_text, parted};
+ghost use Rattle.std.specs.Prelude.{◌≡◌, ◌++◌, codes, OnOk, OnErr};
+ghost use Rattle.std.specs.List.{join_by, zip};
+ghost use Rattle.px_sem.specs.Text.{effect_text, index_text, pair_text};
 ghost use Rattle.px_trace.specs.Appending.{Keeps};
 
 use crate::append::push_all;
@@ -58,7 +58,7 @@ fn push_cell(
 
 fn push_pairs(names: &[Name], values: &[Value], out: &mut Vec<u8>) -> Result<(), NoMemory>
     ensures ok { OnOk result
-        (out.new.items ≡ out.old.items ++ parted (map pair_text (zip names.now values.now))) }
+        (out.new.items ≡ out.old.items ++ join_by pair_text (codes ", ") (zip names.now values.now)) }
     ensures err { OnErr result (Keeps out.old.items out.new.items) }
 {
     let mut pairs = names.iter().zip(values.iter());

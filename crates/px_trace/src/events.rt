@@ -1,5 +1,5 @@
 // The texts of events, and of where they come from.
-ghost use Rattle.std.specs.Prelude.{◌≡◌, ◌++◌, OnOk, OnErr};
+ghost use Rattle.std.specs.Prelude.{◌≡◌, ◌++◌, codes, OnOk, OnErr};
 ghost use Rattle.px_sem.specs.Text.{event_text, state_text, source_text};
 ghost use Rattle.px_trace.specs.Appending.{Keeps};
 
@@ -9,28 +9,28 @@ use itoa::Buffer;
 use px_event::Event;
 use px_value::{Name, NoMemory, Value};
 
-/// Appends an event as a script spells it, with single blanks.
+/// Appends a blank, and an event as a script spells it, with single blanks.
 pub(crate) fn push_event(event: &Event, out: &mut Vec<u8>) -> Result<(), NoMemory>
-    ensures ok { OnOk result (out.new.items ≡ out.old.items ++ event_text event.now) }
+    ensures ok { OnOk result (out.new.items ≡ out.old.items ++ (codes " " ++ event_text event.now)) }
     ensures err { OnErr result (Keeps out.old.items out.new.items) }
 {
     match event {
         Event::Report { name, args, value } => {
-            push_all(out, &["set "])?;
+            push_all(out, &[" set "])?;
             push_state(name, args.as_slice(), out)?;
             push_all(out, &[" = "])?;
             push_value(value, out)
         }
         Event::Handle { node, handle } => {
-            push_all(out, &["handle ", node.as_str(), " "])?;
+            push_all(out, &[" handle ", node.as_str(), " "])?;
             push_all(out, &[handle.word()])
         }
         Event::Return { node, value } => {
-            push_all(out, &["return ", node.as_str(), " "])?;
+            push_all(out, &[" return ", node.as_str(), " "])?;
             push_value(value, out)
         }
-        Event::AbortDone { node } => push_all(out, &["abort ", node.as_str()]),
-        Event::Acknowledged { node } => push_all(out, &["ack ", node.as_str()]),
+        Event::AbortDone { node } => push_all(out, &[" abort ", node.as_str()]),
+        Event::Acknowledged { node } => push_all(out, &[" ack ", node.as_str()]),
     }
 }
 

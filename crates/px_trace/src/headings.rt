@@ -44,7 +44,6 @@ fn push_numbered(position: u32, entry: &Entry, out: &mut Vec<u8>) -> Result<(), 
 {
     push_all(out, &["event ", Buffer::new().format(position), ": "])?;
     push_source(entry.thread, entry.line, out)?;
-    push_all(out, &[" "])?;
     push_event(&entry.event, out)?;
     push_all(out, &["\n"])
 }

@@ -1,6 +1,6 @@
 // The lines of the replies: what each post was answered.
-ghost use Rattle.std.specs.Prelude.{◌≡◌, ◌++◌, OnOk, OnErr};
-ghost use Rattle.px_sem.specs.Text.{reply_text, reply_line};
+ghost use Rattle.std.specs.Prelude.{◌≡◌, ◌++◌, codes, OnOk, OnErr};
+ghost use Rattle.px_sem.specs.Text.{line, reply_text, reply_line};
 ghost use Rattle.px_trace.specs.Appending.{Keeps};
 
 use crate::append::{keep_or_truncate, push_all};
@@ -37,21 +37,20 @@ fn push_line(entry: &LoggedLine, out: &mut Vec<u8>) -> Result<(), NoMemory>
     ensures err { OnErr result (Keeps out.old.items out.new.items) }
 {
     push_source(entry.thread, entry.line, out)?;
-    push_all(out, &[": "])?;
-    push_answer(entry.reply, out)?;
-    push_all(out, &["\n"])
+    push_answer(entry.reply, out)
 }
 
+// Appends the answer behind a colon, to the end of the line.
 fn push_answer(reply: Reply, out: &mut Vec<u8>) -> Result<(), NoMemory>
-    ensures ok { OnOk result (out.new.items ≡ out.old.items ++ reply_text reply) }
+    ensures ok { OnOk result (out.new.items ≡ out.old.items ++ line (codes ": " ++ reply_text reply)) }
     ensures err { OnErr result (out.new.items ≡ out.old.items) }
 {
     match reply {
         Reply::Accepted { position } => {
-            push_all(out, &["accepted ", Buffer::new().format(position)])
+            push_all(out, &[": accepted ", Buffer::new().format(position), "\n"])
         }
-        Reply::PlanFinished => push_all(out, &["refused plan finished"]),
-        Reply::Full => push_all(out, &["refused full"]),
-        Reply::Runaway => push_all(out, &["refused runaway"]),
+        Reply::PlanFinished => push_all(out, &[": refused plan finished\n"]),
+        Reply::Full => push_all(out, &[": refused full\n"]),
+        Reply::Runaway => push_all(out, &[": refused runaway\n"]),
     }
 }

@@ -1,6 +1,7 @@
 // The texts of values.
-ghost use Rattle.std.specs.Prelude.{◌≡◌, ◌++◌, map, OnOk, OnErr};
-ghost use Rattle.px_sem.specs.Text.{value_text, arguments_text, parted};
+ghost use Rattle.std.specs.Prelude.{◌≡◌, ◌++◌, codes, OnOk, OnErr};
+ghost use Rattle.std.specs.List.{join_by};
+ghost use Rattle.px_sem.specs.Text.{value_text, arguments_text};
 ghost use Rattle.px_trace.specs.Appending.{Keeps};
 
 use crate::append::push_all;
@@ -36,7 +37,7 @@ pub(crate) fn push_arguments(args: &[Value], out: &mut Vec<u8>) -> Result<(), No
 }
 
 fn push_parted(values: &[Value], out: &mut Vec<u8>) -> Result<(), NoMemory>
-    ensures ok { OnOk result (out.new.items ≡ out.old.items ++ parted (map value_text values.now)) }
+    ensures ok { OnOk result (out.new.items ≡ out.old.items ++ join_by value_text (codes ", ") values.now) }
     ensures err { OnErr result (Keeps out.old.items out.new.items) }
 {
     let mut values = values.iter();

@@ -9,8 +9,12 @@ module _ {A : Type 0} where
   pub front_none : (xs : List A) → IsFront [] xs
   front_none xs = (xs, refl)
 
+  pub front_trans : (xs ys zs : List A) → IsFront xs ys → IsFront ys zs → IsFront xs zs
+  front_trans xs ys zs one other =
+      (one.0 ++ other.0, other.1 ∙ ap (λ l. l ++ other.0) one.1 ∙ append_assoc xs one.0 other.0)
+
   pub front_more : (xs ys zs : List A) → IsFront xs ys → IsFront xs (ys ++ zs)
-  front_more xs ys zs front = (front.0 ++ zs, ap (λ l. l ++ zs) front.1 ∙ append_assoc xs front.0 zs)
+  front_more xs ys zs front = front_trans xs ys (ys ++ zs) front (zs, refl)
 
   pub front_length : (xs ys : List A) → IsFront xs ys → length xs ≤ length ys
   front_length xs ys front = omega (arith, ap (λ (l : List A). length l) front.1, length-append xs front.0)

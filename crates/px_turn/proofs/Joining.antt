@@ -1,6 +1,6 @@
 -- A seat is joined into another.
 use Rattle.std.proofs.lemmas.Grind.{common_steps}
-use Rattle.std.proofs.Common.{rules, ◌≡◌, ◌≢◌, ◌⊎◌, ℕ, ◌+◌, Bool, true, false, ltb, lt-ltb, le-ltb, if◌then◌else◌, List, ◌∷◌, ◌++◌, length, set, None, refl, sym, ap, ◌∙◌, subst, inl, inr, arith, length-set, length-append, All}
+use Rattle.std.proofs.Common.{rules, ◌≡◌, ◌≢◌, ◌⊎◌, ℕ, ◌+◌, true, false, ltb, lt-ltb, le-ltb, List, ◌∷◌, ◌++◌, length, set, None, refl, sym, ap, ◌∙◌, subst, inl, inr, arith, length-set, length-append, All}
 use mathlib.Core.Logic.{dite}
 use mathlib.Core.Option.{some}
 use native.Mathlib.Decide.{ℕ_discrete}
@@ -17,13 +17,8 @@ use Rattle.px_turn.proofs.Totals.{total_set, times-append}
 use Rattle.px_turn.proofs.Fronts.{front_none, front_length, front_whole}
 use Rattle.px_turn.proofs.Seating.{at_within, one_only, each_set, own_first, joined_rest, numbers_are}
 use mathlib.Core.List.{map-append}
-use Rattle.std.proofs.lemmas.Bool.{cases_lt}
+use Rattle.std.proofs.lemmas.Bool.{cases_lt, cond_both}
 use Rattle.std.proofs.lemmas.List.Elements.{All-nil, All-cons, All-append}
-
--- either of two lists
-either_is : {A : Type 0} (P : A → Type 0) (b : Bool) (x y : A) → P x → P y → P (if b then x else y)
-either_is P true x y one other = one
-either_is P false x y one other = other
 
 -- where one of two fronts is the whole, the longer is
 longer_whole : {A : Type 0} (xs ys whole : List A) → IsFront xs whole → IsFront ys whole → (xs ≡ whole) ⊎ (ys ≡ whole)
@@ -61,8 +56,8 @@ module _ {T I : Type 0} where
   joined_fits key history served v w live live_too off fits other = record {
     turn = λ has. absurd (cc);
     spent = λ not_live. absurd (cc);
-    seen = either_is (λ l. IsFront l history) (ltb (length v.seen) (length w.seen)) w.seen v.seen other.seen fits.seen;
-    told = either_is (λ l. IsFront l history) (ltb (length v.seen) (length w.seen)) v.seen w.seen fits.seen other.seen;
+    seen = cond_both (ltb (length v.seen) (length w.seen)) w.seen v.seen (λ l. IsFront l history) (λ _. other.seen) (λ _. fits.seen);
+    told = cond_both (ltb (length v.seen) (length w.seen)) v.seen w.seen (λ l. IsFront l history) (λ _. fits.seen) (λ _. other.seen);
     known = let known = fits.known in let known_too = other.known in omega arith;
     made = records_joined (HasPositions history) v w live live_too fits.made other.made;
     opening = fits.opening;

@@ -1,15 +1,15 @@
 -- Who made which position.
 use Rattle.std.proofs.Common.{rules, ◌≡◌, ℕ, zero, suc, ◌+◌, ◌<◌, ◌≤◌, Bool, true, false, if◌then◌else◌, List, [], ◌∷◌, ◌++◌, map, length, Option, Some, None, refl, ap, ◌∙◌, arith, length-append, All}
 use Rattle.std.specs.Cmp.{nat_eq_equiv}
+use Rattle.std.proofs.lemmas.List.{length-map}
 use Rattle.std.proofs.lemmas.List.Elements.{All-head, All-tail}
 use Rattle.px_turn.specs.declared.view.Record.{Record}
 use Rattle.px_turn.specs.declared.view.Stamped.{Stamped}
 use Rattle.px_turn.specs.declared.view.View.{View}
-use Rattle.px_turn.specs.Histories.{is_number, opened, positions, positions_from, HasPositions, IsMade, AreMade}
+use Rattle.px_turn.specs.Histories.{stamped, is_number, opened, positions, positions_from, HasPositions, IsMade, AreMade}
 use Rattle.px_turn.specs.Views.{records}
 use Rattle.px_turn.specs.Rule.{one_if, times, total}
 use Rattle.px_turn.specs.Seats.{IsWhole, makers_at, AreMadeOnce}
-use Rattle.px_turn.proofs.Positions.{length_opened}
 use Rattle.px_turn.proofs.Seating.{one_if_same, one_if_other}
 
 -- of an entry that carries no number, and of one that carries this
@@ -105,7 +105,7 @@ module _ {T I : Type 0} (list : T → List I) (goes_on : T → T → Type 0) whe
         arith,
         ap (λ (l : List (Stamped I)). length l) begins,
         length-append (opened (list opening)) whole.later,
-        length_opened (list opening),
+        length-map (list opening) (λ (item : I). stamped None item),
       ) in
       let unmade : (position : ℕ) → maker_at v.seen position ≡ None → makers_at position v ≡ 0 =
       λ position none_made. makers_are v.seen (records v) position whole.made

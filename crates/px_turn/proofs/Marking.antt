@@ -3,6 +3,7 @@ use Rattle.std.proofs.Common.{rules, ◌≡◌, ◌≢◌, ℕ, ◌+◌, ◌%◌
 use mathlib.Core.Option.{some, none}
 use lib.ListN.{get_elem?}
 use Rattle.std.proofs.lemmas.Bool.{cases_lt}
+use Rattle.std.proofs.lemmas.List.{length-map}
 use Rattle.px_turn.proofs.Looking.{not_both}
 use Rattle.atomic_table.specs.Table.{State, step, stepped, keeps, Allows}
 use Rattle.atomic_table.proofs.Lists.{set_here}
@@ -15,7 +16,7 @@ use Rattle.px_turn.specs.Rule.{one_if, times, waiting, bearers, AreNumbered, Fit
 use Rattle.px_turn.specs.Steps.{Sat, marked}
 use Rattle.px_turn.proofs.Totals.{one_of, two_of}
 use Rattle.px_turn.proofs.Fronts.{front_self, front_more}
-use Rattle.px_turn.proofs.Positions.{positions_own, positions_other, length_items}
+use Rattle.px_turn.proofs.Positions.{positions_own, positions_other}
 use Rattle.px_turn.proofs.Seating.{one_if_same, at_within, each_set, own_first, joined_rest, waiting_same, in_hand, tickets_same, numbered_same, one_has_turn, bears_own}
 use Rattle.std.proofs.lemmas.List.Elements.{All-cons, All-nil, All-head, All-tail, All-push}
 
@@ -166,6 +167,6 @@ module _ {T I : Type 0} (list : T → List I) (goes_on : T → T → Type 0) (ke
         arith,
         ap (λ (l : List I). length l) stands,
         length-append (items v.seen) (item ∷ []),
-        length_items v.seen,
+        length-map v.seen (λ (e : Stamped I). e.item),
       ) in
       rw is (marks slots id (v, (0, Some value) ∷ []) value item live has refl stands (omega arith))

@@ -1,14 +1,15 @@
 -- The opening.
-use Rattle.std.proofs.Common.{◌≡◌, ℕ, zero, suc, ◌+◌, ◌^◌, ◌<◌, true, List, [], ◌∷◌, map, length, Option, Some, append-nil, refl, sym, ap, ◌∙◌, subst, arith}
+use Rattle.std.proofs.Common.{◌≡◌, ℕ, zero, suc, ◌+◌, ◌^◌, ◌<◌, true, List, [], ◌∷◌, map, length, Option, Some, None, append-nil, refl, sym, ap, ◌∙◌, subst, arith}
 use mathlib.Core.Option.{some, some-injective, some-ne-none}
 use lib.ListN.{get_elem?}
+use Rattle.std.proofs.lemmas.List.{length-map}
 use Rattle.atomic_table.specs.Table.{opening}
 use Rattle.px_turn.specs.declared.view.View.{View}
-use Rattle.px_turn.specs.Histories.{opened, HasPositions, IsMade}
+use Rattle.px_turn.specs.Histories.{stamped, opened, HasPositions, IsMade}
 use Rattle.px_turn.specs.Views.{newcomer}
 use Rattle.px_turn.specs.Rule.{AreNumbered, Fits, IsRuled}
 use Rattle.px_turn.proofs.Fronts.{front_self, front_none}
-use Rattle.px_turn.proofs.Positions.{positions_opened, items_opened, length_opened}
+use Rattle.px_turn.proofs.Positions.{positions_opened, items_opened}
 use Rattle.px_turn.proofs.Seating.{one_if_same, one_if_other}
 use Rattle.std.proofs.lemmas.List.Elements.{All-nil, All-cons}
 
@@ -44,7 +45,7 @@ module _ {T I : Type 0} (list : T → List I) (goes_on : T → T → Type 0) whe
       → count ≡ length (list value) → count < 2 ^ 63
       → IsRuled list goes_on key (opening (0 ∷ 0 ∷ count ∷ []) slots (newcomer list key))
   opens key value count slots is slots_are stays count_is few =
-      let long = length_opened (list key) in
+      let long = length-map (list key) (λ (item : I). stamped None item) in
       let same_count : count ≡ length (opened (list key)) = omega (arith, ap (λ (x : T). length (list x)) is) in
       record {
         history = opened (list key);

@@ -15,8 +15,8 @@ use Rattle.px_sem.specs.declared.guards.Arrival.{Arrival}
 use Rattle.px_sem.specs.declared.moves.Effect.TheVariants as effects
 use Rattle.px_sem.specs.Expressions.{value}
 use Rattle.px_value.specs.declared.enums.Handle.{Handle}
-use Rattle.px_sem.specs.World.{World, Abort, Action, NoAction, Assigned, Commanded, Updated, Place, record_at, variable_at, cells_at}
-use Rattle.px_sem.specs.Effects.{MoveKind, Initializes, Resets, Starts, Fails, Other, move_kind, as_kind, Write, write_at, value_at, cell_of, place_of, Effects, silent, writing, sends, updates, writes_back, aborts, effects_of}
+use Rattle.px_sem.specs.World.{World, NodeRecord, Abort, Action, NoAction, Assigned, Commanded, Updated, Place, record_at, variable_at, cells_at}
+use Rattle.px_sem.specs.Effects.{MoveKind, Initializes, Resets, Starts, Fails, Other, move_kind, as_kind, Write, write_at, value_at, cell_of, place_of, Effects, silent, writing, writes_back, row_of, effects_of}
 use Rattle.px_typed.specs.Typing.{suits, Suits, CellsSuit, KeptSuits}
 
 -- a write is of its variable's type, or UNKNOWN
@@ -36,17 +36,6 @@ assigned_at plan world target right None = record { write = None; action = Assig
 assigned_at plan world target right (Some place) =
     writing (Assigned (Some (record { place = place; old = value_at (cells_at plan world target.owner target.name) place })))
     (write_at plan target (value plan world right) place)
-
-abbrev row : List Site → World → Action → MoveKind → BodyData → Effects
-row plan world under_way move Nothing = silent NoAction
-row plan world under_way Initializes body = silent NoAction
-row plan world under_way Resets body = silent NoAction
-row plan world under_way Starts (Assign target right) = assigned_at plan world target right (place_of plan world target)
-row plan world under_way Starts (Command name args result) = sends plan world name args result
-row plan world under_way Starts (Update pairs) = updates plan world pairs
-row plan world under_way Fails (Assign target right) = writes_back target under_way
-row plan world under_way Fails (Command name args result) = aborts name under_way
-row plan world under_way move body = silent under_way
 
 -- ---- writes
 
@@ -90,26 +79,26 @@ back_suits plan target right (Assigned None) keeps = silent_suits plan (Assigned
 back_suits plan target right (Commanded index handle abort) keeps = silent_suits plan (Commanded index handle abort)
 back_suits plan target right (Updated acknowledged) keeps = silent_suits plan (Updated acknowledged)
 
-row_suits : (plan : List Site) (world : World) (under_way : Action) (move : MoveKind) (body : BodyData)
-    → KeptSuits plan body under_way → WritesSuit plan (row plan world under_way move body)
-row_suits plan world under_way move Nothing kept = silent_suits plan NoAction
-row_suits plan world under_way Initializes body kept = silent_suits plan NoAction
-row_suits plan world under_way Resets body kept = silent_suits plan NoAction
-row_suits plan world under_way Starts (Assign target right) kept =
+row_suits : (plan : List Site) (world : World) (old : NodeRecord) (move : MoveKind) (body : BodyData)
+    → KeptSuits plan body old.action → WritesSuit plan (row_of plan world old move body)
+row_suits plan world old move Nothing kept = silent_suits plan NoAction
+row_suits plan world old Initializes body kept = silent_suits plan NoAction
+row_suits plan world old Resets body kept = silent_suits plan NoAction
+row_suits plan world old Starts (Assign target right) kept =
     assigned_suits plan world target right (place_of plan world target)
-row_suits plan world under_way Starts (Command name args result) kept = λ write is. absurd (cc)
-row_suits plan world under_way Starts (Update pairs) kept = λ write is. absurd (cc)
-row_suits plan world under_way Fails (Assign target right) kept = back_suits plan target right under_way kept
-row_suits plan world under_way Fails (Command name args result) kept = λ write is. absurd (cc)
-row_suits plan world under_way Fails (Update pairs) kept = silent_suits plan under_way
-row_suits plan world under_way Other body kept = silent_suits plan under_way
+row_suits plan world old Starts (Command name args result) kept = λ write is. absurd (cc)
+row_suits plan world old Starts (Update pairs) kept = λ write is. absurd (cc)
+row_suits plan world old Fails (Assign target right) kept = back_suits plan target right old.action kept
+row_suits plan world old Fails (Command name args result) kept = λ write is. absurd (cc)
+row_suits plan world old Fails (Update pairs) kept = silent_suits plan old.action
+row_suits plan world old Other body kept = silent_suits plan old.action
 
 -- what a node writes suits
 pub effects_suit : (plan : List Site) (world : World) (site : Site) (arrival : Arrival)
     → KeptSuits plan site.head.body (record_at world site.path).action
     → (write : Write) → (effects_of plan world site arrival).write ≡ Some write → WriteSuits plan write
 effects_suit plan world site arrival kept =
-    row_suits plan world (record_at world site.path).action (move_kind (record_at world site.path).state arrival.to)
+    row_suits plan world (record_at world site.path) (move_kind (record_at world site.path).state arrival.to)
     site.head.body kept
 
 -- ---- what is kept
@@ -144,18 +133,18 @@ back_kept plan target right (Assigned None) keeps = keeps
 back_kept plan target right (Commanded index handle abort) keeps = keeps
 back_kept plan target right (Updated acknowledged) keeps = keeps
 
-row_kept : (plan : List Site) (world : World) (under_way : Action) (move : MoveKind) (body : BodyData)
-    → ((owner name : List ℕ) → CellsSuit plan world owner name) → KeptSuits plan body under_way
-    → KeptSuits plan body (row plan world under_way move body).action
-row_kept plan world under_way move Nothing cells kept = tt
-row_kept plan world under_way move (Command name args result) cells kept = tt
-row_kept plan world under_way move (Update pairs) cells kept = tt
-row_kept plan world under_way Initializes (Assign target right) cells kept = tt
-row_kept plan world under_way Resets (Assign target right) cells kept = tt
-row_kept plan world under_way Starts (Assign target right) cells kept =
+row_kept : (plan : List Site) (world : World) (old : NodeRecord) (move : MoveKind) (body : BodyData)
+    → ((owner name : List ℕ) → CellsSuit plan world owner name) → KeptSuits plan body old.action
+    → KeptSuits plan body (row_of plan world old move body).action
+row_kept plan world old move Nothing cells kept = tt
+row_kept plan world old move (Command name args result) cells kept = tt
+row_kept plan world old move (Update pairs) cells kept = tt
+row_kept plan world old Initializes (Assign target right) cells kept = tt
+row_kept plan world old Resets (Assign target right) cells kept = tt
+row_kept plan world old Starts (Assign target right) cells kept =
     assigned_kept plan world target right (place_of plan world target) (cells target.owner target.name)
-row_kept plan world under_way Fails (Assign target right) cells kept = back_kept plan target right under_way kept
-row_kept plan world under_way Other (Assign target right) cells kept = kept
+row_kept plan world old Fails (Assign target right) cells kept = back_kept plan target right old.action kept
+row_kept plan world old Other (Assign target right) cells kept = kept
 
 -- what a node keeps after its move suits
 pub effects_keep : (plan : List Site) (world : World) (site : Site) (arrival : Arrival)
@@ -163,7 +152,7 @@ pub effects_keep : (plan : List Site) (world : World) (site : Site) (arrival : A
     → KeptSuits plan site.head.body (record_at world site.path).action
     → KeptSuits plan site.head.body (effects_of plan world site arrival).action
 effects_keep plan world site arrival cells kept =
-    row_kept plan world (record_at world site.path).action (move_kind (record_at world site.path).state arrival.to)
+    row_kept plan world (record_at world site.path) (move_kind (record_at world site.path).state arrival.to)
     site.head.body cells kept
 
 -- ---- what has no old value

@@ -14,8 +14,8 @@ use Rattle.px_sem.specs.Effects.{Write, write_at, written}
 use Rattle.px_sem.specs.Events.{with_record, with_action, with_write, with_handle, with_abort_done, result_place, returned, body_at, action_at, counts, changed, take}
 use Rattle.px_typed.specs.Typing.{Suits, HasCells, KeptSuits, IsTyped}
 use Rattle.px_typed.proofs.Effects.{WriteSuits, write_at_suits, command_kept, update_kept}
-use Rattle.px_typed.proofs.Records.{with_record_holds}
-use Rattle.px_typed.proofs.Variables.{named_so, HoldsSuiting, Keeps, changed_suit, written_suits}
+use Rattle.px_typed.proofs.Records.{found_named, with_record_holds}
+use Rattle.px_typed.proofs.Variables.{HoldsSuiting, Keeps, changed_suit, written_suits}
 
 -- the record of the node at a path is typed
 record RecordSuits (plan : List Site) (path : List ℕ) (r : NodeRecord) : Type 0 where
@@ -71,7 +71,7 @@ one_keeps plan write suits name variable is cells suit = by (is_same variable.na
     by true same =
         let here : write.name ≡ name =
         sym ((bytes_decides variable.name write.name).0 same)
-        ∙ named_so (site_at plan write.owner).head.variables name variable is in
+        ∙ found_named (λ (variable : VariableData). variable.name) (site_at plan write.owner).head.variables name variable is in
         written_suits variable cells (Some write) suit
         (λ w w_is.
         let it : write ≡ w = cc in

@@ -5,11 +5,12 @@ use Rattle.std.specs.Map.{lookup}
 use Rattle.std.specs.Option.{unwrap_or, option_map}
 use Rattle.std.specs.Cmp.Lexicographic.{bytes_decides}
 use Rattle.std.proofs.lemmas.List.{get_or_default}
-use Rattle.px_value.proofs.General.{found_has}
+use Rattle.px_value.proofs.General.{found_has, lookup-map}
 use Rattle.px_core.specs.Fit.{AreDistinct}
 use Rattle.px_core.specs.Plan.{Site, no_site, is_same}
 use Rattle.px_core.proofs.Paths.{found_itself}
 use Rattle.px_sem.specs.World.{World, NodeRecord, no_record, record_at, initial_world, initial_record}
+use Rattle.px_sem.specs.Events.{with_entry}
 use Rattle.px_sem.specs.Step.{micro, record_after}
 use Rattle.px_sem.specs.Conflicts.{transition}
 
@@ -17,12 +18,13 @@ use Rattle.px_sem.specs.Conflicts.{transition}
 abbrev pub found : List Site → List ℕ → Option Site
 found plan path = find (λ site. is_same site.path path) plan
 
--- it has the path
-pub found_path : (plan : List Site) (path : List ℕ) (site : Site) → found plan path ≡ Some site → site.path ≡ path
-found_path plan path site is = (bytes_decides site.path path).0
-    (found_has (λ (s : Site). Unit {0}) (λ s. is_same s.path path) plan site (λ k d within. tt) is).1
+-- what is found by its name has that name
+pub found_named : {X : Type 0} (name_of : X → List ℕ) (xs : List X) (name : List ℕ) (x : X)
+    → find (λ x. is_same (name_of x) name) xs ≡ Some x → name_of x ≡ name
+found_named {X} name_of xs name x is = (bytes_decides (name_of x) name).0
+    (found_has (λ (x : X). Unit {0}) (λ x. is_same (name_of x) name) xs x (λ k d within. tt) is).1
 
--- what holds of each node holds of it
+-- what holds of each node holds of the one that is found
 pub found_holds : (P : Site → Type 0) (plan : List Site) → All P plan → (path : List ℕ) (site : Site)
     → found plan path ≡ Some site → P site
 found_holds P plan all path site is = (found_has P (λ s. is_same s.path path) plan site all is).0
@@ -36,15 +38,7 @@ each_is_found plan distinct k d within =
 
 looked_up : {X : Type 0} (f : Site → X) (plan : List Site) (path : List ℕ)
     → lookup (λ key. is_same key path) (map (λ site. (site.path, f site)) plan) ≡ option_map f (found plan path)
-looked_up f [] path = refl
-looked_up f (site ∷ plan) path = by (is_same site.path path) (looked_up f plan path)
-  where
-    by : (b : Bool)
-        → lookup (λ key. is_same key path) (map (λ site. (site.path, f site)) plan) ≡ option_map f (found plan path)
-        → (if b then Some (f site) else lookup (λ key. is_same key path) (map (λ site. (site.path, f site)) plan))
-        ≡ option_map f (if b then Some site else found plan path)
-    by true rest = refl
-    by false rest = rest
+looked_up f plan path = lookup-map (λ key. is_same key path) (λ (site : Site). site.path) f plan
 
 abbrev pub record_of : (Site → NodeRecord) → Option Site → NodeRecord
 record_of f site = unwrap_or (option_map f site) no_record
@@ -64,15 +58,13 @@ record_of_start plan path = ap (λ r. unwrap_or r no_record) (looked_up (λ site
 pub with_record_holds : (P : List ℕ → NodeRecord → Type 0) (nodes : List (List ℕ × NodeRecord)) (path : List ℕ)
     (r : NodeRecord) → P path r → (at : List ℕ)
     → P at (unwrap_or (lookup (λ key. is_same key at) nodes) no_record)
-    → P at (unwrap_or (lookup (λ key. is_same key at)
-    (map (λ entry. (entry.0, if is_same entry.0 path then r else entry.1)) nodes)) no_record)
+    → P at (unwrap_or (lookup (λ key. is_same key at) (with_entry path r nodes)) no_record)
 with_record_holds P [] path r new at before = before
 with_record_holds P (entry ∷ nodes) path r new at before =
     by (is_same entry.0 at) refl before (with_record_holds P nodes path r new at)
   where
     Behind : Type 0
-    Behind = P at (unwrap_or (lookup (λ key. is_same key at)
-        (map (λ entry. (entry.0, if is_same entry.0 path then r else entry.1)) nodes)) no_record)
+    Behind = P at (unwrap_or (lookup (λ key. is_same key at) (with_entry path r nodes)) no_record)
 
     here : (c : Bool) → is_same entry.0 path ≡ c → entry.0 ≡ at → P at entry.1 → P at (if c then r else entry.1)
     here true same is old = subst (λ q. P q r) (sym ((bytes_decides entry.0 path).0 same) ∙ is) new
@@ -82,6 +74,6 @@ with_record_holds P (entry ∷ nodes) path r new at before =
         → P at (unwrap_or (if b then Some entry.1 else lookup (λ key. is_same key at) nodes) no_record)
         → (P at (unwrap_or (lookup (λ key. is_same key at) nodes) no_record) → Behind)
         → P at (unwrap_or (if b then Some (if is_same entry.0 path then r else entry.1)
-        else lookup (λ key. is_same key at) (map (λ entry. (entry.0, if is_same entry.0 path then r else entry.1)) nodes)) no_record)
+        else lookup (λ key. is_same key at) (with_entry path r nodes)) no_record)
     by true same before others = here (is_same entry.0 path) refl ((bytes_decides entry.0 at).0 same) before
     by false other before others = others before

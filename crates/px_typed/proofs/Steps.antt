@@ -5,7 +5,7 @@ use Rattle.std.specs.Option.{ForSome, unwrap_or, option_and_then}
 use Rattle.std.proofs.lemmas.List.Elements.{All-map}
 use Rattle.px_value.specs.declared.value.Value.{Value}
 use Rattle.px_core.specs.Fit.{AreDistinct}
-use Rattle.px_core.specs.Plan.{Site, no_site, site_at}
+use Rattle.px_core.specs.Plan.{Site, VariableData, no_site, site_at}
 use Rattle.px_sem.specs.declared.guards.Arrival.{Arrival}
 use Rattle.px_sem.specs.World.{World, NodeRecord, record_at, variable_at}
 use Rattle.px_sem.specs.Conflicts.{transition}
@@ -14,8 +14,8 @@ use Rattle.px_sem.specs.Step.{micro, record_after, initializes, step_writes}
 use Rattle.px_sem.proofs.Writes.{IsTo, found_to}
 use Rattle.px_typed.specs.Typing.{InitialsSuit, KeptSuits, IsTyped}
 use Rattle.px_typed.proofs.Effects.{WriteSuits, effects_suit, effects_keep}
-use Rattle.px_typed.proofs.Records.{found, found_path, found_holds, each_is_found, record_of, record_of_step}
-use Rattle.px_typed.proofs.Variables.{named, named_so, HoldsSuiting, Keeps, initial_values_suit, changed_suit, written_suits}
+use Rattle.px_typed.proofs.Records.{found, found_named, found_holds, each_is_found, record_of, record_of_step}
+use Rattle.px_typed.proofs.Variables.{named, HoldsSuiting, Keeps, initial_values_suit, changed_suit, written_suits}
 
 -- ---- the writes of a step
 
@@ -72,7 +72,7 @@ step_holds plan world distinct initials typed site own name false =
         found_to (WriteSuits plan) site.path variable.name (step_writes plan world) all_suit write written_is in
         it.0 variable
         (ap (λ owner. variable_at plan owner write.name) it.1
-        ∙ ap (variable_at plan site.path) (it.2 ∙ named_so site.head.variables name variable is)
+        ∙ ap (variable_at plan site.path) (it.2 ∙ found_named (λ (variable : VariableData). variable.name) site.head.variables name variable is)
         ∙ ap (λ s. named (unwrap_or s no_site).head.variables name) own
         ∙ is))
 
@@ -99,7 +99,7 @@ step_cells plan world distinct initials typed owner name =
         → HoldsSuiting (unwrap_or s no_site).head.variables name (record_of after s).variables
     by None is = λ variable has. absurd (cc)
     by (Some site) is =
-        moved site (ap (found plan) (found_path plan owner site is) ∙ is) (transition plan world site)
+        moved site (ap (found plan) (found_named (λ (site : Site). site.path) plan owner site is) ∙ is) (transition plan world site)
 
 step_keeps : (plan : List Site) (world : World) → IsTyped plan world → (path : List ℕ)
     → KeptSuits plan (site_at plan path).head.body (record_at (micro plan world) path).action
@@ -119,7 +119,7 @@ step_keeps plan world typed path =
         → KeptSuits plan (unwrap_or s no_site).head.body (record_of after s).action
     by None is = tt
     by (Some site) is =
-        let own : found plan site.path ≡ Some site = ap (found plan) (found_path plan path site is) ∙ is in
+        let own : found plan site.path ≡ Some site = ap (found plan) (found_named (λ (site : Site). site.path) plan path site is) ∙ is in
         moved site
         (subst (λ s. KeptSuits plan (unwrap_or s no_site).head.body (record_at world site.path).action) own (typed.kept site.path))
         (transition plan world site)

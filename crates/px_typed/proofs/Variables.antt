@@ -1,13 +1,11 @@
 -- What the variables of a node hold after a step and after a write: as many cells as they declare, each of its type.
 use Rattle.std.proofs.Common.{◌≡◌, ℕ, zero, ◌-◌, Bool, true, false, List, [], ◌∷◌, length, map, replicate, slice_index_or, Option, Some, None, refl, ◌∙◌, subst, arith, if◌then◌else◌}
 use Rattle.std.specs.List.{All, find, zip}
-use Rattle.std.specs.Cmp.Lexicographic.{bytes_decides}
 use Rattle.std.specs.Option.{ForSome, unwrap_or}
 use Rattle.std.proofs.lemmas.List.{length-append, length-replicate, length-set}
 use Rattle.std.proofs.lemmas.List.Elements.{All-set, All-replicate, All-append, All-tail}
 use Rattle.px_value.specs.declared.value.Value.{Value}
 use Rattle.px_value.specs.declared.value.Value.TheVariants as values
-use Rattle.px_value.proofs.General.{found_has}
 use Rattle.px_core.specs.declared.variable.VarKind.{VarKind}
 use Rattle.px_core.specs.Fit.{cells_of}
 use Rattle.px_core.specs.Plan.{VariableData, is_same}
@@ -28,12 +26,6 @@ held_by variables name held = unwrap_or (of_variable name variables held) []
 abbrev pub HoldsSuiting : List VariableData → List ℕ → List (List Value) → Type 0
 HoldsSuiting variables name held =
     ForSome (named variables name) (λ variable. HasCells variable (held_by variables name held))
-
--- the variable that is found has the name
-pub named_so : (variables : List VariableData) (name : List ℕ) (variable : VariableData)
-    → named variables name ≡ Some variable → variable.name ≡ name
-named_so variables name variable is = (bytes_decides variable.name name).0
-    (found_has (λ (v : VariableData). Unit {0}) (λ v. is_same v.name name) variables variable (λ k d within. tt) is).1
 
 -- ---- values given anew
 

@@ -34,7 +34,7 @@ ascii_text bytes h = IsUtf8-from_ascii bytes (each bytes h)
 
 -- ---- bytes
 
-continues_ascii : (c : ℕ) → continues_identifier c ≡ true → is_ascii c ≡ true
+pub continues_ascii : (c : ℕ) → continues_identifier c ≡ true → is_ascii c ≡ true
 continues_ascii c h = grind (arith, nat_tests)
 
 begins_ascii : (c : ℕ) → begins_identifier c ≡ true → is_ascii c ≡ true
@@ -49,7 +49,7 @@ sign_ascii c sign small h = grind (arith, nat_tests)
 -- ---- identifiers and names
 
 -- bytes that go on an identifier
-pub run_ascii : (bytes : List ℕ) → list_all continues_identifier bytes ≡ true → list_all is_ascii bytes ≡ true
+run_ascii : (bytes : List ℕ) → list_all continues_identifier bytes ≡ true → list_all is_ascii bytes ≡ true
 run_ascii = list_all-weaker continues_identifier is_ascii continues_ascii
 
 identifier_ascii : (bytes : List ℕ) → is_identifier bytes ≡ true → all_ascii bytes ≡ true

@@ -1,14 +1,14 @@
 -- Bytes that are all digits are those of a decimal numeral, and a decimal numeral is all digits.
-use Rattle.std.proofs.Common.{◌≡◌, ℕ, ◌+◌, ◌<◌, ◌%◌, ◌^◌, true, List, [], ◌∷◌, arith}
-use Rattle.std.specs.Prelude.{nat_le, decimal}
+use Rattle.std.proofs.Common.{◌≡◌, ℕ, ◌+◌, ◌<◌, ◌%◌, ◌^◌, ◌≤◌, true, List, [], ◌∷◌, arith}
+use Rattle.std.specs.Prelude.{◌&&◌, nat_le, decimal, length}
 use Rattle.std.specs.List.{list_all}
-use Rattle.std.specs.Str.Parse.{AllDigits}
+use Rattle.std.specs.Str.Parse.{AllDigits, IsNumeral, without_leading_plus}
 use Rattle.std.proofs.lemmas.Bool.{and_parts, leb-true}
 use Rattle.std.proofs.lemmas.Bool.Decides.{nat_tests}
 use Rattle.std.proofs.lemmas.Fmt.{decimal_by_steps}
 use Rattle.std.proofs.lemmas.List.Folds.{list_all-append}
-use Rattle.std.proofs.lemmas.Str.Parse.{tells_digits}
-use Rattle.px_value.specs.Name.{is_digit}
+use Rattle.std.proofs.lemmas.Str.Parse.{tells_digits, without_leading_plus_none}
+use Rattle.px_value.specs.Name.{is_digit, is_digits}
 
 pub all_digits : (digits : List ℕ) → list_all is_digit digits ≡ true → AllDigits 10 digits
 all_digits [] pass = tells_digits.empty
@@ -16,6 +16,23 @@ all_digits (c ∷ cs) pass =
     let parts = and_parts (is_digit c) (list_all is_digit cs) pass in
     let range = and_parts (nat_le 48 c) (nat_le c 57) parts.0 in
     tells_digits.more c cs (leb-true 48 c range.0, leb-true c 57 range.1) (all_digits cs parts.1)
+
+-- digits are a numeral, which begins with no sign
+pub record ArePlain (ds : List ℕ) : Type 0 where
+  pub numeral : IsNumeral 10 ds
+  pub sign : without_leading_plus ds ≡ ds
+
+pub digits_plain : (most : ℕ) (ds : List ℕ) → is_digits most ds ≡ true → ArePlain ds
+digits_plain most [] h = cc
+digits_plain most (c ∷ cs) h =
+    let all : list_all is_digit (c ∷ cs) ≡ true =
+    (and_parts (nat_le 1 (length (c ∷ cs)) && nat_le (length (c ∷ cs)) most) (list_all is_digit (c ∷ cs)) h).1 in
+    let digit : is_digit c ≡ true = (and_parts (is_digit c) (list_all is_digit cs) all).0 in
+    let low : 48 ≤ c = leb-true 48 c (and_parts (nat_le 48 c) (nat_le c 57) digit).0 in
+    record {
+      numeral = (omega arith, all_digits (c ∷ cs) all);
+      sign = without_leading_plus_none (c ∷ cs) (λ plus. absurd (omega arith));
+    }
 
 digit_is : (d : ℕ) → d < 10 → is_digit (48 + d) ≡ true
 digit_is d small = grind (arith, nat_tests)

@@ -1,21 +1,30 @@
 -- What holds of options, Booleans, lists, results and texts in general, and several crates need.
-use Rattle.std.proofs.Common.{◌≡◌, ℕ, zero, suc, ◌+◌, ◌-◌, ◌<◌, ◌≤◌, ◌==◌, Bool, true, false, cond, List, [], ◌∷◌, ◌++◌, All, AllPairs, find, filter, map, take, drop, length, replicate, get_or, Option, Some, None, is_none, is_some, IsSome, option_map, Result, Ok, Err, IsErrAnd, IfErr, refl, sym, ap, ◌∙◌, subst, arith, inl, inr}
-use Rattle.std.specs.List.{range_with_len}
+use Rattle.std.proofs.Common.{◌≡◌, ℕ, zero, suc, ◌+◌, ◌-◌, ◌<◌, ◌≤◌, ◌==◌, Bool, true, false, cond, List, [], ◌∷◌, ◌++◌, All, AllPairs, find, filter, map, take, drop, length, replicate, get_or, Option, Some, None, is_none, is_some, IsSome, IfSome, option_map, Result, Ok, Err, IsErrAnd, IfErr, refl, sym, ap, ◌∙◌, subst, arith, append_assoc, inl, inr}
+use Rattle.std.specs.List.{list_all, prefix_len, range_with_len, AllByRecursion as Each}
+use Rattle.std.specs.Map.{lookup}
+use Rattle.std.specs.Option.{option_and_then}
 use Rattle.std.specs.Result.{OnErr, OnOk}
 use Rattle.std.specs.Str.{is_utf8, IsUtf8}
-use Rattle.std.proofs.lemmas.Bool.{cases_lt, cond-false, false_from_ne_true}
+use Rattle.std.proofs.lemmas.Bool.{and_parts, cases_lt, cond-false, false_from_ne_true}
 use Rattle.std.proofs.lemmas.Bool.Decides.{nat_tests}
 use Rattle.std.proofs.lemmas.List.{drop_more, get_or-map, get_or-replicate, get_or_past, length-map, length-replicate, length-take, take-take, take_rest}
-use Rattle.std.proofs.lemmas.List.Elements.{All-append, All-head, All-tail}
+use Rattle.std.proofs.lemmas.Grind.{common_steps}
+use Rattle.std.proofs.lemmas.List.Elements.{All-append, All-cons, All-head, All-nil, All-tail, All-take}
 use Rattle.std.proofs.lemmas.List.Folds.{map_fixed}
 use Rattle.std.proofs.lemmas.List.FromFn.{map-range_with_len_more}
 use Rattle.std.proofs.lemmas.List.Kept.{AllPairs-cons}
+use Rattle.std.proofs.lemmas.Option.{none-some, same_Some}
 use Rattle.std.proofs.lemmas.Str.{IsUtf8-from_is_utf8}
+use Rattle.std.proofs.Math.Seq.{take-append_seam}
 
 -- there is none where each would be absurd
 pub none_from : {X : Type 0} (found : Option X) → ((x : X) → found ≡ Some x → ⊥) → found ≡ None
 none_from None each = refl
 none_from (Some x) each = absurd (each x refl)
+
+-- a test as a number
+abbrev pub one_if : Bool → ℕ
+one_if b = cond b 1 0
 
 -- options that hold nothing
 pub is_none-None : {X : Type 0} (found : Option X) → is_none found ≡ true → found ≡ None
@@ -25,6 +34,25 @@ is_none-None (Some x) is = cc
 pub is_some-None : {X : Type 0} (found : Option X) → is_some found ≡ false → found ≡ None
 is_some-None None is = refl
 is_some-None (Some x) is = cc
+
+-- what holds nothing does not hold something
+pub none_or_some : {X : Type 0} (found : Option X) → found ≡ None → IsSome found → ⊥
+none_or_some None is some = cc
+none_or_some (Some x) is some = cc
+
+-- an image that is there is that of what is there
+pub option_map_some : {X Y : Type 0} (f : X → Y) (found : Option X) (y : Y) → option_map f found ≡ Some y → (x : X) × (found ≡ Some x) × (f x ≡ y)
+option_map_some f None y is = absurd (none-some y is)
+option_map_some f (Some x) y is = (x, refl, same_Some (f x) y is)
+
+-- what holds of an image or of what follows holds of it where there is one
+pub IfSome-map : {X Y : Type 0} (P : Y → Type 0) (f : X → Y) (found : Option X) → ((x : X) → found ≡ Some x → P (f x)) → IfSome (option_map f found) P
+IfSome-map P f None holds = tt
+IfSome-map P f (Some x) holds = holds x refl
+
+pub IfSome-and_then : {X Y : Type 0} (P : Y → Type 0) (f : X → Option Y) (found : Option X) → ((x : X) → found ≡ Some x → IfSome (f x) P) → IfSome (option_and_then f found) P
+IfSome-and_then P f None holds = tt
+IfSome-and_then P f (Some x) holds = holds x refl
 
 -- an option that is told holds something
 pub is_some_at : {X : Type 0} (found : Option X) (x : X) → found ≡ Some x → IsSome found
@@ -70,6 +98,28 @@ pub neither : {X : Type 0} (xs ys : List X) → xs ++ ys ≡ [] → (xs ≡ []) 
 neither [] ys none = (refl, none)
 neither (x ∷ xs) ys none = absurd (cc)
 
+-- what holds of each of two lists together holds of each of the first
+pub All-front : {X : Type 0} (P : X → Type 0) (xs ys : List X) → All P (xs ++ ys) → All P xs
+All-front P xs ys all = subst (All P) (take-append_seam xs ys) (All-take P (length xs) (xs ++ ys) all)
+
+-- what holds of each, by recursion on the list, holds of each of two lists together and of each of one of them
+pub each-append : {X : Type 0} (P : X → Type 0) (xs ys : List X) → Each P xs → Each P ys → Each P (xs ++ ys)
+each-append P [] ys front back = back
+each-append P (x ∷ xs) ys front back = (front.0, each-append P xs ys front.1 back)
+
+pub each_front : {X : Type 0} (P : X → Type 0) (xs ys : List X) → Each P (xs ++ ys) → Each P xs
+each_front P [] ys each = tt
+each_front P (x ∷ xs) ys each = (each.0, each_front P xs ys each.1)
+
+pub each_back : {X : Type 0} (P : X → Type 0) (xs ys : List X) → Each P (xs ++ ys) → Each P ys
+each_back P [] ys each = each
+each_back P (x ∷ xs) ys each = each_back P xs ys each.1
+
+-- and what follows from it does
+pub each_map : {X : Type 0} (P Q : X → Type 0) (xs : List X) → ((x : X) → P x → Q x) → Each P xs → Each Q xs
+each_map P Q [] f each = tt
+each_map P Q (x ∷ xs) f each = (f x each.0, each_map P Q xs f each.1)
+
 -- what holds of each element's image holds of each element
 pub All-unmap : {X Y : Type 0} (P : Y → Type 0) (f : X → Y) (xs : List X) → All P (map f xs) → All (λ x. P (f x)) xs
 All-unmap P f xs all k d within = subst P (get_or-map f xs k d (f d) within) (all k (f d) (omega (arith, length-map xs f)))
@@ -81,6 +131,13 @@ no_filtered p from (suc count) none =
     cond-false (p from) (from ∷ filter p (range_with_len (from + 1) count)) (filter p (range_with_len (from + 1) count))
     (ap p (omega arith) ∙ none 0 (omega arith))
     ∙ no_filtered p (from + 1) count (λ k below. ap p (omega arith) ∙ none (k + 1) (omega (arith, below)))
+
+-- the front that passes is a run of items that pass and nothing of what is behind it
+pub prefix_run : {X : Type 0} (p : X → Bool) (run behind : List X) → list_all p run ≡ true → prefix_len p behind ≡ 0 → prefix_len p (run ++ behind) ≡ length run
+prefix_run p [] behind all stop = stop
+prefix_run p (x ∷ run) behind all stop =
+    let both = and_parts (p x) (list_all p run) all in
+    ap (λ b. cond b (1 + prefix_len p (run ++ behind)) 0) both.0 ∙ omega (arith, prefix_run p run behind both.1 stop)
 
 -- what is found passes, and has what all have
 pub found_has : {X : Type 0} (P : X → Type 0) (p : X → Bool) (xs : List X) (x : X) → All P xs → find p xs ≡ Some x
@@ -95,6 +152,11 @@ found_has P p (first ∷ xs) x all is = by (p first) refl is (found_has P p xs x
         (subst P same (All-head P first xs all), subst (λ x. p x ≡ true) same passes)
     by false fails is rest = rest is
 
+-- where none is found none passes
+pub none_found : {X : Type 0} (p : X → Bool) (xs : List X) → find p xs ≡ None → All (λ x. p x ≡ false) xs
+none_found p [] is = All-nil (λ x. p x ≡ false)
+none_found p (first ∷ xs) is = grind (arith, common_steps, All-cons, none_found p xs)
+
 -- what is found among images is the image of what is found
 pub find-map : {X Y : Type 0} (p : Y → Bool) (f : X → Y) (xs : List X) → find p (map f xs) ≡ option_map f (find (λ x. p (f x)) xs)
 find-map p f [] = refl
@@ -102,6 +164,18 @@ find-map p f (x ∷ xs) = by (p (f x)) (find-map p f xs)
   where
     by : (passes : Bool) → find p (map f xs) ≡ option_map f (find (λ x. p (f x)) xs)
         → cond passes (Some (f x)) (find p (map f xs)) ≡ option_map f (cond passes (Some x) (find (λ x. p (f x)) xs))
+    by true rest = refl
+    by false rest = rest
+
+-- what is looked up by the keys of items is the value of the item that is found by its key
+pub lookup-map : {X K V : Type 0} (p : K → Bool) (key : X → K) (value : X → V) (xs : List X)
+    → lookup p (map (λ x. (key x, value x)) xs) ≡ option_map value (find (λ x. p (key x)) xs)
+lookup-map p key value [] = refl
+lookup-map p key value (x ∷ xs) = by (p (key x)) (lookup-map p key value xs)
+  where
+    by : (passes : Bool) → lookup p (map (λ x. (key x, value x)) xs) ≡ option_map value (find (λ x. p (key x)) xs)
+        → cond passes (Some (value x)) (lookup p (map (λ x. (key x, value x)) xs))
+        ≡ option_map value (cond passes (Some x) (find (λ x. p (key x)) xs))
     by true rest = refl
     by false rest = rest
 
@@ -131,6 +205,11 @@ handed_on P fault (Err other) is holds = subst P (sym is) holds
 -- bytes that are no text
 pub not_utf8 : (bytes : List ℕ) → (IsUtf8 bytes → ⊥) → is_utf8 bytes ≡ false
 not_utf8 bytes none = false_from_ne_true (is_utf8 bytes) (λ is. none (IsUtf8-from_is_utf8 bytes is))
+
+-- five texts that are appended one behind another
+pub joined_five : {X : Type 0} (out a b c d e o1 o2 o3 o4 new : List X) → o1 ≡ out ++ a → o2 ≡ o1 ++ b → o3 ≡ o2 ++ c → o4 ≡ o3 ++ d → new ≡ o4 ++ e
+    → new ≡ out ++ (a ++ (b ++ (c ++ (d ++ e))))
+joined_five out a b c d e o1 o2 o3 o4 new e1 e2 e3 e4 e5 = rw (e5, e4, e3, e2, e1) (simp append_assoc)
 
 -- numbers that differ do so the other way round
 pub differs_turned : (a b : ℕ) → (a == b) ≡ false → (b == a) ≡ false

@@ -1,3 +1,4 @@
+pub mod General
 pub mod Name
 pub mod Path
 pub mod Text

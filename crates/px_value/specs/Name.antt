@@ -1,16 +1,21 @@
 -- What a name is.
 use Rattle.std.specs.Prelude.{ℕ, Bool, false, ◌&&◌, ◌||◌, ◌==◌, nat_le, List, [], ◌∷◌, length, decimal}
+use Rattle.std.specs.Char.{is_ascii_digit, is_ascii_alphabetic}
 use Rattle.std.specs.List.{list_all}
 
 -- an ASCII digit, an ASCII letter
 abbrev pub is_digit : ℕ → Bool
-is_digit c = nat_le 48 c && nat_le c 57
+is_digit = is_ascii_digit
 
 abbrev pub is_letter : ℕ → Bool
-is_letter c = (nat_le 65 c && nat_le c 90) || (nat_le 97 c && nat_le c 122)
+is_letter = is_ascii_alphabetic
 
 abbrev pub is_letter_or_digit : ℕ → Bool
 is_letter_or_digit c = is_letter c || is_digit c
+
+-- digits, at least one and at most so many
+abbrev pub is_digits : ℕ → List ℕ → Bool
+is_digits most digits = nat_le 1 (length digits) && nat_le (length digits) most && list_all is_digit digits
 
 -- a letter or _ begins an identifier, and letters, digits and _ go on
 abbrev pub begins_identifier : ℕ → Bool

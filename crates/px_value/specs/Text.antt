@@ -1,6 +1,7 @@
 -- What a text value holds, and how it is spelled between quotes.
-use Rattle.std.specs.Prelude.{ℕ, Bool, nat_le, nat_eq, List, [], ◌∷◌, ◌++◌, length, Option, Some, None, codes, if◌then◌else◌}
+use Rattle.std.specs.Prelude.{ℕ, Bool, nat_le, nat_eq, List, [], ◌∷◌, ◌++◌, length, map, Option, Some, None, codes}
 use Rattle.std.specs.List.{flat_map}
+use Rattle.std.specs.Map.{lookup}
 
 -- a text value has at most 1,024 bytes
 abbrev pub is_short_text : List ℕ → Bool
@@ -12,20 +13,12 @@ abbrev pub escapes : List (ℕ × ℕ)
 escapes = (34, 34) ∷ (92, 92) ∷ (10, 110) ∷ (9, 116) ∷ []
 
 -- the byte that a letter behind a backslash stands for
-abbrev pub byte_in : List (ℕ × ℕ) → ℕ → Option ℕ
-byte_in [] letter = None
-byte_in (row ∷ rows) letter = if nat_eq letter row.1 then Some row.0 else byte_in rows letter
-
 abbrev pub unescaped : ℕ → Option ℕ
-unescaped letter = byte_in escapes letter
+unescaped letter = lookup (nat_eq letter) (map (λ row. (row.1, row.0)) escapes)
 
 -- the letter that stands for a byte behind a backslash, where the byte has one
-abbrev pub letter_in : List (ℕ × ℕ) → ℕ → Option ℕ
-letter_in [] byte = None
-letter_in (row ∷ rows) byte = if nat_eq byte row.0 then Some row.1 else letter_in rows byte
-
 abbrev pub escape_letter : ℕ → Option ℕ
-escape_letter byte = letter_in escapes byte
+escape_letter byte = lookup (nat_eq byte) escapes
 
 -- how a byte is spelled between quotes: behind a backslash its letter, where it has one; else by itself
 abbrev pub escaped_as : ℕ → Option ℕ → List ℕ

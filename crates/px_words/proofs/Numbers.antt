@@ -1,39 +1,20 @@
 -- A word that spells no number of 32 bits.
-use Rattle.std.proofs.Common.{◌≡◌, ℕ, ◌^◌, ◌<◌, ◌≤◌, true, List, [], ◌∷◌, length, refl, ap, ◌∙◌, arith, Result, Ok, Err, Some, None, inl, inr}
-use Rattle.std.specs.Prelude.{◌&&◌, nat_le, nat_lt}
-use Rattle.std.specs.List.{list_all}
+use Rattle.std.proofs.Common.{◌≡◌, ℕ, ◌^◌, ◌<◌, ◌≤◌, true, List, refl, ap, ◌∙◌, arith, Result, Ok, Err, Some, None, inl, inr}
+use Rattle.std.specs.Prelude.{nat_le, nat_lt}
 use Rattle.std.specs.Result.{OkIff, result_ok}
 use Rattle.std.specs.Str.Parse.{IsNumeral, digits_value, without_leading_plus}
 use Rattle.std.proofs.lemmas.Bool.{cases_Bool, and_parts, leb-true, ltb-true, lt-ltb}
-use Rattle.std.proofs.lemmas.Str.Parse.{without_leading_plus_none}
-use Rattle.px_value.specs.Name.{is_digit}
-use Rattle.px_value.proofs.Digits.{all_digits}
-use Rattle.px_words.specs.Limited.{event_limit, is_digits, is_limit, count_of}
+use Rattle.px_value.specs.Name.{is_digits}
+use Rattle.px_value.proofs.Digits.{digits_plain}
+use Rattle.px_words.specs.Limited.{event_limit, is_limit, count_of}
 use Rattle.px_words.specs.Seed.{seed_of}
-
--- digits are a numeral, which begins with no sign
-pub record IsPlain (ds : List ℕ) : Type 0 where
-  pub numeral : IsNumeral 10 ds
-  pub sign : without_leading_plus ds ≡ ds
-
-pub plain : (most : ℕ) (ds : List ℕ) → is_digits most ds ≡ true → IsPlain ds
-plain most [] h = cc
-plain most (c ∷ cs) h =
-    let all : list_all is_digit (c ∷ cs) ≡ true =
-    (and_parts (nat_le 1 (length (c ∷ cs)) && nat_le (length (c ∷ cs)) most) (list_all is_digit (c ∷ cs)) h).1 in
-    let digit : is_digit c ≡ true = (and_parts (is_digit c) (list_all is_digit cs) all).0 in
-    let low : 48 ≤ c = leb-true 48 c (and_parts (nat_le 48 c) (nat_le c 57) digit).0 in
-    record {
-      numeral = (omega arith, all_digits (c ∷ cs) all);
-      sign = without_leading_plus_none (c ∷ cs) (λ plus. absurd (omega arith));
-    }
 
 not_read : (ds : List ℕ) → is_digits 6 ds ≡ true
     → ¬ (IsNumeral 10 (without_leading_plus ds) × (digits_value 10 (without_leading_plus ds) < 2 ^ 32)) → None ≡ count_of ds
 not_read ds digits none = rw digits (elim (cases_Bool (is_limit (digits_value 10 ds))) [
   | inl limit ↦
       let most : digits_value 10 ds ≤ event_limit = leb-true (digits_value 10 ds) event_limit (and_parts (nat_le 1 (digits_value 10 ds)) (nat_le (digits_value 10 ds) event_limit) limit).1 in
-      absurd (none (rw (plain 6 ds digits).sign ((plain 6 ds digits).numeral, omega arith)))
+      absurd (none (rw (digits_plain 6 ds digits).sign ((digits_plain 6 ds digits).numeral, omega arith)))
   | inr other ↦ rw other refl
 ])
 
@@ -49,10 +30,10 @@ pub seed_read : {E : Type 0} (ds : List ℕ) (read : Result ℕ E) → is_digits
     → OkIff read (IsNumeral 10 (without_leading_plus ds) × (digits_value 10 (without_leading_plus ds) < 2 ^ 32)) (digits_value 10 (without_leading_plus ds))
     → result_ok read ≡ seed_of ds
 seed_read ds (Ok seed) digits parses =
-    let sign = (plain 10 ds digits).sign in
+    let sign = (digits_plain 10 ds digits).sign in
     let below : digits_value 10 ds < 2 ^ 32 = rw sign at parses.0.1 in
     rw (digits, lt-ltb (digits_value 10 ds) (2 ^ 32) below) (ap Some (parses.1 ∙ ap (digits_value 10) sign))
 seed_read ds (Err fault) digits parses = rw digits (elim (cases_Bool (nat_lt (digits_value 10 ds) (2 ^ 32))) [
-  | inl small ↦ absurd (parses (rw (plain 10 ds digits).sign ((plain 10 ds digits).numeral, ltb-true (digits_value 10 ds) (2 ^ 32) small)))
+  | inl small ↦ absurd (parses (rw (digits_plain 10 ds digits).sign ((digits_plain 10 ds digits).numeral, ltb-true (digits_value 10 ds) (2 ^ 32) small)))
   | inr large ↦ rw large refl
 ])

@@ -1,6 +1,7 @@
 -- What the reader of command lines finds in words is what they ask for.
 use Rattle.std.proofs.Common.{◌≡◌, ◌⊎◌, ℕ, Bool, true, false, List, [], ◌∷◌, ◌++◌, Option, Some, None, refl, sym, ap, ◌∙◌, inl, inr, is_some, codes, IsUtf8, String, append_assoc, append-nil, map}
 use Rattle.std.specs.Prelude.{option_and_then, option_map, slice_get, unwrap_or}
+use Rattle.std.specs.List.{AllByRecursion}
 use Rattle.std.specs.String.{string_bytes}
 use Rattle.std.specs.Str.{bytes_eq}
 use Rattle.std.proofs.lemmas.Bool.{cases_Bool}
@@ -18,8 +19,7 @@ use Rattle.px_words.proofs.Spelling.{IsLong, Kind, plain, dashes, short, long, k
 use Rattle.px_words.proofs.Walking.{IsDoomed, Settles, at, ready, read_on, no_more, stops, behind_operand, operand_row, operand_settles, trailing_on, plain_fault, plain_on, dashes_on, short_stops, unknown_stops, other_unknown, behind_number, behind_name, behind_next, number_fault, number_on, name_on, taken_on, long_stops, doomed_behind, doomed_end}
 
 abbrev pub AreTexts : List Text → Type 0
-AreTexts [] = Unit {0}
-AreTexts (word ∷ words) = IsUtf8 word × AreTexts words
+AreTexts words = AllByRecursion IsUtf8 words
 
 -- what is pending has failed
 doomed_idle : (limits is_behind : Bool) (held : Held) (words : List Text) → IsDoomed limits held → held.skip ≡ 0 → AreTexts words

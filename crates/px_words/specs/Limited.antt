@@ -1,19 +1,14 @@
 -- The option `--events`: the limit of a history's events.
-use Rattle.std.specs.Prelude.{◌≤◌, ℕ, Bool, ◌&&◌, ◌==◌, nat_le, List, [], ◌∷◌, ◌++◌, length, Option, Some, None, codes, if◌then◌else◌}
-use Rattle.std.specs.List.{list_all}
+use Rattle.std.specs.Prelude.{◌≤◌, ℕ, Bool, ◌&&◌, ◌==◌, nat_le, List, [], ◌∷◌, ◌++◌, Option, Some, None, codes, if◌then◌else◌}
 use Rattle.std.specs.Option.{option_map, option_and_then}
 use Rattle.std.specs.Str.Parse.{digits_value}
-use Rattle.px_value.specs.Name.{is_digit}
+use Rattle.px_value.specs.Name.{is_digits}
 use Rattle.px_core.specs.Plan.{is_same}
 use Rattle.px_words.specs.Operands.{is_option, operands}
 
 -- the greatest limit, which also stands where the option does not
 abbrev pub event_limit : ℕ
 event_limit = 100000
-
--- digits, at least one and at most so many
-abbrev pub is_digits : ℕ → List ℕ → Bool
-is_digits most digits = nat_le 1 (length digits) && nat_le (length digits) most && list_all is_digit digits
 
 abbrev pub is_limit : ℕ → Bool
 is_limit count = nat_le 1 count && nat_le count event_limit

@@ -1,7 +1,7 @@
 -- The seed of `soak`.
 use Rattle.std.specs.Prelude.{ℕ, ◌^◌, Bool, ◌&&◌, nat_lt, List, Option, Some, None, if◌then◌else◌}
 use Rattle.std.specs.Str.Parse.{digits_value}
-use Rattle.px_words.specs.Limited.{is_digits}
+use Rattle.px_value.specs.Name.{is_digits}
 
 -- 1 to 10 digits for a number of at most 2^32 - 1
 abbrev pub is_seed : List ℕ → Bool

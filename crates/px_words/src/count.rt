@@ -1,8 +1,8 @@
 // Numbers of events, and seeds.
 ghost use Rattle.std.specs.Prelude.{◌≡◌};
 ghost use Rattle.std.specs.List.{list_all};
-ghost use Rattle.px_value.specs.Name.{is_digit};
-ghost use Rattle.px_words.specs.Limited.{is_digits, is_limit, count_of};
+ghost use Rattle.px_value.specs.Name.{is_digit, is_digits};
+ghost use Rattle.px_words.specs.Limited.{is_limit, count_of};
 ghost use Rattle.px_words.specs.Seed.{seed_of};
 
 use px_value::is_digit;

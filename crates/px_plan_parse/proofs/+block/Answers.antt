@@ -26,7 +26,7 @@ use Rattle.px_expr_parse.proofs.Spans.{IsLocal, local_closed, local_identifier, 
 use Rattle.px_plan_parse.proofs.Shortests.{short_actions, short_block, short_body, short_branch, short_else_ifs, short_optional, short_list, short_loop, short_otherwise, short_tail, short_tested}
 use Rattle.px_plan_parse.proofs.Spans.{local_action, local_counter, local_else_ifs, local_guarded, local_head, local_item, local_label, local_list_word, local_otherwise}
 use Rattle.px_plan_parse.proofs.Sorts.{sort_of}
-use Rattle.px_plan_parse.proofs.Starts.{here, name_here, not_so, not_there, start_keyword, start_too, starts_so, starts_there}
+use Rattle.px_plan_parse.proofs.Starts.{here, name_here, not_so, not_there, start_keyword, start_same, starts_so, starts_there}
 use Rattle.px_plan_parse.proofs.+block.Goals as goal
 
 local_else_if : (part : GuardedTree) → IsLocal (one_else_if part)
@@ -92,7 +92,7 @@ block::actions-returns-in_err-expect-clause-fault t c =
     (front_ends c.loop-alloc.invariant (λ others agree. not_there c.args.tokens.now c.loop-alloc.at action is_action
     (λ part others from end o. (action_acts part others from end o).0)
     (ap is_action (sym c.start_at.ensures.value) ∙ sym c.is_action.ensures ∙ c.loop-alloc-test.false) others
-    (start_too c.args.tokens.now others c.loop-alloc.at c.loop-alloc.at (omega arith) agree))) c.in_err-expect.ensures.fault))
+    (start_same c.args.tokens.now others c.loop-alloc.at (agree c.loop-alloc.at (omega arith))))) c.in_err-expect.ensures.fault))
 
 pub block::actions-returns-clause-ok : goal.block::actions-returns-clause-ok
 block::actions-returns-clause-ok t c =
@@ -100,7 +100,7 @@ block::actions-returns-clause-ok t c =
     (front_ends c.loop-alloc.invariant (λ others agree. not_there c.args.tokens.now c.loop-alloc.at action is_action
     (λ part others from end o. (action_acts part others from end o).0)
     (ap is_action (sym c.start_at.ensures.value) ∙ sym c.is_action.ensures ∙ c.loop-alloc-test.false) others
-    (start_too c.args.tokens.now others c.loop-alloc.at c.loop-alloc.at (omega arith) agree))) c.in_ok-expect.ensures.ok.1)
+    (start_same c.args.tokens.now others c.loop-alloc.at (agree c.loop-alloc.at (omega arith))))) c.in_ok-expect.ensures.ok.1)
 
 pub branch::branch-returns-in_err-label-clause-fault : goal.branch::branch-returns-in_err-label-clause-fault
 branch::branch-returns-in_err-label-clause-fault t c =

@@ -1,6 +1,6 @@
 use Rattle.std.proofs.Common.{option_map, ap, sym, ◌∙◌}
 use Rattle.px_syntax.specs.Plan.{tree_of_surface}
-use Rattle.px_check.specs.Checked.{all_faults}
+use Rattle.px_syntax.specs.PlanFaults.{all_faults}
 use Rattle.px_check.specs.Found.{Sought, fault_of, noted}
 use Rattle.px_check.proofs.Behind.{first_in_order}
 use Rattle.px_check.proofs.whole.first_behind.Goals as goal

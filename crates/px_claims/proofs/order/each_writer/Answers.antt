@@ -2,7 +2,8 @@ use Rattle.std.proofs.Common.{◌+◌, List, ap, sym, ◌∙◌, subst, arith}
 use Rattle.px_value.proofs.General.{none_from}
 use Rattle.px_core.specs.Plan.{Site, Head}
 use Rattle.px_flat.specs.Flat.{plan_of}
-use Rattle.px_claims.proofs.Writers.{AreSoFar, no_more, one_more}
+use Rattle.px_claims.specs.Ordering.{AreSoFar}
+use Rattle.px_claims.proofs.Writers.{no_more, one_more}
 use Rattle.px_claims.proofs.order.each_writer.Goals as goal
 use Rattle.px_claims.proofs.order.each_writer.Goals.{in-Some+in_ok-push, in_default}
 

@@ -1,5 +1,5 @@
 use Rattle.px_flat.specs.Flat.{plan_of}
-use Rattle.px_claims.proofs.Writers.{AreSoFar}
+use Rattle.px_claims.specs.Ordering.{AreSoFar}
 use Rattle.px_claims.proofs.order.each_writer.Given as goal
 
 abbrev pub invariant-loop-node : goal.invariant-loop-node

@@ -5,6 +5,7 @@ use Rattle.std.proofs.lemmas.Bool.{cases_lt}
 use Rattle.std.proofs.lemmas.List.{length_push, length-map}
 use Rattle.std.proofs.lemmas.Slice.Zip.{zip_turn, zip_end}
 use Rattle.px_script.specs.declared.stall.Stall.{Stall}
+use Rattle.px_script.specs.declared.worker.Worker.{Worker}
 use Rattle.px_crew.specs.Standstill.{waits_of}
 use Rattle.px_crew.specs.Work.{places_of}
 use Rattle.px_crew.proofs.Standing.{waits_more, waits_end, place_at}
@@ -23,7 +24,8 @@ loop-todo-preserved g c =
     (ap (λ (waits : List Stall). waits ++ waits_of (drop (length xs + 1) threads) (drop (length xs + 1) places)) c.in_ok-push_wait.ensures
     ∙ waits_more c.loop-todo.waits.items threads places (length xs) c.in-Some.todo.now c.in-Some.worker.now.at turn.0
     (omega (arith, turn.1, length-map workers (λ w. w.at)))
-    (turn.2 _) (place_at workers (length xs) c.in-Some.worker.now turn.1 (turn.3 _))
+    (turn.2 _)
+    (ap (λ (w : Worker g.row.S.Denot). w.at) (turn.3 c.in-Some.worker.now) ∙ sym (place_at workers (length xs) c.in-Some.worker.now turn.1))
     ∙ c.loop-todo.invariant)
 
 pub returns : goal.returns

@@ -7,7 +7,8 @@ use Rattle.px_turn.specs.Histories.{items}
 use Rattle.px_desk.specs.EventDesk.{seating, opened_with, IsSeatOf}
 use Rattle.px_desk.specs.Listing.{start_of}
 use Rattle.px_desk.specs.Seating.{AreAll}
-use Rattle.px_desk_tests.proofs.Seats.{posted, two, both, all}
+use Rattle.px_desk.proofs.Dealing.{seats_count}
+use Rattle.px_desk_tests.proofs.Seats.{posted, both, all}
 use Rattle.px_desk_tests.proofs.two_seats.a_seat_counts_what_another_posts.Goals as goal
 
 pub create-requires-clause-started : goal.create-requires-clause-started
@@ -16,15 +17,15 @@ create-requires-clause-started g c = run_started _ _ c.in-Ok-start.ensures.settl
 pub post-receipt-requires-clause-own : goal.post-receipt-requires-clause-own
 post-receipt-requires-clause-own g c =
     subst (IsSeatOf c.in-Ok-open.desk) (sym c.index_mut.ensures.value)
-    (c.in-Ok-open.ensures.own 0 c.index_mut.result.now (omega (arith, two seating _ c.in-Ok-open.seats.items c.in-Ok-open.ensures.seats)))
+    (c.in-Ok-open.ensures.own 0 c.index_mut.result.now (omega (arith, seats_count seating _ c.in-Ok-open.seats.items 2 c.in-Ok-open.ensures.seats)))
 
 pub index_mut-requires-2 : goal.index_mut-requires-2
-index_mut-requires-2 g c = omega (arith, two seating _ c.in-Ok-open.seats.items c.in-Ok-open.ensures.seats, c.in-Ok-open.seats.ok.0)
+index_mut-requires-2 g c = omega (arith, seats_count seating _ c.in-Ok-open.seats.items 2 c.in-Ok-open.ensures.seats, c.in-Ok-open.seats.ok.0)
 
 pub close-exec-requires-clause-own : goal.close-exec-requires-clause-own
 close-exec-requires-clause-own g c =
     both (IsSeatOf c.in-Ok-open.desk) c.in-Ok-open.seats.items c.post-receipt.new.seat c.count.new.seat
-    (two seating _ c.in-Ok-open.seats.items c.in-Ok-open.ensures.seats) c.post-receipt.ensures.own c.count.ensures.own
+    (seats_count seating _ c.in-Ok-open.seats.items 2 c.in-Ok-open.ensures.seats) c.post-receipt.ensures.own c.count.ensures.own
 
 pub close-exec-requires-clause-all : goal.close-exec-requires-clause-all
 close-exec-requires-clause-all g c =

@@ -13,6 +13,7 @@ use Rattle.px_syntax.specs.Block as text
 use Rattle.px_syntax.specs.Block.{action_of, block_of, body_of, branch_of, else_ifs_in_turn, else_of, guarded_of, item_data}
 use Rattle.px_syntax.specs.Expr.{term_of as text_of}
 use Rattle.px_syntax.proofs.Trees as trees
+use Rattle.px_syntax.proofs.Trees.{in_turn}
 use Rattle.px_expand.specs.Chain.{all_closed, branch_in}
 use Rattle.px_expand.specs.Core.{actions_core, actions_in, actions_seen, block_seen, body_core, branch_core, branch_name, follows, form_of, name_of}
 use Rattle.px_forms.specs.Forms.{counted, loop_path, repeated, where_found, where_not_found}
@@ -20,11 +21,12 @@ use Rattle.px_expand.specs.Kinds.{Children, shape_of}
 use Rattle.px_forms.specs.Names.{body_name, else_name, loop_name, then_name}
 use Rattle.px_forms.specs.Nodes.{Place, alone, child}
 use Rattle.px_expand.specs.Children.{names_of, paths_of}
-use Rattle.px_forms.specs.Placed.{node_of, place_terms, tree_in, trees_of}
+use Rattle.px_forms.specs.Placed.{node_of, place_terms, tree_in}
 use Rattle.px_scope.specs.Scope.{here}
 use Rattle.px_core.specs.Expr.{term_in}
+use Rattle.px_core.specs.Plan.{trees_of}
 use Rattle.px_expand.specs.Size.{actions_nodes, actions_reach, block_nodes, block_reach, body_nodes, body_reach}
-use Rattle.px_expand.proofs.Actions.{fewer_left, in_turn, length_seen, nodes_done, nodes_more, nodes_none, room, stands_at}
+use Rattle.px_expand.proofs.Actions.{fewer_left, length_seen, nodes_done, nodes_more, nodes_none, room, stands_at}
 use Rattle.px_expand.proofs.Blocks.{block_here, block_inside, block_made, child_room, list_count, list_reach, list_seen}
 use Rattle.px_expand.proofs.Chains.{chain_more, chain_opened, count_else, else_room, guarded_made, is_opened, room_before, room_for_set}
 use Rattle.px_expand.proofs.Loops.{branch_count, branch_made, branch_room, for_made, guarded_branch, guarded_count, guarded_room, while_made}

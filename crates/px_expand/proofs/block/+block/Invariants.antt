@@ -1,12 +1,13 @@
 use Rattle.std.proofs.Common.{◌≡◌, ℕ, ◌+◌, ◌*◌, option_map}
 use Rattle.std.specs.Option.{option_copied}
 use Rattle.px_syntax.specs.Block.{block_of, body_of, branch_of, else_of, guarded_of}
+use Rattle.px_syntax.proofs.Trees.{in_turn}
 use Rattle.px_expand.specs.Core.{chain_core, else_core, if_core}
 use Rattle.px_forms.specs.Nodes.{alone}
 use Rattle.px_forms.specs.Placed.{place_terms}
 use Rattle.px_scope.specs.Scope.{here}
 use Rattle.px_expand.specs.Size.{actions_nodes, block_nodes, body_nodes, branch_nodes, else_if_nodes, guarded_nodes}
-use Rattle.px_expand.proofs.Actions.{NodesLeft, in_turn}
+use Rattle.px_expand.proofs.Actions.{NodesLeft}
 use Rattle.px_expand.proofs.Chains.{ChainLeft, count_else, ifs}
 use Rattle.px_expand.proofs.block.+block.Given as goal
 

@@ -2,11 +2,11 @@ use Rattle.std.proofs.Common.{◌≡◌, ◌∙◌, IfOk, ap, map, subst, sym}
 use Rattle.px_syntax.specs.Block.{block_of, item_data}
 use Rattle.px_syntax.proofs.Trees.{block_is}
 use Rattle.px_core.specs.declared.node.Kind.TheVariants as kinds
-use Rattle.px_core.specs.Plan.{body_data, variable_data}
+use Rattle.px_core.specs.Plan.{body_data, variable_data, trees_of}
 use Rattle.px_expand.specs.Core.{items_of}
 use Rattle.px_scope.specs.Items.{priority_of}
 use Rattle.px_forms.specs.Nodes.{alone, list, node_at}
-use Rattle.px_forms.specs.Placed.{place_terms, tree_in, trees_of}
+use Rattle.px_forms.specs.Placed.{place_terms, tree_in}
 use Rattle.px_forms.specs.Shown.{given_terms}
 use Rattle.px_expand.proofs.shaped.list.Goals as goal
 

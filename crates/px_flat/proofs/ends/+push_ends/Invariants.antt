@@ -1,6 +1,6 @@
 use Rattle.std.proofs.Common.{◌≡◌, ◌+◌, ◌++◌, ◌∷◌, length, take}
-use Rattle.px_core.specs.Plan.{count_of}
-use Rattle.px_flat.specs.Laying.{trees, below_it, ends_from}
+use Rattle.px_core.specs.Plan.{count_of, trees_of}
+use Rattle.px_flat.specs.Laying.{below_it, ends_from}
 use Rattle.px_flat.proofs.ends.+push_ends.Given as goal
 
 abbrev pub decreases-push_ends : goal.decreases-push_ends
@@ -8,4 +8,4 @@ decreases-push_ends l = count_of (below_it l.node.now)
 
 abbrev pub invariant-loop-child : goal.invariant-loop-child
 invariant-loop-child l = l.ends.items ≡ l.fn.ends.items
-    ++ 0 ∷ ends_from (length l.fn.ends.items + 1) (trees (take l.child-index l.child-items))
+    ++ 0 ∷ ends_from (length l.fn.ends.items + 1) (trees_of (take l.child-index l.child-items))

@@ -2,10 +2,10 @@ use Rattle.std.proofs.Common.{◌≡◌, sym, ap, ◌∙◌, subst, length, take
 use Rattle.std.specs.List.{list_all}
 use Rattle.std.proofs.lemmas.List.{take_all}
 use Rattle.px_core.specs.Plan.{count_of}
-use Rattle.px_core.specs.Plan.{sites_under}
+use Rattle.px_core.specs.Plan.{sites_under, trees_of}
 use Rattle.px_flat.specs.Rows.{sites_of, above_in}
 use Rattle.px_core.specs.Fit.{has_short_path}
-use Rattle.px_flat.specs.Laying.{trees, below_it, IsRowUnder}
+use Rattle.px_flat.specs.Laying.{below_it, IsRowUnder}
 use Rattle.px_flat.specs.Rows.{IsLinked}
 use Rattle.px_flat.proofs.Trees.{LaidSoFar, NextIsShort, IsPut, long_enough, next_is_short, next_room, laid_count, count_next}
 use Rattle.px_flat.proofs.Trees.{put_next, laid_next, laid_more, laid_none, child_smaller}
@@ -37,8 +37,8 @@ lay_below-requires t c =
     let above = above_in (sites_of c.args.rows.now.items) (Some c.args.number) in
     let children = c.deref-child-items.result.now in
     let smaller : count_of (below_it c.child-item.result) < count_of (below_it c.args.node.now) =
-    subst (λ nodes. count_of (below_it c.child-item.result) < count_of (trees nodes)) c.deref-child-items.ensures.value
-    (subst (λ node. count_of (below_it node) < count_of (trees children)) (sym c.child-item.is)
+    subst (λ nodes. count_of (below_it c.child-item.result) < count_of (trees_of nodes)) c.deref-child-items.ensures.value
+    (subst (λ node. count_of (below_it node) < count_of (trees_of children)) (sym c.child-item.is)
     (child_smaller children c.loop-child.child-index c.child-item.result c.loop-child-test.true)) in
     let is_short : NextIsShort above c.child-item.result = subst (NextIsShort above) (sym c.child-item.is)
     (next_is_short above children c.loop-child.child-index c.child-item.result c.loop-child-test.true
@@ -51,12 +51,12 @@ lay_below-requires t c =
     c.requires.number c.loop-child.invariant c.in_ok-row.row (subst (λ rows. IsRowUnder rows c.args.number c.child-item.result c.in_ok-row.row) c.deref.ensures.value c.in_ok-row.ensures)) in
     let next : c.len-next.result ≡ length c.loop-child.rows.items =
     omega (arith, c.len-next.ensures, c.loop-child.rows.ok.0) in
-    let more : count_of (trees (take c.loop-child.child-index children)) + (1 + count_of (below_it c.child-item.result))
-    ≤ count_of (trees children) =
-    subst (λ node. count_of (trees (take c.loop-child.child-index children)) + (1 + count_of (below_it node)) ≤ count_of (trees children))
+    let more : count_of (trees_of (take c.loop-child.child-index children)) + (1 + count_of (below_it c.child-item.result))
+    ≤ count_of (trees_of children) =
+    subst (λ node. count_of (trees_of (take c.loop-child.child-index children)) + (1 + count_of (below_it node)) ≤ count_of (trees_of children))
     (sym c.child-item.is) (count_next children c.loop-child.child-index c.child-item.result c.loop-child-test.true) in
-    let all : count_of (trees children) ≡ count_of (below_it c.args.node.now) =
-    ap (λ nodes. count_of (trees nodes)) c.deref-child-items.ensures.value in
+    let all : count_of (trees_of children) ≡ count_of (below_it c.args.node.now) =
+    ap (λ nodes. count_of (trees_of nodes)) c.deref-child-items.ensures.value in
     let few : length c.push.new.self.items + count_of (below_it c.child-item.result) ≤ 4096 =
     omega (
       arith,
@@ -109,7 +109,7 @@ pub returns-clause-sites : goal.returns-clause-sites
 returns-clause-sites t c =
     c.loop-child.invariant.sites
     ∙ ap (λ nodes. sites_of c.args.rows.now.items ++ sites_under
-    (above_in (sites_of c.args.rows.now.items) (Some c.args.number)) (trees nodes))
+    (above_in (sites_of c.args.rows.now.items) (Some c.args.number)) (trees_of nodes))
     (take_all c.loop-child.child-index c.deref-child-items.result.now c.loop-child-test.false ∙ c.deref-child-items.ensures.value)
 
 pub returns-clause-linked : goal.returns-clause-linked

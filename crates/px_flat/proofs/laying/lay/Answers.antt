@@ -1,9 +1,9 @@
-use Rattle.std.proofs.Common.{◌≡◌, sym, subst, arith, true}
+use Rattle.std.proofs.Common.{◌≡◌, [], ◌∷◌, sym, subst, arith, true}
 use Rattle.std.specs.List.{list_all}
 use Rattle.px_core.specs.Fit.{has_short_path}
 use Rattle.px_core.specs.Plan.{tree_of, sites_under}
 use Rattle.px_flat.specs.Laying.{below_it}
-use Rattle.px_flat.proofs.Trees.{IsRooted, rooted, above_root, short_below, all_laid, laid, count_of_one}
+use Rattle.px_flat.proofs.Trees.{IsRooted, rooted, above_root, next_is_short, all_laid, laid, count_of_one}
 use Rattle.px_flat.proofs.laying.lay.Goals as goal
 
 pub lay_below-requires : goal.lay_below-requires
@@ -16,7 +16,7 @@ lay_below-requires c =
       number = omega (arith, is.long);
       few = omega (arith, is.long, c.requires.count, count_of_one root);
       short = subst (λ at. list_all has_short_path (sites_under at (below_it root)) ≡ true)
-          (sym (above_root c.push.new.self.items root is)) (short_below root c.requires.paths);
+          (sym (above_root c.push.new.self.items root is)) (next_is_short [] (root ∷ []) 0 root (omega arith) c.requires.paths).inner;
       linked = is.linked;
       named = is.named;
     }

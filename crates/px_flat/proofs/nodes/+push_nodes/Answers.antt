@@ -3,8 +3,8 @@ use Rattle.std.specs.Borrow.{Bor}
 use Rattle.std.proofs.lemmas.List.{map-append, take_all, take_more}
 use Rattle.px_core.specs.declared.node.CoreNode.{CoreNode}
 use Rattle.px_core.specs.declared.node.CoreNode.TheViews.{out-CoreNode}
-use Rattle.px_core.specs.Plan.{Head, count_of}
-use Rattle.px_flat.specs.Laying.{trees, below_it, heads_in, heads_of}
+use Rattle.px_core.specs.Plan.{Head, count_of, trees_of}
+use Rattle.px_flat.specs.Laying.{below_it, heads_in, heads_of}
 use Rattle.px_flat.proofs.Heads.{heads_of_more, heads_of_one}
 use Rattle.px_flat.proofs.Trees.{child_smaller, node_head}
 use Rattle.px_flat.proofs.nodes.+push_nodes.Goals as goal
@@ -14,8 +14,8 @@ push_nodes-requires t c =
     let children = c.deref-child-items.result.now in
     let child = c.child-item.result in
     let smaller : count_of (below_it child) < count_of (below_it c.args.node.now) =
-    subst (λ nodes. count_of (below_it child) < count_of (trees nodes)) c.deref-child-items.ensures.value
-    (subst (λ node. count_of (below_it node) < count_of (trees children)) (sym c.child-item.is)
+    subst (λ nodes. count_of (below_it child) < count_of (trees_of nodes)) c.deref-child-items.ensures.value
+    (subst (λ node. count_of (below_it node) < count_of (trees_of children)) (sym c.child-item.is)
     (child_smaller children c.loop-child.child-index child c.loop-child-test.true)) in
     search rules
 
@@ -31,12 +31,12 @@ loop-child-preserved t c =
     let child = c.child-item.result in
     let old : List Head = heads_of c.args.nodes.now.items in
     let head : Head = node_head c.args.node.now in
-    let done : List Head = heads_in (trees (take i children)) in
+    let done : List Head = heads_in (trees_of (take i children)) in
     c.in_ok-push_nodes.ensures
-    ∙ ap (λ heads. heads ++ heads_in (trees (child ∷ []))) c.loop-child.invariant
-    ∙ append_assoc old (head ∷ done) (heads_in (trees (child ∷ [])))
+    ∙ ap (λ heads. heads ++ heads_in (trees_of (child ∷ []))) c.loop-child.invariant
+    ∙ append_assoc old (head ∷ done) (heads_in (trees_of (child ∷ [])))
     ∙ ap (λ more. old ++ head ∷ more) (sym (heads_of_more (take i children) (child ∷ [])))
-    ∙ ap (λ nodes. old ++ head ∷ heads_in (trees nodes))
+    ∙ ap (λ nodes. old ++ head ∷ heads_in (trees_of nodes))
     (ap (λ node. take i children ++ node ∷ []) c.child-item.is ∙ sym (take_more children i child c.loop-child-test.true))
 
 pub returns : goal.returns
@@ -47,5 +47,5 @@ returns t c =
     let all : take c.loop-child.child-index children ≡ (out-CoreNode node).children.items =
     take_all c.loop-child.child-index children c.loop-child-test.false ∙ c.deref-child-items.ensures.value in
     c.loop-child.invariant
-    ∙ ap (λ nodes. old ++ node_head node ∷ heads_in (trees nodes)) all
+    ∙ ap (λ nodes. old ++ node_head node ∷ heads_in (trees_of nodes)) all
     ∙ ap (λ heads. old ++ heads) (sym (heads_of_one node))

@@ -1,6 +1,6 @@
 use Rattle.std.proofs.Common.{◌≡◌, ◌++◌, ◌∷◌, take}
-use Rattle.px_core.specs.Plan.{count_of}
-use Rattle.px_flat.specs.Laying.{trees, below_it, heads_in, heads_of}
+use Rattle.px_core.specs.Plan.{count_of, trees_of}
+use Rattle.px_flat.specs.Laying.{below_it, heads_in, heads_of}
 use Rattle.px_flat.proofs.Trees.{node_head}
 use Rattle.px_flat.proofs.nodes.+push_nodes.Given as goal
 
@@ -9,4 +9,4 @@ decreases-push_nodes l = count_of (below_it l.node.now)
 
 abbrev pub invariant-loop-child : goal.invariant-loop-child
 invariant-loop-child l = heads_of l.nodes.items
-    ≡ heads_of l.fn.nodes.items ++ node_head l.node ∷ heads_in (trees (take l.child-index l.child-items))
+    ≡ heads_of l.fn.nodes.items ++ node_head l.node ∷ heads_in (trees_of (take l.child-index l.child-items))

@@ -1,6 +1,6 @@
 use Rattle.std.proofs.Common.{◌≡◌, ◌∙◌, ◌/◌, ap, sym, length, map, take, drop}
 use Rattle.px_core.specs.Joined.{joined}
-use Rattle.px_forms.proofs.Halves.{none_joined, one_of, halves_joined}
+use Rattle.px_core.proofs.Halves.{none_joined, one_of, halves_joined}
 use Rattle.px_forms.specs.Said.{said}
 use Rattle.px_core.specs.Expr.{term_in}
 use Rattle.px_forms.proofs.join.+joined.Goals as goal

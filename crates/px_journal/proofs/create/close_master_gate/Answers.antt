@@ -2,7 +2,9 @@ use Rattle.std.proofs.Common.{◌≤◌, length, sym, ◌∙◌, arith}
 use Rattle.std.proofs.lemmas.Bool.{both_ways}
 use Rattle.px_ports.specs.Moment.{Stays}
 use Rattle.px_journal.specs.Layout.{is_nothing}
-use Rattle.px_journal.proofs.Creating.{closed_nothing, not_nothing, gate_closed, gate_open, same_leaves, short_leaves}
+use Rattle.px_journal.proofs.Creating.{closed_nothing, not_nothing, gate_read, same_leaves, short_leaves}
+use Rattle.px_journal.proofs.Reading.{front_open, front_closed}
+use Rattle.px_journal.proofs.Undamaged.{open_not_closed}
 use Rattle.px_journal.proofs.Moments.{elapses_on}
 use Rattle.px_journal.proofs.create.close_master_gate.Goals as goal
 
@@ -39,7 +41,8 @@ returns-in_err-read_at-clause-old_or_nothing g c = λ told is.
 pub returns-then-gate-ne-CLOSED-clause-exists : goal.returns-then-gate-ne-CLOSED-clause-exists
 returns-then-gate-ne-CLOSED-clause-exists g c = λ refused told is.
     let long : 13 ≤ length told = omega (arith, c.in_ok-len.ensures.length told is, c.if-branch-lt-TEXT_PLACE.false) in
-    not_nothing told long (gate_open told _ long (c.in_ok-read_at.ensures.read told (c.len.ensures.reads.bytes ∙ is)) c.if-gate-ne-CLOSED.true)
+    let gate = gate_read told _ long (c.in_ok-read_at.ensures.read told (c.len.ensures.reads.bytes ∙ is)) in
+    not_nothing told long (open_not_closed told (front_open told _ 1 gate.0 gate.1 c.if-gate-ne-CLOSED.true))
 
 pub returns-then-gate-ne-CLOSED-clause-untouched : goal.returns-then-gate-ne-CLOSED-clause-untouched
 returns-then-gate-ne-CLOSED-clause-untouched g c = λ told is other. record {
@@ -58,13 +61,15 @@ returns-then-gate-ne-CLOSED-clause-old_or_nothing g c = λ told is.
 
 pub returns-clause-only_nothing : goal.returns-clause-only_nothing
 returns-clause-only_nothing g c = λ told is.
-    closed_nothing told (gate_closed told _ (omega (arith, c.in_ok-len.ensures.length told is, c.if-branch-lt-TEXT_PLACE.false))
-    (c.in_ok-read_at.ensures.read told (c.len.ensures.reads.bytes ∙ is)) c.if-gate-ne-CLOSED.false)
+    let gate = gate_read told _ (omega (arith, c.in_ok-len.ensures.length told is, c.if-branch-lt-TEXT_PLACE.false))
+    (c.in_ok-read_at.ensures.read told (c.len.ensures.reads.bytes ∙ is)) in
+    closed_nothing told (front_closed told _ 1 gate.0 gate.1 c.if-gate-ne-CLOSED.false)
 
 pub returns-in_err-sync-clause-untouched : goal.returns-in_err-sync-clause-untouched
 returns-in_err-sync-clause-untouched g c = λ told is other.
-    let closed = closed_nothing told (gate_closed told _ (omega (arith, c.in_ok-len.ensures.length told is, c.if-branch-lt-TEXT_PLACE.false))
-    (c.in_ok-read_at.ensures.read told (c.len.ensures.reads.bytes ∙ is)) c.if-gate-ne-CLOSED.false) in
+    let gate = gate_read told _ (omega (arith, c.in_ok-len.ensures.length told is, c.if-branch-lt-TEXT_PLACE.false))
+    (c.in_ok-read_at.ensures.read told (c.len.ensures.reads.bytes ∙ is)) in
+    let closed = closed_nothing told (front_closed told _ 1 gate.0 gate.1 c.if-gate-ne-CLOSED.false) in
     absurd (both_ways (is_nothing told) other closed)
 
 pub returns-in_err-sync-clause-old_or_nothing : goal.returns-in_err-sync-clause-old_or_nothing
@@ -75,8 +80,9 @@ returns-in_err-sync-clause-old_or_nothing g c = λ told is.
 pub returns-clause-nothing : goal.returns-clause-nothing
 returns-clause-nothing g c = λ told is.
     let before = sym (c.in_ok-sync.ensures.syncs.bytes ∙ c.read_at.ensures.reads.bytes ∙ c.len.ensures.reads.bytes) ∙ is in
-    gate_closed told _ (omega (arith, c.in_ok-len.ensures.length told before, c.if-branch-lt-TEXT_PLACE.false))
-    (c.in_ok-read_at.ensures.read told (c.len.ensures.reads.bytes ∙ before)) c.if-gate-ne-CLOSED.false
+    let gate = gate_read told _ (omega (arith, c.in_ok-len.ensures.length told before, c.if-branch-lt-TEXT_PLACE.false))
+    (c.in_ok-read_at.ensures.read told (c.len.ensures.reads.bytes ∙ before)) in
+    front_closed told _ 1 gate.0 gate.1 c.if-gate-ne-CLOSED.false
 
 pub returns-clause-untouched : goal.returns-clause-untouched
 returns-clause-untouched g c = λ told is other. absurd (both_ways (is_nothing told) other (returns-clause-only_nothing g c told is))

@@ -5,7 +5,7 @@ use Rattle.px_syntax.specs.Plan.{declaration_data}
 use Rattle.px_syntax.specs.PlanGrammar.{declaration}
 use Rattle.px_plan_parse.specs.Start.{is_declaration}
 use Rattle.px_plan_parse.proofs.Parts.{front_ends, front_lacks, front_more}
-use Rattle.px_plan_parse.proofs.Starts.{start_too, not_there, starts_there}
+use Rattle.px_plan_parse.proofs.Starts.{start_same, not_there, starts_there}
 use Rattle.px_plan_parse.proofs.Spans.{local_declaration}
 use Rattle.px_plan_parse.proofs.Globals.{declaration_starts}
 use Rattle.px_plan_parse.proofs.global.declarations.Goals as goal
@@ -27,4 +27,4 @@ pub returns-clause-ok : goal.returns-clause-ok
 returns-clause-ok c =
     front_ends c.loop-alloc.invariant (λ others agree.
     not_there c.args.tokens.now c.loop-alloc.at declaration is_declaration declaration_starts (ap is_declaration (sym c.start_at.ensures.value) ∙ sym c.is_declaration.ensures ∙ c.loop-alloc-test.false) others
-    (start_too c.args.tokens.now others c.loop-alloc.at c.loop-alloc.at (omega arith) agree))
+    (start_same c.args.tokens.now others c.loop-alloc.at (agree c.loop-alloc.at (omega arith))))

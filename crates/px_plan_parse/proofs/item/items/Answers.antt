@@ -6,7 +6,7 @@ use Rattle.px_syntax.specs.BlockGrammar.{item}
 use Rattle.px_plan_parse.specs.Start.{is_item}
 use Rattle.px_plan_parse.proofs.Parts.{front_ends, front_lacks, front_more}
 use Rattle.px_plan_parse.proofs.Spans.{local_item}
-use Rattle.px_plan_parse.proofs.Starts.{item_starts, not_there, start_too, starts_there}
+use Rattle.px_plan_parse.proofs.Starts.{item_starts, not_there, start_same, starts_there}
 use Rattle.px_plan_parse.proofs.item.items.Goals as goal
 
 pub returns-in_err-item-clause-fault : goal.returns-in_err-item-clause-fault
@@ -26,4 +26,4 @@ pub returns-clause-ok : goal.returns-clause-ok
 returns-clause-ok c =
     front_ends c.loop-alloc.invariant (λ others agree. not_there c.args.tokens.now c.loop-alloc.at item is_item item_starts
     (ap is_item (sym c.start_at.ensures.value) ∙ sym c.is_item.ensures ∙ c.loop-alloc-test.false) others
-    (start_too c.args.tokens.now others c.loop-alloc.at c.loop-alloc.at (omega arith) agree))
+    (start_same c.args.tokens.now others c.loop-alloc.at (agree c.loop-alloc.at (omega arith))))

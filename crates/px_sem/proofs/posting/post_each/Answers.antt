@@ -3,9 +3,9 @@ use Rattle.px_value.proofs.General.{on_err}
 use Rattle.px_core.specs.Plan.{Site}
 use Rattle.px_event.specs.declared.entry.Entry.{Entry}
 use Rattle.px_event.specs.declared.reply.Reply.{Reply}
-use Rattle.px_sem.specs.Log.{Log, answer, world_after, PostsPart}
+use Rattle.px_sem.specs.Log.{Log, logged_as, answer, world_after, PostsPart}
 use Rattle.px_sem.specs.Stepper.{State, settled_state}
-use Rattle.px_sem.proofs.Logs.{IsPosting, logged_as, counted_after, history_after, posting_more, posting_then, posts_part}
+use Rattle.px_sem.proofs.Logs.{IsPosting, counted_after, history_after, posting_more, posting_then, posts_part}
 use Rattle.px_sem.proofs.posting.post_each.Goals as goal
 
 -- one entry of the rest is posted too

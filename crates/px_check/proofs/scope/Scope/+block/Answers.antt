@@ -12,12 +12,12 @@ use Rattle.px_syntax.specs.BlockFaults.{redeclared, items_faults, action_labels,
 use Rattle.px_syntax.specs.Expr.{term_of}
 use Rattle.px_syntax.specs.Scope.{Scope}
 use Rattle.px_syntax.proofs.Trees as trees
+use Rattle.px_syntax.proofs.Trees.{in_turn}
 use Rattle.px_check.specs.Found.{noted}
 use Rattle.px_check.specs.Scope.{outside}
 use Rattle.px_check.specs.declared.scope.Mark.{Mark}
 use Rattle.px_check.proofs.Blocks.{own_told, block_noted, action_walked, guarded_noted, branch_noted, found_at, for_noted, if_left, if_noted, chain_walked}
 use Rattle.px_check.proofs.Noting.{noted_none}
-use Rattle.px_check.proofs.Seeing.{in_turn}
 use Rattle.px_check.proofs.Walking.{all_walked}
 use Rattle.px_check.proofs.scope.Scope.+block.Goals as goal
 

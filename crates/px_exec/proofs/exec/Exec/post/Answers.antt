@@ -7,7 +7,8 @@ use Rattle.px_event.specs.declared.reply.Reply.{Reply}
 use Rattle.px_journal.proofs.Ready.{ready_count, ready_few}
 use Rattle.px_exec.specs.declared.answering.Unanswered.{Unanswered}
 use Rattle.px_exec.proofs.Images.{adds_nothing, adds_told}
-use Rattle.px_exec.proofs.Tellings.{unfailed_of, failed_of, closes_with, grows_from, length_more, at_rest, ready_now, keeps_reply, posts_reply, keeps_fault, posts_fault, keeps_out, posts_out, answered_otherwise}
+use Rattle.px_exec.proofs.Keeping.{keeps_as_before}
+use Rattle.px_exec.proofs.Tellings.{unfailed_of, failed_of, closes_with, grows_from, length_more, at_rest, ready_now, keeps_reply, posts_reply, keeps_fault, posts_fault, posts_out, answered_otherwise}
 use Rattle.px_exec.proofs.exec.Exec.post.Goals as goal
 
 pub same-self : goal.same-self
@@ -23,7 +24,7 @@ returns-in-Some-clause-crash g c = adds_nothing g.D.Disk _ _ (λ failed. absurd 
 
 pub invariant_of-self : goal.invariant_of-self
 invariant_of-self g c =
-    keeps_out g.S.Stepper g.D.Disk _ c.self.invariant (unfailed_of _ _ c.closed_after.ensures (none_from _ c.in_default.not-Some)) _ _ _ _ refl refl c.in_err-copies.ensures.history c.in_err-copies.ensures.log
+    keeps_as_before g.S.Stepper g.D.Disk _ _ _ _ _ _ c.self.invariant refl refl c.in_err-copies.ensures.history c.in_err-copies.ensures.log refl
 
 pub returns-in_err-copies-clause-answers : goal.returns-in_err-copies-clause-answers
 returns-in_err-copies-clause-answers g c =
@@ -129,7 +130,7 @@ pub invariant_of-self-in-Err-NoMemory : goal.invariant_of-self-in-Err-NoMemory
 invariant_of-self-in-Err-NoMemory g c =
     let done = c.in-Err-NoMemory.ensures in
     let is = ap (λ fault. let r : Result Reply Unanswered = Err fault in r) c.in-Err-NoMemory.field-0-is in
-    keeps_out g.S.Stepper g.D.Disk _ c.self.invariant (unfailed_of _ _ c.closed_after.ensures (none_from _ c.in_default.not-Some)) _ _ _ _ done.err (done.no_memory is) c.in_ok-copies.ensures.history c.in_ok-copies.ensures.log
+    keeps_as_before g.S.Stepper g.D.Disk _ _ _ _ _ _ c.self.invariant done.err (done.no_memory is) c.in_ok-copies.ensures.history c.in_ok-copies.ensures.log refl
 
 pub returns-in-Err-NoMemory-clause-answers : goal.returns-in-Err-NoMemory-clause-answers
 returns-in-Err-NoMemory-clause-answers g c =

@@ -2,7 +2,7 @@ use Rattle.std.proofs.Common.{refl}
 use Rattle.px_core.specs.declared.node.CoreNode.{CoreNode}
 use Rattle.px_core.specs.declared.node.CoreNode.TheOpen.{CoreNode-F}
 use Rattle.px_core.specs.Plan.{head_of}
-use Rattle.px_forms.proofs.Trees.{node_made}
+use Rattle.px_core.proofs.Trees.{node_made}
 use Rattle.px_forms.proofs.place.Own.node.Goals as goal
 
 pub returns : goal.returns

@@ -1,10 +1,11 @@
-use Rattle.std.proofs.Common.{[], ◌∷◌, ◌++◌, ◌∙◌, arith, length-append}
+use Rattle.std.proofs.Common.{[], ◌∷◌, ◌++◌, sym, ◌∙◌, arith, length-append}
+use Rattle.px_value.proofs.General.{option_map_some}
 use Rattle.px_journal.specs.Journal.{with_name}
 use Rattle.px_journal.specs.Layout.{next_gate}
 use Rattle.px_journal.proofs.Fronts.{fits-push}
 use Rattle.px_journal.proofs.Histories.{keeps_histories, keeps_names, map-push, next_gate_small, next_place, without_names}
 use Rattle.px_journal.proofs.Moments.{leaves_more}
-use Rattle.px_journal.proofs.Appending.{closed_within, first_leaves, mid_within, second_leaves, then_stands, told_before}
+use Rattle.px_journal.proofs.Appending.{closed_within, first_leaves, mid_within, second_leaves, then_stands}
 use Rattle.px_journal.proofs.Ready.{ready_stands}
 use Rattle.px_journal.proofs.journal.Journal.append.Goals as goal
 
@@ -58,7 +59,7 @@ put-requires-2-clause-within g c = λ mid mid_is.
     let found = c.requires.ready.2 in
     let ready = found.ready in
     let first = c.in_ok-put.ensures.puts in
-    let was = told_before _ _ _ mid first.written mid_is in
+    let was = option_map_some _ _ mid (sym first.written ∙ mid_is) in
     let within = mid_within c.args.self.now.version text found.named (with_name c.args.self.now c.args.entry.now) (was.0) (ready.stands (was.0) (was.1)) c.fill.ensures.fit
     (omega (arith, ready.count, c.requires.room))
     g.D.Disk.images _ _ _ _ (was.1) (ready.synced (was.0) (was.1)) _ (omega (arith, ready.gate)) _ (c.deref.ensures.value ∙ c.fill.ensures.bytes) first in
@@ -145,8 +146,8 @@ returns-clause-named g c = λ text named ready.
     record {
       synced = second.synced;
       stands = λ now now_is.
-          let mid = told_before _ _ _ now second.written now_is in
-          let was = told_before _ _ _ (mid.0) first.written (mid.1) in
+          let mid = option_map_some _ _ now (sym second.written ∙ now_is) in
+          let was = option_map_some _ _ (mid.0) (sym first.written ∙ mid.1) in
           then_stands version text named next (was.0) (ready.stands (was.0) (was.1)) c.fill.ensures.fit (omega (arith, ready.count, c.requires.room))
           g.D.Disk.images _ _ _ _ (was.1) (ready.synced (was.0) (was.1)) _ (omega (arith, ready.gate)) _ (c.deref.ensures.value ∙ c.fill.ensures.bytes) first
           _ _ _ ready.gate second now now_is;

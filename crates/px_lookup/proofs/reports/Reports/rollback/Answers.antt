@@ -1,7 +1,8 @@
 use Rattle.std.proofs.Common.{◌≡◌, Some, ◌++◌, ◌∷◌, [], All, ap, sym, ◌∙◌, subst, rules}
 use Rattle.std.specs.Map.{values_of}
+use Rattle.std.proofs.lemmas.List.Elements.{All-pop}
 use Rattle.px_lookup.specs.Undoing.{HadLatchedEach, LatchEach, undone_each}
-use Rattle.px_lookup.proofs.Latching.{all_parts, undone_latches}
+use Rattle.px_lookup.proofs.Latching.{undone_latches}
 use Rattle.px_lookup.proofs.Reporting.{undone-push}
 use Rattle.px_lookup.proofs.reports.Reports.rollback.Goals as goal
 
@@ -13,8 +14,7 @@ loop-change-preserved c =
     let change = c.in-Some.change in
     let earlier = c.pop.new.self.items in
     let popped : changes ≡ earlier ++ change ∷ [] = search rules in
-    let had = all_parts (HadLatchedEach tolerances) earlier change
-    (subst (All (HadLatchedEach tolerances)) popped c.loop-change.invariant.before) in
+    let had = All-pop (HadLatchedEach tolerances) changes earlier (Some change) popped c.loop-change.invariant.before in
     record {
       marked = ap (λ entries. Some (undone_each earlier entries)) c.undo.ensures
           ∙ ap Some (sym (undone-push earlier change entries))

@@ -1,8 +1,8 @@
-use Rattle.std.proofs.Common.{◌≡◌, [], true, sym, subst}
+use Rattle.std.proofs.Common.{◌≡◌, [], ◌∷◌, true, sym, subst, arith}
 use Rattle.std.specs.List.{list_all}
 use Rattle.px_core.specs.Plan.{tree_of, sites}
 use Rattle.px_flat.specs.Laying.{below_it}
-use Rattle.px_flat.proofs.Trees.{node_head, short_below}
+use Rattle.px_flat.proofs.Trees.{node_head, next_is_short}
 use Rattle.px_script.specs.Telling.{TellKinds, all_kinds, kinds_under, has_short}
 use Rattle.px_script.proofs.TellingKinds.{short_kinds, root_told}
 use Rattle.px_script.proofs.kinds.Kinds.of.Goals as goal
@@ -11,7 +11,7 @@ pub tell_below-requires : goal.tell_below-requires
 tell_below-requires c =
     let root = c.args.plan.now.root in
     subst (λ path. list_all has_short (kinds_under path (below_it root)) ≡ true) (sym c.in_ok-path.ensures)
-    (short_kinds (node_head root).name [] (below_it root) (short_below root c.requires.paths))
+    (short_kinds (node_head root).name [] (below_it root) (next_is_short [] (root ∷ []) 0 root (omega arith) c.requires.paths).inner)
 
 pub invariant_of-result : goal.invariant_of-result
 invariant_of-result c =
