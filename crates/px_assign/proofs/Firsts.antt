@@ -1,11 +1,14 @@
 -- Who goes first of those that want a variable, and so who stays.
-use Rattle.std.proofs.Common.{◌≡◌, ◌≢◌, ℕ, zero, suc, ◌+◌, ◌<◌, length, take, Bool, true, false, not, ◌&&◌, ◌||◌, List, [], ◌∷◌, ◌++◌, Option, Some, None, refl, ap, sym, ◌∙◌, subst, arith, inl, inr, if◌then◌else◌}
+use Rattle.std.proofs.Common.{◌≡◌, ◌≢◌, ℕ, ◌+◌, ◌<◌, length, take, Bool, true, false, not, ◌&&◌, ◌||◌, List, [], ◌∷◌, ◌++◌, Option, Some, None, refl, ap, sym, ◌∙◌, subst, arith, if◌then◌else◌}
 use Rattle.std.specs.Prelude.{nat_eq}
 use Rattle.std.specs.Cmp.{nat_eq_equiv}
 use Rattle.std.specs.List.{list_any, All}
-use Rattle.std.proofs.lemmas.Bool.{and_parts, and_from, or_parts, or_from, or_cases, or_left, or_right, eqb-true, false_from_ne_true, false≢true}
+use Rattle.std.proofs.lemmas.Bool.{and_parts, and_from, or_left, or_right, eqb-true, false_from_ne_true, false≢true}
 use Rattle.std.proofs.lemmas.Bool.Decides.{nat_tests}
+use Rattle.std.proofs.lemmas.List.Elements.{All-contains, All-take}
 use Rattle.std.proofs.lemmas.List.Folds.{list_any-append}
+use Rattle.std.proofs.lemmas.Map.Views.{Contains-from_any}
+use Rattle.px_value.proofs.General.{list_any-weaker}
 use Rattle.px_value.specs.General.{is_number}
 use Rattle.px_core.specs.Plan.{Site}
 use Rattle.px_assign.specs.Conflicts.{of_variable, variable_of, writes, goes_before, is_kept_from, is_loser}
@@ -23,22 +26,20 @@ other_way plan a b fails apart = grind (arith, nat_tests)
 pub not_itself : (plan : List Site) (a : ℕ) → goes_before plan a a ≡ false
 not_itself plan a = grind (arith, nat_tests)
 
+-- a node writes the variable that is its own
+pub is_written : (plan : List Site) (variable node : ℕ) → variable_of plan node ≡ Some variable → writes plan variable node ≡ true
+is_written plan variable node is = ap (of_variable (nat_eq variable)) is ∙ nat_eq_equiv.refl variable
+
 -- ---- tests of lists
 
 none_weaker : (p q : ℕ → Bool) → ((n : ℕ) → p n ≡ true → q n ≡ true) → (ns : List ℕ) → list_any q ns ≡ false
     → list_any p ns ≡ false
-none_weaker p q each [] h = refl
-none_weaker p q each (n ∷ ns) h =
-    let parts = or_parts (q n) (list_any q ns) h in
-    or_from (p n) (list_any p ns)
-    (false_from_ne_true (p n) (λ passes. false≢true (sym parts.0 ∙ each n passes))) (none_weaker p q each ns parts.1)
+none_weaker p q each ns h =
+    false_from_ne_true (list_any p ns) (λ passes. false≢true (sym h ∙ list_any-weaker p q each ns passes))
 
 pub found_among : (p : ℕ → Bool) (n : ℕ) (ns : List ℕ) → list_any (nat_eq n) ns ≡ true → p n ≡ true → list_any p ns ≡ true
-found_among p n [] h passes = h
-found_among p n (m ∷ ns) h passes = elim (or_cases (nat_eq n m) (list_any (nat_eq n) ns) h) [
-  | inl same ↦ or_left (p m) (list_any p ns) (subst (λ k. p k ≡ true) (eqb-true n m same) passes)
-  | inr later ↦ or_right (p m) (list_any p ns) (found_among p n ns later passes)
-]
+found_among p n ns h passes =
+    list_any-weaker (nat_eq n) p (λ m same. subst (λ k. p k ≡ true) (eqb-true n m same) passes) ns h
 
 -- one more at the end
 any_more : (p : ℕ → Bool) (ns : List ℕ) (n : ℕ) (before now : Bool) → list_any p ns ≡ before → p n ≡ now
@@ -122,7 +123,7 @@ stays_as_loser plan wanting holding held first node holders firsts among = by (v
         → stays held first node variable ≡ of_variable (is_kept_from plan wanting holding node) variable
     by None is = refl
     by (Some variable) is =
-        let writer : writes plan variable node ≡ true = ap (of_variable (nat_eq variable)) is ∙ nat_eq_equiv.refl variable in
+        let writer : writes plan variable node ≡ true = is_written plan variable node is in
         rw (
           holders variable,
           first_or_kept plan variable node wanting (first variable) (firsts variable) among writer,
@@ -131,13 +132,6 @@ stays_as_loser plan wanting holding held first node holders firsts among = by (v
 -- who goes first of the front of a list is a node where all of the list are
 pub first_within : (plan : List Site) (variable : ℕ) (nodes : List ℕ) (i first : ℕ) → All (λ node. node < length plan) nodes
     → IsFirst plan variable (take i nodes) (Some first) → first < length plan
-first_within plan variable nodes i first all is = within nodes i all is.among
-  where
-    within : (nodes : List ℕ) (i : ℕ) → All (λ node. node < length plan) nodes
-        → list_any (nat_eq first) (take i nodes) ≡ true → first < length plan
-    within nodes zero all among = absurd (false≢true among)
-    within [] (suc i) all among = absurd (false≢true among)
-    within (node ∷ nodes) (suc i) all among = elim (or_cases (nat_eq first node) (list_any (nat_eq first) (take i nodes)) among) [
-      | inl same ↦ subst (λ n. n < length plan) (sym (eqb-true first node same)) (all 0 0 (omega arith))
-      | inr behind ↦ within nodes i (λ k d inside. all (suc k) d (omega arith)) behind
-    ]
+first_within plan variable nodes i first all is =
+    All-contains (λ node. node < length plan) (take i nodes) first (All-take (λ node. node < length plan) i nodes all)
+    (Contains-from_any eqb-true first (take i nodes) is.among)

@@ -1,19 +1,21 @@
 -- In a world where just these want to start and hold their variables, losers by number are those of the semantics.
-use Rattle.std.proofs.Common.{◌≡◌, ◌≢◌, ℕ, zero, suc, ◌+◌, ◌<◌, Bool, true, false, not, ◌&&◌, ◌||◌, cond, List, [], ◌∷◌, length, get_or, filter, is_some, refl, ap, sym, ◌∙◌, subst, arith, inl, inr, Option, Some, None}
+use Rattle.std.proofs.Common.{◌≡◌, ◌≢◌, ℕ, suc, ◌<◌, Bool, true, false, not, ◌&&◌, ◌||◌, List, [], ◌∷◌, length, get_or, filter, is_some, refl, ap, sym, ◌∙◌, subst, arith, inl, inr, Option, Some, None}
 use Rattle.std.specs.Prelude.{nat_eq, nat_lt}
 use Rattle.std.specs.Cmp.{nat_eq_equiv}
-use Rattle.std.specs.List.{list_any, position_or_len, All}
+use Rattle.std.specs.List.{list_any, All}
 use Rattle.std.specs.Option.{option_map}
 use Rattle.std.specs.Cmp.Lexicographic.{same_text}
 use Rattle.std.proofs.lemmas.Bool.{and_parts, and_from, or_cases, or_left, or_right, eqb-true, eq-eqb, false≢true}
-use Rattle.std.proofs.lemmas.List.Folds.{list_any_at}
+use Rattle.std.proofs.lemmas.List.{get_or_default}
+use Rattle.std.proofs.lemmas.List.Folds.{Any-from_list_any, list_any_at}
+use Rattle.std.proofs.lemmas.List.Sums.{position_or_len_is}
 use Rattle.px_value.proofs.General.{same_bool}
 use Rattle.px_value.specs.declared.enums.NodeState.{NodeState}
 use Rattle.px_value.specs.declared.enums.NodeState.TheVariants as states
 use Rattle.px_core.specs.Fit.{AreDistinct}
 use Rattle.px_core.specs.Plan.{Site, BodyData, Nothing, Assign, Command, Update, TargetData, no_site, is_same}
 use Rattle.px_core.proofs.Paths.{same-self, same-other}
-use Rattle.px_sem.specs.Conflicts.{target_of, is_same_variable, would_start, holds_variable, count_before, keeps_back}
+use Rattle.px_sem.specs.Conflicts.{target_of, is_same_variable, would_start, holds_variable, count_before, takes, keeps_back}
 use Rattle.px_sem.specs.Conflicts as semantics
 use Rattle.px_sem.specs.Guards.{is_active, is_waiting}
 use Rattle.px_sem.specs.World.{World, state_at}
@@ -21,7 +23,7 @@ use Rattle.px_flat.specs.Numbered.{numbered_body, place_of}
 use Rattle.px_flat.specs.Row.{site_in}
 use Rattle.px_flat.proofs.Known.{IsSound}
 use Rattle.px_flat.proofs.Variables.{IsDeclared, target_declared, one_variable}
-use Rattle.px_assign.specs.Conflicts.{written, variable_of, of_variable, writes, goes_before, is_kept_from, is_loser, is_writer, AreWriters}
+use Rattle.px_assign.specs.Conflicts.{written, variable_of, of_variable, writes, goes_before, is_kept_from, is_loser, is_loser_in, is_writer, AreWriters}
 use Rattle.px_assign.proofs.Firsts.{not_itself, found_among}
 
 -- ---- tests
@@ -29,11 +31,9 @@ use Rattle.px_assign.proofs.Firsts.{not_itself, found_among}
 -- what each that passes shows is so where one does
 any_shows : {X : Type 0} (p : X → Bool) (xs : List X) (d : X) (b : Bool)
     → ((k : ℕ) → k < length xs → p (get_or xs k d) ≡ true → b ≡ true) → list_any p xs ≡ true → b ≡ true
-any_shows p [] d b each some = absurd (false≢true some)
-any_shows p (x ∷ xs) d b each some = elim (or_cases (p x) (list_any p xs) some) [
-  | inl here ↦ each 0 (omega arith) here
-  | inr behind ↦ any_shows p xs d b (λ k within. each (suc k) (omega arith)) behind
-]
+any_shows p xs d b each some =
+    let found = Any-from_list_any p xs some in
+    each found.0 found.2 (ap p (get_or_default xs found.0 d found.1 found.2 ∙ found.3) ∙ found.4)
 
 filter_alike : (p q : ℕ → Bool) (ns : List ℕ) → ((k : ℕ) → k < length ns → p (get_or ns k 0) ≡ q (get_or ns k 0))
     → filter p ns ≡ filter q ns
@@ -45,17 +45,13 @@ filter_alike p q (n ∷ ns) same =
 
 count_is : (plan : List Site) (node : ℕ) → AreDistinct plan → node < length plan
     → count_before plan (site_in plan node) ≡ node
-count_is [] node distinct within = absurd (omega arith)
-count_is (site ∷ plan) zero distinct within =
-    ap (λ b. cond (not b) (1 + position_or_len (λ other. is_same other.path site.path) plan) 0) (same-self site.path)
-count_is (site ∷ plan) (suc node) distinct within =
+count_is plan node distinct within =
     let own : List ℕ = (site_in plan node).path in
-    let other : site.path ≢ own = λ same.
-    let e : 0 ≡ suc node = distinct 0 (suc node) (omega arith) (omega arith) same in absurd (omega arith) in
-    let behind : AreDistinct plan = λ i j hi hj same.
-    let e : suc i ≡ suc j = distinct (suc i) (suc j) (omega arith) (omega arith) same in omega arith in
-    ap (λ b. cond (not b) (1 + position_or_len (λ other. is_same other.path own) plan) 0) (same-other site.path own other)
-    ∙ omega (arith, count_is plan node behind (omega arith))
+    position_or_len_is (λ (other : Site). is_same other.path own) plan node no_site (omega (arith, within))
+    (λ k before.
+    let there : k < length plan = omega (arith, before, within) in
+    same-other (site_in plan k).path own (λ same. absurd (omega (arith, before, distinct k node there within same))))
+    (λ inside. same-self own)
 
 goes_alike : (plan : List Site) (a b : ℕ) → AreDistinct plan → a < length plan → b < length plan
     → goes_before plan a b ≡ semantics.goes_before plan (site_in plan a) (site_in plan b)
@@ -113,12 +109,15 @@ writes_alike plan target node sound here within =
     by (Command name args (Some other)) there = same_variable plan target other sound here (there other refl)
     by (Update pairs) there = refl
 
-writes_writer : (plan : List Site) (variable node : ℕ) → writes plan variable node ≡ true → is_writer plan node ≡ true
-writes_writer plan variable node passes = by (variable_of plan node) passes
+pub writes_is : (plan : List Site) (variable node : ℕ) → writes plan variable node ≡ true → variable_of plan node ≡ Some variable
+writes_is plan variable node passes = by (variable_of plan node) passes
   where
-    by : (own : Option ℕ) → of_variable (nat_eq variable) own ≡ true → is_some own ≡ true
+    by : (own : Option ℕ) → of_variable (nat_eq variable) own ≡ true → own ≡ Some variable
     by None passes = absurd (false≢true passes)
-    by (Some own) passes = refl
+    by (Some own) passes = ap Some (sym (eqb-true variable own passes))
+
+writes_writer : (plan : List Site) (variable node : ℕ) → writes plan variable node ≡ true → is_writer plan node ≡ true
+writes_writer plan variable node passes = ap is_some (writes_is plan variable node passes)
 
 -- ---- who keeps a node back
 
@@ -133,11 +132,6 @@ not_both states.Finished active waiting = false≢true active
 
 not_same : (a b : List ℕ) → a ≢ b → not (is_same a b) ≡ true
 not_same a b differ = ap not (same-other a b differ)
-
--- what it takes
-abbrev takes : List Site → World → Site → Site → Bool
-takes plan world site other =
-    holds_variable world other || (would_start plan world other && semantics.goes_before plan other site)
 
 keeps_from : (plan : List Site) (world : World) (target : TargetData) (site other : Site)
     → semantics.writes target other ≡ true → not (is_same other.path site.path) ≡ true → takes plan world site other ≡ true
@@ -249,12 +243,12 @@ kept_alike plan world wanting holding node target kept =
 pub loser_alike : (plan : List Site) (world : World) (wanting holding : List ℕ) (node : ℕ) → IsSound plan → node < length plan
     → All (λ node. node < length plan) wanting → All (λ node. node < length plan) holding
     → AreWriters plan world wanting holding → would_start plan world (site_in plan node) ≡ true
-    → is_loser plan wanting holding node ≡ semantics.is_loser plan world (site_in plan node)
+    → is_loser plan wanting holding node ≡ is_loser_in plan world node
 loser_alike plan world wanting holding node sound within all_want all_hold are start =
     by (target_of (site_in plan node).head.body) refl
   where
     by : (target : Option TargetData) → target_of (site_in plan node).head.body ≡ target
-        → is_loser plan wanting holding node ≡ semantics.is_loser plan world (site_in plan node)
+        → is_loser plan wanting holding node ≡ is_loser_in plan world node
     by None is =
         let none : variable_of plan node ≡ None =
         written_is plan (site_in plan node).head.body ∙ ap (option_map (first_of plan)) is in
@@ -282,9 +276,9 @@ pub losers_alike : (plan : List Site) (world : World) (wanting holding : List �
     → All (λ node. node < length plan) wanting → All (λ node. node < length plan) holding
     → AreWriters plan world wanting holding
     → filter (is_loser plan wanting holding) wanting
-    ≡ filter (λ node. semantics.is_loser plan world (site_in plan node)) wanting
+    ≡ filter (is_loser_in plan world) wanting
 losers_alike plan world wanting holding sound all_want all_hold are =
-    filter_alike (is_loser plan wanting holding) (λ node. semantics.is_loser plan world (site_in plan node)) wanting
+    filter_alike (is_loser plan wanting holding) (is_loser_in plan world) wanting
     (λ k inside.
     let node : ℕ = get_or wanting k 0 in
     let there : node < length plan = all_want k 0 inside in

@@ -2,7 +2,7 @@
 -- in a world.
 use Rattle.std.specs.Prelude.{◌≡◌, ℕ, ◌<◌, Bool, false, ◌&&◌, ◌||◌, nat_eq, nat_lt, List, length, is_some, IsTrue, Option, Some, None}
 use Rattle.std.specs.List.{list_any}
-use Rattle.std.specs.Option.{option_map}
+use Rattle.std.specs.Option.{option_map, option_map_or}
 use Rattle.px_core.specs.Plan.{Site}
 use Rattle.px_sem.specs.Conflicts as semantics
 use Rattle.px_sem.specs.Conflicts.{would_start, holds_variable}
@@ -22,8 +22,7 @@ variable_of plan node = written (numbered_body plan (site_in plan node).head.bod
 
 -- a test of the variable that a node writes, if it writes one
 abbrev pub of_variable : (ℕ → Bool) → Option ℕ → Bool
-of_variable test None = false
-of_variable test (Some variable) = test variable
+of_variable test variable = option_map_or test variable false
 
 -- a node writes a variable, or an element of it
 abbrev pub writes : List Site → ℕ → ℕ → Bool

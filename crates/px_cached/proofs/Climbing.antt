@@ -7,7 +7,8 @@ use Rattle.px_cached.specs.declared.part.Above.TheVariants as aboves
 use Rattle.px_cached.specs.declared.part.Part.{Part}
 use Rattle.px_cached.specs.declared.part.Part.TheVariants as parts
 use Rattle.px_cached.specs.Carrying.{AreWholesKept, IsKept, IsOnlyChanged, IsWayUp, LooksUp, truth_by}
-use Rattle.px_cached.specs.Network.{Agree, IsNetwork, IsOver, IsSettled, IsUnder, above_at, kleene, part_at, truth_at}
+use Rattle.px_cached.specs.Network.{Agree, IsNetwork, IsOver, IsSettled, above_at, kleene, part_at, truth_at}
+use Rattle.px_cached.proofs.Heights as heights
 
 -- where a truth is set, each part agrees but for the one above
 set_settled : (network : List Part) (above : List Above) → IsNetwork network above → (truths : List (Option Bool))
@@ -97,7 +98,7 @@ module _ (network : List Part) (above : List Above) (is : IsNetwork network abov
   module _ (truths : List (Option Bool)) (at looks : ℕ) (so_far : IsUpTo network above first from given truths at looks) where
     module _ (next : ℕ) (up : above_at above at ≡ aboves.Part next) where
       pub under : (at < next) × (next < length network)
-      under = subst (IsUnder (length network) at) up (is.under at so_far.inside)
+      under = heights.under network above is at next so_far.inside up
 
       is_next : (part : ℕ) → above_at above at ≡ aboves.Part part → part ≡ next
       is_next part is_above =

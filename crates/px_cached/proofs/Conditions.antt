@@ -7,11 +7,14 @@ use Rattle.px_value.specs.declared.value.Value.TheVariants.{Boolean}
 use Rattle.px_core.specs.declared.conditions.ConditionKind.{ConditionKind}
 use Rattle.px_core.specs.declared.conditions.ConditionKind.TheVariants as which
 use Rattle.px_core.specs.Plan.{Site}
-use Rattle.px_flat.specs.Numbered.{Numbered, Literal, numbered_node}
+use Rattle.px_flat.specs.declared.flat.Flat.{Flat}
+use Rattle.px_flat.specs.Flat.{plan_of}
+use Rattle.px_flat.specs.Numbered.{ConditionsNumbered, Numbered, Literal, numbered_node}
 use Rattle.px_flat.specs.Row.{site_in}
 use Rattle.px_flat.specs.Sources.{sources_in}
 use Rattle.px_flat.specs.Within.{IsWithin, AreConditionsWithin}
-use Rattle.px_flat.specs.Numbered.{ConditionsNumbered}
+use Rattle.px_flat.proofs.Tables.{flat_sound}
+use Rattle.px_flat.proofs.Withins.{node_is_within}
 use Rattle.px_cached.specs.declared.part.Above.{Above}
 use Rattle.px_cached.specs.declared.part.Above.TheVariants as aboves
 use Rattle.px_cached.specs.declared.part.Part.{Part}
@@ -46,6 +49,15 @@ within_kind plan conditions which.Repeat within = within.repeat
 within_kind plan conditions which.Pre within = within.pre
 within_kind plan conditions which.Post within = within.post
 within_kind plan conditions which.Invariant within = within.invariant
+
+-- each condition of a node lies within the tables
+pub condition_within : (flat : Flat) (node : ℕ) (kind : ConditionKind) → node < length (plan_of flat)
+    → IsWithin (plan_of flat) (condition_in (plan_of flat) node kind)
+condition_within flat node kind there =
+    let plan : List Site = plan_of flat in
+    subst (IsWithin plan) (kind_of_node plan node kind)
+    (within_kind plan (numbered_node plan (site_in plan node).head).conditions kind
+    (node_is_within plan node (flat_sound flat) there).conditions)
 
 kind_of_place : (kind : ConditionKind) → kind_at (place_of kind) ≡ kind
 kind_of_place which.Start = refl

@@ -16,13 +16,13 @@ use Rattle.px_cached.specs.declared.part.Part.{Part}
 use Rattle.px_cached.specs.declared.part.Part.TheVariants as parts
 use Rattle.px_cached.specs.Climbs.{climb}
 use Rattle.px_cached.specs.Conditions.{condition_at, has_source, source_number}
-use Rattle.px_cached.specs.Costs.{cost, cost_in, full_cost, full_cost_in, joins, makes_nor, whole_cost}
+use Rattle.px_cached.specs.Costs.{cost, cost_in, full_cost, full_cost_in, joins, makes_nor, source_cost, up_to, whole_cost}
 use Rattle.px_cached.specs.declared.part.Root.{Root}
 use Rattle.px_cached.specs.declared.part.Root.TheVariants as root
 use Rattle.px_cached.specs.Laying.{HasLaid, IsRoot, StandsBy, begin, past, root_at}
 use Rattle.px_cached.specs.Network.{IsNetwork, IsOver, Stands, One, Two, joined, part_at}
 use Rattle.px_cached.specs.Reading.{AreListening, sources_at}
-use Rattle.px_cached.proofs.Distinct.{sum_by-distinct, up_to, up_to-more}
+use Rattle.px_cached.proofs.Distinct.{sum_by-distinct, up_to-more}
 use Rattle.px_cached.proofs.Heights.{climb_on, climb_top}
 use Rattle.px_cached.proofs.Layers.{spells_inside}
 
@@ -155,7 +155,7 @@ module _ (plan : List Site) (source : ℕ) where
 -- so much all that depend on a source
 pub dependents_cost : (plan : List Site) (network : List Part) (above : List Above) (roots : List Root)
     → HasLaid plan network above roots (8 * length plan) → (listeners : ListenData) → AreListening plan network listeners
-    → AreSound listeners → (source : ℕ) → sum_by (climb above) (dependents_of listeners source) ≤ cost plan source
+    → AreSound listeners → (source : ℕ) → source_cost listeners (climb above) source ≤ cost plan source
 dependents_cost plan network above roots laid listeners listening sound source =
     elim (cases_lt source (length listeners.dependents)) [
       | inr past ↦ omega (arith, ap (sum_by (climb above)) (get_or_past listeners.dependents source [] past))

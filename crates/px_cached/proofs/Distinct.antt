@@ -1,13 +1,11 @@
 -- Numbers below a bound, none of them twice, sum up to no more than all below it.
-use Rattle.std.proofs.Common.{◌≡◌, ◌≢◌, ℕ, zero, suc, ◌+◌, ◌<◌, ◌≤◌, Bool, true, false, nat_eq, List, [], ◌∷◌, map, sum, sum_by, get_or, inl, inr, ap, ◌∙◌, arith, All, if◌then◌else◌}
+use Rattle.std.proofs.Common.{◌≡◌, ◌≢◌, ℕ, zero, suc, ◌+◌, ◌<◌, ◌≤◌, Bool, true, false, nat_eq, List, [], ◌∷◌, sum_by, get_or, inl, inr, ap, ◌∙◌, arith, All, if◌then◌else◌}
 use Rattle.std.specs.List.{AllPairs, range_with_len}
 use Rattle.std.proofs.lemmas.Bool.Decides.{eqb_tells}
 use Rattle.std.proofs.lemmas.List.Elements.{All-head, All-tail}
 use Rattle.std.proofs.lemmas.List.FromFn.{sum_by-map-range_with_len_more}
 use Rattle.std.proofs.lemmas.List.Sums.{sum_by-cons, sum_by-le-sum_by, sum-map}
-
-abbrev pub up_to : (ℕ → ℕ) → ℕ → ℕ
-up_to f count = sum (map f (range_with_len 0 count))
+use Rattle.px_cached.specs.Costs.{up_to}
 
 pub up_to-more : (f : ℕ → ℕ) (count : ℕ) → up_to f (count + 1) ≡ up_to f count + f count
 up_to-more f count = sum_by-map-range_with_len_more (λ x. x) f 0 count count (omega arith)

@@ -14,17 +14,17 @@ use Rattle.px_core.specs.Expr.{Term, Terms, NoTerms, More}
 use Rattle.px_core.specs.Fit.{Scalar, Array, cells_of, cells_of_site, declares_array, declares_scalar, references, references_of_each, references_of_target, targets_of, terms_of, terms_of_conditions}
 use Rattle.px_core.specs.Plan.{Site, VariableData, no_site, no_term, is_same}
 use Rattle.px_flat.specs.Layout.{Place, first_cell, place_from, variable_cells, state_cell, outcome_cell, failure_cell, handle_cell, acknowledgement_cell}
-use Rattle.px_flat.specs.Lookups.{lookups_in, lookups_in_each, lookups_in_body}
+use Rattle.px_flat.specs.Lookups.{lookups_in, lookups_in_each, lookups_in_body, AreKnown}
 use Rattle.px_flat.specs.Numbered.{each_numbered, node_of, numbered, place_of}
 use Rattle.px_flat.specs.Row.{site_in}
 use Rattle.px_flat.specs.Sources.{Source, Cells, Reports, sources_in, sources_in_each}
-use Rattle.px_flat.proofs.Known.{IsSound, AreKnown, back, each_known, front, site_known}
+use Rattle.px_flat.proofs.Known.{IsSound, back, each_known, front, site_known}
 use Rattle.px_flat.proofs.NumberedValues.{first_variable}
-use Rattle.px_flat.proofs.Sums.{sum_more, sum_front, sum_rest}
-use Rattle.px_flat.proofs.Variables.{IsDeclared, declared, place_at, place_behind}
+use Rattle.px_flat.proofs.Sums.{sum_rest}
+use Rattle.px_flat.proofs.Variables.{IsDeclared, declared, place_at, place_behind, cells_within}
 use Rattle.px_flat.proofs.Worlds.{IsThere, site_there}
 use Rattle.px_cached.specs.Conditions.{condition_in, source_number}
-use Rattle.px_cached.specs.Firsts.{HasCell, firsts_from, firsts_of, source_of}
+use Rattle.px_cached.specs.Firsts.{HasCell, firsts_from, firsts_of, source_of, variables_of}
 
 -- ---- variables one after another
 
@@ -124,9 +124,6 @@ low cell (variable ∷ variables) j =
     ]
 
 -- ---- nodes one after another
-
-abbrev pub variables_of : List Site → List VariableData
-variables_of plan = flat_map (λ site. site.head.variables) plan
 
 all_long : (cell : ℕ) (plan : List Site) → length (firsts_from cell (variables_of plan)) ≡ variable_cells plan
 all_long cell [] = refl
@@ -233,8 +230,7 @@ module _ (plan : List Site) (sound : IsSound plan) (owner name : List ℕ) (form
         first,
         size,
         has.within,
-        sum_more cells_of_site plan node no_site its.within,
-        sum_front cells_of_site plan (node + 1),
+        cells_within plan node its.within,
       ) in
       let at : cell ≡ own + (cell - own) = omega (arith, in_it.0, first, behind) in
       let zero_on : 0 + own ≡ own = omega arith in
@@ -310,7 +306,7 @@ module _ (plan : List Site) (sound : IsSound plan) (cell : ℕ) where
     where
       each : All (λ term. AreKnown plan (references term) (lookups_in term))
           (terms_of_conditions (site_in plan node).head.conditions)
-      each = each_known plan (terms_of_conditions (site_in plan node).head.conditions)
+      each = each_known plan references lookups_in (terms_of_conditions (site_in plan node).head.conditions)
           (front plan (flat_map references (terms_of_conditions (site_in plan node).head.conditions))
           (flat_map references (terms_of (site_in plan node).head.body)
           ++ flat_map references_of_target (targets_of (site_in plan node).head.body))

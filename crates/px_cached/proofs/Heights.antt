@@ -8,7 +8,7 @@ use Rattle.px_cached.specs.Climbs.{and_above, climb, climb_within}
 use Rattle.px_cached.specs.Network.{IsNetwork, IsUnder, above_at}
 
 module _ (network : List Part) (above : List Above) (is : IsNetwork network above) where
-  under : (part next : ℕ) → part < length network → above_at above part ≡ aboves.Part next
+  pub under : (part next : ℕ) → part < length network → above_at above part ≡ aboves.Part next
       → (part < next) × (next < length network)
   under part next there up = subst (IsUnder (length network) part) up (is.under part there)
 

@@ -1,12 +1,12 @@
 -- Readers one after another, and listeners to which they are added.
 use Rattle.std.specs.List.{list_any}
-use Rattle.std.proofs.Common.{◌≡◌, ℕ, ◌+◌, ◌<◌, ◌≤◌, Bool, true, false, nat_eq, ◌||◌, List, [], ◌∷◌, ◌++◌, length, get_or, refl, ap, sym, ◌∙◌, subst, arith, inl, inr, ◌⊎◌, All, if◌then◌else◌}
+use Rattle.std.proofs.Common.{◌≡◌, ℕ, ◌+◌, ◌<◌, ◌≤◌, Bool, true, false, nat_eq, ◌||◌, List, [], ◌∷◌, ◌++◌, length, get_or, refl, ap, sym, ◌∙◌, subst, arith, inl, inr, ◌⊎◌, All, Contains, if◌then◌else◌}
 use Rattle.std.proofs.lemmas.Bool.{cases_lt, eq-eqb, or_from, or_left, or_right}
 use Rattle.std.proofs.lemmas.Bool.Decides.{eqb_tells}
-use Rattle.std.proofs.lemmas.List.{get_or_append_left, get_or-append-add, get_or-set_same, get_or-set_other, get_or-map, length-append, length-map, length-set}
-use Rattle.std.proofs.lemmas.List.Elements.{All-append, All-map, All-nil, All-push}
+use Rattle.std.proofs.lemmas.List.{get_or-set_same, get_or-set_other, length-set}
+use Rattle.std.proofs.lemmas.List.Elements.{All-append, All-contains, All-contains_itself, All-map, All-nil, All-push, Contains-append_left, Contains-append_right}
 use Rattle.std.proofs.lemmas.List.Folds.{list_any-append, list_any_at}
-use Rattle.std.proofs.lemmas.List.Sums.{sum_by-set}
+use Rattle.px_value.proofs.General.{All-unmap}
 use Rattle.px_core.specs.Plan.{Site}
 use Rattle.px_flat.specs.Layout.{all_cells, state_cell, outcome_cell, failure_cell, handle_cell, acknowledgement_cell}
 use Rattle.px_flat.specs.Lookups.{lookups_of}
@@ -15,13 +15,14 @@ use Rattle.px_flat.specs.NumberedData.{expr_data}
 use Rattle.px_flat.specs.Sources.{Source, Cells, Reports, sources_in, sources_in_each}
 use Rattle.px_flat.specs.Within.{IsWithin, AreWithin}
 use Rattle.px_listen.specs.Listening.{ListenData, dependents_of, is_dependent, pairs_of, with_dependent}
+use Rattle.px_listen.proofs.Adding.{pairs-more}
 use Rattle.px_cached.specs.declared.part.Part.{Part}
 use Rattle.px_cached.specs.declared.part.Part.TheVariants as parts
 use Rattle.px_cached.specs.declared.reading.Reader.{Reader}
 use Rattle.px_cached.specs.Conditions.{all_sources, has_source, source_number}
 use Rattle.px_cached.specs.Laying.{IsRead}
 use Rattle.px_cached.specs.Network.{part_at}
-use Rattle.px_cached.specs.Reading.{AreListening, AreReadersBelow, IsAmong, reader_of, readers_of, sources_at}
+use Rattle.px_cached.specs.Reading.{AreListening, AreReadersBelow, reader_of, readers_of, sources_at}
 use Rattle.px_cached.proofs.Reported.{report_there}
 
 -- ---- the sources of what lies within the tables have numbers among those of sources
@@ -71,24 +72,12 @@ module _ (plan : List Site) where
 
 -- ---- the readers of one part more
 
-among_front : (some more : List Reader) (reader : Reader) → IsAmong some reader → IsAmong (some ++ more) reader
-among_front some more reader is = (
-  is.0,
-  (
-    omega (arith, is.1.0, length-append some more),
-    (λ d. get_or_append_left some more d is.0 is.1.0 ∙ is.1.1 d),
-  ),
-)
-
 among_back : (plan : List Site) (part : ℕ) (some : List Reader) (sources : List Source)
-    → All (λ source. IsAmong (some ++ readers_of plan part sources) (reader_of plan part source)) sources
-among_back plan part some sources k d inside = (
-  length some + k,
-  (
-    omega (arith, inside, length-append some (readers_of plan part sources), length-map sources (reader_of plan part)),
-    (λ e. get_or-append-add some (readers_of plan part sources) k e ∙ get_or-map (reader_of plan part) sources k d e inside),
-  ),
-)
+    → All (λ source. Contains (some ++ readers_of plan part sources) (reader_of plan part source)) sources
+among_back plan part some sources =
+    All-unmap (Contains (some ++ readers_of plan part sources)) (reader_of plan part) sources
+    (λ k d inside. Contains-append_right some (readers_of plan part sources) (get_or (readers_of plan part sources) k d)
+    (All-contains_itself (readers_of plan part sources) k d inside))
 
 module _ (plan : List Site) (network : List Part) where
   abbrev IsFine : Reader → Type 0
@@ -102,11 +91,11 @@ module _ (plan : List Site) (network : List Part) where
       → AreReadersBelow plan network (readers ++ readers_of plan part (sources_at plan (part_at network part))) (part + 1)
   more_below readers part there read before = let sources : List Source = sources_at plan (part_at network part) in record {
     each = λ other below. elim (cases_lt other part) [
-      | inl sooner ↦ (λ k d inside. among_front readers (readers_of plan part sources)
+      | inl sooner ↦ (λ k d inside. Contains-append_left readers (readers_of plan part sources)
           (reader_of plan other (get_or (sources_at plan (part_at network other)) k d)) (before.each other sooner k d inside))
       | inr now ↦
           let last : other ≡ part = omega (arith, now, below) in
-          subst (λ other. All (λ source. IsAmong (readers ++ readers_of plan part sources) (reader_of plan other source))
+          subst (λ other. All (λ source. Contains (readers ++ readers_of plan part sources) (reader_of plan other source))
           (sources_at plan (part_at network other))) (sym last) (among_back plan part readers sources)
     ];
     within = All-append IsFine readers (readers_of plan part sources) before.within
@@ -175,13 +164,6 @@ module _ (listeners : ListenData) (source watcher : ℕ) (there : source < lengt
       or_none true rest none = refl
       or_none false rest none = none
 
-  pairs_then : pairs_of added ≡ pairs_of listeners + 1
-  pairs_then = omega (
-    arith,
-    length-append dependents (watcher ∷ []),
-    sum_by-set (λ (list : List ℕ). length list) listeners.dependents source (dependents ++ watcher ∷ []) [] there,
-  )
-
 -- the first so many readers are added
 pub record AreAdded (source_count part_count : ℕ) (readers : List Reader) (listeners : ListenData) (count : ℕ) : Type 0 where
   pub sources : length listeners.dependents ≡ source_count
@@ -191,7 +173,7 @@ pub record AreAdded (source_count part_count : ℕ) (readers : List Reader) (lis
   pub each : (at : ℕ) (d : Reader) → at < count
       → is_dependent listeners (get_or readers at d).source (get_or readers at d).part ≡ true
   pub only : (source part : ℕ) → is_dependent listeners source part ≡ true
-      → IsAmong readers (record { source = source; part = part })
+      → Contains readers (record { source = source; part = part })
 
 module _ (sources watchers : ℕ) (readers : List Reader) (listeners : ListenData) (count : ℕ) (inside : count < length readers)
     (added_so_far : AreAdded sources watchers readers listeners count) (reader : Reader)
@@ -220,7 +202,7 @@ module _ (sources watchers : ℕ) (readers : List Reader) (listeners : ListenDat
     sources = length-set listeners.dependents reader.source (dependents_of listeners reader.source ++ reader.part ∷ []) ∙ added_so_far.sources;
     watchers = added_so_far.watchers;
     room = added_so_far.room;
-    few = omega (arith, added_so_far.few, pairs_then listeners reader.source reader.part in_range);
+    few = omega (arith, added_so_far.few, pairs-more listeners reader.source reader.part in_range);
     each = λ at d below. elim (cases_lt at count) [
       | inl sooner ↦ depends_still listeners reader.source reader.part in_range (get_or readers at d).source
           (get_or readers at d).part (added_so_far.each at d sooner)
@@ -235,7 +217,7 @@ module _ (sources watchers : ℕ) (readers : List Reader) (listeners : ListenDat
       | inl now ↦
           let same : reader ≡ record { source = source; part = part } =
           (λ i. record { source = sym now.0 i; part = sym now.1 i }) in
-          (count, (inside, (λ d. is d ∙ same)))
+          (count, inside, is (record { source = source; part = part }) ∙ same)
     ];
   }
 
@@ -254,12 +236,8 @@ all_added plan network readers listeners below added = record {
   watchers = added.watchers;
   each = λ part there k d inside.
       let at = below.each part there k d inside in
-      let none : Reader = record { source = 0; part = 0 } in
-      ap (λ (reader : Reader). is_dependent listeners reader.source reader.part) (sym (at.1.1 none))
-      ∙ added.each at.0 none at.1.0;
+      let reader : Reader = reader_of plan part (get_or (sources_at plan (part_at network part)) k d) in
+      ap (λ (reader : Reader). is_dependent listeners reader.source reader.part) (sym at.2) ∙ added.each at.0 reader at.1;
   only = λ source part depends.
-      let at = added.only source part depends in
-      let none : Reader = record { source = 0; part = 0 } in
-      ap (λ (reader : Reader). has_source plan reader.source (sources_at plan (part_at network reader.part))) (sym (at.1.1 none))
-      ∙ below.only at.0 none at.1.0;
+      All-contains (IsOfPart plan network) readers (record { source = source; part = part }) below.only (added.only source part depends);
 }

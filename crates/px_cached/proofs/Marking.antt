@@ -1,25 +1,13 @@
 -- What is to be looked at, while touched sources are gone through.
-use Rattle.std.proofs.Common.{◌≡◌, ℕ, ◌+◌, ◌≤◌, true, false, nat_eq, List, [], ◌∷◌, get_or, subst, ◌⊎◌, inl, inr, ap, sym, ◌∙◌, All, None, Some, sum_by, arith}
-use Rattle.std.specs.List.{list_any}
-use Rattle.std.proofs.lemmas.Bool.Decides.{eqb_tells}
-use Rattle.std.proofs.lemmas.List.Elements.{All-tail}
+use Rattle.std.proofs.Common.{◌≡◌, ℕ, ◌+◌, ◌≤◌, true, false, List, get_or, ◌⊎◌, inl, inr, ap, sym, ◌∙◌, All, None, Some, arith}
+use Rattle.std.proofs.lemmas.Bool.{eqb-true}
+use Rattle.std.proofs.lemmas.List.Elements.{All-contains}
+use Rattle.std.proofs.lemmas.Map.Views.{Contains-from_any}
 use Rattle.px_links.specs.Links.{LinksData, HoldsOthersAsBefore, first_of, is_absent, popped, SameCounts}
 use Rattle.px_listen.specs.Listening.{ListenData, dependents_of, is_dependent}
-use Rattle.px_cached.specs.Costs.{in_all}
+use Rattle.px_cached.specs.Costs.{in_all, source_cost}
 use Rattle.px_cached.proofs.OneList.{noted_then}
 use Rattle.px_cached.proofs.Owing.{in_all-popped}
-
--- what holds of all of a list holds of what is in it
-pub of_one : (P : ℕ → Type 0) (numbers : List ℕ) (number : ℕ) → All P numbers → list_any (nat_eq number) numbers ≡ true → P number
-of_one P [] number all is = absurd (cc)
-of_one P (first ∷ rest) number all is = elim (eqb_tells number first) [
-  | inl same ↦ subst P (sym same.1) (all 0 first (omega arith))
-  | inr apart ↦ of_one P rest number (All-tail P first rest all) (rw apart.0 at is)
-]
-
--- what all costs that depends on a source
-abbrev source_cost : ListenData → (ℕ → ℕ) → ℕ → ℕ
-source_cost listeners cost source = sum_by cost (dependents_of listeners source)
 
 pub record IsSoFar (Stays : ℕ → Type 0) (listeners : ListenData) (first_touched touched first_stale stale : LinksData) : Type 0 where
   pub marked : (source part : ℕ) → is_absent first_touched source ≡ false → is_dependent listeners source part ≡ true
@@ -47,8 +35,8 @@ module _ (Stays : ℕ → Type 0) (listeners : ListenData) (first_touched first_
         ])
         | inl left ↦ elim (noted_then touched then_touched source holders other left) [
           | inr stays ↦ inl stays
-          | inl same ↦ inr (of_one (λ part. (is_absent then_stale part ≡ false) ⊎ Stays part) (dependents_of listeners source) part noted
-              (ap (λ source. is_dependent listeners source part) (sym same) ∙ depends))
+          | inl same ↦ inr (All-contains (λ part. (is_absent then_stale part ≡ false) ⊎ Stays part) (dependents_of listeners source) part noted
+              (Contains-from_any eqb-true part (dependents_of listeners source) (ap (λ source. is_dependent listeners source part) (sym same) ∙ depends)))
         ]
       ];
       still = λ part was. still part (so_far.still part was);

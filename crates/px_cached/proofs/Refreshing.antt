@@ -1,6 +1,6 @@
 -- One look after another: what is kept stays sound, and what changes is told.
-use Rattle.std.proofs.Common.{◌≡◌, ℕ, ◌+◌, ◌<◌, ◌≤◌, Bool, false, List, length, Option, Some, None, IfSome, inl, inr, ap, sym, ◌∙◌, subst, arith, if◌then◌else◌}
-use Rattle.std.specs.Prelude.{is_none}
+use Rattle.std.proofs.Common.{◌≡◌, ℕ, ◌+◌, ◌<◌, ◌≤◌, Bool, false, List, length, Option, Some, None, IfSome, inl, inr, ap, ◌∙◌, subst, arith, if◌then◌else◌}
+use Rattle.std.proofs.lemmas.Option.{IfSome_then}
 use Rattle.px_core.specs.Plan.{Site}
 use Rattle.px_flat.specs.Sources.{Present}
 use Rattle.px_links.specs.Links.{LinksData, HoldsOthersAsBefore, SameCounts, first_of, holder_of, is_absent, popped}
@@ -14,15 +14,14 @@ use Rattle.px_cached.specs.Climbs.{climb}
 use Rattle.px_cached.specs.Costs.{in_all}
 use Rattle.px_cached.specs.Looking.{IsSound, Tells}
 use Rattle.px_cached.proofs.Heights.{looked as looked_up}
-use Rattle.px_cached.proofs.OneList.{holders_then, now_noted, still_noted}
+use Rattle.px_cached.proofs.OneList.{adds_both, holders_then, now_noted, still_noted}
 use Rattle.px_cached.proofs.Owing.{in_all-popped}
 
 -- a node that has a condition is one of the plan
 pub within_plan : (plan : List Site) (seen : Present) (kept : Kept) → IsSound plan seen kept → (changed : Option ℕ)
     → IfSome changed (IsOfPart kept.network.above.items (length kept.network.parts.items))
     → IfSome changed (λ node. node < length plan)
-within_plan plan seen kept sound None is = tt
-within_plan plan seen kept sound (Some node) is = sound.laid.named is.0 node is.1.0 is.1.1
+within_plan plan seen kept sound changed is = IfSome_then changed is (λ node of. sound.laid.named of.0 node of.1.0 of.1.1)
 
 -- ---- what is told
 
@@ -56,16 +55,7 @@ module _ (above : List Above) (first old new : List (Option Bool)) (before betwe
         | inr noted ↦ inr (still_noted between after node list holders other noted)
       ]
     ];
-    holders = λ other. elim (holders_then between after node list holders other) [
-      | inl stays ↦ elim (tells.holders other) [
-        | inl was ↦ inl (stays ∙ was)
-        | inr put ↦ inr (put.0, stays ∙ put.1)
-      ]
-      | inr put ↦ elim (tells.holders other) [
-        | inl was ↦ inr (sym (ap is_none was) ∙ put.0, put.1)
-        | inr was_put ↦ inr (was_put.0, put.1)
-      ]
-    ];
+    holders = adds_both list before between after tells.holders (holders_then between after node list holders);
     counts = (counts.0 ∙ tells.counts.0, counts.1 ∙ tells.counts.1);
   }
 

@@ -1,8 +1,9 @@
 -- What is kept is sound in what is present, where what was not touched is as it was seen; and then it is fresh.
 use Rattle.std.proofs.Common.{◌≡◌, ℕ, ◌+◌, ◌/◌, ◌<◌, Bool, true, false, not, List, [], ◌∷◌, ◌++◌, length, map, get_or, Option, None, ◌⊎◌, inl, inr, refl, ap, sym, ◌∙◌, subst, arith, All}
-use Rattle.std.proofs.lemmas.Bool.{cases_Bool, false_from_ne_true, false≢true}
+use Rattle.std.proofs.lemmas.Bool.{cases_Bool, false_from_ne_true, false≢true, true_from_ne_false}
 use Rattle.std.proofs.lemmas.List.Elements.{All-cons, All-tail}
-use Rattle.std.proofs.lemmas.List.{get_or_append_left, get_or-append-add, get_or-map, length-append}
+use Rattle.std.proofs.lemmas.List.{get_or-map}
+use Rattle.px_value.proofs.General.{All-back, All-front}
 use Rattle.px_value.specs.Truth.{truth_of}
 use Rattle.px_core.specs.declared.conditions.ConditionKind.{ConditionKind}
 use Rattle.px_core.specs.Plan.{Site}
@@ -36,19 +37,7 @@ was_untouched old new source others untouched =
 
 -- what is true of all sources is true of a stretch of them
 all_in_stretch : (P : Source → Type 0) (some all : List Source) → IsStretch some all → All P all → All P some
-all_in_stretch P some all is each k d inside =
-    let before = is.0 in
-    let after = is.1 in
-    subst P
-    (ap (λ all. get_or all (length before + k) d) is.2 ∙ get_or-append-add before (some ++ after) k d
-    ∙ get_or_append_left some after d k inside)
-    (each (length before + k) d (omega (
-      arith,
-      inside,
-      ap length is.2,
-      length-append before (some ++ after),
-      length-append some after,
-    )))
+all_in_stretch P some all is each = All-front P some is.1 (All-back P is.0 (some ++ is.1) (subst (All P) is.2 each))
 
 -- all of a list pass, or something holds where one doesn't
 all_or : {X : Type 0} (P : X → Type 0) (Q : Type 0) (xs : List X) → All (λ x. P x ⊎ Q) xs → All P xs ⊎ Q
@@ -82,12 +71,8 @@ module _ (plan : List Site) (seen present : Present) (long : length seen.cells �
       ])
 
   was_absent : (part : ℕ) → is_absent then_stale part ≡ true → is_absent stale part ≡ true
-  was_absent part absent = elim (cases_Bool (is_absent stale part)) [
-    | inl is ↦ is
-    | inr noted ↦
-        let still : is_absent then_stale part ≡ false = noticed.still part noted in
-        absurd (cc)
-  ]
+  was_absent part absent =
+      true_from_ne_false (is_absent stale part) (λ noted. false≢true (sym (noticed.still part noted) ∙ absent))
 
   right_by : (truth : Option Bool) (p : Part) → IsRead plan p
       → All (λ source. not (is_absent touched (source_number plan source)) ≡ false) (sources_at plan p)

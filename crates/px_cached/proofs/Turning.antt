@@ -20,10 +20,11 @@ use Rattle.px_cached.specs.declared.still.Asker.{Asker}
 use Rattle.px_cached.specs.declared.watching.Turn.{Turn}
 use Rattle.px_cached.specs.declared.watching.Watch.{Watch}
 use Rattle.px_cached.specs.declared.watching.Watcher.{Watcher}
+use Rattle.px_cached.specs.Conditions.{reported}
 use Rattle.px_cached.specs.Looking.{IsRight}
 use Rattle.px_cached.specs.Network.{part_at, truth_at}
 use Rattle.px_cached.specs.Still.{IsStill, now_of}
-use Rattle.px_cached.specs.Watching.{Answers, HasTold, IsReading, Recalls, answer, reported}
+use Rattle.px_cached.specs.Watching.{Answers, HasTold, IsReading, Recalls, answer}
 
 -- ---- what an answer tells
 

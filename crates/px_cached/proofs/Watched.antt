@@ -1,28 +1,21 @@
 -- The parts of a watch, while it is laid.
-use Rattle.std.proofs.Common.{◌≡◌, ℕ, ◌+◌, List, [], ◌∷◌, ◌++◌, length, map, get_or, All, ap, sym, ◌∙◌, subst, arith, append_assoc, sum_by}
+use Rattle.std.proofs.Common.{◌≡◌, ℕ, ◌+◌, List, [], ◌∷◌, ◌++◌, map, All, ap, sym, ◌∙◌, subst, append_assoc, sum_by}
 use Rattle.std.specs.Prelude.{IsPermutation}
-use Rattle.std.proofs.lemmas.List.{get_or-append-add, length-append, map-append}
+use Rattle.std.proofs.lemmas.List.{map-append}
+use Rattle.std.proofs.lemmas.List.Elements.{All-head}
 use Rattle.std.proofs.lemmas.List.Sorted.{IsPermutation-append_left, IsPermutation-append_right, IsPermutation-cons, IsPermutation-map, IsPermutation-middle, IsPermutation-sym, IsPermutation-to_front, IsPermutation-trans}
-use Rattle.std.proofs.lemmas.List.Sums.{sum_by-cons}
+use Rattle.std.proofs.lemmas.List.Folds.{fold-map}
+use Rattle.px_value.proofs.General.{All-back}
 use Rattle.px_cached.specs.declared.watching.Watcher.{Watcher}
-
-abbrev pub part_of : Watcher → ℕ
-part_of watcher = watcher.part
+use Rattle.px_cached.specs.Watching.{part_of}
 
 pub sum_by_parts : (cost : ℕ → ℕ) (watchers : List Watcher) → sum_by cost (map part_of watchers) ≡ sum_by (λ watcher. cost watcher.part) watchers
-sum_by_parts cost [] = omega arith
-sum_by_parts cost (watcher ∷ watchers) = omega (
-  arith,
-  sum_by-cons cost watcher.part (map part_of watchers),
-  sum_by-cons (λ (watcher : Watcher). cost watcher.part) watcher watchers,
-  sum_by_parts cost watchers,
-)
+sum_by_parts cost watchers = fold-map (λ (total part : ℕ). total + cost part) part_of 0 watchers
 
 -- what holds of all holds of the one behind some
 pub next_in : (P : ℕ → Type 0) (before after all : List ℕ) (part : ℕ) → all ≡ before ++ part ∷ after → All P all → P part
 next_in P before after all part is each =
-    subst P (ap (λ all. get_or all (length before + 0) part) is ∙ get_or-append-add before (part ∷ after) 0 part)
-    (each (length before + 0) part (omega (arith, ap length is, length-append before (part ∷ after))))
+    All-head P part after (All-back P before (part ∷ after) (subst (All P) is each))
 
 module _ (others : List ℕ) (watchers : List Watcher) (dependents : List ℕ)
     (each : IsPermutation (others ++ map part_of watchers) dependents) where

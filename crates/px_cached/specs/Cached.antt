@@ -1,5 +1,5 @@
 -- What kept conditions are to contracts.
-use Rattle.std.specs.Prelude.{◌≡◌, ℕ, ◌+◌, ◌-◌, ◌<◌, ◌≤◌, Bool, true, false, not, List, length, map, sum, slice_index_or, Option, Some, None, All, ◌⊎◌}
+use Rattle.std.specs.Prelude.{◌≡◌, ℕ, ◌+◌, ◌-◌, ◌<◌, ◌≤◌, Bool, true, false, not, List, length, map, sum, slice_index_or, Option, None, All, ◌⊎◌}
 use Rattle.std.specs.List.{range_with_len}
 use Rattle.px_core.specs.declared.conditions.ConditionKind.{ConditionKind}
 use Rattle.px_core.specs.Plan.{Site}
@@ -8,8 +8,9 @@ use Rattle.px_flat.specs.declared.flat.Flat.{Flat}
 use Rattle.px_flat.specs.Flat.{plan_of}
 use Rattle.px_flat.specs.Layout.{all_cells}
 use Rattle.px_flat.specs.Sources.{Present, IsSame, sources_in}
-use Rattle.px_links.specs.Links.{LinksData, holder_of, is_absent, SameCounts}
+use Rattle.px_links.specs.Links.{LinksData, is_absent, SameCounts}
 use Rattle.px_lookup.specs.Reports.{ReportsData}
+use Rattle.px_cached.specs.Adding.{AddsTo}
 use Rattle.px_cached.specs.Conditions.{all_sources, condition_in, number_of, source_number, truth_in}
 use Rattle.px_cached.specs.Costs.{cost, in_all}
 use Rattle.px_cached.specs.Firsts.{HasCell, source_of}
@@ -104,6 +105,5 @@ AreFresh cached present = (node : ℕ) (kind : ConditionKind) → node < length 
 pub record TellsChanged (old new : CachedData) (before after : LinksData) (list : ℕ) : Type 0 where
   pub changed : (node : ℕ) (kind : ConditionKind) → node < length (plan_in old)
       → (kept_truth new node kind ≡ kept_truth old node kind) ⊎ (is_absent after node ≡ false)
-  pub holders : (node : ℕ) → (holder_of after node ≡ holder_of before node)
-      ⊎ ((is_absent before node ≡ true) × (holder_of after node ≡ Some list))
+  pub holders : AddsTo list before after
   pub counts : SameCounts before after

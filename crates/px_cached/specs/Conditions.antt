@@ -1,14 +1,15 @@
 -- The conditions of a plan's nodes by number, and the sources of all by number.
-use Rattle.std.specs.Prelude.{ℕ, ◌+◌, ◌*◌, ◌/◌, ◌%◌, Bool, nat_eq, List, length, slice_index_or, Option, Some, None}
+use Rattle.std.specs.Prelude.{ℕ, ◌+◌, ◌*◌, ◌/◌, ◌%◌, Bool, nat_eq, List, [], length, slice_index_or, Option, Some, None}
 use Rattle.std.specs.List.{list_any, position_or_len}
 use Rattle.px_value.specs.Truth.{truth_of}
+use Rattle.px_value.specs.declared.value.Value.{Value}
 use Rattle.px_core.specs.declared.conditions.ConditionKind.{ConditionKind}
 use Rattle.px_core.specs.declared.conditions.ConditionKind.TheVariants as which
 use Rattle.px_core.specs.Plan.{Site, condition_of}
 use Rattle.px_sem.specs.Tolerances.{tolerances}
 use Rattle.px_flat.specs.Layout.{all_cells}
 use Rattle.px_flat.specs.Lookups.{lookups_of}
-use Rattle.px_flat.specs.Numbered.{Numbered, ConditionsNumbered, numbered}
+use Rattle.px_flat.specs.Numbered.{Numbered, ConditionsNumbered, numbered, reported_of}
 use Rattle.px_flat.specs.Row.{site_in}
 use Rattle.px_flat.specs.Sources.{Source, Cells, Reports, Present, value_in}
 use Rattle.px_cached.specs.declared.kinds.TheConstants.{KINDS}
@@ -51,6 +52,10 @@ of_kind conditions which.Invariant = conditions.invariant
 -- the truth of an expression made from scratch
 abbrev pub truth_in : List Site → Present → Numbered → Option Bool
 truth_in plan present expr = truth_of (value_in plan present expr)
+
+-- what is last reported under a name, without arguments
+abbrev pub reported : List Site → Present → ℕ → Value
+reported plan present name = reported_of present.reports (slice_index_or (lookups_of plan) name []) [] None
 
 -- the place of a tolerance among others; behind them all that of none, and of one that is not among them
 abbrev pub place_among : List ℕ → Option ℕ → ℕ

@@ -10,6 +10,7 @@ use Rattle.px_flat.specs.Numbered.{Numbered, Unary, Binary}
 use Rattle.px_flat.specs.Sources.{sources_in}
 use Rattle.px_links.specs.Links.{LinksData}
 use Rattle.px_links.specs.Lists.{nth}
+use Rattle.px_listen.specs.Listening.{ListenData, dependents_of}
 use Rattle.px_cached.specs.Conditions.{condition_at, has_source}
 
 -- whether both sides of the operation are parts of their own
@@ -44,9 +45,13 @@ full_cost_in looks (Binary op left right) =
 full_cost_in looks (Unary op arg) = if makes_nor op arg then full_cost_in looks arg else looks
 full_cost_in looks expr = looks
 
+-- the numbers below this one together
+abbrev pub up_to : (ℕ → ℕ) → ℕ → ℕ
+up_to f count = sum (map f (range_with_len 0 count))
+
 -- so much the conditions of all nodes cost together
 abbrev pub in_conditions : List Site → (Numbered → ℕ) → ℕ
-in_conditions plan cost = sum (map (λ number. cost (condition_at plan number)) (range_with_len 0 (8 * length plan)))
+in_conditions plan cost = up_to (λ number. cost (condition_at plan number)) (8 * length plan)
 
 -- a source, by its number
 abbrev pub cost : List Site → ℕ → ℕ
@@ -59,3 +64,7 @@ full_cost plan = in_conditions plan (full_cost_in 1)
 -- what all that is noted costs, by what each costs
 abbrev pub in_all : (ℕ → ℕ) → LinksData → ℕ
 in_all cost noted = sum_by cost (nth noted.lists 0)
+
+-- and all that depends on a source
+abbrev pub source_cost : ListenData → (ℕ → ℕ) → ℕ → ℕ
+source_cost listeners cost source = sum_by cost (dependents_of listeners source)

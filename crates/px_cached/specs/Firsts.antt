@@ -18,8 +18,11 @@ firsts_from cell (variable ∷ variables) =
     replicate (cells_of variable) cell ++ firsts_from (cell + cells_of variable) variables
 
 -- of all variables of a plan
+abbrev pub variables_of : List Site → List VariableData
+variables_of plan = flat_map (λ site. site.head.variables) plan
+
 abbrev pub firsts_of : List Site → List ℕ
-firsts_of plan = firsts_from 0 (flat_map (λ site. site.head.variables) plan)
+firsts_of plan = firsts_from 0 (variables_of plan)
 
 -- the source of a cell, by its first cell: a variable's first, and what is behind all variables stands for itself
 abbrev pub source_of : List Site → ℕ → ℕ

@@ -1,13 +1,12 @@
 -- What every table of kept conditions keeps.
-use Rattle.std.specs.Prelude.{◌≡◌, ℕ, ◌≤◌, length, map, sum_by}
+use Rattle.std.specs.Prelude.{◌≡◌, ℕ, ◌≤◌, length, map}
 use Rattle.px_flat.specs.Flat.{plan_of}
 use Rattle.px_flat.specs.Layout.{all_cells}
-use Rattle.px_listen.specs.Listening.{dependents_of}
 use Rattle.px_cached.specs.declared.cached.Cached.TheInside.{Inside}
 use Rattle.px_cached.specs.Cached.{CachedData, present_in}
 use Rattle.px_cached.specs.Climbs.{climb}
 use Rattle.px_cached.specs.Conditions.{all_sources}
-use Rattle.px_cached.specs.Costs.{cost, in_all}
+use Rattle.px_cached.specs.Costs.{cost, in_all, source_cost}
 use Rattle.px_cached.specs.Firsts.{firsts_of}
 use Rattle.px_cached.specs.Looking.{IsSound}
 use Rattle.px_cached.specs.Network.{root_truth}
@@ -29,7 +28,7 @@ pub record IsKept (c : Inside) : Type 0 where
   pub sound : IsSound (plan_of c.flat.value) (present_in c.seen_cells.value c.seen_reports.value) c.kept
   pub listening : AreListening (plan_of c.flat.value) c.kept.network.parts.items c.listeners
   pub watching : AreWatching (plan_of c.flat.value) c.kept.network.parts.items c.listeners c.watches.items
-  pub costs : (source : ℕ) → sum_by (climb c.kept.network.above.items) (dependents_of c.listeners source)
+  pub costs : (source : ℕ) → source_cost c.listeners (climb c.kept.network.above.items) source
       ≤ cost (plan_of c.flat.value) source
   pub touched_cells : c.touched.cells ≡ all_sources (plan_of c.flat.value)
   pub firsts : c.firsts.items ≡ firsts_of (plan_of c.flat.value)

@@ -1,3 +1,4 @@
+pub mod Adding
 pub mod Cached
 pub mod Carrying
 pub mod Climbs

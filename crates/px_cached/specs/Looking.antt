@@ -1,14 +1,15 @@
 -- Truths that are kept, and what a refresh tells.
-use Rattle.std.specs.Prelude.{◌≡◌, ℕ, ◌*◌, ◌<◌, Bool, true, false, List, length, Option, Some, ◌⊎◌}
+use Rattle.std.specs.Prelude.{◌≡◌, ℕ, ◌*◌, ◌<◌, Bool, true, false, List, length, Option, ◌⊎◌}
 use Rattle.px_core.specs.Plan.{Site}
 use Rattle.px_flat.specs.NumberedData.{expr_data}
 use Rattle.px_flat.specs.Sources.{Present}
-use Rattle.px_links.specs.Links.{LinksData, holder_of, is_absent, SameCounts}
+use Rattle.px_links.specs.Links.{LinksData, is_absent, SameCounts}
 use Rattle.px_cached.specs.declared.looking.Kept.{Kept}
 use Rattle.px_cached.specs.declared.part.Above.{Above}
 use Rattle.px_cached.specs.declared.part.Above.TheVariants as aboves
 use Rattle.px_cached.specs.declared.part.Part.{Part}
 use Rattle.px_cached.specs.declared.part.Part.TheVariants as parts
+use Rattle.px_cached.specs.Adding.{AddsTo}
 use Rattle.px_cached.specs.Conditions.{truth_in}
 use Rattle.px_cached.specs.Laying.{HasLaid}
 use Rattle.px_cached.specs.Network.{Agree, above_at, kleene, part_at, truth_at}
@@ -42,6 +43,5 @@ pub record IsSound (plan : List Site) (seen : Present) (kept : Kept) : Type 0 wh
 pub record Tells (above : List Above) (old new : List (Option Bool)) (before after : LinksData) (list : ℕ) : Type 0 where
   pub changed : (part node : ℕ) → above_at above part ≡ aboves.Condition node
       → (truth_at new part ≡ truth_at old part) ⊎ (is_absent after node ≡ false)
-  pub holders : (node : ℕ) → (holder_of after node ≡ holder_of before node)
-      ⊎ ((is_absent before node ≡ true) × (holder_of after node ≡ Some list))
+  pub holders : AddsTo list before after
   pub counts : SameCounts before after

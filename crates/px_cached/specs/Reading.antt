@@ -1,5 +1,5 @@
 -- Which parts read which sources.
-use Rattle.std.specs.Prelude.{◌≡◌, ℕ, ◌<◌, true, List, [], length, map, slice_index_or, All}
+use Rattle.std.specs.Prelude.{◌≡◌, ℕ, ◌<◌, true, List, [], length, map, All, Contains}
 use Rattle.px_core.specs.Plan.{Site}
 use Rattle.px_flat.specs.NumberedData.{expr_data}
 use Rattle.px_flat.specs.Sources.{Source, sources_in}
@@ -21,15 +21,10 @@ reader_of plan part source = record { source = source_number plan source; part =
 abbrev pub readers_of : List Site → ℕ → List Source → List Reader
 readers_of plan part sources = map (reader_of plan part) sources
 
--- it is one of them
-abbrev pub IsAmong : List Reader → Reader → Type 0
-IsAmong readers reader =
-    (at : ℕ) × ((at < length readers) × ((d : Reader) → slice_index_or readers at d ≡ reader))
-
 -- each part below this number has a reader for each of its sources, and all are of the plan
 pub record AreReadersBelow (plan : List Site) (network : List Part) (readers : List Reader) (count : ℕ) : Type 0 where
   pub each : (part : ℕ) → part < count
-      → All (λ source. IsAmong readers (reader_of plan part source)) (sources_at plan (part_at network part))
+      → All (λ source. Contains readers (reader_of plan part source)) (sources_at plan (part_at network part))
   pub within : All (λ (reader : Reader). (reader.source < all_sources plan) × (reader.part < length network)) readers
   pub only : All (λ (reader : Reader). has_source plan reader.source (sources_at plan (part_at network reader.part)) ≡ true) readers
 

@@ -1,16 +1,16 @@
 -- Which parts have the truth still that is kept of them.
-use Rattle.std.specs.Prelude.{◌≡◌, ℕ, ◌<◌, List, [], length, slice_index_or, None}
+use Rattle.std.specs.Prelude.{◌≡◌, ℕ, ◌<◌, List, length, None}
 use Rattle.px_value.specs.declared.value.Value.{Value}
 use Rattle.px_core.specs.Plan.{Site}
 use Rattle.px_flat.specs.Flat.{plan_of}
 use Rattle.px_flat.specs.Layout.{all_cells}
 use Rattle.px_flat.specs.Lookups.{lookups_of}
-use Rattle.px_flat.specs.Numbered.{Numbered, held, reported_of}
+use Rattle.px_flat.specs.Numbered.{Numbered, held}
 use Rattle.px_flat.specs.Sources.{Present, Reports, value_in}
 use Rattle.px_cached.specs.declared.still.Asker.{Asker}
 use Rattle.px_cached.specs.declared.still.LastRead.{LastRead}
 use Rattle.px_cached.specs.Cached.{present_in}
-use Rattle.px_cached.specs.Conditions.{source_number}
+use Rattle.px_cached.specs.Conditions.{reported, source_number}
 use Rattle.px_cached.specs.Laying.{IsRead}
 use Rattle.px_cached.specs.Looking.{IsRight}
 use Rattle.px_cached.specs.Network.{part_at, truth_at}
@@ -40,8 +40,7 @@ HoldsValue plan expr cell = (present : Present) → held present.cells cell ≡ 
 
 -- this was last reported under the name, without arguments
 abbrev pub IsLastRead : Asker → LastRead → Type 0
-IsLastRead asker last =
-    last.value ≡ reported_of asker.reports.now.reports (slice_index_or (lookups_of (plan_of asker.flat.now)) last.lookup []) [] None
+IsLastRead asker last = last.value ≡ reported (plan_of asker.flat.now) (now_of asker) last.lookup
 
 -- the source is what is reported under this name, as it is read without a tolerance
 abbrev pub IsSourceOf : List Site → ℕ → ℕ → Type 0

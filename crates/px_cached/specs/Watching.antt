@@ -1,5 +1,5 @@
 -- Which parts compare what is reported under a name with a constant, and what a report leaves as it is.
-use Rattle.std.specs.Prelude.{◌≡◌, ℕ, ℤ, ◌<◌, Bool, true, List, [], ◌++◌, length, map, slice_index_or, int_le, Option, Some, None, All, IsPermutation, IsSortedByKey}
+use Rattle.std.specs.Prelude.{◌≡◌, ℕ, ℤ, ◌<◌, Bool, true, List, ◌++◌, length, map, slice_index_or, int_le, Option, Some, None, All, IsPermutation, IsSortedByKey}
 use Rattle.std.specs.Bool.{beq}
 use Rattle.std.specs.Ordering.{int_cmp}
 use Rattle.px_value.specs.declared.value.Value.{Value}
@@ -7,7 +7,6 @@ use Rattle.px_value.specs.declared.value.Value.TheVariants as values
 use Rattle.px_core.specs.Plan.{Site}
 use Rattle.px_flat.specs.Flat.{plan_of}
 use Rattle.px_flat.specs.Lookups.{lookups_of}
-use Rattle.px_flat.specs.Numbered.{reported_of}
 use Rattle.px_flat.specs.NumberedData.{expr_data}
 use Rattle.px_flat.specs.Sources.{Present, Reports}
 use Rattle.px_links.specs.Links.{LinksData, is_absent}
@@ -18,14 +17,10 @@ use Rattle.px_cached.specs.declared.still.Asker.{Asker}
 use Rattle.px_cached.specs.declared.watching.Turn.{Turn}
 use Rattle.px_cached.specs.declared.watching.Watch.{Watch}
 use Rattle.px_cached.specs.declared.watching.Watcher.{Watcher}
-use Rattle.px_cached.specs.Conditions.{source_number, truth_in}
+use Rattle.px_cached.specs.Conditions.{reported, source_number, truth_in}
 use Rattle.px_cached.specs.Looking.{AreRight}
 use Rattle.px_cached.specs.Network.{part_at, truth_at}
 use Rattle.px_cached.specs.Still.{now_of}
-
--- what is last reported under a name, without arguments
-abbrev pub reported : List Site → Present → ℕ → Value
-reported plan present name = reported_of present.reports (slice_index_or (lookups_of plan) name []) [] None
 
 -- The truth of a comparison with a constant, by where it turns. UNKNOWN of what is no Integer.
 abbrev pub answer : Turn → Value → Option Bool
@@ -42,8 +37,11 @@ abbrev pub IsWatcher : List Part → ℕ → Watcher → Type 0
 IsWatcher network name watcher =
     (watcher.part < length network) × ((plan : List Site) → Answers plan name watcher.turn (part_at network watcher.part))
 
+abbrev pub part_of : Watcher → ℕ
+part_of watcher = watcher.part
+
 abbrev pub parts_of : Watch → List ℕ
-parts_of watch = watch.others.items ++ map (λ watcher. watcher.part) watch.watchers.items
+parts_of watch = watch.others.items ++ map part_of watch.watchers.items
 
 -- its parts are the dependents, and the watchers stand by the numbers from which they turn
 pub record IsWatch (network : List Part) (name : ℕ) (dependents : List ℕ) (watch : Watch) : Type 0 where

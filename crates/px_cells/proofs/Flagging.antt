@@ -1,14 +1,15 @@
 -- Which numbers are noted, by a flag beside each.
 use Rattle.std.proofs.Common.{◌≡◌, ◌≢◌, ℕ, zero, suc, ◌+◌, ◌<◌, ◌≤◌, Bool, true, false, ◌||◌, nat_eq, List, [], ◌∷◌, ◌++◌, length, set, get_or, slice_get, drop, refl, ap, sym, ◌∙◌, arith, inl, inr, length-append, Option, Contains, All, AllPairs, if◌then◌else◌}
+use Rattle.std.specs.Cmp.{nat_eq_equiv}
 use Rattle.std.specs.List.{list_any}
-use Rattle.std.proofs.lemmas.Bool.{eqb-true, eq-eqb, cases_lt, cases_Bool}
+use Rattle.std.proofs.lemmas.Bool.{eqb-true, eq-eqb, false_from_ne_true}
 use Rattle.std.proofs.lemmas.Bool.Decides.{Decides-eqb, eqb_tells}
-use Rattle.std.proofs.lemmas.List.{get_or-set_same, get_or-set_other, get_or_past, length-set}
+use Rattle.std.proofs.lemmas.List.{get_or-set_same, get_or-set_other, length-set}
 use Rattle.std.proofs.lemmas.List.Folds.{list_any-append, list_any_at}
-use Rattle.std.proofs.lemmas.List.Quantifiers.{all_pairs_push}
 use Rattle.std.proofs.lemmas.Map.Made.{IsDistinct-from_AllPairs}
 use Rattle.std.proofs.lemmas.Map.Steps.{length-le_from_distinct_below}
 use Rattle.std.proofs.lemmas.Map.Views.{Contains-from_any}
+use Rattle.px_value.proofs.General.{once_push, passes_within}
 use Rattle.px_cells.specs.Marks.{at_mark, AreFlagged, AreNoted, IsAsSeen}
 use Rattle.px_cells.specs.News.{with_number, with_numbers}
 use Rattle.px_cells.proofs.Marking.{at_mark-slice}
@@ -29,10 +30,7 @@ has-push numbers at other =
 module _ (flags : List Bool) (numbers : List ℕ) (flagged : AreFlagged flags numbers) where
   -- a noted number is below the count
   pub flagged_below : (at : ℕ) → list_any (nat_eq at) numbers ≡ true → at < length flags
-  flagged_below at noted = elim (cases_lt at (length flags)) [
-    | inl below ↦ below
-    | inr past ↦ absurd (cc (sym noted ∙ sym (flagged at) ∙ get_or_past flags at false past))
-  ]
+  flagged_below at noted = passes_within (λ flag. flag) flags at false refl (flagged at ∙ noted)
 
   pub all_below : All (λ at. at < length flags) numbers
   all_below k d within = flagged_below (get_or numbers k d)
@@ -47,11 +45,6 @@ module _ (flags : List Bool) (numbers : List ℕ) (flagged : AreFlagged flags nu
         ∙ sym (has-push numbers at other ∙ ap (λ b. if b then true else list_any (nat_eq other) numbers) apart.0)
   ]
 
-  pub once-push : (at : ℕ) → list_any (nat_eq at) numbers ≡ false → AllPairs (λ a b. a ≢ b) numbers
-      → AllPairs (λ a b. a ≢ b) (numbers ++ at ∷ [])
-  once-push at new once = all_pairs_push (λ a b. a ≢ b) numbers at once (λ k d within same.
-      absurd (cc (sym new ∙ list_any_at (nat_eq at) numbers k d within (eq-eqb at _ (sym same)))))
-
 -- numbers that are noted once are no more than there are flags
 pub few_flagged : (flags : List Bool) (numbers : List ℕ) → AreFlagged flags numbers → AllPairs (λ a b. a ≢ b) numbers
     → length numbers ≤ length flags
@@ -63,7 +56,7 @@ pub room-push : (flags : List Bool) (numbers : List ℕ) → AreFlagged flags nu
     → (at : ℕ) → at < length flags → list_any (nat_eq at) numbers ≡ false → length numbers < length flags
 room-push flags numbers flagged once at below new =
     let more = few_flagged (set flags at true) (numbers ++ at ∷ []) (flagged-push flags numbers flagged at below)
-    (once-push flags numbers flagged at new once) in
+    (once_push nat_eq nat_eq_equiv.refl numbers at new once) in
     omega (arith, more, length-set flags at true, length-append numbers (at ∷ []))
 
 -- ---- flags that are taken back, one after another
@@ -109,10 +102,8 @@ has-all numbers (at ∷ more) other none =
 
 -- what isn't among the numbers isn't noted
 pub not_noted : (numbers : List ℕ) (at : ℕ) → (Contains numbers at → ⊥) → list_any (nat_eq at) numbers ≡ false
-not_noted numbers at other = elim (cases_Bool (list_any (nat_eq at) numbers)) [
-  | inl is ↦ absurd (other (Contains-from_any eqb-true at numbers is))
-  | inr is ↦ is
-]
+not_noted numbers at other =
+    false_from_ne_true (list_any (nat_eq at) numbers) (λ is. other (Contains-from_any eqb-true at numbers is))
 
 module _ {T : Type 0} where
   slice_get-set_other : (values : List T) (at other : ℕ) (value : T) → other ≢ at

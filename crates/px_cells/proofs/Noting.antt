@@ -1,25 +1,17 @@
 -- Which cells keep an old value.
-use Rattle.std.proofs.Common.{◌≡◌, ◌≢◌, ℕ, ◌+◌, ◌*◌, ◌^◌, ◌<◌, ◌≤◌, Fits, w64, arith, Bool, true, false, ◌||◌, nat_eq, List, [], ◌∷◌, ◌++◌, length, set, get_or, slice_get, drop, Option, Some, None, is_some, refl, ap, sym, ◌∙◌, inl, inr, Contains, AllPairs, if◌then◌else◌}
+use Rattle.std.proofs.Common.{◌≡◌, ℕ, ◌+◌, ◌*◌, ◌^◌, ◌<◌, ◌≤◌, Fits, w64, arith, Bool, true, false, ◌||◌, nat_eq, List, [], ◌∷◌, ◌++◌, length, set, get_or, slice_get, drop, Option, Some, None, is_some, refl, ap, sym, ◌∙◌, inl, inr, Contains, if◌then◌else◌}
 use Rattle.std.specs.List.{list_any}
-use Rattle.std.proofs.lemmas.Bool.{eqb-true, eq-eqb, cases_lt, cases_Bool}
+use Rattle.std.proofs.lemmas.Bool.{eq-eqb, cases_Bool}
 use Rattle.std.proofs.lemmas.Bool.Decides.{eqb_tells}
-use Rattle.std.proofs.lemmas.List.{get_or-set_same, get_or-set_other, get_or_past, length-set, set-get_or, drop_more, drop_all}
+use Rattle.std.proofs.lemmas.List.{get_or-set_same, get_or-set_other, length-set, set-get_or, drop_more, drop_all}
 use Rattle.std.proofs.lemmas.List.Folds.{list_any_at}
-use Rattle.std.proofs.lemmas.List.Quantifiers.{all_pairs_push}
-use Rattle.std.proofs.lemmas.Map.Views.{Contains-from_any}
 use Rattle.std.proofs.Math.Nat.{mul-le-mul_right}
+use Rattle.px_value.proofs.General.{passes_within}
 use Rattle.px_cells.specs.Marks.{AreNoted, NoneKept, at_mark}
-use Rattle.px_cells.proofs.Flagging.{has-push}
+use Rattle.px_cells.proofs.Flagging.{has-push, not_noted}
 use Rattle.px_cells.proofs.Marking.{at_mark-back, at_mark-slice}
 
 module _ {T : Type 0} where
-  -- a cell that keeps an old value is one of the cells
-  pub kept_within : (olds : List (Option T)) (at : ℕ) → is_some (get_or olds at None) ≡ true → at < length olds
-  kept_within olds at kept = elim (cases_lt at (length olds)) [
-    | inl within ↦ within
-    | inr past ↦ absurd (cc (sym kept ∙ ap is_some (get_or_past olds at None past)))
-  ]
-
   -- a changed cell keeps an old value
   pub changed_kept : (olds : List (Option T)) (changed : List ℕ) (k d : ℕ) → AreNoted olds changed → k < length changed
       → is_some (get_or olds (get_or changed k d) None) ≡ true
@@ -27,10 +19,11 @@ module _ {T : Type 0} where
       noted (get_or changed k d)
       ∙ list_any_at (nat_eq (get_or changed k d)) changed k d within (eq-eqb (get_or changed k d) (get_or changed k d) refl)
 
+  -- so it is one of the cells
   pub changed_within : (olds : List (Option T)) (changed : List ℕ) (k d : ℕ) → AreNoted olds changed
       → k < length changed → get_or changed k d < length olds
   changed_within olds changed k d noted within =
-      kept_within olds (get_or changed k d) (changed_kept olds changed k d noted within)
+      passes_within is_some olds (get_or changed k d) None refl (changed_kept olds changed k d noted within)
 
   -- so far from the first lies what stands at a changed number, where all have room together
   pub offset_fits : (olds : List (Option T)) (changed : List ℕ) (k size : ℕ) → AreNoted olds changed → k < length changed
@@ -43,10 +36,7 @@ module _ {T : Type 0} where
   -- what is among no changed cells keeps no old value
   pub other_kept : (olds : List (Option T)) (changed : List ℕ) (at : ℕ) → AreNoted olds changed
       → (Contains changed at → ⊥) → is_some (get_or olds at None) ≡ false
-  other_kept olds changed at noted other = elim (cases_Bool (list_any (nat_eq at) changed)) [
-    | inl is ↦ absurd (other (Contains-from_any eqb-true at changed is))
-    | inr is ↦ noted at ∙ is
-  ]
+  other_kept olds changed at noted other = noted at ∙ not_noted changed at other
 
   -- a cell is noted as it keeps its value
   pub noted_first : (olds : List (Option T)) (changed : List ℕ) (at : ℕ) (value : T) → AreNoted olds changed
@@ -63,14 +53,6 @@ module _ {T : Type 0} where
       last : (answer : Bool) → nat_eq k at ≡ answer
           → list_any (nat_eq k) (changed ++ at ∷ []) ≡ (if answer then true else list_any (nat_eq k) changed)
       last answer is = has-push changed at k ∙ ap (λ b. if b then true else list_any (nat_eq k) changed) is
-
-  -- each cell once
-  pub once_first : (olds : List (Option T)) (changed : List ℕ) (at : ℕ) → AreNoted olds changed
-      → is_some (get_or olds at None) ≡ false
-      → AllPairs (λ a b. a ≢ b) changed → AllPairs (λ a b. a ≢ b) (changed ++ at ∷ [])
-  once_first olds changed at noted none once =
-      all_pairs_push (λ a b. a ≢ b) changed at once (λ k d within same.
-      absurd (cc (sym none ∙ ap (λ n. is_some (get_or olds n None)) (sym same) ∙ changed_kept olds changed k d noted within)))
 
   -- ---- going over the changed cells, each of which gives its old value up
 

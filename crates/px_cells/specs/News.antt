@@ -1,6 +1,6 @@
 -- Numbers that are noted, each once in the order of their first notes.
 use Rattle.std.specs.Prelude.{ℕ, nat_eq, List, [], ◌∷◌, ◌++◌, if◌then◌else◌}
-use Rattle.std.specs.List.{list_any}
+use Rattle.std.specs.List.{fold, list_any}
 
 -- below which count all numbers are, and those that are noted
 pub record NewsData : Type 0 where
@@ -13,8 +13,7 @@ with_number numbers at = if list_any (nat_eq at) numbers then numbers else numbe
 
 -- these are noted, one after another
 abbrev pub with_numbers : List ℕ → List ℕ → List ℕ
-with_numbers numbers [] = numbers
-with_numbers numbers (at ∷ more) = with_numbers (with_number numbers at) more
+with_numbers numbers more = fold with_number numbers more
 
 -- these are the noted ones
 abbrev pub noting : NewsData → List ℕ → NewsData

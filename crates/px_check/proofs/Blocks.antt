@@ -1,7 +1,8 @@
 -- What blocks and their actions are at fault for, noted part by part; and coming back from inside them.
 use Rattle.std.proofs.Common.{◌≡◌, ℕ, ℤ, ◌+◌, ◌<◌, Bool, false, List, [], ◌∷◌, ◌++◌, map, drop, length, get_or}
-use Rattle.std.proofs.Common.{Option, Some, None, is_some, option_map, refl, sym, ap, ◌∙◌}
-use Rattle.px_value.proofs.General.{cut_at}
+use Rattle.std.proofs.Common.{Option, None, is_some, option_map, refl, sym, ap, ◌∙◌}
+use Rattle.std.proofs.lemmas.List.Prefix.{end_rest}
+use Rattle.px_value.proofs.General.{cut_at, is_some_mapped}
 use Rattle.px_syntax.specs.declared.block.Action.{Action, out-Action}
 use Rattle.px_syntax.specs.declared.block.Block.{Block, out-Block}
 use Rattle.px_syntax.specs.declared.block.Branch.{Branch, out-Branch}
@@ -17,15 +18,10 @@ use Rattle.px_syntax.specs.Scope.{Scope, Head, Node, own_action, head_of}
 use Rattle.px_syntax.proofs.Trees.{block_is, action_is, branch_is, guarded_is, in_turn}
 use Rattle.px_check.specs.Found.{Sought, noted}
 use Rattle.px_check.specs.Scope.{outside}
-use Rattle.px_check.proofs.Naming.{dropped_over}
 use Rattle.px_check.proofs.Noting.{noted_append, noted_then}
 use Rattle.px_check.proofs.Walking.{part_walked}
 
 -- ---- a block
-
-is_some_mapped : {X : Type 0} (f : X → BodyTree) (own : Option X) → is_some own ≡ is_some (option_map f own)
-is_some_mapped f None = refl
-is_some_mapped f (Some x) = refl
 
 -- whether a block is one node with an action
 pub own_told : {X : Type 0} (f : X → BodyTree) (own : Option X) (tree : Option BodyTree) → option_map f own ≡ tree
@@ -142,8 +138,8 @@ if_left scope label first others last entered deepest new entered_is deepest_is 
     ∙ (λ i. record {
       commands = scope.commands;
       lookups = scope.lookups;
-      variables = dropped_over [] scope.variables i;
-      nodes = dropped_over within.0 scope.nodes i;
+      variables = end_rest scope.variables scope.variables [] refl i;
+      nodes = end_rest (within.0 ++ scope.nodes) scope.nodes within.0 refl i;
     })
 
 -- an `if` with its labels, and the parts of its chain

@@ -1,10 +1,10 @@
 -- Which types the arguments of a call may have.
 use Rattle.std.proofs.Common.{◌≡◌, ℕ, ◌<◌, List, drop, length, get_or, ap, sym, ◌∙◌}
 use Rattle.std.proofs.lemmas.List.{drop-map, drop_more}
+use Rattle.px_syntax.specs.Scope.{parameter_types}
 use Rattle.px_syntax.specs.ValueType.{named_type, allowed_as}
 use Rattle.px_syntax.specs.declared.plan.Parameter.{Parameter}
 use Rattle.px_check.specs.Arguments.{allowed_next}
-use Rattle.px_check.specs.Globals.{parameter_types}
 
 pub allowed_by : (parameters : List Parameter) (place : ℕ) (parameter : Parameter) → place < length parameters
     → parameter ≡ get_or parameters place parameter

@@ -2,7 +2,6 @@
 use Rattle.std.proofs.Common.{◌≡◌, ℕ, suc, ◌+◌, ◌<◌, ◌≤◌, Bool, not, ◌&&◌, List, [], ◌∷◌, ◌++◌, map, drop, length, get_or}
 use Rattle.std.proofs.Common.{Option, refl, sym, ap, ◌∙◌, if◌then◌else◌}
 use Rattle.std.proofs.lemmas.List.{drop-drop, length-map}
-use Rattle.std.proofs.Math.ListN.{drop_of_length-le}
 use Rattle.px_value.proofs.General.{cut_at}
 use Rattle.px_syntax.specs.Expr.{Term, Terms, term_of, in_turn, More}
 use Rattle.px_syntax.specs.ExprFaults.{first_token, count_terms, look_faults, any_where_faulty, any_unless_allowed, answer_type, type_of, expr_faults, type_fault, alike_fault, argument_faults, parameters_of}
@@ -17,7 +16,8 @@ use Rattle.px_syntax.specs.declared.value_type.ValueType.{ValueType}
 use Rattle.px_syntax.specs.declared.value_type.ValueType.TheVariants.{Any}
 use Rattle.px_check.specs.Arguments.{allowed_next}
 use Rattle.px_check.specs.Found.{Sought, noted}
-use Rattle.px_check.proofs.Noting.{noted_append, noted_none, noted_then}
+use Rattle.px_check.proofs.Noting.{noted_append, noted_then}
+use Rattle.px_check.proofs.Walking.{all_walked}
 
 -- an expression
 pub part_noted : (scope : Scope) (tree part : SurfaceExpr) (found new : Sought) → part ≡ tree
@@ -97,9 +97,7 @@ pub arguments_done : (scope : Scope) (args : List SurfaceExpr) (parameters : Lis
     (found : Sought) → length args ≤ place
     → found ≡ noted found (argument_faults scope (drop place parameters) (in_turn (map term_of (drop place args))))
 arguments_done scope args parameters place found past =
-    sym (noted_none found)
-    ∙ ap (λ left. noted found (argument_faults scope (drop place parameters) (in_turn (map term_of left))))
-    (sym (drop_of_length-le args past))
+    all_walked (λ (left : List SurfaceExpr). argument_faults scope (drop place parameters) (in_turn (map term_of left))) args place found refl past
 
 -- ---- calls and lookups
 

@@ -1,35 +1,37 @@
 -- The distinct tolerances, one after another.
-use Rattle.std.proofs.Common.{◌≡◌, ℕ, ◌+◌, Bool, true, false, nat_eq, nat_lt, ◌==◌, List, [], ◌∷◌, ◌++◌, length, Option, Some, None, is_some, if◌then◌else◌, ◌≤◌, ◌||◌, ◌⊎◌, inl, inr, refl, ◌∙◌, arith}
+use Rattle.std.proofs.Common.{◌≡◌, ℕ, ◌+◌, Bool, true, false, nat_eq, nat_lt, ◌==◌, List, [], ◌∷◌, ◌++◌, length, Option, Some, None, is_some, if◌then◌else◌, ◌≤◌, ◌||◌, ◌⊎◌, inl, inr, refl, ap, ◌∙◌, arith}
 use Rattle.std.proofs.lemmas.Bool.Decides.{nat_tests}
+use Rattle.std.proofs.lemmas.List.Folds.{fold_stays}
 use Rattle.std.specs.Cmp.{nat_eq_equiv}
 use Rattle.std.specs.List.{list_any}
 use Rattle.px_syntax.specs.declared.expr.Tolerance.{Tolerance}
 use Rattle.px_syntax.specs.declared.fault.FaultKind.TheVariants.{TooLarge}
 use Rattle.px_syntax.specs.Fault.{fault_at}
 use Rattle.px_syntax.specs.Tolerances.{passing_tolerance}
-use Rattle.px_check.specs.Tolerances.{Met, meet_one, met_all, passed_fault}
+use Rattle.px_check.specs.Found.{passed_fault}
+use Rattle.px_check.specs.Tolerances.{Met, meet_one, met_all}
 
 passed_stays : (before : List ℕ) (token : ℕ) (tolerances : List Tolerance)
-    → passed_fault (met_all (record { before = before; passed = Some token }) tolerances) ≡ fault_at TooLarge token
-passed_stays before token [] = refl
-passed_stays before token (tolerance ∷ tolerances) = passed_stays before token tolerances
+    → passed_fault (met_all (record { before = before; passed = Some token }) tolerances).passed ≡ fault_at TooLarge token
+passed_stays before token tolerances =
+    ap (λ (met : Met). passed_fault met.passed) (fold_stays meet_one (record { before = before; passed = Some token }) (λ tolerance. refl) tolerances)
 
 pub passed_met : (before : List ℕ) (tolerances : List Tolerance)
-    → passed_fault (met_all (record { before = before; passed = None }) tolerances) ≡ passing_tolerance before tolerances
+    → passed_fault (met_all (record { before = before; passed = None }) tolerances).passed ≡ passing_tolerance before tolerances
 passed_met before [] = refl
 passed_met before (tolerance ∷ tolerances) =
     by (list_any (nat_eq tolerance.distance) before) (nat_lt 16 (length before + 1)) (passed_met before tolerances)
     (passed_stays before tolerance.token tolerances) (passed_met (before ++ tolerance.distance ∷ []) tolerances)
   where
     by : (known passes : Bool)
-        → passed_fault (met_all (record { before = before; passed = None }) tolerances) ≡ passing_tolerance before tolerances
-        → passed_fault (met_all (record { before = before; passed = Some tolerance.token }) tolerances)
+        → passed_fault (met_all (record { before = before; passed = None }) tolerances).passed ≡ passing_tolerance before tolerances
+        → passed_fault (met_all (record { before = before; passed = Some tolerance.token }) tolerances).passed
         ≡ fault_at TooLarge tolerance.token
-        → passed_fault (met_all (record { before = before ++ tolerance.distance ∷ []; passed = None }) tolerances)
+        → passed_fault (met_all (record { before = before ++ tolerance.distance ∷ []; passed = None }) tolerances).passed
         ≡ passing_tolerance (before ++ tolerance.distance ∷ []) tolerances
         → passed_fault (met_all (if known then record { before = before; passed = None }
         else if passes then record { before = before; passed = Some tolerance.token }
-        else record { before = before ++ tolerance.distance ∷ []; passed = None }) tolerances)
+        else record { before = before ++ tolerance.distance ∷ []; passed = None }) tolerances).passed
         ≡ (if known then passing_tolerance before tolerances
         else if passes then fault_at TooLarge tolerance.token
         else passing_tolerance (before ++ tolerance.distance ∷ []) tolerances)

@@ -4,9 +4,9 @@ use Rattle.std.proofs.Common.{Option, Some, None, option_map, refl, sym, ap, ◌
 use Rattle.std.specs.Str.{bytes_eq}
 use Rattle.std.proofs.lemmas.Iterator.Adapters.{option_map_id}
 use Rattle.std.proofs.lemmas.List.{map-append}
+use Rattle.std.proofs.lemmas.List.Prefix.{end_rest}
 use Rattle.std.proofs.lemmas.Map.Made.{lookup-map_values}
 use Rattle.std.proofs.lemmas.Grind.{flat_map-append}
-use Rattle.std.proofs.Math.Seq.{drop-append_seam}
 use Rattle.px_value.proofs.General.{lookup-map}
 use Rattle.px_syntax.specs.Scope.{Global, Head, Node, Visible, is_named, searched, declared}
 use Rattle.px_check.specs.Globals.{callable_data, callables_data, by_name}
@@ -18,32 +18,22 @@ use Rattle.px_check.specs.declared.scope.VariableType.{VariableType}
 
 -- ---- lists
 
--- what stands before a list again is dropped again
-pub dropped_over : {X : Type 0} (xs ys : List X) → drop (length (xs ++ ys) - length ys) (xs ++ ys) ≡ ys
-dropped_over xs ys =
-    let count : length (xs ++ ys) - length ys ≡ length xs = omega (arith, length-append xs ys) in
-    ap (λ n. drop n (xs ++ ys)) count ∙ drop-append_seam xs ys
-
 pub over_more : {T : Type 0} (one : List ℕ × T) (named more : List (List ℕ × T)) → IsOver (one ∷ named) more
     → IsOver named more
 over_more one named more over = (over.0 ++ one ∷ [], over.1 ∙ sym (append_assoc over.0 (one ∷ []) named))
 
 -- ---- variables
 
+-- what is kept of a variable is what is seen of it
+seen_again : (named : List (List ℕ × VariableType))
+    → map (λ (variable : Visible). (variable.name, type_seen variable)) (visibles named) ≡ named
+seen_again [] = refl
+seen_again (one ∷ named) = ap (λ rest. one ∷ rest) (seen_again named)
+
 pub variable_meant : (name : List ℕ) (named : List (List ℕ × VariableType))
     → meaning_of name named ≡ option_map type_seen (find (λ variable. bytes_eq name variable.name) (visibles named))
-variable_meant name [] = refl
-variable_meant name (one ∷ named) = by (bytes_eq name one.0) (variable_meant name named)
-  where
-    visible : Visible
-    visible = record { name = one.0; of_type = one.1.of_type; is_array = one.1.is_array }
-
-    by : (same : Bool)
-        → meaning_of name named ≡ option_map type_seen (find (λ variable. bytes_eq name variable.name) (visibles named))
-        → cond same (Some one.1) (meaning_of name named)
-        ≡ option_map type_seen (cond same (Some visible) (find (λ variable. bytes_eq name variable.name) (visibles named)))
-    by true rest = refl
-    by false rest = rest
+variable_meant name named =
+    ap (meaning_of name) (sym (seen_again named)) ∙ lookup-map (bytes_eq name) (λ (variable : Visible). variable.name) type_seen (visibles named)
 
 -- ---- nodes
 
@@ -83,7 +73,7 @@ names_left names node around outer is outer_is =
     let rest = names_of around in
     let whole : names ≡ inner ++ rest = is ∙ sym (names_more node around) in
     let counts : outer ≡ length rest = omega (arith, ap length whole, length-append inner rest) in
-    (λ i. drop (length (whole i) - counts i) (whole i)) ∙ dropped_over inner rest
+    ap (λ count. drop (length names - count) names) counts ∙ end_rest names rest inner whole
 
 -- so many names without those of a node and its children
 pub without_own : (children : List Head) (head : Head) (names : List (List ℕ × Bool)) (label : Option (List ℕ))

@@ -1,28 +1,15 @@
 -- Names that stand twice, noted one after another.
-use Rattle.std.proofs.Common.{◌≡◌, ℕ, ◌+◌, ◌<◌, Bool, true, false, cond, ◌||◌, List, [], ◌∷◌, map, drop, length, get_or}
-use Rattle.std.proofs.Common.{Some, is_some, bytes_eq, refl, sym, ap, ◌∙◌}
+use Rattle.std.proofs.Common.{◌≡◌, ℕ, ◌+◌, ◌<◌, Bool, List, ◌∷◌, map, drop, length, get_or}
+use Rattle.std.proofs.Common.{bytes_eq, sym, ap, ◌∙◌}
 use Rattle.std.specs.Borrow.{Bor}
 use Rattle.std.specs.List.{list_any}
 use Rattle.px_value.proofs.General.{cut_at}
-use Rattle.px_syntax.specs.BlockFaults.{repeated}
+use Rattle.px_syntax.specs.BlockFaults.{repeated, spots}
 use Rattle.px_syntax.specs.Fault.{fault_where}
 use Rattle.px_syntax.specs.declared.expr.Identifier.{Identifier}
 use Rattle.px_syntax.specs.declared.fault.FaultKind.TheVariants.{Redeclared}
 use Rattle.px_check.specs.Found.{Sought, noted}
-use Rattle.px_check.specs.Repeats.{spots}
-use Rattle.px_check.specs.Scoped.{meaning_of}
 use Rattle.px_check.proofs.Noting.{noted_append}
-
--- a name is there where it is one of the names
-pub name_again : (name : List ℕ) (before : List (List ℕ × Unit {0}))
-    → is_some (meaning_of name before) ≡ list_any (bytes_eq name) (map (λ one. one.0) before)
-name_again name [] = refl
-name_again name (one ∷ before) = by (bytes_eq name one.0) (name_again name before)
-  where
-    by : (same : Bool) → is_some (meaning_of name before) ≡ list_any (bytes_eq name) (map (λ one. one.0) before)
-        → is_some (cond same (Some one.1) (meaning_of name before)) ≡ (same || list_any (bytes_eq name) (map (λ one. one.0) before))
-    by true rest = refl
-    by false rest = rest
 
 -- one identifier more
 pub name_walked : (identifiers : List (Bor Identifier)) (place : ℕ) (identifier : Bor Identifier)

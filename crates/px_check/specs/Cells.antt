@@ -1,12 +1,7 @@
 -- How the cells of a plan are counted.
-use Rattle.std.specs.Prelude.{ℕ, ◌+◌, nat_lt, List, [], Option, Some, None, if◌then◌else◌}
+use Rattle.std.specs.Prelude.{ℕ, ◌+◌, nat_lt, List, Option, Some, None, if◌then◌else◌}
 use Rattle.std.specs.List.{fold}
-use Rattle.std.specs.Option.{option_map_or}
-use Rattle.px_syntax.specs.declared.fault.FaultKind.TheVariants.{TooLarge}
-use Rattle.px_syntax.specs.Block.{VariableData}
-use Rattle.px_syntax.specs.Fault.{Fault, fault_at}
 use Rattle.px_syntax.specs.PlanFaults.{Cells}
-use Rattle.std.specs.Option.{unwrap_or}
 
 -- the cells so far, at most the limit, and the token of the declaration with which there were too many
 pub record Count : Type 0 where
@@ -26,10 +21,3 @@ count_one count variable = of_passed count.passed
 
 abbrev pub counted : Count → List Cells → Count
 counted = fold count_one
-
-abbrev pub variable_cells : VariableData → Cells
-variable_cells variable = record { token = variable.name.token; count = unwrap_or variable.size 1 }
-
--- the fault that was found
-abbrev pub passed_fault : Count → List Fault
-passed_fault count = option_map_or (fault_at TooLarge) count.passed []

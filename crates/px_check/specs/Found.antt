@@ -1,8 +1,10 @@
 -- The first of faults that lie behind another one: the one with the least token, and of several at one token that of the
 -- least kind.
-use Rattle.std.specs.Prelude.{Bool, true, List, Option, Some, None, if◌then◌else◌}
+use Rattle.std.specs.Prelude.{ℕ, Bool, true, List, [], Option, Some, None, if◌then◌else◌}
 use Rattle.std.specs.List.{fold, filter}
-use Rattle.px_syntax.specs.Fault.{Fault, is_before}
+use Rattle.std.specs.Option.{option_map_or}
+use Rattle.px_syntax.specs.declared.fault.FaultKind.TheVariants.{TooLarge}
+use Rattle.px_syntax.specs.Fault.{Fault, fault_at, is_before}
 use Rattle.px_check.specs.declared.found.Spot.{Spot}
 
 abbrev pub fault_of : Spot → Fault
@@ -16,6 +18,10 @@ is_behind (Some floor) fault = is_before floor fault
 -- those of faults that lie behind the floor
 abbrev pub behind : Option Fault → List Fault → List Fault
 behind floor = filter (is_behind floor)
+
+-- the fault at the token with which there were too many, if there were
+abbrev pub passed_fault : Option ℕ → List Fault
+passed_fault passed = option_map_or (fault_at TooLarge) passed []
 
 -- what is looked for, and what was found so far: the first fault behind the floor
 pub record Sought : Type 0 where

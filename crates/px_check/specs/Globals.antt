@@ -1,9 +1,6 @@
 -- What the declarations before the root declare, by name.
 use Rattle.std.specs.Prelude.{ℕ, List, map}
 use Rattle.px_syntax.specs.Scope.{Global, global}
-use Rattle.px_syntax.specs.ValueType.{named_type}
-use Rattle.px_syntax.specs.declared.plan.Parameter.{Parameter}
-use Rattle.px_syntax.specs.declared.value_type.ValueType.{ValueType}
 use Rattle.px_check.specs.declared.globals.Callable.{Callable}
 
 abbrev pub callable_data : Callable → Global
@@ -15,6 +12,3 @@ callables_data = map (λ named. (named.0, callable_data named.1))
 -- declarations with their names
 abbrev pub by_name : List Global → List (List ℕ × Global)
 by_name = map (λ global. (global.name.name, global))
-
-abbrev pub parameter_types : List Parameter → List ValueType
-parameter_types = map (λ parameter. named_type parameter.of_type)

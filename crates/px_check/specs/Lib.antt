@@ -6,7 +6,6 @@ pub mod Scope
 pub mod Types
 pub mod Arguments
 pub mod Once
-pub mod Repeats
 pub mod Cells
 pub mod Tolerances
 pub mod Checked

@@ -1,6 +1,7 @@
 -- What the kept nodes are, and the names that stand in their order.
-use Rattle.std.specs.Prelude.{ℕ, Bool, List, [], ◌∷◌, Option, Some, None}
+use Rattle.std.specs.Prelude.{ℕ, Bool, List}
 use Rattle.std.specs.List.{flat_map}
+use Rattle.std.specs.Option.{option_map, option_to_list}
 use Rattle.px_syntax.specs.Scope.{Head, Node, searched}
 use Rattle.px_check.specs.declared.nodes.NodeHead.{NodeHead}
 
@@ -9,11 +10,7 @@ head_data head = record { label = head.label; is_command = head.is_command }
 
 -- the name of a node that has one, told whether the node is a Command
 abbrev pub named_head : Head → List (List ℕ × Bool)
-named_head head = of_label head.label
-  where
-    of_label : Option (List ℕ) → List (List ℕ × Bool)
-    of_label None = []
-    of_label (Some label) = (label, head.is_command) ∷ []
+named_head head = option_to_list (option_map (λ label. (label, head.is_command)) head.label)
 
 abbrev pub named_heads : List Head → List (List ℕ × Bool)
 named_heads = flat_map named_head

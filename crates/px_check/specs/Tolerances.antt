@@ -1,10 +1,7 @@
 -- How the distinct tolerances of a plan are counted.
 use Rattle.std.specs.Prelude.{ℕ, ◌+◌, nat_eq, nat_lt, List, [], ◌∷◌, ◌++◌, length, Option, Some, None, if◌then◌else◌}
 use Rattle.std.specs.List.{fold, list_any}
-use Rattle.std.specs.Option.{option_map_or}
 use Rattle.px_syntax.specs.declared.expr.Tolerance.{Tolerance}
-use Rattle.px_syntax.specs.declared.fault.FaultKind.TheVariants.{TooLarge}
-use Rattle.px_syntax.specs.Fault.{Fault, fault_at}
 
 -- the distinct tolerances so far, at most the limit, and the token of the one with which there were too many
 pub record Met : Type 0 where
@@ -25,7 +22,3 @@ meet_one met tolerance = of_passed met.passed
 
 abbrev pub met_all : Met → List Tolerance → Met
 met_all = fold meet_one
-
--- the fault that was found
-abbrev pub passed_fault : Met → List Fault
-passed_fault met = option_map_or (fault_at TooLarge) met.passed []

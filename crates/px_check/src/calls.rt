@@ -3,11 +3,12 @@ ghost use Rattle.std.specs.Prelude.{◌≡◌, ◌==◌, true, false, drop, leng
 ghost use Rattle.std.specs.Option.{option_map_or};
 ghost use Rattle.px_syntax.specs.BlockFaults.{is_without};
 ghost use Rattle.px_syntax.specs.ExprFaults.{count_faults, tolerance_faults, look_faults, any_where_faulty, answer_type, parameters_of};
+ghost use Rattle.px_syntax.specs.Scope.{parameter_types};
 ghost use Rattle.px_syntax.specs.declared.value_type.ValueType.{ValueType as TypeOfValue};
 ghost use Rattle.px_syntax.specs.declared.value_type.ValueType.TheVariants.{Any};
 ghost use Rattle.px_check.specs.Arguments.{allowed_next};
 ghost use Rattle.px_check.specs.Found.{noted};
-ghost use Rattle.px_check.specs.Globals.{callable_data, parameter_types};
+ghost use Rattle.px_check.specs.Globals.{callable_data};
 ghost use Rattle.px_check.specs.Types.{types_of};
 
 use crate::found::Found;

@@ -2,9 +2,9 @@
 ghost use Rattle.std.specs.Prelude.{◌≡◌, None, map};
 ghost use Rattle.std.specs.List.{flat_map};
 ghost use Rattle.px_syntax.specs.Block.{block_of, body_of, action_of, guarded_of, item_data, variable_data, actions_in_turn, else_ifs_in_turn};
-ghost use Rattle.px_syntax.specs.PlanFaults.{item_cells, block_cells, actions_cells, else_if_cells, body_cells};
-ghost use Rattle.px_check.specs.Cells.{count_one, counted, variable_cells, passed_fault};
-ghost use Rattle.px_check.specs.Found.{noted};
+ghost use Rattle.px_syntax.specs.PlanFaults.{item_cells, block_cells, actions_cells, else_if_cells, body_cells, variable_cells};
+ghost use Rattle.px_check.specs.Cells.{count_one, counted};
+ghost use Rattle.px_check.specs.Found.{noted, passed_fault};
 
 use crate::found::Found;
 use px_syntax::{Action, Block, Body, FaultKind, Guarded, Item, Variable};
@@ -47,7 +47,7 @@ impl CellCount {
     /// Notes the declaration with which there were too many.
     #[tactic(auto, using(crate::proofs::Noting::noting))]
     pub fn note(&self, found: &mut Found)
-        ensures { found.new ≡ noted found.old (passed_fault self.now) }
+        ensures { found.new ≡ noted found.old (passed_fault self.now.passed) }
     {
         if let Some(token) = self.passed {
             found.note_where(true, FaultKind::TooLarge, token);

@@ -3,10 +3,10 @@ ghost use Rattle.std.specs.Prelude.{◌≡◌, ◌&&◌, not, map};
 ghost use Rattle.px_syntax.specs.Expr.{term_of, in_turn};
 ghost use Rattle.px_syntax.specs.ExprFaults.{name_faults, attribute_faults, any_where_faulty, type_named, type_of, first_token, expr_faults, argument_faults, faults_as, any_unless_allowed};
 ghost use Rattle.px_syntax.specs.Fault.{fault_where};
+ghost use Rattle.px_syntax.specs.Scope.{parameter_types};
 ghost use Rattle.px_syntax.specs.ValueType.{attribute_type, fits, differ};
 ghost use Rattle.px_syntax.specs.declared.fault.FaultKind.TheVariants.{TypeDiffers};
 ghost use Rattle.px_check.specs.Found.{noted};
-ghost use Rattle.px_check.specs.Globals.{parameter_types};
 ghost use Rattle.px_check.specs.Types.{types_of};
 
 use crate::calls::{allowed_at, answer_type, note_look, parameters_of};

@@ -4,8 +4,8 @@ ghost use Rattle.std.specs.List.{flat_map};
 ghost use Rattle.px_syntax.specs.Block.{block_of, body_of, action_of, guarded_of, branch_of, item_data, target_data, call_data, pair_data, actions_in_turn, else_ifs_in_turn, else_of};
 ghost use Rattle.px_syntax.specs.Expr.{term_of, in_turn};
 ghost use Rattle.px_syntax.specs.Tolerances.{term_tolerances, terms_tolerances, item_tolerances, target_tolerances, call_tolerances, pair_tolerances, block_tolerances, actions_tolerances, guarded_tolerances, else_if_tolerances, else_tolerances, body_tolerances};
-ghost use Rattle.px_check.specs.Found.{noted};
-ghost use Rattle.px_check.specs.Tolerances.{meet_one, met_all, passed_fault};
+ghost use Rattle.px_check.specs.Found.{noted, passed_fault};
+ghost use Rattle.px_check.specs.Tolerances.{meet_one, met_all};
 
 use crate::found::Found;
 use arrayvec::ArrayVec;
@@ -48,7 +48,7 @@ impl Tolerances {
     /// Notes the tolerance with which there were too many.
     #[tactic(auto, using(crate::proofs::Noting::noting))]
     pub fn note(&self, found: &mut Found)
-        ensures { found.new ≡ noted found.old (passed_fault self.now) }
+        ensures { found.new ≡ noted found.old (passed_fault self.now.passed) }
     {
         if let Some(token) = self.passed {
             found.note_where(true, FaultKind::TooLarge, token);

@@ -1,16 +1,13 @@
 -- Which variables are contested, as one node wants or holds.
-use Rattle.std.proofs.Common.{◌≡◌, ◌≢◌, ℕ, Bool, false, not, ◌&&◌, List, length, set, get_or, replicate, Option, Some, None, ap, sym, ◌∙◌, inl, inr}
-use Rattle.std.specs.Prelude.{nat_eq, if◌then◌else◌}
+use Rattle.std.proofs.Common.{◌≡◌, ◌≢◌, ℕ, Bool, false, not, ◌&&◌, List, set, get_or, Option, Some, None, ap, sym, ◌∙◌, inl, inr}
+use Rattle.std.specs.Prelude.{nat_eq}
 use Rattle.std.proofs.lemmas.Bool.{cases_eq, cond-false, cond-true, eq-eqb, eqb-true, ne_eqb}
 use Rattle.std.proofs.lemmas.List.{get_or-set_other}
-use Rattle.px_value.proofs.General.{replicate-same, same_bool}
+use Rattle.px_value.proofs.General.{same_bool}
 use Rattle.px_links.specs.Links.{LinksData, holder_of, HoldsOthersAsBefore}
-use Rattle.px_tally.specs.Tally.{TallyData, marked, nobody, total}
-use Rattle.px_tally.proofs.Counting.{none-count, count-none}
-use Rattle.px_claims.specs.Keeping.{HoldsContested, is_contested}
-
-abbrev pub is_nobody : TallyData → ℕ → Bool
-is_nobody tally group = nat_eq (total tally group) 0
+use Rattle.px_tally.specs.Tally.{TallyData, marked, nobody, total, is_nobody}
+use Rattle.px_tally.proofs.Counting.{none-count, count-none, total-nobody}
+use Rattle.px_claims.specs.Keeping.{HoldsContested, holder_for, is_contested}
 
 -- a member that is of another group, or of none, is marked
 pub nobody_as_before : (tally : TallyData) (member : ℕ) (counts : Bool) (group : ℕ)
@@ -38,10 +35,6 @@ pub as_held : (wanting holding : TallyData) (node : ℕ) (holds : Bool) (variabl
     → is_contested wanting (marked holding node holds) variable ≡ is_contested wanting holding variable
 as_held wanting holding node holds variable apart =
     ap (λ none. not (is_nobody wanting variable) && none) (nobody_as_before holding node holds variable apart)
-
--- what is one list's cell, or none's
-abbrev pub holder_for : Bool → Option ℕ
-holder_for is = if is then Some 0 else None
 
 -- one variable was judged, and the others are as before
 pub judged : (wanting holding wanting_now holding_now : TallyData) (links links_now : LinksData) (variable : ℕ)
@@ -78,4 +71,4 @@ none_contested groups variables holding links absent variable =
     absent variable
     ∙ ap (λ none. holder_for (not none && is_nobody holding variable))
     (sym (eq-eqb (total (nobody groups variables) variable) 0
-    (count-none variable variables (replicate (length variables) false) (λ node of. replicate-same (length variables) node false))))
+    (total-nobody variables variable)))

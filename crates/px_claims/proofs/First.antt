@@ -8,11 +8,11 @@ use Rattle.std.proofs.lemmas.List.Folds.{Any-from_list_any, find_at}
 use Rattle.std.proofs.lemmas.List.Sums.{passes_at_first}
 use Rattle.std.proofs.lemmas.List.{get_or_default}
 use Rattle.std.proofs.lemmas.Option.{same_Some, slice_get-get_or}
+use Rattle.px_value.proofs.General.{not_behind}
 use Rattle.px_core.specs.Plan.{Site}
 use Rattle.px_assign.specs.Conflicts.{variable_of, priority_of, goes_before}
 use Rattle.px_claims.specs.declared.order.Writer.{Writer}
 use Rattle.px_claims.specs.Ordering.{AreInOrder, IsWriter, first_wanting, is_wanting, stands_before}
-use Rattle.px_claims.proofs.Places.{not_behind}
 
 -- a node writes the variable and wants it, and none that does goes before
 pub record GoesFirst (plan : List Site) (wants : ℕ → Bool) (variable node : ℕ) : Type 0 where

@@ -8,34 +8,19 @@ use Rattle.std.proofs.lemmas.List.{get_or-set_other, get_or-set_same}
 use Rattle.std.proofs.lemmas.List.Folds.{find_at}
 use Rattle.std.proofs.lemmas.List.Sums.{fails_before_first, passes_at_first, position_or_len_is, prefix_len-le-length}
 use Rattle.std.proofs.lemmas.Option.{none-some, same_Some}
-use Rattle.px_value.proofs.General.{replicate-same}
+use Rattle.px_value.proofs.General.{not_behind, replicate-same}
 use Rattle.px_tally.specs.Tally.{TallyData, CountsNobody, is_counted, marked, nobody}
 use Rattle.px_claims.specs.declared.order.Writer.{Writer}
-use Rattle.px_claims.specs.Keeping.{HoldsFirsts}
+use Rattle.px_claims.specs.Keeping.{HoldsFirsts, OfGroups, is_node}
 use Rattle.px_claims.specs.Ordering.{but_for, first_at, first_wanting, is_wanting, place_wanting}
 
 abbrev pub someone : Writer
 someone = record { variable = 0; priority = 0; node = 0 }
 
-abbrev pub is_node : ℕ → Writer → Bool
-is_node node writer = nat_eq writer.node node
-
--- each writes the variable of its group
-abbrev pub OfGroups : List (Option ℕ) → List Writer → Type 0
-OfGroups group_of writers = All (λ (writer : Writer). get_or group_of writer.node None ≡ Some writer.variable) writers
-
 -- ---- the first that passes a test
 
 pub up_to_end : (test : Writer → Bool) (writers : List Writer) → position_or_len test writers ≤ length writers
 up_to_end test writers = prefix_len-le-length (λ writer. not (test writer)) writers
-
--- it is one that passes, or stands before
-pub not_behind : (test : Writer → Bool) (writers : List Writer) (at : ℕ) (d : Writer) → test (get_or writers at d) ≡ true
-    → position_or_len test writers ≤ at
-not_behind test writers at d is = elim (cases_lt at (position_or_len test writers)) [
-  | inl below ↦ absurd (false≢true (sym (fails_before_first test writers at d below) ∙ is))
-  | inr from ↦ from
-]
 
 -- it is behind one that doesn't pass, if it isn't before
 pub behind : (test : Writer → Bool) (writers : List Writer) (at : ℕ) (d : Writer) → at < length writers

@@ -6,8 +6,8 @@ use Rattle.std.proofs.lemmas.Option.{none-some, same_Some}
 use Rattle.px_links.specs.Links.{LinksData, HoldsOthersAsBefore}
 use Rattle.px_links.specs.Lists.{nth}
 use Rattle.px_tally.specs.Tally.{TallyData, marked}
-use Rattle.px_claims.specs.Keeping.{AreTallies, HoldsContested, is_contested}
-use Rattle.px_claims.proofs.Contested.{as_held, as_wanted, holder_for, judged, unjudged}
+use Rattle.px_claims.specs.Keeping.{AreTallies, HoldsContested, holder_for, is_contested}
+use Rattle.px_claims.proofs.Contested.{as_held, as_wanted, judged, unjudged}
 
 -- of one list it has all cells
 pub only_list : (lists : List (List ℕ)) → length lists ≡ 1 → concat lists ≡ nth lists 0

@@ -3,8 +3,7 @@ use Rattle.std.proofs.Common.{◌≡◌, ◌≢◌, ℕ, suc, ◌<◌, Bool, tru
 use Rattle.std.specs.Prelude.{nat_eq, nat_lt, if◌then◌else◌}
 use Rattle.std.specs.Cmp.{nat_eq_equiv}
 use Rattle.std.specs.List.{list_any, range_with_len, filter_map, position, position_or_len}
-use Rattle.std.proofs.lemmas.Bool.{and_parts, and_from, cases_Bool, cases_eq, cases_lt, eqb-true, eq-eqb, false_from_ne_true, false≢true, lt-ltb, not-true, or_from, or_left, or_parts, or_right}
-use Rattle.std.proofs.lemmas.List.{get_or_past}
+use Rattle.std.proofs.lemmas.Bool.{and_parts, and_from, cases_Bool, cases_eq, eqb-true, eq-eqb, false_from_ne_true, false≢true, lt-ltb, not-true, or_from, or_left, or_parts, or_right}
 use Rattle.std.proofs.lemmas.List.Elements.{All-filter}
 use Rattle.std.proofs.lemmas.List.Folds.{Any-from_list_any, list_any_at}
 use Rattle.std.proofs.lemmas.List.FromFn.{get_or-map-range_with_len, get_or-range_with_len, length-range_with_len}
@@ -13,7 +12,7 @@ use Rattle.std.proofs.lemmas.List.Quantifiers.{position-Some}
 use Rattle.std.proofs.lemmas.List.Sums.{position_or_len_is}
 use Rattle.std.proofs.lemmas.Option.{same_Some}
 use Rattle.px_value.specs.General.{is_number}
-use Rattle.px_value.proofs.General.{same_bool}
+use Rattle.px_value.proofs.General.{passes_within, same_bool}
 use Rattle.px_core.specs.Plan.{Site}
 use Rattle.px_sem.specs.Conflicts.{would_start}
 use Rattle.px_sem.specs.World.{World}
@@ -22,17 +21,16 @@ use Rattle.px_flat.proofs.Known.{IsSound}
 use Rattle.px_links.specs.Links.{LinksData}
 use Rattle.px_links.specs.Lists.{has, nth}
 use Rattle.px_links.proofs.Linking.{number_here}
-use Rattle.px_tally.specs.Tally.{TallyData, is_counted, total}
+use Rattle.px_tally.specs.Tally.{TallyData, is_counted, is_nobody, total}
 use Rattle.px_tally.proofs.Counting.{none-count, count-none}
 use Rattle.px_assign.specs.Conflicts.{variable_of, of_variable, writes, goes_before, is_kept_from, is_loser, is_loser_in, is_writer, AreWriters}
-use Rattle.px_assign.proofs.Ties.{loser_alike}
-use Rattle.px_assign.proofs.Firsts.{found_among, other_way}
-use Rattle.px_claims.specs.Claims.{numbers_in, starts_in}
-use Rattle.px_claims.specs.Keeping.{HoldsContested, is_contested}
+use Rattle.px_assign.proofs.Ties.{loser_alike, writes_is}
+use Rattle.px_assign.proofs.Firsts.{found_among, is_written, other_way}
+use Rattle.px_claims.specs.Claims.{numbers_in, starts_in, wins_by}
+use Rattle.px_claims.specs.Keeping.{HoldsContested, holder_for, is_contested}
 use Rattle.px_claims.proofs.Variables.{IsTallyOf}
 use Rattle.px_claims.specs.Ordering.{AreInOrder, first_wanting}
 use Rattle.px_claims.specs.declared.order.Writer.{Writer}
-use Rattle.px_claims.proofs.Contested.{holder_for}
 use Rattle.px_claims.proofs.First.{GoesFirst, first_is}
 
 -- ---- numbers at which something is so
@@ -45,10 +43,7 @@ record SomeNumber (flags : List Bool) (test : ℕ → Bool) : Type 0 where
   passes : test number ≡ true
 
 flagged_inside : (flags : List Bool) (number : ℕ) → get_or flags number false ≡ true → number < length flags
-flagged_inside flags number is = elim (cases_lt number (length flags)) [
-  | inl inside ↦ inside
-  | inr past ↦ absurd (false≢true (sym (get_or_past flags number false past) ∙ is))
-]
+flagged_inside flags number is = passes_within (λ flag. flag) flags number false refl is
 
 any_filtered : (test kept : ℕ → Bool) (numbers : List ℕ)
     → list_any test (filter kept numbers) ≡ list_any (λ number. kept number && test number) numbers
@@ -143,16 +138,6 @@ first_holds lists cell some is =
 
 -- ---- winners
 
-writes_is : (plan : List Site) (variable node : ℕ) → writes plan variable node ≡ true → variable_of plan node ≡ Some variable
-writes_is plan variable node passes = by (variable_of plan node) passes
-  where
-    by : (own : Option ℕ) → of_variable (nat_eq variable) own ≡ true → own ≡ Some variable
-    by None passes = absurd (false≢true passes)
-    by (Some own) passes = ap Some (sym (eqb-true variable own passes))
-
-is_written : (plan : List Site) (variable node : ℕ) → variable_of plan node ≡ Some variable → writes plan variable node ≡ true
-is_written plan variable node is = ap (of_variable (nat_eq variable)) is ∙ nat_eq_equiv.refl variable
-
 module _ (plan : List Site) (writers : List Writer) (are : AreInOrder plan writers) (wanting holding : TallyData)
     (wanted : IsTallyOf plan wanting) (held : IsTallyOf plan holding) (links : LinksData)
     (kept : HoldsContested wanting holding links) (some : 0 < length links.lists) where
@@ -170,20 +155,22 @@ module _ (plan : List Site) (writers : List Writer) (are : AreInOrder plan write
   group_is tally is node within = ap (λ groups. get_or groups node None) is.variables
       ∙ get_or-map-range_with_len (variable_of plan) 0 (length plan) node node None within (omega arith)
 
-  nobody_wants : (variable : ℕ) → list_any (writes plan variable) W ≡ false → nat_eq (total wanting variable) 0 ≡ true
-  nobody_wants variable none = eq-eqb (total wanting variable) 0
-      (count-none variable wanting.group_of wanting.counting (λ node of.
-      false_from_ne_true (get_or wanting.counting node false) (λ is.
-      let there : node < length plan = omega (arith, flagged_inside wanting.counting node is, wanted.sized) in
-      false≢true (sym none ∙ among_numbers wanting.counting (writes plan variable) node is
-      (is_written plan variable node (sym (group_is wanting wanted node there) ∙ of))))))
+  -- where none that counts writes the variable, nobody of its group counts
+  nobody_counts : (tally : TallyData) → IsTallyOf plan tally → (variable : ℕ)
+      → list_any (writes plan variable) (numbers_in tally.counting) ≡ false → is_nobody tally variable ≡ true
+  nobody_counts tally counts variable none = eq-eqb (total tally variable) 0
+      (count-none variable tally.group_of tally.counting (λ node of.
+      false_from_ne_true (get_or tally.counting node false) (λ is.
+      let there : node < length plan = omega (arith, flagged_inside tally.counting node is, counts.sized) in
+      false≢true (sym none ∙ among_numbers tally.counting (writes plan variable) node is
+      (is_written plan variable node (sym (group_is tally counts node there) ∙ of))))))
 
   -- some writer of a contested variable would start
   some_wants : (variable : ℕ) → is_contested wanting holding variable ≡ true → SomeNumber wanting.counting (writes plan variable)
   some_wants variable contested = elim (cases_Bool (list_any (writes plan variable) W)) [
     | inl any ↦ some_number wanting.counting (writes plan variable) any
-    | inr none ↦ absurd (false≢true (sym (ap not (nobody_wants variable none))
-        ∙ (and_parts (not (nat_eq (total wanting variable) 0)) (nat_eq (total holding variable) 0) contested).0))
+    | inr none ↦ absurd (false≢true (sym (ap not (nobody_counts wanting wanted variable none))
+        ∙ (and_parts (not (is_nobody wanting variable)) (is_nobody holding variable) contested).0))
   ]
 
   -- and none is at work
@@ -192,8 +179,8 @@ module _ (plan : List Site) (writers : List Writer) (are : AreInOrder plan write
       let one = some_number holding.counting (writes plan variable) any in
       let within : one.number < length plan = omega (arith, one.inside, held.sized) in
       false≢true (sym (none-count variable holding.group_of holding.counting
-      (eqb-true (total holding variable) 0 (and_parts (not (nat_eq (total wanting variable) 0))
-      (nat_eq (total holding variable) 0) contested).1) one.number
+      (eqb-true (total holding variable) 0
+      (and_parts (not (is_nobody wanting variable)) (is_nobody holding variable) contested).1) one.number
       (group_is holding held one.number within ∙ writes_is plan variable one.number one.passes)) ∙ one.is))
 
   -- one of them goes first
@@ -261,9 +248,8 @@ module _ (plan : List Site) (writers : List Writer) (are : AreInOrder plan write
         first = goes_first variable node contested (number_here (found variable) node at.4);
       }
 
-  -- a writer would start, and is no loser
   abbrev pub wins_here : ℕ → Bool
-  wins_here node = is_counted wanting node && (is_writer plan node && not (is_loser plan W H node))
+  wins_here node = wins_by plan wanting.counting holding.counting node
 
   won : (node : ℕ) → Wins node → wins_here node ≡ true
   won node win = and_from (is_counted wanting node) (is_writer plan node && not (is_loser plan W H node)) win.first.wanted
@@ -277,18 +263,13 @@ module _ (plan : List Site) (writers : List Writer) (are : AreInOrder plan write
       let free = or_parts (list_any (writes plan variable) H)
       (list_any (λ other. writes plan variable other && goes_before plan other node) W)
       (sym (ap (of_variable (is_kept_from plan W H node)) is) ∙ stays) in
-      let some_one : nat_eq (total wanting variable) 0 ≡ false =
-      false_from_ne_true (nat_eq (total wanting variable) 0) (λ none.
+      let some_one : is_nobody wanting variable ≡ false =
+      false_from_ne_true (is_nobody wanting variable) (λ none.
       false≢true (sym (none-count variable wanting.group_of wanting.counting (eqb-true (total wanting variable) 0 none) node
       (group_is wanting wanted node within ∙ is)) ∙ wants)) in
-      let nobody : nat_eq (total holding variable) 0 ≡ true =
-      eq-eqb (total holding variable) 0 (count-none variable holding.group_of holding.counting (λ other of.
-      false_from_ne_true (get_or holding.counting other false) (λ holds.
-      let there : other < length plan = omega (arith, flagged_inside holding.counting other holds, held.sized) in
-      false≢true (sym free.0 ∙ among_numbers holding.counting (writes plan variable) other holds
-      (is_written plan variable other (sym (group_is holding held other there) ∙ of)))))) in
+      let nobody : is_nobody holding variable ≡ true = nobody_counts holding held variable free.0 in
       let contested : is_contested wanting holding variable ≡ true =
-      and_from (not (nat_eq (total wanting variable) 0)) (nat_eq (total holding variable) 0) (ap not some_one) nobody in
+      and_from (not (is_nobody wanting variable)) (is_nobody holding variable) (ap not some_one) nobody in
       let first = found_first variable contested in
       let same : first.0 ≡ node = elim (cases_eq first.0 node) [
         | inl same ↦ same
@@ -348,16 +329,13 @@ module _ (plan : List Site) (wants holds : List Bool) (sound : IsSound plan) (lo
   abbrev loses : ℕ → Bool
   loses node = is_loser plan (numbers_in wants) (numbers_in holds) node
 
-  abbrev wins_by : ℕ → Bool
-  wins_by node = get_or wants node false && (is_writer plan node && not (loses node))
-
   module _ (world : World) (are : AreWriters plan world (numbers_in wants) (numbers_in holds)) (node : ℕ)
       (within : node < length plan) where
     alike : would_start plan world (site_in plan node) ≡ true → loses node ≡ is_loser_in plan world node
     alike start = loser_alike plan world (numbers_in wants) (numbers_in holds) node sound within
         (all_numbers wants (length plan) long_wants) (all_numbers holds (length plan) long_holds) are start
 
-    to : wins_by node ≡ true → starts_in plan world node ≡ true
+    to : wins_by plan wants holds node ≡ true → starts_in plan world node ≡ true
     to is =
         let both = and_parts (get_or wants node false) (is_writer plan node && not (loses node)) is in
         let rest = and_parts (is_writer plan node) (not (loses node)) both.1 in
@@ -365,7 +343,7 @@ module _ (plan : List Site) (wants holds : List Bool) (sound : IsSound plan) (lo
         and_from (would_start plan world (site_in plan node)) (is_writer plan node && not (is_loser_in plan world node)) start
         (and_from (is_writer plan node) (not (is_loser_in plan world node)) rest.0 (ap not (sym (alike start)) ∙ rest.1))
 
-    from : starts_in plan world node ≡ true → wins_by node ≡ true
+    from : starts_in plan world node ≡ true → wins_by plan wants holds node ≡ true
     from is =
         let both = and_parts (would_start plan world (site_in plan node))
         (is_writer plan node && not (is_loser_in plan world node)) is in
@@ -374,5 +352,5 @@ module _ (plan : List Site) (wants holds : List Bool) (sound : IsSound plan) (lo
         (flag_is wants node (are.wants node within rest.0 both.0))
         (and_from (is_writer plan node) (not (loses node)) rest.0 (ap not (alike both.0) ∙ rest.1))
 
-    pub starting : wins_by node ≡ starts_in plan world node
-    starting = same_bool (wins_by node) (starts_in plan world node) to from
+    pub starting : wins_by plan wants holds node ≡ starts_in plan world node
+    starting = same_bool (wins_by plan wants holds node) (starts_in plan world node) to from

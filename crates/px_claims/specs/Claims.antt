@@ -58,10 +58,13 @@ holding_in claims = numbers_in claims.holding
 -- ---- who goes
 
 -- a writer would start, and is no loser of a conflict
+abbrev pub wins_by : List Site → List Bool → List Bool → ℕ → Bool
+wins_by plan wants holds node =
+    slice_index_or wants node false
+    && (is_writer plan node && not (is_loser plan (numbers_in wants) (numbers_in holds) node))
+
 abbrev pub is_winner : List Site → ClaimsData → ℕ → Bool
-is_winner plan claims node =
-    slice_index_or claims.wanting node false
-    && (is_writer plan node && not (is_loser plan (wanting_in claims) (holding_in claims) node))
+is_winner plan claims node = wins_by plan claims.wanting claims.holding node
 
 -- these are the winners, each once
 pub record AreWinners (plan : List Site) (claims : ClaimsData) (winners : List ℕ) : Type 0 where

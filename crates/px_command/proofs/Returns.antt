@@ -1,5 +1,5 @@
 -- What a command returned goes to its variable, as the semantics has it.
-use Rattle.std.proofs.Common.{◌≡◌, ℕ, ◌+◌, ◌<◌, true, false, ◌||◌, List, length, set, refl, ap, sym, ◌∙◌, subst, arith, Option, Some, None}
+use Rattle.std.proofs.Common.{◌≡◌, ℕ, ◌+◌, ◌<◌, true, false, List, length, set, refl, ap, sym, ◌∙◌, subst, arith, Option, Some, None}
 use Rattle.std.specs.Option.{option_map}
 use Rattle.std.proofs.Math.Logic.{∥∥₁_elim}
 use Rattle.std.proofs.Props.{props}
@@ -13,7 +13,6 @@ use Rattle.px_event.specs.declared.event.Event.TheVariants as events
 use Rattle.px_sem.specs.Conflicts.{target_of}
 use Rattle.px_sem.specs.Effects.{as_kind, write_at, cell_of}
 use Rattle.px_sem.specs.Events.{with_write, returned, result_place, body_at, has_result, changed, take}
-use Rattle.px_sem.specs.Guards.{is_executing, is_finishing}
 use Rattle.px_sem.specs.World as world
 use Rattle.px_sem.specs.World.{LookState, Report}
 use Rattle.px_flat.specs.declared.act.Act.{Act}
@@ -27,10 +26,11 @@ use Rattle.px_flat.specs.Row.{site_in}
 use Rattle.px_flat.proofs.Known.{IsSound}
 use Rattle.px_flat.proofs.Slotted.{names_differ}
 use Rattle.px_flat.proofs.Targets.{taken_alike}
-use Rattle.px_flat.proofs.Variables.{IsDeclared, place_at, target_declared}
+use Rattle.px_flat.proofs.Variables.{IsDeclared, place_at, target_declared, cells_within}
+use Rattle.px_command.specs.Counting.{return_counts}
 use Rattle.px_command.specs.Results.{result_slot}
 use Rattle.px_command.proofs.Rows.{HasNode, has_node, counted, nothing_changes}
-use Rattle.px_command.proofs.Writes.{IsCellOf, variable_written, cells_within}
+use Rattle.px_command.proofs.Writes.{IsCellOf, variable_written}
 
 -- ---- the names of variables
 
@@ -117,13 +117,12 @@ slot_result plan (Update pairs) act slot is = absurd (cc)
 
 pub return_early : (plan : List Site) (cells : List Value) (reports : List (LookState × Report)) (acts : List Act) (node : ℕ)
     (given : Value) → IsSound plan → node < length plan
-    → (is_executing (state_in (held cells (state_cell plan node))) || is_finishing (state_in (held cells (state_cell plan node))))
-    ≡ false
+    → return_counts (state_in (held cells (state_cell plan node))) ≡ false
     → take plan (world_of plan cells reports acts) (events.Return (site_in plan node).path given)
     ≡ world_of plan cells reports acts
 return_early plan cells reports acts node given sound within early =
     nothing_changes plan (world_of plan cells reports acts) (events.Return (site_in plan node).path given) (λ counts.
-    absurd (false≢true (sym early ∙ sym (λ i. is_executing (has.state_is i) || is_finishing (has.state_is i))
+    absurd (false≢true (sym early ∙ sym (ap return_counts has.state_is)
     ∙ (and_parts (has_result (body_at plan (site_in plan node).path)) _ counts).1)))
   where
     has : HasNode plan cells reports acts node
@@ -207,8 +206,7 @@ slot_within plan cells acts node slot sound within parts is =
 
 pub return_taken : (plan : List Site) (cells : List Value) (reports : List (LookState × Report)) (acts : List Act) (node : ℕ)
     (given : Value) (slot : ℕ × VarKind) → IsSound plan → AllDiffer plan → node < length plan → IsParts plan cells acts
-    → (is_executing (state_in (held cells (state_cell plan node))) || is_finishing (state_in (held cells (state_cell plan node))))
-    ≡ true
+    → return_counts (state_in (held cells (state_cell plan node))) ≡ true
     → result_slot (numbered_body plan (site_in plan node).head.body) (act_of acts node) ≡ Some slot
     → world_of plan (set cells slot.0 (as_kind slot.1 given)) reports acts
     ≡ take plan (world_of plan cells reports acts) (events.Return (site_in plan node).path given)
@@ -224,7 +222,7 @@ return_taken plan cells reports acts node given slot sound differ within parts a
     ∙ sym (counted plan (world_of plan cells reports acts) (events.Return (site_in plan node).path given)
     (and_from (has_result (body_at plan (site_in plan node).path)) _
     (ap has_result has.body_is ∙ slot_result plan (site_in plan node).head.body (act_of acts node) slot is)
-    ((λ i. is_executing (has.state_is i) || is_finishing (has.state_is i)) ∙ at_work)))
+    (ap return_counts has.state_is ∙ at_work)))
   where
     has : HasNode plan cells reports acts node
     has = has_node plan cells reports acts node sound within

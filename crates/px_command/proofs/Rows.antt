@@ -1,5 +1,5 @@
 -- The rows of the table of events, each over the parts of one node.
-use Rattle.std.proofs.Common.{◌≡◌, ℕ, ◌+◌, ◌<◌, Bool, true, false, ◌&&◌, ◌||◌, List, [], ◌∷◌, length, map, set, refl, ap, sym, ◌∙◌, arith, Some, None, if◌then◌else◌}
+use Rattle.std.proofs.Common.{◌≡◌, ℕ, ◌+◌, ◌<◌, Bool, true, false, ◌&&◌, ◌||◌, List, [], ◌∷◌, length, map, set, refl, ap, sym, ◌∙◌, arith, Option, Some, None, if◌then◌else◌}
 use Rattle.std.proofs.lemmas.Bool.{and_parts, and_from, false≢true}
 use Rattle.std.proofs.lemmas.Grind.{common_steps}
 use Rattle.std.proofs.lemmas.List.{get_or-set_same}
@@ -14,6 +14,8 @@ use Rattle.px_sem.specs.Events.{with_record, with_action, with_handle, with_abor
 use Rattle.px_sem.specs.Guards.{is_active, is_executing, is_failing}
 use Rattle.px_sem.specs.World as world
 use Rattle.px_sem.specs.World.{World, NodeRecord, Action, LookState, Report, state_at}
+use Rattle.px_flat.specs.declared.act.Abort.{Abort}
+use Rattle.px_flat.specs.declared.act.Abort.TheVariants as aborts
 use Rattle.px_flat.specs.declared.act.Act.{Act}
 use Rattle.px_flat.specs.declared.act.Act.TheVariants as under_way
 use Rattle.px_flat.specs.Layout.{node_cell, state_cell, handle_cell, acknowledgement_cell}
@@ -25,7 +27,7 @@ use Rattle.px_flat.proofs.Known.{IsSound}
 use Rattle.px_flat.proofs.NodeChanges.{handle_written, acknowledgement_written, act_put}
 use Rattle.px_flat.proofs.Sites.{found_site}
 use Rattle.px_flat.proofs.Worlds.{record_at-world_of}
-use Rattle.px_command.specs.Counting.{is_sent}
+use Rattle.px_command.specs.Counting.{is_sent, handle_counts, abort_done_counts}
 use Rattle.px_command.specs.Results.{aborted}
 use Rattle.px_command.proofs.Nodes.{elsewhere, cell_kept, act_kept}
 
@@ -108,15 +110,19 @@ abort_sent : (act : Act) (h a : Value) → is_sent act ≡ true
 abort_sent (under_way.Sent index abort) h a holds = refl
 abort_sent act h a holds = absurd (false≢true holds)
 
+-- a command fits, whatever has become of its abort
+pub command_fits : (plan : List Site) (body : BodyData) (index : Option ℕ) (abort now : Abort)
+    → fits plan body (under_way.Sent index abort) ≡ true → fits plan body (under_way.Sent index now) ≡ true
+command_fits plan (Command name args result) None abort now fit = refl
+command_fits plan (Command name args None) (Some index) abort now fit = absurd (false≢true fit)
+command_fits plan (Command name args (Some target)) (Some index) abort now fit = fit
+command_fits plan Nothing index abort now fit = absurd (false≢true fit)
+command_fits plan (Assign target value) index abort now fit = absurd (false≢true fit)
+command_fits plan (Update pairs) index abort now fit = absurd (false≢true fit)
+
 aborted_fits : (plan : List Site) (body : BodyData) (act : Act) → fits plan body act ≡ true
     → fits plan body (aborted act) ≡ true
-aborted_fits plan (Command name args None) (under_way.Sent None abort) fit = refl
-aborted_fits plan (Command name args (Some target)) (under_way.Sent None abort) fit = refl
-aborted_fits plan (Command name args None) (under_way.Sent (Some index) abort) fit = absurd (false≢true fit)
-aborted_fits plan (Command name args (Some target)) (under_way.Sent (Some index) abort) fit = fit
-aborted_fits plan Nothing (under_way.Sent index abort) fit = absurd (false≢true fit)
-aborted_fits plan (Assign target value) (under_way.Sent index abort) fit = absurd (false≢true fit)
-aborted_fits plan (Update pairs) (under_way.Sent index abort) fit = absurd (false≢true fit)
+aborted_fits plan body (under_way.Sent index abort) fit = command_fits plan body index abort aborts.Done fit
 aborted_fits plan body under_way.Idle fit = fit
 aborted_fits plan body under_way.Unwritten fit = fit
 aborted_fits plan body (under_way.Scalar old) fit = fit
@@ -127,10 +133,15 @@ handle_of_sent : (act : Act) (handle : Handle) → is_sent act ≡ true → is_h
 handle_of_sent (under_way.Sent index abort) handle holds = refl
 handle_of_sent act handle holds = absurd (false≢true holds)
 
+-- what is a handle of anything is one of a command
+pub command_handle : (act : Act) (index : Option ℕ) (abort : Abort) (h : Value) → is_handle_of act h ≡ true
+    → is_handle_of (under_way.Sent index abort) h ≡ true
+command_handle act index abort values.Unknown is = refl
+command_handle act index abort (values.Handle handle) is = refl
+command_handle act index abort h is = absurd (cc is)
+
 handle_of_aborted : (act : Act) (h : Value) → is_handle_of act h ≡ true → is_handle_of (aborted act) h ≡ true
-handle_of_aborted (under_way.Sent index abort) values.Unknown is = refl
-handle_of_aborted (under_way.Sent index abort) (values.Handle handle) is = refl
-handle_of_aborted (under_way.Sent index abort) h is = absurd (cc)
+handle_of_aborted (under_way.Sent index abort) h is = command_handle (under_way.Sent index abort) index aborts.Done h is
 handle_of_aborted under_way.Idle h is = is
 handle_of_aborted under_way.Unwritten h is = is
 handle_of_aborted (under_way.Scalar old) h is = is
@@ -204,12 +215,12 @@ module _ (plan : List Site) (cells : List Value) (reports : List (LookState × R
       (ap at_work has.state_is ∙ working)
 
   -- a handle counts where a command is under way and the node is at work
-  pub handle_ignored : (handle : Handle) → (is_active state && is_sent act) ≡ false
+  pub handle_ignored : (handle : Handle) → handle_counts state act ≡ false
       → take plan before (events.Handle own handle) ≡ before
   handle_ignored handle fails =
       ignored (events.Handle own handle) is_active (with_handle handle) refl refl (λ none h a. handle_unsent handle act h a none) fails
 
-  pub handle_taken : (handle : Handle) → IsParts plan cells acts → (is_active state && is_sent act) ≡ true
+  pub handle_taken : (handle : Handle) → IsParts plan cells acts → handle_counts state act ≡ true
       → world_of plan (set cells (handle_cell plan node) (values.Handle handle)) reports acts
       ≡ take plan before (events.Handle own handle)
   handle_taken handle parts holds =
@@ -220,11 +231,11 @@ module _ (plan : List Site) (cells : List Value) (reports : List (LookState × R
       ∙ sym (counted plan before (events.Handle own handle) (counts_here is_active parts both.1 both.0))
 
   -- the abort of a command is done where one is under way and the node fails
-  pub abort_ignored : (is_failing state && is_sent act) ≡ false → take plan before (events.AbortDone own) ≡ before
+  pub abort_ignored : abort_done_counts state act ≡ false → take plan before (events.AbortDone own) ≡ before
   abort_ignored fails =
       ignored (events.AbortDone own) is_failing with_abort_done refl refl (λ none h a. abort_unsent act h a none) fails
 
-  pub abort_taken : IsParts plan cells acts → (is_failing state && is_sent act) ≡ true
+  pub abort_taken : IsParts plan cells acts → abort_done_counts state act ≡ true
       → world_of plan cells reports (set acts node (aborted act)) ≡ take plan before (events.AbortDone own)
   abort_taken parts holds =
       let both = and_parts (is_failing state) (is_sent act) holds in

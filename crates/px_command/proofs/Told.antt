@@ -1,5 +1,5 @@
 -- Of which node an event tells, and what one comes to that tells of none that the plan has.
-use Rattle.std.proofs.Common.{◌≡◌, ℕ, zero, suc, ◌&&◌, ◌+◌, Bool, true, false, cond, List, [], ◌∷◌, get_or, refl, ap, sym, ◌∙◌, Option, Some, None, slice_get, arith}
+use Rattle.std.proofs.Common.{◌≡◌, ℕ, ◌&&◌, ◌+◌, Bool, true, false, cond, List, [], ◌∷◌, get_or, refl, ap, sym, ◌∙◌, Option, Some, None, slice_get, arith}
 use Rattle.std.specs.List.{find, position_from}
 use Rattle.std.specs.Option.{option_and_then, unwrap_or}
 use Rattle.std.specs.Cmp.Lexicographic.{same_text}
@@ -8,6 +8,7 @@ use Rattle.std.proofs.lemmas.Grind.{common_steps}
 use Rattle.std.proofs.lemmas.Iterator.Adapters.{position_from-zero}
 use Rattle.std.proofs.lemmas.List.Quantifiers.{position-Some}
 use Rattle.std.proofs.lemmas.Option.{get_or_from_slice_get}
+use Rattle.std.proofs.Math.ListN.{get_or-map}
 use Rattle.px_value.specs.declared.value.Value.{Value}
 use Rattle.px_core.specs.Plan.{Site, no_site, site_at, is_same}
 use Rattle.px_event.specs.declared.event.Event.{Event}
@@ -29,17 +30,12 @@ use Rattle.px_command.proofs.Rows.{uncounted}
 pub act_read : (acts : List Act) (node : ℕ) (act : Act) → slice_get acts node ≡ Some act → act_of acts node ≡ act
 act_read acts node act is = get_or_from_slice_get acts node act under_way.Idle is
 
-path_in : (plan : List Site) (node : ℕ) → get_or (paths_of plan) node [] ≡ (site_in plan node).path
-path_in [] node = refl
-path_in (site ∷ plan) zero = refl
-path_in (site ∷ plan) (suc node) = path_in plan node
-
 -- the node of a number has its path
 pub told_path : (plan : List Site) (path : List ℕ) (node : ℕ) → number_at plan path ≡ Some node
     → (site_in plan node).path ≡ path
 told_path plan path node is =
     let found = position-Some (is_same path) (paths_of plan) node [] is in
-    sym (path_in plan node) ∙ sym (same_text path (get_or (paths_of plan) node []) (sym found.1))
+    sym (get_or-map (λ (site : Site). site.path) plan node no_site) ∙ sym (same_text path (get_or (paths_of plan) node []) (sym found.1))
 
 -- the node of which an event tells
 pub told_event : (plan : List Site) (event : Event) (path : List ℕ) (number : Option ℕ) (node : ℕ)

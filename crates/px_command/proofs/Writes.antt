@@ -9,8 +9,8 @@ use Rattle.std.proofs.Math.Seq.{take-set-lt}
 use Rattle.std.proofs.lemmas.List.{take-set-le, drop-set-lt, drop-set-add, get_or-set_other}
 use Rattle.px_value.specs.declared.value.Value.{Value}
 use Rattle.px_value.specs.declared.value.Value.TheVariants as values
-use Rattle.px_core.specs.Fit.{all_differ, cells_of, cells_of_site}
-use Rattle.px_core.specs.Plan.{Site, VariableData, no_site, is_same}
+use Rattle.px_core.specs.Fit.{all_differ, cells_of, cells_of_site, variables_differ}
+use Rattle.px_core.specs.Plan.{Site, VariableData, is_same}
 use Rattle.px_sem.specs.Effects.{cell_of}
 use Rattle.px_sem.specs.Events.{with_record, with_write}
 use Rattle.px_sem.specs.World as world
@@ -23,9 +23,8 @@ use Rattle.px_flat.specs.Row.{site_in}
 use Rattle.px_flat.proofs.Changes.{values_in-behind, world_of-changed}
 use Rattle.px_flat.proofs.Known.{IsSound}
 use Rattle.px_flat.proofs.Sites.{found_site}
-use Rattle.px_flat.proofs.Sums.{sum_more, sum_front}
 use Rattle.px_flat.proofs.Worlds.{record_at-world_of}
-use Rattle.px_flat.proofs.Variables.{IsDeclared, place_behind, cells_apart}
+use Rattle.px_flat.proofs.Variables.{IsDeclared, place_behind, cells_apart, cells_within}
 
 -- ---- the variables of one node
 
@@ -110,12 +109,6 @@ kept : (plan : List Site) (cells : List Value) (cell behind : ℕ) (value : Valu
 kept plan cells cell behind value variable past =
     get_or-set_other cells cell behind value values.Unknown (λ is. absurd (omega (arith, variable, past, is)))
 
--- the cells of a node
-pub cells_within : (plan : List Site) (node : ℕ) → node < length plan
-    → first_cell plan node + cells_of_site (site_in plan node) ≤ variable_cells plan
-cells_within plan node within =
-    omega (arith, sum_more cells_of_site plan node no_site within, sum_front cells_of_site plan (node + 1))
-
 others_stay : (plan : List Site) (cells : List Value) (acts : List Act) (node cell : ℕ) (value : Value) → node < length plan
     → first_cell plan node ≤ cell → cell < first_cell plan node + cells_of_site (site_in plan node)
     → (other : ℕ) → other < length plan → other ≢ node
@@ -155,7 +148,7 @@ others_stay plan cells acts node cell value within from to other there apart = �
 -- a cell of a variable that a node declares
 pub record IsCellOf (plan : List Site) (owner name : List ℕ) (place : world.Place) (cell : ℕ) : Type 0 where
   pub declared : IsDeclared plan owner name
-  pub differ : all_differ (map (λ variable. variable.name) (site_in plan declared.node).head.variables) ≡ true
+  pub differ : variables_differ (site_in plan declared.node) ≡ true
   pub inside : cell_of place < declared.has.place.size
   pub is : cell ≡ declared.has.place.first + cell_of place
 

@@ -15,8 +15,7 @@ use Rattle.px_syntax.specs.Form.{kind_at}
 use Rattle.px_syntax.specs.Plan.{PlanTree}
 use Rattle.px_syntax.specs.PlanGrammar.{Spells}
 use Rattle.px_syntax.proofs.Spelled.{IsSpelled, spelled_in}
-use Rattle.px_expand.specs.Labels.{block_labels, actions_labels, action_labels, body_labels, guarded_labels, else_if_labels, else_labels, branch_labels, has_identifiers}
-use Rattle.px_expand.proofs.Naming.{are_identifiers}
+use Rattle.px_expand.specs.Labels.{are_identifiers, block_labels, actions_labels, action_labels, body_labels, guarded_labels, else_if_labels, else_labels, branch_labels, has_identifiers}
 
 -- ---- tokens
 
@@ -31,7 +30,7 @@ splits_named text tokens splits =
     record {
       at =
           λ number name has.
-          let there : IsSpelled (kinds.Identifier name) = spelled_in text tokens splits (kinds.Identifier name) number has in
+          let there : IsSpelled text (kinds.Identifier name) = spelled_in text tokens splits (kinds.Identifier name) number has in
           ap is_identifier (sym there.token.same) ∙ there.token.word.word;
     }
 

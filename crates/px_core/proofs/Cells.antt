@@ -1,5 +1,5 @@
 -- How many cells a variable has.
-use Rattle.std.proofs.Common.{◌≡◌, ℕ, ◌≤◌, true, length, Option, Some, None, refl}
+use Rattle.std.proofs.Common.{◌≡◌, ◌≤◌, true, length, refl}
 use Rattle.std.specs.Prelude.{nat_le}
 use Rattle.std.specs.Option.{unwrap_or}
 use Rattle.std.proofs.lemmas.Bool.{and_parts, leb-true}
@@ -7,11 +7,7 @@ use Rattle.px_core.specs.Fit.{cells_of, has_right_size, has_right_cells}
 use Rattle.px_core.specs.Plan.{VariableData}
 
 pub cells_are : (variable : VariableData) → cells_of variable ≡ unwrap_or variable.size 1
-cells_are variable = by variable.size refl
-  where
-    by : (size : Option ℕ) → variable.size ≡ size → cells_of variable ≡ unwrap_or variable.size 1
-    by None is = rw is refl
-    by (Some size) is = rw is refl
+cells_are variable = refl
 
 -- its initial values are no more
 pub few_initials : (variable : VariableData) → has_right_cells variable ≡ true → length variable.init ≤ cells_of variable

@@ -17,10 +17,15 @@ pub distinct_behind : (site : Site) (plan : List Site) → AreDistinct (site ∷
 distinct_behind site plan distinct i j hi hj same =
     let e : suc i ≡ suc j = distinct (suc i) (suc j) (omega arith) (omega arith) same in omega arith
 
+-- and have other paths than the first
+pub head_apart : (site : Site) (plan : List Site) (i : ℕ) → AreDistinct (site ∷ plan) → i < length plan
+    → site.path ≢ (get_or plan i no_site).path
+head_apart site plan i distinct within = λ same.
+    let e : 0 ≡ suc i = distinct 0 (suc i) (omega arith) (omega arith) same in absurd (omega arith)
+
 pub head_differs : (site : Site) (plan : List Site) (i : ℕ) → AreDistinct (site ∷ plan) → i < length plan
     → is_same site.path (get_or plan i no_site).path ≡ false
-head_differs site plan i distinct within = same-other _ _ (λ same.
-    let e : 0 ≡ suc i = distinct 0 (suc i) (omega arith) (omega arith) same in absurd (omega arith))
+head_differs site plan i distinct within = same-other _ _ (head_apart site plan i distinct within)
 
 -- each site is the one at its path
 pub found_itself : (plan : List Site) (i : ℕ) → AreDistinct plan → i < length plan

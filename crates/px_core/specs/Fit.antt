@@ -1,6 +1,7 @@
 -- What makes a plan fit to run.
-use Rattle.std.specs.Prelude.{◌≡◌, ℕ, ◌<◌, ◌≤◌, Bool, true, false, not, ◌&&◌, nat_le, List, [], ◌∷◌, ◌++◌, length, get_or, map, sum, Option, Some, None, is_some, IsTrue}
+use Rattle.std.specs.Prelude.{◌≡◌, ℕ, ◌<◌, ◌≤◌, Bool, true, false, not, ◌&&◌, nat_le, List, [], ◌∷◌, ◌++◌, length, get_or, map, sum, Option, Some, None, is_some, unwrap_or, option_to_list, IsTrue}
 use Rattle.std.specs.List.{list_all, list_any, flat_map}
+use Rattle.std.specs.Option.{unwrap_or}
 use Rattle.px_value.specs.Name.{is_name}
 use Rattle.px_core.specs.declared.node.Kind.{Kind}
 use Rattle.px_core.specs.declared.node.Kind.TheVariants as kinds
@@ -24,11 +25,7 @@ has_short_path site = nat_le (length site.path) 5000
 
 -- the cells of a variable: one, or those of an array
 abbrev pub cells_of : VariableData → ℕ
-cells_of variable = count variable.size
-  where
-    count : Option ℕ → ℕ
-    count None = 1
-    count (Some size) = size
+cells_of variable = unwrap_or variable.size 1
 
 abbrev pub cells_of_site : Site → ℕ
 cells_of_site site = sum (map cells_of site.head.variables)
@@ -143,8 +140,7 @@ references_of_target target = with_index target.index
 abbrev pub targets_of : BodyData → List TargetData
 targets_of Nothing = []
 targets_of (Assign target value) = target ∷ []
-targets_of (Command name args None) = []
-targets_of (Command name args (Some target)) = target ∷ []
+targets_of (Command name args result) = option_to_list result
 targets_of (Update pairs) = []
 
 abbrev pub terms_of : BodyData → List Term

@@ -17,6 +17,7 @@ use Rattle.px_core.specs.declared.conditions.ConditionKind.TheVariants as which
 use Rattle.px_core.specs.declared.node.CoreNode.{CoreNode}
 use Rattle.px_core.specs.declared.node.CoreNode.TheOpen.{CoreNode-F}
 use Rattle.px_core.specs.declared.node.CoreNode.TheFolds.{fold-CoreNode}
+use Rattle.px_core.specs.declared.node.CoreNode.TheViews.{out-CoreNode}
 use Rattle.px_core.specs.declared.node.Kind.{Kind}
 use Rattle.px_core.specs.declared.node.Kind.TheVariants as kinds
 use Rattle.px_core.specs.declared.plan.Plan.{Plan}
@@ -156,6 +157,10 @@ tree_of_node node = fold-CoreNode (Tree → Tree) branch node NoNode
 -- nodes side by side
 abbrev pub trees_of : List CoreNode → Tree
 trees_of nodes = in_order (map (fold-CoreNode (Tree → Tree) branch) nodes)
+
+-- the tree below a node
+abbrev pub below_it : CoreNode → Tree
+below_it node = trees_of (out-CoreNode node).children.items
 
 abbrev pub tree_of : Plan → Tree
 tree_of plan = tree_of_node plan.root

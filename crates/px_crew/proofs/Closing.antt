@@ -1,8 +1,8 @@
 -- The work over one desk over an executive, from its opening to its closing.
-use Rattle.std.proofs.Common.{◌≡◌, ◌≢◌, ℕ, ◌+◌, ◌<◌, ◌≤◌, List, [], ◌∷◌, map, length, get_or, Option, None, refl, sym, ap, ◌∙◌, subst, arith}
+use Rattle.std.proofs.Common.{◌≡◌, ◌≢◌, ℕ, ◌<◌, ◌≤◌, List, map, length, get_or, Option, None, sym, ap, ◌∙◌, subst, arith}
 use Rattle.std.specs.List.{All, range_with_len, sum_by}
 use Rattle.std.proofs.lemmas.List.Elements.{All-same}
-use Rattle.std.proofs.lemmas.List.Sums.{sum_by-cons}
+use Rattle.std.proofs.lemmas.List.Sums.{sum-map}
 use Rattle.std.proofs.lemmas.Simd.{map-map}
 use Rattle.px_core.specs.Plan.{Site}
 use Rattle.px_event.specs.declared.entry.Entry.{Entry}
@@ -24,9 +24,7 @@ use Rattle.px_crew.proofs.Gathering.{comes_whole}
 use Rattle.px_crew.proofs.Working.{places_rise}
 
 sum_places : {S : Type 0} (workers : List (Worker S)) → sum_by (λ (place : ℕ). place) (places_of workers) ≡ sum_by (λ (w : Worker S). w.at) workers
-sum_places [] = refl
-sum_places {S = S} (w ∷ workers) =
-    sum_by-cons (λ (place : ℕ). place) w.at (places_of workers) ∙ ap (λ (n : ℕ). w.at + n) (sum_places workers) ∙ sym (sum_by-cons (λ (w : Worker S). w.at) w workers)
+sum_places {S} workers = sum-map (λ (w : Worker S). w.at) workers
 
 -- what the work comes to, of other names
 comes_same : (plan plan' : List Site) (first first' : List Entry) (log log' : Log) (threads : List Todo) (places places' : List ℕ) (failed failed' : Option Entry) (end : CrewEnd)

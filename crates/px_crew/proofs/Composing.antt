@@ -9,7 +9,7 @@ use Rattle.px_core.specs.Plan.{Site}
 use Rattle.px_event.specs.declared.entry.Entry.{Entry}
 use Rattle.px_exec.specs.declared.closing.Failed.{Failed}
 use Rattle.px_script.specs.Follows.{GoesThrough, HasOnly}
-use Rattle.px_script.specs.Order.{entry_of, thread_entries}
+use Rattle.px_script.specs.Order.{entry_of, posts_of, thread_entries}
 use Rattle.px_script.specs.Remainder.{entries_of}
 use Rattle.px_script.specs.declared.todo.Todo.{Todo}
 use Rattle.px_script.specs.declared.worker.Worker.{Worker}
@@ -30,7 +30,7 @@ use Rattle.px_crew.proofs.Listings.{log_in-append, log_in-items-append, failed_i
 use Rattle.px_crew.proofs.Makers.{IsMadeFor, are_made_for, entries_made, only_made, failed_made}
 use Rattle.px_crew.proofs.Passing.{walks_same}
 use Rattle.px_crew.proofs.Standing.{place_at}
-use Rattle.px_script.proofs.OwnPosts.{posts_of, own_thread}
+use Rattle.px_script.proofs.OwnPosts.{own_thread}
 use Rattle.px_script.proofs.Walks.{walks_longer}
 
 -- what was there at the opening carries no number

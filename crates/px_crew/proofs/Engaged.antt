@@ -1,8 +1,10 @@
 -- Workers that were engaged with the seats of a desk.
-use Rattle.std.proofs.Common.{◌≡◌, ℕ, zero, suc, ◌<◌, ◌≤◌, List, [], ◌∷◌, ◌++◌, map, length, get_or, refl, sym, ap, ◌∙◌, subst, arith}
-use Rattle.std.specs.List.{All, range_with_len}
+use Rattle.std.proofs.Common.{◌≡◌, ℕ, suc, ◌<◌, ◌≤◌, List, [], ◌∷◌, ◌++◌, map, length, get_or, refl, sym, ap, ◌∙◌, subst, arith}
+use Rattle.std.specs.List.{zip, All, range_with_len}
 use Rattle.std.proofs.lemmas.List.{length-map, get_or-map}
 use Rattle.std.proofs.lemmas.List.FromFn.{get_or-map-range_with_len}
+use Rattle.std.proofs.lemmas.Simd.{map-map}
+use Rattle.std.proofs.lemmas.Slice.Zip.{get_or-zip, length-zip, firsts-zip, seconds-zip}
 use Rattle.px_script.specs.declared.todo.Todo.{Todo}
 use Rattle.px_script.specs.declared.worker.WorkEnd.TheVariants as works
 use Rattle.px_script.specs.declared.worker.Worker.{Worker}
@@ -17,6 +19,9 @@ module _ {S : Type 0} where
   abbrev pub engaged : S → ℕ → Worker S
   engaged seat at = record { seat = seat; at = at; end = works.Going }
 
+  abbrev engaged_with : S × ℕ → Worker S
+  engaged_with one = engaged one.0 one.1
+
   -- one more
   pub engaged_more : (seats : List S) (seat : S) (places : List ℕ) → length seats < length places
       → workers_of (seats ++ seat ∷ []) places ≡ workers_of seats places ++ engaged seat (get_or places (length seats) 0) ∷ []
@@ -26,27 +31,21 @@ module _ {S : Type 0} where
   engaged_more (s ∷ seats) seat (at ∷ places) within = ap (λ (workers : List (Worker S)). engaged s at ∷ workers) (engaged_more seats seat places (omega arith))
 
   pub engaged_length : (seats : List S) (places : List ℕ) → length seats ≡ length places → length (workers_of seats places) ≡ length seats
-  engaged_length [] places same = refl
-  engaged_length (s ∷ seats) [] same = absurd (omega arith)
-  engaged_length (s ∷ seats) (at ∷ places) same = ap suc (engaged_length seats places (omega arith))
+  engaged_length seats places same = length-map (zip seats places) engaged_with ∙ omega (arith, same, length-zip seats places)
 
   pub engaged_places : (seats : List S) (places : List ℕ) → length seats ≡ length places → places_of (workers_of seats places) ≡ places
-  engaged_places [] [] same = refl
-  engaged_places [] (at ∷ places) same = absurd (omega arith)
-  engaged_places (s ∷ seats) [] same = absurd (omega arith)
-  engaged_places (s ∷ seats) (at ∷ places) same = ap (λ (places : List ℕ). at ∷ places) (engaged_places seats places (omega arith))
+  engaged_places seats places same =
+      map-map (λ (worker : Worker S). worker.at) engaged_with (zip seats places) ∙ seconds-zip seats places (sym same)
 
   pub engaged_seats : (seats : List S) (places : List ℕ) → length seats ≡ length places → map (λ worker. worker.seat) (workers_of seats places) ≡ seats
-  engaged_seats [] places same = refl
-  engaged_seats (s ∷ seats) [] same = absurd (omega arith)
-  engaged_seats (s ∷ seats) (at ∷ places) same = ap (λ (seats : List S). s ∷ seats) (engaged_seats seats places (omega arith))
+  engaged_seats seats places same =
+      map-map (λ (worker : Worker S). worker.seat) engaged_with (zip seats places) ∙ firsts-zip seats places (sym same)
 
   engaged_at : (seats : List S) (places : List ℕ) (i : ℕ) (e : Worker S) → length seats ≡ length places → i < length seats
       → get_or (workers_of seats places) i e ≡ engaged (get_or seats i e.seat) (get_or places i 0)
-  engaged_at [] places i e same within = absurd (omega arith)
-  engaged_at (s ∷ seats) [] i e same within = absurd (omega arith)
-  engaged_at (s ∷ seats) (at ∷ places) zero e same within = refl
-  engaged_at (s ∷ seats) (at ∷ places) (suc i) e same within = engaged_at seats places i e (omega arith) (omega arith)
+  engaged_at seats places i e same within =
+      get_or-map engaged_with (zip seats places) i (e.seat, 0) e (omega (arith, same, within, length-zip seats places))
+      ∙ ap engaged_with (get_or-zip seats places i (e.seat, 0) within (omega (arith, same, within)))
 
   module _ (start : Start) (fits : S → Type 0) (seating : S → Seating) (first : List Listing) (seats : List S) (n : ℕ)
       (seated : map seating seats ≡ map (newcomer first) (range_with_len 0 n)) where

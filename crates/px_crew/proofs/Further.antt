@@ -1,11 +1,11 @@
 -- Walks of a thread's lines one after another, from the place at which the one before has stopped.
 use Rattle.std.proofs.Common.{◌≡◌, ◌≢◌, ℕ, ◌≤◌, List, ◌++◌, length, take, drop, Option, Some, None, IsSome, Result, Ok, Err, inl, inr, refl, sym, ap, ◌∙◌, subst, arith}
-use Rattle.std.specs.List.{slice_get, filter_map}
+use Rattle.std.specs.List.{slice_get}
 use Rattle.std.proofs.lemmas.List.{append_assoc, length-take, take-take, take-append-drop, drop-append-le}
 use Rattle.std.proofs.lemmas.List.Elements.{filter_map-append}
 use Rattle.std.proofs.lemmas.Option.{none-some, same_Some}
 use Rattle.px_event.specs.declared.entry.Entry.{Entry}
-use Rattle.px_script.specs.Order.{entry_of, thread_entries}
+use Rattle.px_script.specs.Order.{entry_of, posts_of, thread_entries}
 use Rattle.px_script.specs.declared.line.Line.{Line}
 use Rattle.px_script.specs.declared.line.What.{What}
 use Rattle.px_script.specs.declared.line.What.TheVariants as whats
@@ -53,7 +53,7 @@ walks_on todo from old new reach w walk =
 between_then : (todo : Todo) (from at to : ℕ) → from ≤ at → at ≤ to → at ≤ length todo.lines
     → thread_entries (lines_between from to todo) ≡ thread_entries (lines_between from at todo) ++ thread_entries (lines_between at to todo)
 between_then todo from at to before after within =
-    ap (filter_map (entry_of todo.thread)) (lines_then todo.lines from at to before after within)
+    ap (posts_of todo.thread) (lines_then todo.lines from at to before after within)
     ∙ filter_map-append (entry_of todo.thread) (drop from (take at todo.lines)) (drop at (take to todo.lines))
 
 ends_then : (todo : Todo) (at : ℕ) (old mid new : Board) (end : Result Unit Stop) → mid.broke ≡ old.broke → EndsAt todo at mid new end → EndsAt todo at old new end
@@ -130,6 +130,6 @@ held_at todo at old new (Ok done) ends goes = inl ends.0
 held_at todo at old new (Err stops.Waits) ends goes =
     let line = ends.0 in
     let stopped = ends.4 in
-    inr (line.number, stopped.0, ends.2 ∙ ap (λ (what : What). Some (line_at line.number what)) stopped.1, stopped.3)
+    inr (stopped.0, (line.number, ends.2 ∙ ap (λ (what : What). Some (line_at line.number what)) stopped.1), stopped.3)
 held_at todo at old new (Err stops.Disk) ends goes = absurd (cc)
 held_at todo at old new (Err stops.NoMemory) ends goes = absurd (cc)

@@ -1,11 +1,12 @@
 -- What the work over one desk comes to, once its executive is there again, and how it goes on.
 use Rattle.std.proofs.Common.{◌≡◌, ◌≢◌, ℕ, suc, ◌+◌, ◌<◌, ◌≤◌, List, [], ◌∷◌, ◌++◌, map, length, get_or, set, take, Option, Some, None, IsSome, inl, inr, refl, sym, ap, ◌∙◌, subst, arith}
-use Rattle.std.specs.List.{All, Contains, slice_get, filter_map, sum_by}
+use Rattle.std.specs.List.{All, Contains, sum_by}
 use Rattle.std.specs.Option.{option_and_then, option_to_list}
 use Rattle.std.proofs.lemmas.Bool.{cases_eq}
 use Rattle.std.proofs.lemmas.List.{append-nil, length-set, get_or-set_same, get_or-set_other, take_more}
-use Rattle.std.proofs.lemmas.Option.{none-some, same_Some, slice_get_read, slice_get_within, get_or_from_slice_get}
+use Rattle.std.proofs.lemmas.Option.{none-some, same_Some, slice_get_within, get_or_from_slice_get}
 use Rattle.std.proofs.lemmas.List.Elements.{Contains-get_or, filter_map-append}
+use Rattle.px_value.proofs.General.{is_some_mapped, option_map_none, told_of}
 use Rattle.px_core.specs.Plan.{Site}
 use Rattle.px_event.specs.declared.cond.Cond.{Cond}
 use Rattle.px_event.specs.declared.entry.Entry.{Entry}
@@ -13,7 +14,7 @@ use Rattle.px_event.specs.declared.event.Event.{Event}
 use Rattle.px_exec.specs.declared.closing.Failed.{Failed}
 use Rattle.px_script.specs.Follows.{GoesThrough, Follows, IsNextPost, AreStalled, Stops, none, through, stands}
 use Rattle.px_script.specs.Fit.{IsFitScript}
-use Rattle.px_script.specs.Order.{entry_of}
+use Rattle.px_script.specs.Order.{entry_of, posts_of}
 use Rattle.px_script.specs.declared.script.Script.{Script}
 use Rattle.px_script.proofs.Scripts.{few_threads, few_lines}
 use Rattle.std.proofs.lemmas.List.Sums.{sum_by-le}
@@ -21,7 +22,6 @@ use Rattle.std.proofs.lemmas.Grind.{get_or_default_zero}
 use Rattle.px_script.specs.declared.crew_end.CrewEnd.{CrewEnd}
 use Rattle.px_script.specs.declared.crew_end.CrewEnd.TheVariants as ends
 use Rattle.px_script.specs.declared.line.Line.{Line}
-use Rattle.px_script.specs.declared.line.What.{What}
 use Rattle.px_script.specs.declared.line.What.TheVariants as whats
 use Rattle.px_script.specs.declared.stall.Stall.{Stall}
 use Rattle.px_script.specs.declared.todo.Todo.{Todo}
@@ -33,15 +33,15 @@ use Rattle.px_turn.specs.Histories.{items}
 use Rattle.px_desk.specs.Listing.{Start, log_in, failed_in}
 use Rattle.px_desk.specs.Seating.{Seating, newcomer, IsOneHistory}
 use Rattle.px_desk.specs.declared.listing.Listing.{Listing}
-use Rattle.px_crew.specs.Crew.{AreAt, IsWait, IsWaiting, AreWaiting, IsOver, Comes}
+use Rattle.px_crew.specs.Crew.{AreAt, IsWaiting, AreWaiting, IsOver, Comes}
 use Rattle.px_crew.specs.Seat.{entry_in}
-use Rattle.px_crew.specs.Standstill.{wait_of, wait_at, waits_of, IsHeld}
+use Rattle.px_crew.specs.Standstill.{wait_of, wait_at, waits_of, IsWait, IsHeld}
 use Rattle.px_crew.specs.Work.{board, places_of, HaveWorked, AreHeld, ComesTo}
 use Rattle.px_crew.proofs.Composing.{some_of, composed, unbroken_at, broken_one, seen_failed}
 use Rattle.px_crew.proofs.Further.{seen_at, next_at, going_on}
 use Rattle.px_crew.proofs.Further.{unbroken_at as walk_unbroken}
 use Rattle.px_crew.proofs.Passing.{walks_same}
-use Rattle.px_crew.proofs.Standing.{no_wait, place_at}
+use Rattle.px_crew.proofs.Standing.{no_wait, line_there, place_at}
 use Rattle.px_script.proofs.Walks.{line_at, walks_wait}
 
 pub follows_of : (plan : List Site) (first : List Entry) (log : Log) (threads : List Todo) (places : List ℕ) → AreAt plan first log threads places → Follows plan first log threads
@@ -59,12 +59,11 @@ follows_nothing plan first log threads fresh = rw fresh (record {
 
 -- an entry that is there is that of a failed append
 some_entry : (failed : Option Failed) → IsSome (entry_in failed) → (f : Failed) × (failed ≡ Some f)
-some_entry None some = absurd (cc)
-some_entry (Some f) some = (f, refl)
+some_entry failed some = told_of failed (is_some_mapped (λ (f : Failed). f.entry) failed ∙ some)
 
 waits_at : (plan : List Site) (first : List Entry) (log : Log) (todo : Todo) (place : ℕ) → IsHeld plan first log todo place → IsWaiting todo place
 waits_at plan first log todo place (inl all) = inl all
-waits_at plan first log todo place (inr (number, cond, line, unmet)) = inr (cond, (number, line))
+waits_at plan first log todo place (inr (cond, wait, unmet)) = inr (cond, wait)
 
 module _ {S : Type 0} (start : Start) (fits : S → Type 0) (seating : S → Seating) (threads : List Todo) (olds news : List (Worker S))
     (differ : (i j : ℕ) (d : Todo) → i < length threads → j < length threads → j ≢ i → (get_or threads i d).thread ≢ (get_or threads j d).thread)
@@ -165,7 +164,7 @@ module _ (plan : List Site) (first : List Entry) (log : Log) where
   stops_at todo place threads stalls goes (inl all) rest =
       subst (λ (wait : Option Stall). Stops plan first log (todo ∷ threads) (option_to_list wait ++ stalls)) (sym (no_wait todo place (omega arith)))
       (through todo threads stalls (subst (λ (place : ℕ). GoesThrough plan first log todo place) all goes) rest)
-  stops_at todo place threads stalls goes (inr (number, cond, line, unmet)) rest =
+  stops_at todo place threads stalls goes (inr (cond, (number, line), unmet)) rest =
       let stall : Stall = record { thread = todo.thread; line = number; cond = cond } in
       subst (λ (wait : Option Stall). Stops plan first log (todo ∷ threads) (option_to_list wait ++ stalls)) (sym (ap (option_and_then (wait_of todo.thread)) line))
       (stands todo threads stall stalls (record { count = place; before = goes; thread = refl; line = line; unmet = unmet }) rest)
@@ -204,7 +203,7 @@ module _ (plan : List Site) (first : List Entry) (log : Log) where
             (walks_wait plan first log [] todo.thread 0 (take place todo.lines) number cond goes.walks
             (subst (λ (log : Log). IsMetBehind plan (first ++ accepted log) cond) (sym whole) met));
         entries = goes.entries
-            ∙ sym (ap (filter_map (entry_of todo.thread)) front ∙ filter_map-append (entry_of todo.thread) (take place todo.lines) (wait ∷ []) ∙ append-nil _);
+            ∙ sym (ap (posts_of todo.thread) front ∙ filter_map-append (entry_of todo.thread) (take place todo.lines) (wait ∷ []) ∙ append-nil _);
       }
 
   pub goes_on : (threads : List Todo) (places : List ℕ) (i : ℕ) → AreAt plan first log threads places → i < length threads
@@ -233,8 +232,7 @@ pub wait_line : (todo : Todo) (lines : List Line) (at : ℕ) (line : Line) (cond
     → line.what ≡ whats.Wait cond → IsWait todo at cond
 wait_line todo lines at line cond same within is kind = (
   line.number,
-  ap (λ (lines : List Line). slice_get lines at) (sym same) ∙ slice_get_read lines (length lines) at line refl within is
-      ∙ ap (λ (what : What). Some (line_at line.number what)) kind,
+  line_there todo lines at line (whats.Wait cond) same within is kind,
 )
 
 post_or_wait : (number other : ℕ) (event : Event) (cond : Cond) → ◌≡◌ {A = Option Line} (Some (line_at number (whats.Post event))) (Some (line_at other (whats.Wait cond))) → ⊥
@@ -251,9 +249,7 @@ pub post_line : (plan : List Site) (first : List Entry) (log : Log) (todo : Todo
 post_line plan first log todo lines at line event same within is kind (inl all) = inl all
 post_line plan first log todo lines at line event same within is kind (inr (cond, (number, wait))) =
     absurd (post_or_wait line.number number event cond
-    (sym (ap (λ (lines : List Line). slice_get lines at) (sym same) ∙ slice_get_read lines (length lines) at line refl within is
-    ∙ ap (λ (what : What). Some (line_at line.number what)) kind)
-    ∙ wait))
+    (sym (line_there todo lines at line (whats.Post event) same within is kind) ∙ wait))
 
 -- a wait that is over is one of the lines
 pub over_within : (plan : List Site) (first : List Entry) (log : Log) (todo : Todo) (place : ℕ) → IsOver plan first log todo place → place < length todo.lines
@@ -261,8 +257,7 @@ over_within plan first log todo place over = slice_get_within todo.lines place (
 
 -- no entry of a failed append, no failed append
 pub unfailed : (failed : Option Failed) → entry_in failed ≡ None → failed ≡ None
-unfailed None clear = refl
-unfailed (Some failed) clear = absurd (cc)
+unfailed failed clear = option_map_none (λ (f : Failed). f.entry) failed clear
 
 -- places are at most as many as lines
 pub places_within : (plan : List Site) (first : List Entry) (log : Log) (script : Script) (places : List ℕ) → IsFitScript script → AreAt plan first log script.threads places

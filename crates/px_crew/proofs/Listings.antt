@@ -2,6 +2,9 @@
 use Rattle.std.proofs.Common.{◌≡◌, ℕ, ◌+◌, Bool, true, false, if◌then◌else◌, List, [], ◌∷◌, ◌++◌, map, filter, length, Option, Some, None, refl, sym, ap, ◌∙◌, subst, append-nil}
 use Rattle.std.proofs.lemmas.List.{append_cancel_left, map-append}
 use Rattle.std.proofs.lemmas.List.Elements.{filter-append}
+use Rattle.std.proofs.lemmas.Option.{none-some}
+use Rattle.std.specs.Option.{option_or}
+use Rattle.px_value.proofs.General.{none_from}
 use Rattle.px_exec.specs.declared.closing.Failed.{Failed}
 use Rattle.px_sem.specs.Log.{Log}
 use Rattle.px_turn.specs.Histories.{items, is_number, positions_from, positions}
@@ -31,23 +34,23 @@ failed_in-answered [] (logged ∷ log) = failed_in-answered [] log
 failed_in-answered (listings.Answered logged ∷ xs) log = failed_in-answered xs log
 failed_in-answered (listings.Failed entry faults ∷ xs) log = refl
 
+-- that of a front, or else that of what is behind it
+failed_in-append : (xs ys : List Listing) → failed_in (xs ++ ys) ≡ option_or (failed_in xs) (failed_in ys)
+failed_in-append [] ys = refl
+failed_in-append (listings.Answered logged ∷ xs) ys = failed_in-append xs ys
+failed_in-append (listings.Failed entry faults ∷ xs) ys = refl
+
 -- behind a list without one
 pub failed_in-behind : (xs ys : List Listing) → failed_in xs ≡ None → failed_in (xs ++ ys) ≡ failed_in ys
-failed_in-behind [] ys none = refl
-failed_in-behind (listings.Answered logged ∷ xs) ys none = failed_in-behind xs ys none
-failed_in-behind (listings.Failed entry faults ∷ xs) ys none = absurd (cc)
+failed_in-behind xs ys none = failed_in-append xs ys ∙ ap (λ failed. option_or failed (failed_in ys)) none
 
 -- a front that has one decides
 pub failed_in-front : (xs ys : List Listing) (failed : Failed) → failed_in xs ≡ Some failed → failed_in (xs ++ ys) ≡ Some failed
-failed_in-front [] ys failed is = absurd (cc)
-failed_in-front (listings.Answered logged ∷ xs) ys failed is = failed_in-front xs ys failed is
-failed_in-front (listings.Failed entry faults ∷ xs) ys failed is = is
+failed_in-front xs ys failed is = failed_in-append xs ys ∙ ap (λ found. option_or found (failed_in ys)) is
 
 -- a front of such a list has none
 pub clear_front : (xs ys : List Listing) → failed_in (xs ++ ys) ≡ None → failed_in xs ≡ None
-clear_front [] ys none = refl
-clear_front (listings.Answered logged ∷ xs) ys none = clear_front xs ys none
-clear_front (listings.Failed entry faults ∷ xs) ys none = absurd (cc)
+clear_front xs ys none = none_from (failed_in xs) (λ failed is. none-some failed (sym none ∙ failed_in-front xs ys failed is))
 
 -- only the last of a list can have failed
 pub clear_before : (xs : List Listing) (item : Listing) (log : Log) (failed : Option Failed) → xs ++ item ∷ [] ≡ listing_of log failed → failed_in xs ≡ None

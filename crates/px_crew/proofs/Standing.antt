@@ -3,7 +3,7 @@ use Rattle.std.proofs.Common.{◌≡◌, ◌⊎◌, ℕ, ◌+◌, ◌<◌, ◌�
 use Rattle.std.specs.List.{slice_get}
 use Rattle.std.specs.Option.{option_and_then, option_to_list}
 use Rattle.std.proofs.lemmas.List.{append-nil, append_assoc, drop_more, drop_all, get_or-map}
-use Rattle.std.proofs.lemmas.Option.{slice_get_past, slice_get-get_or}
+use Rattle.std.proofs.lemmas.Option.{slice_get_past, slice_get_read}
 use Rattle.px_event.specs.declared.cond.Cond.{Cond}
 use Rattle.px_script.specs.declared.line.Line.{Line}
 use Rattle.px_script.specs.declared.line.What.{What}
@@ -19,13 +19,18 @@ use Rattle.px_script.proofs.Walks.{line_at}
 pub no_wait : (todo : Todo) (at : ℕ) → length todo.lines ≤ at → wait_at todo at ≡ None
 no_wait todo at past = ap (option_and_then (wait_of todo.thread)) (slice_get_past todo.lines at past)
 
+-- the line at a place, as it was read
+pub line_there : (todo : Todo) (lines : List Line) (at : ℕ) (line : Line) (what : What) → lines ≡ todo.lines → at < length lines → line ≡ get_or lines at line
+    → line.what ≡ what → slice_get todo.lines at ≡ Some (line_at line.number what)
+line_there todo lines at line what same within is kind =
+    ap (λ (lines : List Line). slice_get lines at) (sym same) ∙ slice_get_read lines (length lines) at line refl within is
+    ∙ ap (λ (what : What). Some (line_at line.number what)) kind
+
 -- by the line there
 pub wait_there : (todo : Todo) (lines : List Line) (at : ℕ) (line : Line) (what : What) → lines ≡ todo.lines → at < length lines → line ≡ get_or lines at line
     → line.what ≡ what → wait_at todo at ≡ wait_of todo.thread (line_at line.number what)
 wait_there todo lines at line what same within is kind =
-    ap (λ (lines : List Line). option_and_then (wait_of todo.thread) (slice_get lines at)) (sym same)
-    ∙ ap (option_and_then (wait_of todo.thread)) (slice_get-get_or lines at line within ∙ ap Some (sym is))
-    ∙ ap (λ (what : What). wait_of todo.thread (line_at line.number what)) kind
+    ap (option_and_then (wait_of todo.thread)) (line_there todo lines at line what same within is kind)
 
 -- nothing is appended where there is no wait
 pub appends_none : (waits : List Stall) (wait : Option Stall) → wait ≡ None → waits ≡ waits ++ option_to_list wait

@@ -130,7 +130,7 @@ module _ {S : Type 0} (start : Start) (fits : S → Type 0) (seating : S → Sea
   no_line_left : (plan : List Site) (first : List Entry) (log : Log) (todo : Todo) (place : ℕ) (rest : List Stall) → IsHeld plan first log todo place
       → option_to_list (wait_at todo place) ++ rest ≡ [] → (place ≡ length todo.lines) × (rest ≡ [])
   no_line_left plan first log todo place rest (inl all) none = (all, (neither (option_to_list (wait_at todo place)) rest none).1)
-  no_line_left plan first log todo place rest (inr (number, cond, line, unmet)) none =
+  no_line_left plan first log todo place rest (inr (cond, (number, line), unmet)) none =
       let wait = ap (option_and_then (wait_of todo.thread)) line in
       absurd (cc)
 

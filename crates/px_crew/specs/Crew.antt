@@ -1,6 +1,5 @@
 -- What the work of a script's threads over an executive comes to.
 use Rattle.std.specs.Prelude.{◌≡◌, ◌≢◌, ◌≤◌, ◌<◌, ◌⊎◌, ℕ, List, [], ◌++◌, length, slice_index, slice_index_or, Option, Some, None}
-use Rattle.std.specs.List.{slice_get}
 use Rattle.px_core.specs.Plan.{Site}
 use Rattle.px_event.specs.declared.cond.Cond.{Cond}
 use Rattle.px_event.specs.declared.entry.Entry.{Entry}
@@ -9,11 +8,10 @@ use Rattle.px_script.specs.Follows.{GoesThrough, HasOnly, Follows, GoesThroughAl
 use Rattle.px_script.specs.declared.crew_end.CrewEnd.{CrewEnd}
 use Rattle.px_script.specs.declared.crew_end.CrewEnd.TheVariants as ends
 use Rattle.px_script.specs.declared.todo.Todo.{Todo}
-use Rattle.px_script.specs.declared.line.What.TheVariants as whats
 use Rattle.px_sem.specs.Asking.{IsMetBehind}
 use Rattle.px_sem.specs.Log.{Log, accepted}
 use Rattle.px_crew.specs.Seat.{entry_in}
-use Rattle.px_crew.specs.Standstill.{waits_of, IsHeld}
+use Rattle.px_crew.specs.Standstill.{waits_of, IsWait, IsHeld}
 
 -- the entry of an executive's failed append
 abbrev pub failed_entry : {S D : Type 0} → Executive S D → Option Entry
@@ -35,12 +33,7 @@ Ends plan first log threads failed ends.Disk =
     (entry : Entry) × (failed ≡ Some entry) × Follows plan first log threads × IsNextPost plan first log threads entry
 Ends plan first log threads failed ends.NoMemory = (failed ≡ None) × Follows plan first log threads
 
--- a thread's next line is a wait
-abbrev pub IsWait : Todo → ℕ → Cond → Type 0
-IsWait todo place cond =
-    (number : ℕ) × (slice_get todo.lines place ≡ Some (record { number = number; what = whats.Wait cond }))
-
--- or it has none left
+-- a thread's next line is a wait, or it has none left
 abbrev pub IsWaiting : Todo → ℕ → Type 0
 IsWaiting todo place = (place ≡ length todo.lines) ⊎ ((cond : Cond) × IsWait todo place cond)
 

@@ -15,12 +15,16 @@ use Rattle.px_script.specs.declared.todo.Todo.{Todo}
 use Rattle.px_sem.specs.Asking.{IsUnmetBehind}
 use Rattle.px_sem.specs.Log.{Log, accepted}
 
+-- a thread's next line is a wait
+abbrev pub IsWait : Todo → ℕ → Cond → Type 0
+IsWait todo place cond =
+    (number : ℕ) × (slice_get todo.lines place ≡ Some (record { number = number; what = whats.Wait cond }))
+
 -- a thread goes no further from a place: no line is left, or the next one waits for what isn't met
 abbrev pub IsHeld : List Site → List Entry → Log → Todo → ℕ → Type 0
 IsHeld plan first log todo place =
     (place ≡ length todo.lines)
-    ⊎ ((number : ℕ) × (cond : Cond) × (slice_get todo.lines place ≡ Some (record { number = number; what = whats.Wait cond }))
-    × IsUnmetBehind plan (first ++ accepted log) cond)
+    ⊎ ((cond : Cond) × IsWait todo place cond × IsUnmetBehind plan (first ++ accepted log) cond)
 
 -- a thread's wait, if the line is one
 abbrev pub wait_of : ℕ → Line → Option Stall

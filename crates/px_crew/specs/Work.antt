@@ -1,6 +1,6 @@
 -- What the work of a script's threads over a desk comes to, each by a worker of its own.
-use Rattle.std.specs.Prelude.{◌≡◌, ◌≢◌, ◌≤◌, ◌<◌, ℕ, List, [], ◌∷◌, map, length, slice_index_or, Result, Ok, Err}
-use Rattle.std.specs.List.{All, Contains}
+use Rattle.std.specs.Prelude.{◌≡◌, ◌≢◌, ◌≤◌, ◌<◌, ℕ, List, [], map, length, slice_index_or, Result, Ok, Err}
+use Rattle.std.specs.List.{zip, All, Contains}
 use Rattle.px_script.specs.declared.crew_end.CrewEnd.{CrewEnd}
 use Rattle.px_script.specs.declared.crew_end.CrewEnd.TheVariants as ends
 use Rattle.px_script.specs.declared.todo.Todo.{Todo}
@@ -31,9 +31,7 @@ IsEndOf {S} workers works.NoMemory = All (λ (w : Worker S). w.end ≢ works.Dis
 
 -- with seats and places, a worker each that goes on
 abbrev pub workers_of : {S : Type 0} → List S → List ℕ → List (Worker S)
-workers_of [] places = []
-workers_of (seat ∷ seats) [] = []
-workers_of (seat ∷ seats) (at ∷ places) = record { seat = seat; at = at; end = works.Going } ∷ workers_of seats places
+workers_of {S} seats places = map (λ (one : S × ℕ). record { seat = one.0; at = one.1; end = works.Going }) (zip seats places)
 
 -- how many lines are passed of each thread
 abbrev pub places_of : {S : Type 0} → List (Worker S) → List ℕ

@@ -42,5 +42,4 @@ pub meaning : (flat : Flat) (cells : List Value) (reports : List (LookState × R
     → Means (plan_of flat) cells reports expr (numbered_value (plan_of flat) cells reports expr)
 meaning flat cells reports expr term acts known is parts =
     ap (numbered_value (plan_of flat) cells reports) is
-    ∙ numbered_value-numbered (plan_of flat) cells reports acts term (flat_sound flat) parts
-    (record { mentioned = known.mentioned; looked_up = known.looked_up })
+    ∙ numbered_value-numbered (plan_of flat) cells reports acts term (flat_sound flat) parts known

@@ -11,10 +11,10 @@ use Rattle.px_value.specs.Path.{is_path, pieces}
 use Rattle.px_value.specs.declared.enums.Handle.{Handle}
 use Rattle.px_value.specs.declared.enums.Handle.TheVariants as handles
 use Rattle.px_value.specs.declared.value.Value.{Value}
-use Rattle.px_event.specs.Fit.{is_report_name, is_fit_event, is_thread, is_fit_entry}
+use Rattle.px_event.specs.Fit.{entry_of, is_report_name, is_fit_event, is_thread, is_fit_entry}
 use Rattle.px_event.specs.Values.{is_plain, is_plain_or_unknown}
 use Rattle.px_event.specs.Bytes.{text_bytes, value_bytes, handle_code, event_bytes, entry_bytes}
-use Rattle.px_event.specs.Reading.{Read, ◌>>=◌, only, byte_at, number_at, name_at, path_at, value_at, arguments_at, handle_of, handle_at, report_at, handle_event_at, return_at, event_behind, event_at, source_at, entry_at, decoded, Gives}
+use Rattle.px_event.specs.Reading.{Read, ◌>>=◌, only, is_count, is_line, byte_at, number_at, name_at, path_at, value_at, arguments_at, handle_of, handle_at, report_at, handle_event_at, return_at, event_behind, event_at, source_at, entry_at, decoded, Gives}
 use Rattle.px_event.specs.declared.fault.DecodeFault.{DecodeFault}
 use Rattle.px_event.specs.declared.fault.DecodeFault.TheVariants.{Bad}
 use Rattle.px_event.specs.declared.event.Event.{Event}
@@ -31,10 +31,13 @@ name_takes : (bytes name rest : List ℕ) → IsBytes bytes → name_at bytes �
 unfolding name_at
 name_takes bytes name rest fits e = let t = tested_takes is_report_name bytes name rest fits e in (t.0, t.1)
 
+pub name_below : (name : List ℕ) → is_report_name name ≡ true → length name ≤ 64
+name_below name fit = leb-true (length name) 64 (and_parts (is_identifier name) (nat_le (length name) 64) fit).1
+
 name_again : (name rest : List ℕ) → is_report_name name ≡ true → name_at (text_bytes name ++ rest) ≡ Some (name, rest)
 unfolding name_at
 name_again name rest fit =
-    let short : length name ≤ 64 = leb-true (length name) 64 (and_parts (is_identifier name) (nat_le (length name) 64) fit).1 in
+    let short = name_below name fit in
     tested_again is_report_name name rest (omega arith) (report_name_text name fit) fit
 
 path_takes : (bytes node rest : List ℕ) → IsBytes bytes → path_at bytes ≡ Some (node, rest) → Takes bytes (text_bytes node) rest × (is_path node ≡ true)
@@ -90,9 +93,6 @@ handle_again handle rest = after (handle_of (handle_code handle)) (handle_read r
 
 abbrev Happened : List ℕ → ℕ → Event × List ℕ → Type 0
 Happened bytes kind read = Takes (kind ∷ bytes) (event_bytes read.0) read.1 × (is_fit_event read.0 ≡ true)
-
-abbrev is_count : ℕ → Bool
-is_count n = nat_le n 8
 
 abbrev report_read : List ℕ → List Value → Value × List ℕ → Read Event
 report_read name args value = Some (events.Report name args value.0, value.1)
@@ -241,9 +241,6 @@ event_again (events.Acknowledged node) rest fit =
 
 -- ---- where an entry comes from
 
-abbrev is_line : ℕ → Bool
-is_line n = nat_le 1 n
-
 abbrev Source : Type 0
 Source = ℕ × ℕ
 
@@ -298,11 +295,8 @@ source_again source rest fit =
 
 -- ---- entries
 
-abbrev entry_of : Source → Event → Entry
-entry_of source event = record { thread = source.0; line = source.1; event = event }
-
 abbrev entry_read : Source → Event × List ℕ → Read Entry
-entry_read source event = Some (entry_of source event.0, event.1)
+entry_read source event = Some (entry_of source.0 source.1 event.0, event.1)
 
 abbrev event_then : Source × List ℕ → Read Entry
 event_then source = event_at source.1 >>= entry_read source.0
@@ -315,8 +309,8 @@ entry_takes bytes read fits e =
     let v = bind_some (event_at s.0.1) (entry_read s.0.0) read s.2 in
     let vt = event_takes s.0.1 v.0 st.0.rest_fits v.1 in
     let whole = Takes-then bytes (source_bytes s.0.0) s.0.1 (event_bytes v.0.0) v.0.1 st.0 vt.0 in
-    let fit : is_fit_entry (entry_of s.0.0 v.0.0) ≡ true = and_from (is_source s.0.0) (is_fit_event v.0.0) st.1 vt.1 in
-    subst (λ (p : Entry × List ℕ). Takes bytes (entry_bytes p.0) p.1 × (is_fit_entry p.0 ≡ true)) (same_Some (entry_of s.0.0 v.0.0, v.0.1) read v.2) (whole, fit)
+    let fit : is_fit_entry (entry_of s.0.0.0 s.0.0.1 v.0.0) ≡ true = and_from (is_source s.0.0) (is_fit_event v.0.0) st.1 vt.1 in
+    subst (λ (p : Entry × List ℕ). Takes bytes (entry_bytes p.0) p.1 × (is_fit_entry p.0 ≡ true)) (same_Some (entry_of s.0.0.0 s.0.0.1 v.0.0, v.0.1) read v.2) (whole, fit)
 
 entry_again : (entry : Entry) (rest : List ℕ) → is_fit_entry entry ≡ true → entry_at (entry_bytes entry ++ rest) ≡ Some (entry, rest)
 unfolding entry_at
@@ -359,7 +353,7 @@ event_short (events.Report name args value) fit =
     let last = and_parts (is_report_name name && is_count (length args) && list_all is_plain args) (is_plain_or_unknown value) fit in
     let third = and_parts (is_report_name name && is_count (length args)) (list_all is_plain args) last.0 in
     let first = and_parts (is_report_name name) (is_count (length args)) third.0 in
-    let short : length name ≤ 64 = leb-true (length name) 64 (and_parts (is_identifier name) (nat_le (length name) 64) first.0).1 in
+    let short = name_below name first.0 in
     let few : length args ≤ 8 = leb-true (length args) 8 first.1 in
     let told = value_short value last.1 in
     let each = arguments_short args third.1 in

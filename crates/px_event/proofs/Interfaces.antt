@@ -1,14 +1,13 @@
 -- An entry with the name of its interface that is read is the one that was spelled, and one that was spelled is read again.
 use Rattle.std.proofs.Common.{◌≡◌, ℕ, ◌≤◌, true, List, [], ◌∷◌, ◌++◌, length, Option, Some, None, refl, ap, subst, ◌∙◌, append_assoc, arith}
-use Rattle.std.specs.Prelude.{◌&&◌, nat_le, IsTrue, Result, IfOk, IsErrOf}
-use Rattle.std.proofs.lemmas.Bool.{and_parts, and_from, leb-true}
+use Rattle.std.specs.Prelude.{◌&&◌, IsTrue, Result, IfOk, IsErrOf}
+use Rattle.std.proofs.lemmas.Bool.{and_parts, and_from}
 use Rattle.std.proofs.lemmas.List.{length-append}
 use Rattle.std.proofs.lemmas.Option.{same_Some}
 use Rattle.std.proofs.lemmas.Str.{IsUtf8-nil, is_utf8-from_IsUtf8}
 use Rattle.std.proofs.Math.Dec.{eqb-suc-zero}
 use Rattle.byteorder.specs.Endian.{big_bytes}
-use Rattle.px_value.specs.Name.{is_identifier}
-use Rattle.px_event.specs.Fit.{is_report_name, is_interface, is_fit_event, is_fit_named}
+use Rattle.px_event.specs.Fit.{entry_of, is_report_name, is_interface, is_fit_event, is_fit_named}
 use Rattle.px_event.specs.Bytes.{text_bytes, event_bytes, interface_bytes, named_bytes}
 use Rattle.px_event.specs.Reading.{Read, ◌>>=◌, only, text_at, event_at, source_at, interface_at, interface_behind, named_at, decoded_named, Gives}
 use Rattle.px_event.specs.declared.event.Event.{Event}
@@ -17,7 +16,7 @@ use Rattle.px_event.specs.declared.fault.DecodeFault.TheVariants.{Bad}
 use Rattle.px_event.specs.declared.named.NamedEntry.{NamedEntry}
 use Rattle.px_event.proofs.Spelled.{report_name_text}
 use Rattle.px_event.proofs.Fields.{IsBytes, bind_some, after, only_some, only_passes, Takes, Takes-then, text_takes, text_again}
-use Rattle.px_event.proofs.Entries.{is_source, source_bytes, source_takes, source_again, event_takes, event_again, event_short}
+use Rattle.px_event.proofs.Entries.{name_below, is_source, source_bytes, source_takes, source_again, event_takes, event_again, event_short}
 use Rattle.px_event.proofs.Wholes.{all_takes, all_again, answers, answers_bad, one_spelled}
 
 abbrev Interface : Type 0
@@ -58,14 +57,14 @@ interface_again None rest fit = after (text_at (text_bytes [] ++ rest)) interfac
 interface_again (Some []) rest fit = absurd cc
 interface_again (Some (c ∷ cs)) rest fit =
     let name = c ∷ cs in
-    let short : length name ≤ 64 = leb-true (length name) 64 (and_parts (is_identifier name) (nat_le (length name) 64) fit).1 in
+    let short = name_below name fit in
     after (text_at (text_bytes name ++ rest)) interface_behind (name, rest) _ (text_again name rest (omega arith) (report_name_text name fit))
     (rw eqb-suc-zero (after (only is_report_name (name, rest)) name_read (name, rest) _ (only_passes is_report_name (name, rest) fit) refl))
 
 -- ---- entries with their names
 
 abbrev named_of : ℕ × ℕ → Interface → Event → NamedEntry
-named_of source name event = record { name = name; entry = record { thread = source.0; line = source.1; event = event } }
+named_of source name event = record { name = name; entry = entry_of source.0 source.1 event }
 
 abbrev named_read : ℕ × ℕ → Interface → Event × List ℕ → Read NamedEntry
 named_read source name event = Some (named_of source name event.0, event.1)
@@ -137,7 +136,7 @@ one_named = one_spelled decoded_named spelled is_fit_named named_decoded_again
 interface_short : (name : Interface) → is_interface name ≡ true → length (interface_bytes name) ≤ 66
 interface_short None fit = omega arith
 interface_short (Some name) fit =
-    let short : length name ≤ 64 = leb-true (length name) 64 (and_parts (is_identifier name) (nat_le (length name) 64) fit).1 in
+    let short = name_below name fit in
     omega (arith, length-append (big_bytes 2 (length name)) name)
 
 pub named_short : (named : NamedEntry) → is_fit_named named ≡ true → length (spelled named) ≤ 9382

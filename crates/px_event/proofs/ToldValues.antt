@@ -121,7 +121,7 @@ known_plain (values.Outcome outcome) fit known = fit
 known_plain (values.Failure failure) fit known = fit
 known_plain (values.Handle handle) fit known = fit
 
-plain_known : (value : Value) → is_plain value ≡ true → (is_plain_or_unknown value ≡ true) × (is_known value ≡ true)
+pub plain_known : (value : Value) → is_plain value ≡ true → (is_plain_or_unknown value ≡ true) × (is_known value ≡ true)
 plain_known values.Unknown plain = absurd cc
 plain_known (values.Boolean truth) plain = (plain, refl)
 plain_known (values.Integer number) plain = (plain, refl)

@@ -1,5 +1,5 @@
 -- Bytes read from the front: a field of a fit entry and the bytes behind it, or none where no such field stands there.
-use Rattle.std.specs.Prelude.{ℕ, zero, suc, ◌≡◌, ⊤, Bool, true, false, ◌&&◌, ◌==◌, nat_le, nat_lt, if◌then◌else◌, List, [], ◌∷◌, length, take, drop, Option, Some, None, Result, Ok, Err}
+use Rattle.std.specs.Prelude.{ℕ, zero, suc, ◌≡◌, ⊤, Bool, true, false, ◌==◌, nat_le, nat_lt, if◌then◌else◌, List, [], ◌∷◌, length, take, drop, Option, Some, None, Result, Ok, Err}
 use Rattle.std.specs.Int.{w32, cast_signed}
 use Rattle.std.specs.Str.{is_utf8}
 use Rattle.byteorder.specs.Endian.{big_number}
@@ -9,7 +9,7 @@ use Rattle.px_value.specs.declared.enums.Handle.{Handle}
 use Rattle.px_value.specs.declared.enums.Handle.TheVariants as handles
 use Rattle.px_value.specs.declared.value.Value.{Value}
 use Rattle.px_value.specs.declared.value.Value.TheVariants as values
-use Rattle.px_event.specs.Fit.{is_report_name}
+use Rattle.px_event.specs.Fit.{entry_of, is_report_name, is_thread}
 use Rattle.px_value.specs.Value.{is_known}
 use Rattle.px_event.specs.declared.event.Event.{Event}
 use Rattle.px_event.specs.declared.event.Event.TheVariants as events
@@ -107,11 +107,15 @@ handle_at bytes = do
   handle ← handle_of code.0
   Some (handle, code.1)
 
+-- how many arguments a report may have
+abbrev pub is_count : ℕ → Bool
+is_count n = nat_le n 8
+
 unfoldable pub report_at : List ℕ → Read Event
 report_at bytes = do
   name ← name_at bytes
   byte ← byte_at name.1
-  count ← only (λ n. nat_le n 8) byte
+  count ← only is_count byte
   args ← arguments_at count.0 count.1
   value ← value_at args.1
   Some (events.Report name.0 args.0 value.0, value.1)
@@ -147,13 +151,17 @@ event_at bytes = do
   kind ← byte_at bytes
   event_behind kind.0 kind.1
 
+-- lines are counted from 1
+abbrev pub is_line : ℕ → Bool
+is_line n = nat_le 1 n
+
 -- the thread and the line of an entry
 unfoldable pub source_at : List ℕ → Read (ℕ × ℕ)
 source_at bytes = do
   byte ← byte_at bytes
-  thread ← only (λ n. nat_le 1 n && nat_le n 8) byte
+  thread ← only is_thread byte
   number ← number_at 4 thread.1
-  line ← only (λ n. nat_le 1 n) number
+  line ← only is_line number
   Some ((thread.0, line.0), line.1)
 
 -- an entry, and then bytes that may be anything
@@ -161,7 +169,7 @@ unfoldable pub entry_at : List ℕ → Read Entry
 entry_at bytes = do
   source ← source_at bytes
   event ← event_at source.1
-  Some (record { thread = source.0.0; line = source.0.1; event = event.0 }, event.1)
+  Some (entry_of source.0.0 source.0.1 event.0, event.1)
 
 -- the name that a text is, or none where it is empty
 abbrev pub interface_behind : List ℕ × List ℕ → Read (Option (List ℕ))
@@ -181,10 +189,7 @@ named_at bytes = do
   source ← source_at bytes
   name ← interface_at source.1
   event ← event_at name.1
-  Some (
-    record { name = name.0; entry = record { thread = source.0.0; line = source.0.1; event = event.0 } },
-    event.1,
-  )
+  Some (record { name = name.0; entry = entry_of source.0.0 source.0.1 event.0 }, event.1)
 
 -- what was read, if it is read of all bytes
 abbrev pub whole : {X : Type 0} → Read X → Option X

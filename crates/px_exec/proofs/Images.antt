@@ -1,8 +1,7 @@
 -- What each image since some moment stands for, from one post to the next.
-use Rattle.std.proofs.Common.{◌≡◌, inl, ⊎_elim, ℕ, List, [], ◌∷◌, ◌++◌, Option, Some, None, IsSome, length, refl, sym, ◌∙◌, ap, subst, append_assoc, append-nil}
+use Rattle.std.proofs.Common.{◌≡◌, inl, ⊎_elim, ℕ, List, [], ◌∷◌, ◌++◌, Some, length, refl, sym, ◌∙◌, ap, subst, append_assoc, append-nil}
 use Rattle.std.proofs.Math.Seq.{take-length}
 use Rattle.std.proofs.lemmas.List.{take_all}
-use Rattle.px_value.proofs.General.{begins_further}
 use Rattle.px_event.specs.declared.entry.Entry.{Entry}
 use Rattle.px_event.specs.declared.named.NamedEntry.{NamedEntry}
 use Rattle.px_journal.specs.Crash.{WithOrWithout, WithOrWithoutAs, LeavesOnly}
@@ -10,17 +9,13 @@ use Rattle.px_journal.specs.Journal.{IsReady, IsReadyAs, IsSynced, with_name}
 use Rattle.px_journal.specs.Layout.{Stands, StandsAs}
 use Rattle.px_journal.specs.declared.journal.Journal.{Journal}
 use Rattle.px_journal.proofs.Going.{goes_none, goes_told}
-use Rattle.px_journal.proofs.Moments.{left_before_or_after}
+use Rattle.px_journal.proofs.Moments.{leaves_more, leaves_on}
 use Rattle.px_journal.proofs.Ready.{ready_stands, ready_synced}
 use Rattle.px_ports.specs.Moment.{Images, LeftSince}
 use Rattle.px_ports.specs.declared.disk.Disk
 use Rattle.px_ports.specs.declared.moment.Moment.{Moment}
 use Rattle.px_exec.specs.Crash.{AddsAtMost}
 use Rattle.px_exec.specs.Executive.{StandsWithin}
-
-pub told_of : {T : Type 0} (o : Option T) → IsSome o → (told : T) × (o ≡ Some told)
-told_of None some = absurd (cc)
-told_of (Some told) some = (told, refl)
 
 -- where no moment passes, an image since then is one now
 pub left_now : (images : Images) (moments : List Moment) (image : List ℕ) → LeftSince images moments (length moments) image → images moments image
@@ -115,10 +110,9 @@ within_at_once text history bytes stands = record {
 pub within_more : (images : Images) (text : List ℕ) (first history since : List Entry) (entry : Entry) (old mid new : List Moment) → history ≡ first ++ since
     → LeavesOnly images (StandsWithin text first history) old mid → LeavesOnly images (WithOrWithout text history entry) mid new
     → LeavesOnly images (StandsWithin text first (history ++ entry ∷ [])) old new
-within_more images text first history since entry old mid new grown before after = record {
-  grows = begins_further old mid new before.grows after.grows;
-  each = λ image left. ⊎_elim
-      (λ early. within_longer text first history entry image (before.each image early))
-      (λ late. either_within text first history since entry image grown (after.each image late))
-      (left_before_or_after images mid new (length old) image after.grows left);
-}
+within_more images text first history since entry old mid new grown before after =
+    leaves_on images (StandsWithin text first (history ++ entry ∷ [])) old mid new
+    (leaves_more images (StandsWithin text first history) (StandsWithin text first (history ++ entry ∷ [])) old mid
+    (within_longer text first history entry) before)
+    (leaves_more images (WithOrWithout text history entry) (StandsWithin text first (history ++ entry ∷ [])) mid new
+    (λ image. either_within text first history since entry image grown) after)

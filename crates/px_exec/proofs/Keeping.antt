@@ -1,7 +1,7 @@
 -- What an executive keeps, at its opening and after each answer of a post.
 use Rattle.std.proofs.Common.{◌≡◌, ◌≤◌, ◌<◌, ◌+◌, ◌^◌, ℕ, List, [], ◌∷◌, ◌++◌, Option, Some, None, length, refl, sym, ◌∙◌, ap, subst, arith, append_assoc, append-nil, IsTrue, IsFalse}
 use Rattle.std.proofs.lemmas.List.{length-map, map-append}
-use Rattle.px_value.proofs.General.{is_some_at, none_or_some}
+use Rattle.px_value.proofs.General.{is_some_at, none_or_some, told_of}
 use Rattle.px_core.specs.Plan.{Site}
 use Rattle.px_event.specs.Fit.{is_fit_entry}
 use Rattle.px_event.specs.declared.entry.Entry.{Entry}
@@ -21,9 +21,8 @@ use Rattle.px_exec.specs.declared.closing.Failed.{Failed}
 use Rattle.px_exec.specs.Answers.{answer_now, logged}
 use Rattle.px_exec.specs.Crash.{AddsAtMost}
 use Rattle.px_exec.specs.Executive.{Opening, Executive, Keeps, KeepsDisk, IsOpen, KeepsNaming, KeepsSinceOpening, TellsBytes, failed_entries, plan_of, world_of}
-use Rattle.px_sem.proofs.Logs.{accepted_by, accepted_more, answers_more}
+use Rattle.px_sem.proofs.Logs.{accepted_by, accepted-append, answers_more}
 use Rattle.px_exec.proofs.Growing.{run_after}
-pub use Rattle.px_exec.proofs.Images.{told_of}
 use Rattle.px_exec.proofs.Images.{ready_leaves, within_at_once, within_more}
 use Rattle.px_exec.proofs.Naming.{with_parts, naming_at_once, naming_more, naming_still}
 
@@ -89,7 +88,7 @@ module _ {S D : Type 0} (runs : Stepper.Ghosts S) (members : Disk.Ghosts D) wher
   replied_naming old stepper journal entry history log reply keeps unfailed logs named still adds = by reply refl
     where
       now : accepted log ++ [] ≡ accepted old.log ++ accepted (logged entry reply ∷ [])
-      now = append-nil (accepted log) ∙ ap accepted logs ∙ accepted_more old.log (logged entry reply)
+      now = append-nil (accepted log) ∙ ap accepted logs ∙ accepted-append old.log (logged entry reply ∷ [])
 
       refused : IsFalse (is_accepted reply) → accepted (logged entry reply ∷ []) ≡ [] → KeepsNaming members (with_parts old stepper journal history log None)
       refused is none = naming_still members old stepper history log None keeps.naming unfailed journal (still is)
@@ -132,7 +131,7 @@ module _ {S D : Type 0} (runs : Stepper.Ghosts S) (members : Disk.Ghosts D) wher
     };
     grown = grows ∙ ap (λ h. h ++ accepted (logged entry reply ∷ [])) keeps.grown
         ∙ append_assoc old.opening.history (accepted old.log) (accepted (logged entry reply ∷ []))
-        ∙ ap (λ h. old.opening.history ++ h) (sym (accepted_more old.log (logged entry reply)) ∙ ap accepted (sym logs));
+        ∙ ap (λ h. old.opening.history ++ h) (sym (accepted-append old.log (logged entry reply ∷ [])) ∙ ap accepted (sym logs));
     few = few;
     settled = moved ∙ ap (settled_state plan) (sym world_is);
     runs_to = ap (λ h. run plan (events_of h)) grows ∙ run_after plan old.opening.limit old.history (world_of runs old) entry reply keeps.runs_to due ∙ ap Some (sym world_is);

@@ -1,7 +1,7 @@
 -- The names that entries have in the images since the opening, from one post to the next.
 use Rattle.std.proofs.Common.{◌≡◌, ⊎_elim, ℕ, List, [], ◌∷◌, ◌++◌, Option, None, sym, ◌∙◌, ap, subst, append_assoc, append-nil, map}
 use Rattle.std.proofs.lemmas.List.{map-append}
-use Rattle.px_value.proofs.General.{begins_further}
+use Rattle.px_value.proofs.General.{told_of}
 use Rattle.px_event.specs.declared.entry.Entry.{Entry}
 use Rattle.px_event.specs.declared.named.NamedEntry.{NamedEntry}
 use Rattle.px_event.specs.declared.names.ThreadName.{ThreadName}
@@ -10,7 +10,7 @@ use Rattle.px_journal.specs.Journal.{IsReadyAs, name_given, with_name}
 use Rattle.px_journal.specs.Layout.{StandsAs}
 use Rattle.px_journal.specs.declared.journal.Journal.{Journal}
 use Rattle.px_journal.specs.declared.version.Version.{Version}
-use Rattle.px_journal.proofs.Moments.{left_before_or_after}
+use Rattle.px_journal.proofs.Moments.{leaves_more, leaves_on}
 use Rattle.px_ports.specs.Moment.{Images}
 use Rattle.px_ports.specs.declared.disk.Disk
 use Rattle.px_ports.specs.declared.moment.Moment.{Moment}
@@ -18,7 +18,7 @@ use Rattle.px_sem.specs.Log.{Log, accepted}
 use Rattle.px_exec.specs.declared.closing.Failed.{Failed}
 use Rattle.px_exec.specs.Crash.{AddsAtMost}
 use Rattle.px_exec.specs.Executive.{Executive, KeepsNaming, StandsNamed, TellsBytes, failed_entries, moments_then, named_since}
-use Rattle.px_exec.proofs.Images.{told_of, ready_leaves_as}
+use Rattle.px_exec.proofs.Images.{ready_leaves_as}
 
 -- the executive with other parts, of the same opening
 abbrev pub with_parts : {S D : Type 0} → Executive S D → S → Journal D → List Entry → Log → Option Failed → Executive S D
@@ -47,13 +47,11 @@ module _ (images : Images) (version : Version) (text : List ℕ) (found since : 
   named_more : (old mid new : List Moment) → LeavesOnly images (StandsNamed version text found since) old mid
       → LeavesOnly images (WithOrWithoutAs version text (found ++ since) next) mid new
       → LeavesOnly images (StandsNamed version text found (since ++ next ∷ [])) old new
-  named_more old mid new before after = record {
-    grows = begins_further old mid new before.grows after.grows;
-    each = λ image left. ⊎_elim
-        (λ early. longer version text found since next image (before.each image early))
-        (λ late. either image (after.each image late))
-        (left_before_or_after images mid new _ image after.grows left);
-  }
+  named_more old mid new before after =
+      leaves_on images (StandsNamed version text found (since ++ next ∷ [])) old mid new
+      (leaves_more images (StandsNamed version text found since) (StandsNamed version text found (since ++ next ∷ [])) old mid
+      (longer version text found since next) before)
+      (leaves_more images (WithOrWithoutAs version text (found ++ since) next) (StandsNamed version text found (since ++ next ∷ [])) mid new either after)
 
 module _ {S D : Type 0} (members : Disk.Ghosts D) where
   -- ---- before the first post

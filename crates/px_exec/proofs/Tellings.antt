@@ -2,7 +2,7 @@
 use Rattle.std.proofs.Common.{◌≡◌, ◌<◌, ◌+◌, ◌^◌, ℕ, List, [], ◌∷◌, ◌++◌, Option, Some, None, IsTrue, IsFalse, length, refl, sym, ◌∙◌, ap, subst, arith, length-append}
 use Rattle.std.specs.Prelude.{Err}
 use Rattle.std.specs.Option.{option_map}
-use Rattle.px_value.proofs.General.{option_map_some}
+use Rattle.px_value.proofs.General.{option_map_none, option_map_some}
 use Rattle.px_event.specs.Fit.{is_fit_entry}
 use Rattle.px_event.specs.declared.entry.Entry.{Entry}
 use Rattle.px_event.specs.declared.named.NamedEntry.{NamedEntry}
@@ -26,8 +26,7 @@ use Rattle.px_exec.proofs.Keeping.{open_of, keeps_replied, keeps_failed}
 
 -- which append had failed, by its count of faults
 pub unfailed_of : (failed : Option Failed) (count : Option ℕ) → count ≡ option_map (λ f. f.faults) failed → count ≡ None → failed ≡ None
-unfailed_of None count is none = refl
-unfailed_of (Some failed) count is none = absurd (cc)
+unfailed_of failed count is none = option_map_none (λ (f : Failed). f.faults) failed (sym is ∙ none)
 
 pub failed_of : (failed : Option Failed) (count : Option ℕ) (n : ℕ) → count ≡ option_map (λ f. f.faults) failed → count ≡ Some n
     → (entry : Entry) × (failed ≡ Some (record { entry = entry; faults = n }))

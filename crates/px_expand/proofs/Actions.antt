@@ -36,6 +36,17 @@ at_next F actions place action within is = ap (F (place + 1)) (left_at actions p
 
 -- ---- paths
 
+-- how far an action reaches, and those behind it
+pub reach_at : (actions : List Action) (place : ℕ) (action : Action) (number : ℕ)
+    → place < length actions → action ≡ get_or actions place action
+    → actions_reach number (in_turn (drop place actions))
+    ≡ max (through (name_of number (action_of action)) (body_reach (body_of (out-Action action).body)))
+    (actions_reach (suc number) (in_turn (drop (place + 1) actions)))
+reach_at actions place action number within is =
+    ap (actions_reach number) (left_at actions place action within is)
+    ∙ ap (λ tree. max (through (name_of number (action_of action)) (action_reach tree)) (actions_reach (suc number) (in_turn (drop (place + 1) actions))))
+    (action_is action)
+
 -- the paths of an action and of those behind it are short
 pub record Room (path : List ℕ) (actions : List Action) (place : ℕ) (action : Action) : Type 0 where
   pub name : length path + length (name_of (place + 1) (action_of action)) < 5000
@@ -52,8 +63,7 @@ room path actions place action within is short =
     let rest : Actions = in_turn (drop (place + 1) actions) in
     let reach : actions_reach (place + 1) (in_turn (drop place actions))
     ≡ max (1 + length name + body) (actions_reach (place + 1 + 1) rest) =
-    at_next actions_reach actions place action within is
-    ∙ ap (λ tree. max (1 + length name + action_reach tree) (actions_reach (suc (place + 1)) rest)) (action_is action)
+    reach_at actions place action (place + 1) within is
     ∙ ap (λ n. max (1 + length name + body) (actions_reach n rest)) (sym (add-one (place + 1))) in
     record {
       name = omega (arith, reach, short);
@@ -69,12 +79,21 @@ fewer_behind zero (first ∷ rest) = omega arith
 fewer_behind (suc place) [] = omega arith
 fewer_behind (suc place) (first ∷ rest) = omega (arith, fewer_behind place rest)
 
+-- an action has its nodes, and those behind it have theirs
+pub action_counted : (actions : List Action) (place : ℕ) (action : Action)
+    → place < length actions → action ≡ get_or actions place action
+    → actions_nodes (in_turn (drop place actions))
+    ≡ body_nodes (body_of (out-Action action).body) + actions_nodes (in_turn (drop (place + 1) actions))
+action_counted actions place action within is =
+    ap actions_nodes (left_at actions place action within is)
+    ∙ ap (λ tree. action_nodes tree + actions_nodes (in_turn (drop (place + 1) actions))) (action_is action)
+
 -- an action has no more nodes than all
 pub fewer_left : (actions : List Action) (place : ℕ) (action : Action)
     → place < length actions → action ≡ get_or actions place action
     → body_nodes (body_of (out-Action action).body) ≤ actions_nodes (in_turn actions)
 fewer_left actions place action within is =
-    omega (arith, ap actions_nodes (left_at actions place action within is), ap action_nodes (action_is action), fewer_behind place actions)
+    omega (arith, action_counted actions place action within is, fewer_behind place actions)
 
 -- ---- what is seen of them
 

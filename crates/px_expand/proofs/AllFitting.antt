@@ -28,7 +28,7 @@ use Rattle.px_expand.specs.Core.{Otherwise, branch_name, follows, children_seen,
 use Rattle.px_forms.specs.Forms.{done, test_of, not_found, set, step as forms_step, counter, conditional, repeated, counted, where_found, where_not_found, loop_path}
 use Rattle.px_core.specs.Defaults.{default_priority}
 use Rattle.px_expand.specs.Kinds.{shape_of}
-use Rattle.px_expand.specs.Labels.{block_labels, actions_labels, body_labels, guarded_labels, else_if_labels, else_labels, branch_labels, has_identifiers}
+use Rattle.px_expand.specs.Labels.{are_identifiers, block_labels, actions_labels, body_labels, guarded_labels, else_if_labels, else_labels, branch_labels, has_identifiers}
 use Rattle.px_forms.specs.Names.{root_name, action_name, test_name, then_name, body_name, else_name, step_name, loop_name}
 use Rattle.px_expand.specs.Names.{named}
 use Rattle.px_forms.specs.Nodes.{Place, child, alone, before}
@@ -40,7 +40,6 @@ use Rattle.px_expand.proofs.Declaring.{each_item_none}
 use Rattle.px_expand.proofs.Fitting.{at, LabelIs, label_is, AllFit, node_is, node_fits, nothing_said, nothing_added, assignment_fits, not_found_speaks, before_fits, KeepsTest, where_found_speaks, where_not_found_speaks, tested_keeps, tested_fits, entered_seen, MayBe, follows_speaks}
 use Rattle.px_expand.proofs.Frames.{LabelNamed, NamedHeads, view, block_command}
 use Rattle.px_expand.proofs.Mentions.{scalar_is, judged_there}
-use Rattle.px_expand.proofs.Naming.{are_identifiers}
 use Rattle.px_expand.proofs.Seen.{HasHead, HasVariable, IsSeen, seen_further}
 use Rattle.px_expand.proofs.Sound.{both_labels, own_labels, block_named, body_named, branch_named, if_named}
 use Rattle.px_expand.proofs.Speaking.{both_speak, done_speaks, finished_speaks, are_nodes, none_speaks, GivenSpeaks, AddedSpeaks}

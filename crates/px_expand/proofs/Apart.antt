@@ -7,7 +7,7 @@ use Rattle.std.proofs.lemmas.Slice.Eq.{bytes_eq-Decides}
 use Rattle.px_value.proofs.General.{neither}
 use Rattle.px_syntax.specs.declared.expr.Identifier.{Identifier}
 use Rattle.px_syntax.specs.declared.fault.FaultKind.TheVariants.{Redeclared}
-use Rattle.px_syntax.specs.BlockFaults.{repeated, redeclared}
+use Rattle.px_syntax.specs.BlockFaults.{repeated, redeclared, spots}
 use Rattle.px_syntax.specs.Fault.{fault_where}
 use Rattle.px_core.specs.Fit.{all_differ}
 use Rattle.px_core.specs.Plan.{is_same}
@@ -23,7 +23,7 @@ record IsApart (before : List (List ℕ)) (identifiers : List Identifier) : Type
   pub other : (name : List ℕ) → list_any (is_same name) before ≡ true → list_any (is_same name) (names identifiers) ≡ false
 
 apart : (before : List (List ℕ)) (identifiers : List Identifier)
-    → repeated bytes_eq Redeclared before (map (λ identifier. (identifier.name, identifier.token)) identifiers) ≡ []
+    → repeated bytes_eq Redeclared before (spots identifiers) ≡ []
     → IsApart before identifiers
 apart before [] none = record { differ = refl; other = λ name is. refl }
 apart before (first ∷ rest) none =

@@ -28,6 +28,7 @@ use Rattle.px_forms.specs.Nodes.{Place, child, alone}
 use Rattle.px_expand.specs.Children.{paths_of}
 use Rattle.px_scope.specs.Scope.{Scope}
 use Rattle.px_expand.specs.Size.{shaped_nodes, block_nodes, actions_nodes, action_nodes, body_nodes, guarded_nodes, else_if_nodes, else_nodes, branch_nodes}
+use Rattle.px_expand.proofs.Faultless.{fault_some}
 
 -- ---- the cells of a tree of nodes
 
@@ -62,16 +63,13 @@ few_cells : (before : ℕ) (cells : List Cells) → passing_fault before cells �
 few_cells before [] none few = omega arith
 few_cells before (first ∷ rest) none few =
     elim (cases_Bool (nat_lt 65536 (before + first.count))) [
-      | inl past ↦ absurd (some (ap (λ (test : Bool). cond test (fault_at TooLarge first.token) (passing_fault (before + first.count) rest)) (sym past) ∙ none))
+      | inl past ↦ absurd (fault_some TooLarge first.token (ap (λ (test : Bool). cond test (fault_at TooLarge first.token) (passing_fault (before + first.count) rest)) (sym past) ∙ none))
       | inr within ↦
           let more = few_cells (before + first.count) rest
           (ap (λ (test : Bool). cond test (fault_at TooLarge first.token) (passing_fault (before + first.count) rest)) (sym within) ∙ none)
           (ltb-false 65536 (before + first.count) within) in
           omega (arith, more, sum_by-cons count first rest)
     ]
-  where
-    some : fault_at TooLarge first.token ≡ [] → ⊥
-    some impossible = cc
 
 listed_cells : (of_type : TypeName) (variables : List text.VariableData)
     → cells_in_variables (map (variable_of of_type) variables) ≡ total (item_cells (Variables of_type variables))

@@ -5,6 +5,7 @@ use Rattle.std.specs.List.{list_all, flat_map}
 use Rattle.std.proofs.lemmas.Bool.{and_from, or_parts, ltb-false, le-leb}
 use Rattle.std.proofs.lemmas.List.{length-map, map-append}
 use Rattle.std.proofs.lemmas.List.Folds.{list_all-append}
+use Rattle.std.proofs.lemmas.Simd.{map-map}
 use Rattle.px_value.proofs.General.{neither}
 use Rattle.px_syntax.specs.declared.block.ListedLiteral.{ListedLiteral}
 use Rattle.px_syntax.specs.declared.expr.Identifier.{Identifier}
@@ -142,8 +143,9 @@ names_of_variables = map (λ variable. variable.name)
 
 named_as_text : (of_type : TypeName) (variables : List text.VariableData)
     → names_of_variables (map (variable_of of_type) variables) ≡ names (map (λ variable. variable.name) variables)
-named_as_text of_type [] = refl
-named_as_text of_type (first ∷ rest) = ap (λ others. first.name.name ∷ others) (named_as_text of_type rest)
+named_as_text of_type variables =
+    map-map (λ (variable : VariableData). variable.name) (variable_of of_type) variables
+    ∙ sym (map-map (λ (identifier : Identifier). identifier.name) (λ (variable : text.VariableData). variable.name) variables)
 
 item_names : (item : ItemData) → names_of_variables (variables_in item) ≡ names (identifiers_in item)
 item_names (Variables of_type variables) = named_as_text of_type variables

@@ -4,7 +4,7 @@ use Rattle.std.specs.List.{fold, flat_map}
 use Rattle.px_value.proofs.General.{neither}
 use Rattle.px_syntax.specs.declared.fault.FaultKind.{FaultKind}
 use Rattle.px_syntax.specs.BlockFaults.{block_faults}
-use Rattle.px_syntax.specs.Fault.{Fault, fault_where, is_before, placed, in_order}
+use Rattle.px_syntax.specs.Fault.{Fault, fault_at, fault_where, is_before, placed, in_order}
 use Rattle.px_syntax.specs.Plan.{PlanTree}
 use Rattle.px_syntax.specs.PlanFaults.{faults, global_faults, block_cells, passing_fault, outermost}
 use Rattle.px_syntax.specs.Scope.{commands_in, lookups_in}
@@ -13,6 +13,9 @@ use Rattle.px_syntax.specs.Tolerances.{block_tolerances, passing_tolerance}
 pub where_none : (holds : Bool) (kind : FaultKind) (token : ℕ) → fault_where holds kind token ≡ [] → holds ≡ false
 where_none true kind token none = cc
 where_none false kind token none = refl
+
+pub fault_some : (kind : FaultKind) (token : ℕ) → fault_at kind token ≡ [] → ⊥
+fault_some kind token none = cc
 
 -- ---- faults in their order
 

@@ -2,7 +2,7 @@
 use Rattle.std.proofs.Common.{◌≡◌, ℕ, Bool, true, false, cond, List, [], ◌∷◌, ◌++◌, map, Option, Some, None, refl, sym, ap, ◌∙◌, subst}
 use Rattle.std.specs.Prelude.{◌&&◌}
 use Rattle.std.specs.List.{list_any, list_all, find}
-use Rattle.std.specs.Option.{option_to_list}
+use Rattle.std.specs.Option.{IfSome, option_to_list}
 use Rattle.std.proofs.Math.Bool.{or-false}
 use Rattle.std.proofs.lemmas.Bool.{and_from, and_parts, or_left, or_right}
 use Rattle.std.proofs.lemmas.List.{append-nil}
@@ -33,11 +33,12 @@ use Rattle.px_forms.specs.Names.{test_name, set_name}
 use Rattle.px_expand.specs.Names.{named}
 use Rattle.px_forms.specs.Nodes.{Place, Node, before, alone, node_at}
 use Rattle.px_expand.specs.Children.{seen as seen_at}
+use Rattle.px_expand.specs.Labels.{are_identifiers}
 use Rattle.px_scope.specs.Scope.{Scope, table, each_once}
+use Rattle.px_expand.proofs.Actions.{standing}
 use Rattle.px_expand.proofs.Declaring.{names_of_variables}
 use Rattle.px_expand.proofs.Frames.{LabelNamed, NamedHeads, heads_agree}
 use Rattle.px_expand.proofs.Mentions.{scalar_is}
-use Rattle.px_expand.proofs.Naming.{are_identifiers}
 use Rattle.px_expand.proofs.Seen.{SameShown, HasHead, HasVariable, AgreesOn, IsSeen, seen_inside}
 use Rattle.px_expand.proofs.Speaking.{speaks, both_speak, are_nodes, done_speaks, finished_speaks, GivenSpeaks, none_speaks, AddedSpeaks, BodySpeaks, node_speaks}
 use Rattle.px_expand.proofs.Tables.{child_found, variable_found}
@@ -45,7 +46,7 @@ use Rattle.px_expand.proofs.Within.{IsWithin, own_within, children_within}
 
 -- a node's place below those above
 abbrev pub at : List (List ℕ) → List ℕ → Added → Place
-at above name added = record { path = path_under above name; name = name; added = added }
+at above name added = standing (path_under above name) name added
 
 -- a node has its label for a name, which is an identifier, or a name that is none
 abbrev pub LabelIs : Option Identifier → List ℕ → Type 0
@@ -219,8 +220,7 @@ module _ (whole : List Site) where
   -- ---- what the form of a block adds
 
   abbrev pub MayBe : Option (List ℕ) → Type 0
-  MayBe None = Unit {0}
-  MayBe (Some path) = has_site (λ site. true) path whole ≡ true
+  MayBe behind = IfSome behind (λ path. has_site (λ site. true) path whole ≡ true)
 
   after_speaks : (behind : Option (List ℕ)) → MayBe behind → AddedSpeaks (is_there whole) (after behind)
   after_speaks None is = nothing_added

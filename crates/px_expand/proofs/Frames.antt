@@ -19,9 +19,10 @@ use Rattle.px_core.specs.Plan.{Site, Tree, is_same, sites_under}
 use Rattle.px_expand.specs.Core.{name_of, follows, shaped, block_scope, block_core, actions_core, body_core}
 use Rattle.px_scope.specs.Actions.{kind_of}
 use Rattle.px_expand.specs.Kinds.{Shape, Rest, OneAction, Children, shape_of}
+use Rattle.px_expand.specs.Labels.{are_identifiers}
 use Rattle.px_forms.specs.Nodes.{Place, child}
 use Rattle.px_scope.specs.Scope.{Scope}
-use Rattle.px_expand.proofs.Naming.{are_identifiers, hash_differs, names_from}
+use Rattle.px_expand.proofs.Naming.{hash_differs, names_from}
 use Rattle.px_expand.proofs.Seen.{HasHead, AgreesOn}
 use Rattle.px_expand.proofs.Sound.{body_named}
 use Rattle.px_expand.proofs.Within.{IsWithin, own_within, others_within}

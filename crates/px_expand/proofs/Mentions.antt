@@ -1,9 +1,9 @@
 -- What expressions, targets and items of a tree without faults speak of is there in its core plan.
-use Rattle.std.proofs.Common.{◌≡◌, ℕ, Bool, true, false, not, List, [], ◌∷◌, ◌++◌, map, Option, Some, None, refl, ◌∙◌, subst, length}
+use Rattle.std.proofs.Common.{◌≡◌, ℕ, Bool, true, false, not, List, [], ◌∷◌, ◌++◌, map, Option, Some, None, refl, ap, ◌∙◌, subst, length}
 use Rattle.std.specs.Prelude.{if◌then◌else◌}
 use Rattle.std.specs.List.{list_any, list_all, flat_map}
 use denote.Enum.Bare.{sameb}
-use Rattle.std.proofs.lemmas.Bool.{and_from, and_parts, not-false, cond_both}
+use Rattle.std.proofs.lemmas.Bool.{and_from, not-false, cond_both}
 use Rattle.std.proofs.lemmas.List.Folds.{list_all-append}
 use Rattle.px_value.proofs.General.{neither}
 use Rattle.px_syntax.specs.contracts.word.Condition.{the_type as condition_type}
@@ -21,7 +21,6 @@ use Rattle.px_syntax.specs.Block.{ItemData, Variables, Conditions, Priority, Tar
 use Rattle.px_syntax.specs.BlockFaults.{target_faults, target_types, assign_faults, call_faults, call_into_faults, update_faults, result_fault, item_faults}
 use Rattle.px_syntax.specs.Expr as expr
 use Rattle.px_syntax.specs.ExprFaults.{name_faults, is_misused, attribute_faults, over_eight, count_faults, look_faults, count_terms, parameters_of, expr_faults, argument_faults, type_fault, alike_fault, faults_as}
-use Rattle.px_syntax.specs.Fault.{fault_at}
 use Rattle.px_syntax.specs.Scope as seen
 use Rattle.px_syntax.specs.Scope.{Visible, Head, variable_named, declared, reference_token}
 use Rattle.px_syntax.specs.ValueType.{told_types, allowed_as, binary_signature, binary_function_signature, unary_signature, unary_function_signature}
@@ -32,11 +31,11 @@ use Rattle.px_core.specs.Plan.{BodyData, Site, is_same}
 use Rattle.px_scope.specs.Items.{given_for}
 use Rattle.px_expand.specs.Items.{given_by}
 use Rattle.px_scope.specs.Actions.{body_of, target_of, pair_of}
-use Rattle.px_scope.specs.Resolving.{resolved, resolved_each, attribute_term}
+use Rattle.px_scope.specs.Resolving.{resolved, resolved_each, attribute_term, binary_op, binary_function_op}
 use Rattle.px_scope.specs.Scope.{Scope, owner_of, path_meant}
-use Rattle.px_expand.proofs.Faultless.{where_none}
+use Rattle.px_expand.proofs.Faultless.{fault_some, where_none}
 use Rattle.px_expand.proofs.Seen.{HasHead, HasVariable, IsSeen, meant_there, owner_there}
-use Rattle.px_expand.proofs.Speaking.{speaks, MaySpeak, GivenSpeaks, BodySpeaks}
+use Rattle.px_expand.proofs.Speaking.{speaks, both_speak, each_speaks, MaySpeak, GivenSpeaks, BodySpeaks}
 use Rattle.px_expand.proofs.Within.{site_weaker}
 
 not_misused : (is_array has_index : Bool) → (if is_array then not has_index else has_index) ≡ false → is_array ≡ has_index
@@ -53,10 +52,7 @@ record NameMeans (outer : seen.Scope) (name : Identifier) (has_index : Bool) : T
 
 name_means : (misuse : FaultKind) (outer : seen.Scope) (name : Identifier) (has_index : Bool) (found : Option Visible)
     → variable_named outer name.name ≡ found → name_faults misuse outer name has_index ≡ [] → NameMeans outer name has_index
-name_means misuse outer name has_index None is none = absurd (some (rw is at none))
-  where
-    some : fault_at Undeclared name.token ≡ [] → ⊥
-    some impossible = cc
+name_means misuse outer name has_index None is none = absurd (fault_some Undeclared name.token (rw is at none))
 name_means misuse outer name has_index (Some variable) is none = record {
   variable = variable;
   is = is;
@@ -68,16 +64,18 @@ name_means misuse outer name has_index (Some variable) is none = record {
 node_meant : (outer : seen.Scope) (node : NodeReference) (attribute : AttributeWord) (found : Option Head)
     → seen.meant outer node ≡ found → attribute_faults outer node attribute ≡ []
     → (head : Head) × (seen.meant outer node ≡ Some head)
-node_meant outer node attribute None is none = absurd (some (rw is at none))
-  where
-    some : fault_at NoSuchNode (reference_token node) ≡ [] → ⊥
-    some impossible = cc
+node_meant outer node attribute None is none = absurd (fault_some NoSuchNode (reference_token node) (rw is at none))
 node_meant outer node attribute (Some head) is none = (head, is)
 
 command_meant : (outer : seen.Scope) (node : NodeReference) (head : Head) → seen.meant outer node ≡ Some head
     → attribute_faults outer node attributes.CommandHandle ≡ [] → head.is_command ≡ true
 command_meant outer node head is none =
     not-false head.is_command (where_none (not head.is_command) NoSuchNode (reference_token node) (rw is at none))
+
+-- what terms in turn speak of is what each of them does
+each_reference : (terms : List Term) → references_of_each (in_turn terms) ≡ flat_map references terms
+each_reference [] = refl
+each_reference (term ∷ terms) = ap (λ rest. references term ++ rest) (each_reference terms)
 
 module _ (whole : List Site) where
   pub variable_is : (owner name : List ℕ) (as_array : Bool) → HasVariable whole owner name as_array
@@ -93,11 +91,7 @@ module _ (whole : List Site) where
 
   in_turn_speak : (terms : List Term) → list_all (speaks (is_there whole)) terms ≡ true
       → list_all (is_there whole) (references_of_each (in_turn terms)) ≡ true
-  in_turn_speak [] all = refl
-  in_turn_speak (term ∷ terms) all =
-      let parts = and_parts (speaks (is_there whole) term) (list_all (speaks (is_there whole)) terms) all in
-      list_all-append (is_there whole) (references term) (references_of_each (in_turn terms))
-      ∙ and_from _ _ parts.0 (in_turn_speak terms parts.1)
+  in_turn_speak terms all = ap (list_all (is_there whole)) (each_reference terms) ∙ each_speaks (is_there whole) terms all
 
   module _ (above : List (List ℕ)) (outer : seen.Scope) (scope : Scope) (all : IsSeen whole above outer scope) where
     -- ---- expressions
@@ -152,8 +146,8 @@ module _ (whole : List Site) where
           let one = expr_faults outer first in let two = type_fault takes outer first in
           let third = neither (one ++ two ++ expr_faults outer second) (type_fault takes outer second) none in
           let parts = neither (one ++ two) (expr_faults outer second) third.0 in
-          list_all-append (is_there whole) (references (resolved scope first)) (references (resolved scope second))
-          ∙ and_from _ _ (term_there first (neither one two parts.0).0) (term_there second parts.1)
+          both_speak (is_there whole) (binary_function_op function) (resolved scope first) (resolved scope second)
+          (term_there first (neither one two parts.0).0) (term_there second parts.1)
       term_there (expr.Unary operator token operand) none =
           term_there operand (neither (expr_faults outer operand) (type_fault (unary_signature operator).takes outer operand) none).0
       term_there (expr.Binary operator left right) none =
@@ -163,8 +157,8 @@ module _ (whole : List Site) where
           (alike_fault (binary_signature operator) outer left right) none in
           let third = neither (one ++ two ++ expr_faults outer right) (type_fault takes outer right) fourth.0 in
           let parts = neither (one ++ two) (expr_faults outer right) third.0 in
-          list_all-append (is_there whole) (references (resolved scope left)) (references (resolved scope right))
-          ∙ and_from _ _ (term_there left (neither one two parts.0).0) (term_there right parts.1)
+          both_speak (is_there whole) (binary_op operator) (resolved scope left) (resolved scope right)
+          (term_there left (neither one two parts.0).0) (term_there right parts.1)
 
       pub terms_there : (parameters : List ValueType) (terms : expr.Terms) → argument_faults outer parameters terms ≡ []
           → list_all (speaks (is_there whole)) (resolved_each scope terms) ≡ true

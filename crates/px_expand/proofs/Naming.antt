@@ -1,7 +1,7 @@
 -- Identifiers are no generated names, and nodes side by side in a tree without faults differ in name.
-use Rattle.std.proofs.Common.{◌≡◌, ℕ, suc, ◌+◌, ◌<◌, ◌^◌, Bool, true, false, not, List, [], ◌∷◌, Option, Some, None, refl, ap, ◌∙◌, arith}
+use Rattle.std.proofs.Common.{◌≡◌, ℕ, suc, ◌+◌, ◌<◌, ◌^◌, true, false, not, List, [], ◌∷◌, Option, Some, None, refl, ap, ◌∙◌, arith}
 use Rattle.std.specs.Prelude.{decimal}
-use Rattle.std.specs.List.{list_any, list_all}
+use Rattle.std.specs.List.{list_any}
 use Rattle.std.specs.Option.{option_to_list}
 use Rattle.std.proofs.lemmas.Bool.{and_from, and_parts, or_from, not_from_false, not-true, false_from_ne_true, both_ways}
 use Rattle.std.proofs.lemmas.Cmp.{nat_list_eq_equiv}
@@ -15,13 +15,11 @@ use Rattle.px_core.specs.Fit.{all_differ}
 use Rattle.px_core.specs.Plan.{is_same}
 use Rattle.px_expand.specs.Core.{name_of}
 use Rattle.px_expand.specs.Names.{named}
+use Rattle.px_expand.specs.Labels.{are_identifiers}
 use Rattle.px_expand.proofs.Apart.{names}
 use Rattle.px_expand.proofs.Sizes.{length_of}
 
 -- ---- identifiers and names that begin with `#`
-
-abbrev pub are_identifiers : List Identifier → Bool
-are_identifiers = list_all (λ label. is_identifier label.name)
 
 pub hash_differs : (hash name : List ℕ) → is_identifier hash ≡ false → is_identifier name ≡ true → is_same hash name ≡ false
 hash_differs hash name none identifier =

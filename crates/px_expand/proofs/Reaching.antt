@@ -1,43 +1,30 @@
 -- How far the paths of actions and of `else if`s reach, one after another.
 use Rattle.std.proofs.Common.{◌≡◌, ℕ, zero, suc, ◌+◌, ◌<◌, ◌≤◌, max, min, List, [], ◌∷◌, map, drop, length, get_or, sym, ap, ◌∙◌, add-one, arith}
 use Rattle.px_value.specs.Name.{generated_name}
-use Rattle.px_value.proofs.General.{cut_at}
 use Rattle.px_syntax.specs.declared.block.Action.{Action, out-Action}
 use Rattle.px_syntax.specs.declared.block.Guarded.{Guarded}
-use Rattle.px_syntax.specs.Block.{ElseIfs, NoElseIfs, ElseIf, else_ifs_in_turn, body_of, guarded_of}
+use Rattle.px_syntax.specs.Block.{Actions, ElseIfs, NoElseIfs, ElseIf, else_ifs_in_turn, body_of, guarded_of}
 use Rattle.px_syntax.proofs.Trees.{in_turn, action_is}
 use Rattle.px_expand.specs.Core.{name_of}
 use Rattle.px_expand.specs.Names.{named}
-use Rattle.px_expand.specs.Size.{actions_nodes, action_nodes, body_nodes, guarded_nodes, else_if_nodes, through, actions_reach, action_reach, body_reach, else_if_reach}
+use Rattle.px_expand.specs.Size.{guarded_nodes, else_if_nodes, through, actions_reach, body_reach, else_if_reach}
+use Rattle.px_expand.proofs.Actions.{reach_at}
 
 -- ---- one action more
 
-module _ (actions : List Action) (index : ℕ) (action : Action) (within : index < length actions)
-    (is : action ≡ get_or actions index action) where
-  pub action_counted :
-      actions_nodes (in_turn (drop index actions))
-      ≡ body_nodes (body_of (out-Action action).body)
-      + actions_nodes (in_turn (drop (index + 1) actions))
-  action_counted =
-      ap (λ left. actions_nodes (in_turn left)) (cut_at actions index action within is)
-      ∙ ap (λ tree. action_nodes tree + actions_nodes (in_turn (drop (index + 1) actions)))
-      (action_is action)
-
-  pub action_reached : (place : ℕ)
-      → actions_reach (suc place) (in_turn (drop index actions))
-      ≡ max
-      (through (named (out-Action action).label (generated_name (place + 1))) (body_reach (body_of (out-Action action).body)))
-      (actions_reach (suc (place + 1)) (in_turn (drop (index + 1) actions)))
-  action_reached place =
-      let rest = in_turn (drop (index + 1) actions) in
-      ap (λ left. actions_reach (suc place) (in_turn left)) (cut_at actions index action within is)
-      ∙ ap (λ tree. max (through (name_of (suc place) tree) (action_reach tree)) (actions_reach (suc (suc place)) rest))
-      (action_is action)
-      ∙ ap
-      (λ number.
-      max (through (named (out-Action action).label (generated_name number)) (body_reach (body_of (out-Action action).body)))
-      (actions_reach (suc number) rest))
-      (sym (add-one place))
+pub action_reached : (actions : List Action) (index : ℕ) (action : Action)
+    → index < length actions → action ≡ get_or actions index action → (place : ℕ)
+    → actions_reach (suc place) (in_turn (drop index actions))
+    ≡ max
+    (through (named (out-Action action).label (generated_name (place + 1))) (body_reach (body_of (out-Action action).body)))
+    (actions_reach (suc (place + 1)) (in_turn (drop (index + 1) actions)))
+action_reached actions index action within is place =
+    let body : ℕ = body_reach (body_of (out-Action action).body) in
+    let rest : Actions = in_turn (drop (index + 1) actions) in
+    reach_at actions index action (suc place) within is
+    ∙ ap (λ tree. max (through (name_of (suc place) tree) body) (actions_reach (suc (suc place)) rest)) (action_is action)
+    ∙ ap (λ number. max (through (named (out-Action action).label (generated_name number)) body) (actions_reach (suc number) rest))
+    (sym (add-one place))
 
 -- ---- `else if`s
 

@@ -1,5 +1,5 @@
 -- What is seen somewhere in a tree is there in its core plan: nodes, which are Commands where the text says so, and variables.
-use Rattle.std.proofs.Common.{◌≡◌, ℕ, Bool, true, false, not, cond, List, [], ◌∷◌, ◌++◌, Option, Some, None, refl, sym, ap, ◌∙◌, subst}
+use Rattle.std.proofs.Common.{◌≡◌, ℕ, zero, suc, Bool, true, false, not, cond, List, [], ◌∷◌, ◌++◌, Option, Some, None, refl, sym, ap, ◌∙◌, subst}
 use Rattle.std.specs.Prelude.{◌&&◌, slice_get}
 use Rattle.std.specs.List.{list_any, find, AllZip}
 use Rattle.std.specs.Option.{is_some, option_map, option_and_then, option_or, unwrap_or}
@@ -15,7 +15,7 @@ use Rattle.px_syntax.specs.Scope.{Visible, Head, is_named, searched, variable_na
 use Rattle.px_core.specs.Fit.{has_site, is_command, declares_in}
 use Rattle.px_core.specs.Plan.{VariableData, Site, is_same}
 use Rattle.px_core.proofs.Paths.{same-self}
-use Rattle.px_scope.specs.Scope.{Scope, Frame, here, or_else, declared_in, declared_from, owner_of, child_named, itself_named, named_in, named_from, path_meant}
+use Rattle.px_scope.specs.Scope.{Scope, Frame, here, declared_in, declared_from, owner_of, child_named, itself_named, named_in, named_from, path_meant}
 use Rattle.px_expand.proofs.Declaring.{names_of_variables}
 
 -- ---- variables of a list
@@ -100,21 +100,21 @@ module _ (whole : List Site) where
   AgreesOn name (Some head) found = NodeFound name head found
 
   agrees_both : (name : List ℕ) (first second : Option Head) (one two : Option (List ℕ))
-      → AgreesOn name first one → AgreesOn name second two → AgreesOn name (option_or first second) (or_else one two)
+      → AgreesOn name first one → AgreesOn name second two → AgreesOn name (option_or first second) (option_or one two)
   agrees_both name (Some head) second one two front back = record {
     identifier = front.identifier;
     path = front.path;
-    is = ap (λ found. or_else found two) front.is;
+    is = ap (λ found. option_or found two) front.is;
     has = front.has;
   }
   agrees_both name None (Some head) one two front back = record {
     identifier = back.identifier;
     path = back.path;
-    is = ap (λ found. or_else found two) (front back.identifier) ∙ back.is;
+    is = ap (λ found. option_or found two) (front back.identifier) ∙ back.is;
     has = back.has;
   }
   agrees_both name None None one two front back =
-      λ identifier. ap (λ found. or_else found two) (front identifier) ∙ back identifier
+      λ identifier. ap (λ found. option_or found two) (front identifier) ∙ back identifier
 
   -- a node of the text and its frame
   pub record IsFrameOf (node : seen.Node) (frame : Frame) : Type 0 where
@@ -151,56 +151,36 @@ module _ (whole : List Site) where
   same_head path head other has is =
       subst (λ known. HasHead path (unwrap_or known head)) is has
 
-  self_there : (nodes : List seen.Node) (scope : Scope) (head : Head) → SeenNodes nodes scope
-      → option_map (λ node. node.head) (slice_get nodes 0) ≡ Some head
-      → HasHead (unwrap_or (option_map (λ frame. frame.path) (slice_get scope 0)) (here scope)) head
-  self_there [] [] head seen is = cc
-  self_there [] (frame ∷ scope) head seen is = absurd seen
-  self_there (node ∷ nodes) [] head seen is = absurd seen
-  self_there (node ∷ nodes) (frame ∷ scope) head seen is = same_head frame.path node.head head seen.0.own is
+  -- the node at a place of those seen from the innermost one out, and a child of it
+  node_there : (nodes : List seen.Node) (scope : Scope) (at : ℕ) (other : List ℕ) (head : Head) → SeenNodes nodes scope
+      → option_map (λ node. node.head) (slice_get nodes at) ≡ Some head
+      → HasHead (unwrap_or (option_map (λ frame. frame.path) (slice_get scope at)) other) head
+  node_there [] [] at other head seen is = cc
+  node_there [] (frame ∷ scope) at other head seen is = absurd seen
+  node_there (node ∷ nodes) [] at other head seen is = absurd seen
+  node_there (node ∷ nodes) (frame ∷ scope) zero other head seen is = same_head frame.path node.head head seen.0.own is
+  node_there (node ∷ nodes) (frame ∷ scope) (suc at) other head seen is = node_there nodes scope at other head seen.1 is
 
-  parent_there : (nodes : List seen.Node) (scope : Scope) (head : Head) → SeenNodes nodes scope
-      → option_map (λ node. node.head) (slice_get nodes 1) ≡ Some head
-      → HasHead (unwrap_or (option_map (λ frame. frame.path) (slice_get scope 1)) (here scope)) head
-  parent_there [] [] head seen is = cc
-  parent_there [] (frame ∷ scope) head seen is = absurd seen
-  parent_there (node ∷ nodes) [] head seen is = absurd seen
-  parent_there (node ∷ []) (frame ∷ []) head seen is = cc
-  parent_there (node ∷ []) (frame ∷ parent ∷ scope) head seen is = absurd seen.1
-  parent_there (node ∷ parent ∷ nodes) (frame ∷ []) head seen is = absurd seen.1
-  parent_there (node ∷ above ∷ nodes) (frame ∷ parent ∷ scope) head seen is =
-      same_head parent.path above.head head seen.1.0.own is
-
-  child_there : (name : List ℕ) (nodes : List seen.Node) (scope : Scope) (head : Head) → SeenNodes nodes scope
-      → option_and_then (seen.child_named name) (slice_get nodes 0) ≡ Some head
-      → HasHead (unwrap_or (option_and_then (child_named name) (slice_get scope 0)) (here scope)) head
-  child_there name [] [] head seen is = cc
-  child_there name [] (frame ∷ scope) head seen is = absurd seen
-  child_there name (node ∷ nodes) [] head seen is = absurd seen
-  child_there name (node ∷ nodes) (frame ∷ scope) head seen is =
-      found_there name head _ (child_named name frame) frame.path (seen.0.children name) is
-
-  sibling_there : (name : List ℕ) (nodes : List seen.Node) (scope : Scope) (head : Head) → SeenNodes nodes scope
-      → option_and_then (seen.child_named name) (slice_get nodes 1) ≡ Some head
-      → HasHead (unwrap_or (option_and_then (child_named name) (slice_get scope 1)) (here scope)) head
-  sibling_there name [] [] head seen is = cc
-  sibling_there name [] (frame ∷ scope) head seen is = absurd seen
-  sibling_there name (node ∷ nodes) [] head seen is = absurd seen
-  sibling_there name (node ∷ []) (frame ∷ []) head seen is = cc
-  sibling_there name (node ∷ []) (frame ∷ parent ∷ scope) head seen is = absurd seen.1
-  sibling_there name (node ∷ parent ∷ nodes) (frame ∷ []) head seen is = absurd seen.1
-  sibling_there name (node ∷ above ∷ nodes) (frame ∷ parent ∷ scope) head seen is =
-      found_there name head _ (child_named name parent) frame.path (seen.1.0.children name) is
+  child_there : (name : List ℕ) (nodes : List seen.Node) (scope : Scope) (at : ℕ) (other : List ℕ) (head : Head)
+      → SeenNodes nodes scope → option_and_then (seen.child_named name) (slice_get nodes at) ≡ Some head
+      → HasHead (unwrap_or (option_and_then (child_named name) (slice_get scope at)) other) head
+  child_there name [] [] at other head seen is = cc
+  child_there name [] (frame ∷ scope) at other head seen is = absurd seen
+  child_there name (node ∷ nodes) [] at other head seen is = absurd seen
+  child_there name (node ∷ nodes) (frame ∷ scope) zero other head seen is =
+      found_there name head _ (child_named name frame) other (seen.0.children name) is
+  child_there name (node ∷ nodes) (frame ∷ scope) (suc at) other head seen is =
+      child_there name nodes scope at other head seen.1 is
 
   -- the node that a reference means is there
   pub meant_there : (outer : seen.Scope) (scope : Scope) → SeenNodes outer.nodes scope → (reference : NodeReference) (head : Head)
       → seen.meant outer reference ≡ Some head → HasHead (path_meant scope reference) head
   meant_there outer scope all (nodes.Named name) head is =
       found_there name.name head _ (named_from name.name scope) (here scope) (named_agrees name.name outer.nodes scope all) is
-  meant_there outer scope all (nodes.SelfNode token) head is = self_there outer.nodes scope head all is
-  meant_there outer scope all (nodes.Parent token) head is = parent_there outer.nodes scope head all is
-  meant_there outer scope all (nodes.Sibling token name) head is = sibling_there name.name outer.nodes scope head all is
-  meant_there outer scope all (nodes.Child token name) head is = child_there name.name outer.nodes scope head all is
+  meant_there outer scope all (nodes.SelfNode token) head is = node_there outer.nodes scope 0 (here scope) head all is
+  meant_there outer scope all (nodes.Parent token) head is = node_there outer.nodes scope 1 (here scope) head all is
+  meant_there outer scope all (nodes.Sibling token name) head is = child_there name.name outer.nodes scope 1 (here scope) head all is
+  meant_there outer scope all (nodes.Child token name) head is = child_there name.name outer.nodes scope 0 (here scope) head all is
 
   -- ---- variables
 
@@ -238,12 +218,12 @@ module _ (whole : List Site) where
 
   variables_both : (above : List (List ℕ)) (name : List ℕ) (first second : Option Visible) (one two : Option (List ℕ))
       → VariableAgrees above name first one → VariableAgrees above name second two
-      → VariableAgrees above name (option_or first second) (or_else one two)
+      → VariableAgrees above name (option_or first second) (option_or one two)
   variables_both above name (Some variable) second one two front back =
-      record { path = front.path; is = ap (λ found. or_else found two) front.is; has = front.has; owns = front.owns }
+      record { path = front.path; is = ap (λ found. option_or found two) front.is; has = front.has; owns = front.owns }
   variables_both above name None (Some variable) one two front back =
-      record { path = back.path; is = ap (λ found. or_else found two) front ∙ back.is; has = back.has; owns = back.owns }
-  variables_both above name None None one two front back = ap (λ found. or_else found two) front ∙ back
+      record { path = back.path; is = ap (λ found. option_or found two) front ∙ back.is; has = back.has; owns = back.owns }
+  variables_both above name None None one two front back = ap (λ found. option_or found two) front ∙ back
 
   further_above : (above : List (List ℕ)) (path name : List ℕ) (seen : Option Visible) (found : Option (List ℕ))
       → VariableAgrees above name seen found → VariableAgrees (path ∷ above) name seen found

@@ -1,5 +1,5 @@
 -- All paths of the core plan are short exactly where the longest path of its size is.
-use Rattle.std.proofs.Common.{◌≡◌, ℕ, suc, ◌+◌, ◌≤◌, true, List, [], ◌∷◌, ◌++◌, length, refl, sym, ap, ◌∙◌, arith}
+use Rattle.std.proofs.Common.{◌≡◌, ℕ, suc, ◌+◌, ◌≤◌, true, List, [], ◌∷◌, ◌++◌, length, refl, ap, ◌∙◌, arith}
 use Rattle.std.specs.Prelude.{nat_le}
 use Rattle.std.specs.List.{list_all}
 use Rattle.std.proofs.Math.ListN.{length-append}
@@ -8,6 +8,7 @@ use Rattle.std.proofs.lemmas.Bool.Decides.{same_from_decides}
 use Rattle.std.proofs.lemmas.List.Folds.{list_all-append}
 use Rattle.px_syntax.specs.Plan.{PlanTree}
 use Rattle.px_value.specs.Path.{below}
+use Rattle.px_value.proofs.General.{list_all_parts}
 use Rattle.px_core.specs.Fit.{has_short_path}
 use Rattle.px_core.specs.Plan.{Head, Tree, NoNode, Branch, sites_under, sites}
 use Rattle.px_expand.specs.Core.{core, root_place, block_core}
@@ -41,8 +42,7 @@ within_from parent above (Branch head children rest) start short =
     let back = sites_under (parent ∷ above) rest in
     let here = and_parts (nat_le (length path) 5000) (list_all has_short_path (front ++ back)) short in
     let fits : length path ≤ 5000 = leb-true (length path) 5000 here.0 in
-    let both = and_parts (list_all has_short_path front) (list_all has_short_path back)
-    (sym (list_all-append has_short_path front back) ∙ here.1) in
+    let both = list_all_parts has_short_path front back here.1 in
     let inside = within_from path (parent ∷ above) children fits both.0 in
     let behind = within_from parent above rest start both.1 in
     omega (arith, long, inside, behind)
@@ -57,7 +57,7 @@ root_short head children =
       λ short.
           let here = and_parts (nat_le (length head.name) 5000) (list_all has_short_path (front ++ [])) short in
           within_from head.name [] children (leb-true (length head.name) 5000 here.0)
-          (and_parts (list_all has_short_path front) true (sym (list_all-append has_short_path front []) ∙ here.1)).0,
+          (list_all_parts has_short_path front [] here.1).0,
       λ within.
           and_from _ _ (le-leb (length head.name) 5000 (omega arith))
           (list_all-append has_short_path front [] ∙ and_from _ _ (short_from head.name [] children within) refl),

@@ -1,12 +1,12 @@
 -- THE NODES OF A CORE PLAN ARE SOUND EACH BY ITSELF: what a node has is of its kind, its children differ in name, and so do its
 -- variables, which have right sizes and values of their types.
-use Rattle.std.proofs.Common.{◌≡◌, ℕ, suc, ◌≤◌, Bool, true, false, not, List, [], ◌∷◌, ◌++◌, Option, Some, None, refl, sym, ap, ◌∙◌, arith}
+use Rattle.std.proofs.Common.{◌≡◌, ℕ, suc, ◌≤◌, Bool, true, false, not, List, [], ◌∷◌, ◌++◌, Option, Some, None, refl, ap, ◌∙◌, arith}
 use Rattle.std.specs.List.{list_any}
 use Rattle.std.specs.Option.{option_to_list, is_some}
 use Rattle.std.proofs.lemmas.Cmp.{nat_list_eq_equiv}
 use Rattle.std.proofs.lemmas.Bool.{and_from, and_parts, cond_both, or_from, or_parts, not-true, not_from_false}
 use Rattle.std.proofs.lemmas.List.Folds.{list_all-append}
-use Rattle.px_value.proofs.General.{neither}
+use Rattle.px_value.proofs.General.{list_all_parts, neither}
 use Rattle.px_syntax.specs.declared.expr.Identifier.{Identifier}
 use Rattle.px_syntax.specs.declared.value_type.ValueType.TheVariants.{Boolean, Integer}
 use Rattle.px_syntax.specs.declared.word.BlockForm.{BlockForm}
@@ -31,7 +31,7 @@ use Rattle.px_forms.specs.Forms.{where_found, where_not_found, test_variable, co
 use Rattle.px_scope.specs.Items.{variables_of}
 use Rattle.px_scope.specs.Actions.{kind_of, body_of}
 use Rattle.px_expand.specs.Kinds.{Shape, Rest, OneAction, Children, shape_of}
-use Rattle.px_expand.specs.Labels.{block_labels, actions_labels, body_labels, guarded_labels, else_if_labels, else_labels, branch_labels, has_identifiers}
+use Rattle.px_expand.specs.Labels.{are_identifiers, block_labels, actions_labels, body_labels, guarded_labels, else_if_labels, else_labels, branch_labels, has_identifiers}
 use Rattle.px_forms.specs.Names.{then_name, body_name, else_name, set_name, step_name}
 use Rattle.px_expand.specs.Names.{named}
 use Rattle.px_forms.specs.Nodes.{Place, child, alone}
@@ -41,7 +41,7 @@ use Rattle.px_expand.specs.Typed.{is_typed}
 use Rattle.px_expand.proofs.Apart.{all_apart}
 use Rattle.px_expand.proofs.Declaring.{IsDeclared, items_declared}
 use Rattle.px_expand.proofs.Faultless.{has_none}
-use Rattle.px_expand.proofs.Naming.{are_identifiers, hash_from_named, names_from, actions_differ}
+use Rattle.px_expand.proofs.Naming.{hash_from_named, names_from, actions_differ}
 use Rattle.px_expand.proofs.Sizes.{actions_some, actions_few}
 
 -- ---- nodes
@@ -53,10 +53,13 @@ pub record IsSound (head : plan.Head) (children : Tree) : Type 0 where
   pub body : is_body_of head.kind head.body ≡ true
   pub declared : IsDeclared head.variables
 
--- each of nodes side by side, and of those below them
+-- what holds of each of nodes side by side and of those below them, said of a node and its children
+abbrev pub EachNode : (plan.Head → Tree → Type 0) → Tree → Type 0
+EachNode P NoNode = Unit {0}
+EachNode P (plan.Branch head children rest) = P head children × EachNode P children × EachNode P rest
+
 abbrev pub AreSound : Tree → Type 0
-AreSound NoNode = Unit {0}
-AreSound (plan.Branch head children rest) = IsSound head children × AreSound children × AreSound rest
+AreSound = EachNode IsSound
 
 may_have_none : (kind : Kind) → may_have kind NoNode ≡ true
 may_have_none kinds.List = refl
@@ -88,8 +91,7 @@ pub record IsGood (faults : List Fault) (identifiers : List Identifier) (nodes :
 
 pub both_labels : (front back : List Identifier) → are_identifiers (front ++ back) ≡ true
     → (are_identifiers front ≡ true) × (are_identifiers back ≡ true)
-both_labels front back all =
-    and_parts (are_identifiers front) (are_identifiers back) (sym (list_all-append (λ label. is_identifier label.name) front back) ∙ all)
+both_labels front back all = list_all_parts (λ (label : Identifier). is_identifier label.name) front back all
 
 -- ---- the shape of a block
 

@@ -1,12 +1,14 @@
 -- Whether all that the expressions of a node speak of is there.
-use Rattle.std.proofs.Common.{◌≡◌, ℕ, Bool, true, List, [], ◌∷◌, ◌++◌, map, Option, Some, None, refl, sym, ◌∙◌}
+use Rattle.std.proofs.Common.{◌≡◌, ℕ, Bool, true, List, [], ◌∷◌, ◌++◌, map, Option, Some, None, refl, ◌∙◌}
 use Rattle.std.specs.List.{list_all, flat_map}
-use Rattle.std.specs.Option.{unwrap_or}
+use Rattle.std.specs.Option.{IfSome, unwrap_or}
 use Rattle.std.specs.Prelude.{false}
 use Rattle.std.proofs.lemmas.Bool.{and_from, and_parts}
-use Rattle.std.proofs.lemmas.List.Folds.{list_all-append}
+use Rattle.std.proofs.lemmas.List.Folds.{list_all-append, list_all-map}
 use Rattle.px_value.specs.declared.enums.Outcome.{Outcome}
 use Rattle.px_value.specs.declared.enums.Outcome.TheVariants as outcomes
+use Rattle.px_value.proofs.Ascii.{list_all-weaker}
+use Rattle.px_value.proofs.General.{list_all_parts}
 use Rattle.px_core.specs.declared.expr.BinaryOp.{BinaryOp}
 use Rattle.px_core.specs.declared.expr.BinaryOp.TheVariants.{And, Or}
 use Rattle.px_core.specs.declared.expr.UnaryOp.TheVariants.{Not}
@@ -29,8 +31,7 @@ module _ (there : Reference → Bool) where
   speaks term = list_all there (references term)
 
   abbrev pub MaySpeak : Option Term → Type 0
-  MaySpeak None = Unit {0}
-  MaySpeak (Some term) = speaks term ≡ true
+  MaySpeak given = IfSome given (λ term. speaks term ≡ true)
 
   pub both_speak : (op : BinaryOp) (left right : Term) → speaks left ≡ true → speaks right ≡ true
       → speaks (Binary op left right) ≡ true
@@ -50,7 +51,7 @@ module _ (there : Reference → Bool) where
   joins_speak op none _ _ Joins.no_term all = refl
   joins_speak op none _ _ (Joins.one_term term) all = (and_parts (speaks term) true all).0
   joins_speak op none _ _ (Joins.halves front rest left right some half first second) all =
-      let parts = and_parts (list_all speaks front) (list_all speaks rest) (sym (list_all-append speaks front rest) ∙ all) in
+      let parts = list_all_parts speaks front rest all in
       both_speak op left right (joins_speak op none front left first parts.0) (joins_speak op none rest right second parts.1)
 
   pub joined_speaks : (op : BinaryOp) (none : Bool) (terms : List Term) → list_all speaks terms ≡ true
@@ -70,10 +71,8 @@ module _ (there : Reference → Bool) where
 
   each_said : (say : List ℕ → Term) → ((path : List ℕ) → there (Node path) ≡ true → speaks (say path) ≡ true)
       → (paths : List (List ℕ)) → are_nodes paths ≡ true → list_all speaks (map say paths) ≡ true
-  each_said say says [] are = refl
-  each_said say says (path ∷ paths) are =
-      let parts = and_parts (there (Node path)) (are_nodes paths) are in
-      and_from _ _ (says path parts.0) (each_said say says paths parts.1)
+  each_said say says paths are =
+      list_all-map speaks say paths ∙ list_all-weaker (λ (path : List ℕ). there (Node path)) (λ path. speaks (say path)) says paths are
 
   pub finished_speaks : (paths : List (List ℕ)) → are_nodes paths ≡ true → speaks (each_finished paths) ≡ true
   finished_speaks paths are = joined_speaks And true (map done paths) (each_said done done_speaks paths are)

@@ -14,7 +14,7 @@ use Rattle.px_core.specs.Plan.{is_same}
 use Rattle.px_expand.specs.Core.{name_of, actions_seen, children_seen}
 use Rattle.px_expand.specs.Kinds.{Shape, Rest, OneAction, Children}
 use Rattle.px_expand.specs.Children.{seen}
-use Rattle.px_scope.specs.Scope.{table, each_once}
+use Rattle.px_scope.specs.Scope.{table, each_once, inserted}
 use Rattle.px_expand.proofs.Naming.{names_from}
 
 -- ---- children
@@ -35,12 +35,10 @@ entry_put parent (first ∷ known) name =
     of_test false false same more = ap (λ rest. seen parent first ∷ rest) more
 
 all_put : (parent : List ℕ) (known names : List (List ℕ))
-    → fold (λ entries child. insert_entry is_same entries child.0 child.1) (map (seen parent) known) (map (seen parent) names)
-    ≡ map (seen parent) (fold (insert_key is_same) known names)
+    → inserted (map (seen parent) known) (map (seen parent) names) ≡ map (seen parent) (fold (insert_key is_same) known names)
 all_put parent known [] = refl
 all_put parent known (name ∷ names) =
-    ap (λ entries. fold (λ entries child. insert_entry is_same entries child.0 child.1) entries (map (seen parent) names))
-    (entry_put parent known name)
+    ap (λ entries. inserted entries (map (seen parent) names)) (entry_put parent known name)
     ∙ all_put parent (insert_key is_same known name) names
 
 once_among : (name : List ℕ) (known names : List (List ℕ))

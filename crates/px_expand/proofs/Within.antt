@@ -1,10 +1,11 @@
 -- Nodes that stand among those of a whole plan.
-use Rattle.std.proofs.Common.{◌≡◌, ℕ, Bool, true, false, List, [], ◌∷◌, ◌++◌, refl, sym, ap, ◌∙◌, subst}
-use Rattle.std.specs.Prelude.{◌&&◌, ◌||◌}
+use Rattle.std.proofs.Common.{◌≡◌, ℕ, Bool, true, List, ◌∷◌, ◌++◌, sym, ap, ◌∙◌, subst}
+use Rattle.std.specs.Prelude.{◌&&◌}
 use Rattle.std.specs.List.{list_any}
-use Rattle.std.proofs.lemmas.Bool.{and_from, and_parts, or_left, or_right, false≢true}
+use Rattle.std.proofs.lemmas.Bool.{and_from, and_parts, or_left, or_right}
 use Rattle.std.proofs.lemmas.List.{append-nil}
 use Rattle.std.proofs.lemmas.List.Folds.{list_any-append}
+use Rattle.px_value.proofs.General.{list_any-weaker}
 use Rattle.px_core.specs.Fit.{has_site}
 use Rattle.px_core.specs.Plan.{Head, Site, Tree, NoNode, Branch, is_same, path_under, site_under, sites_under}
 use Rattle.px_core.proofs.Paths.{same-self}
@@ -57,18 +58,12 @@ alone_within above head children rest whole within =
     let split = front_within (site_under above head ∷ inside) (sites_under above rest) whole within in
     subst (λ part. IsWithin part whole) (ap (λ part. site_under above head ∷ part) (sym (append-nil inside))) split
 
-or_weaker : (a b c d : Bool) → (a ≡ true → c ≡ true) → (b ≡ true → d ≡ true) → (a || b) ≡ true → (c || d) ≡ true
-or_weaker true b c d first second either = or_left c d (first refl)
-or_weaker false b c d first second either = or_right c d (second either)
-
 -- a node that passes a test passes a weaker one
 pub site_weaker : (strong weak : Site → Bool) → ((site : Site) → strong site ≡ true → weak site ≡ true)
     → (path : List ℕ) (plan : List Site) → has_site strong path plan ≡ true → has_site weak path plan ≡ true
-site_weaker strong weak weaker path [] passes = absurd (false≢true passes)
-site_weaker strong weak weaker path (site ∷ plan) passes =
-    or_weaker (is_same site.path path && strong site) (has_site strong path plan)
-    (is_same site.path path && weak site) (has_site weak path plan)
-    (λ own.
+site_weaker strong weak weaker path plan =
+    list_any-weaker (λ (site : Site). is_same site.path path && strong site) (λ site. is_same site.path path && weak site)
+    (λ site own.
     let parts = and_parts (is_same site.path path) (strong site) own in
     and_from _ _ parts.0 (weaker site parts.1))
-    (site_weaker strong weak weaker path plan) passes
+    plan

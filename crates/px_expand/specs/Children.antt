@@ -15,18 +15,11 @@ names_of = keys_of
 abbrev pub paths_of : Table → List (List ℕ)
 paths_of = values_of
 
--- the scope inside a node of the text with these children and with variables of these names
-abbrev pub inside : Scope → Place → Table → List (List ℕ) → Scope
-inside scope place children names =
-    record {
-      name = place.name;
-      path = place.path;
-      children = table children;
-      variables = each_once names;
-    }
-    ∷ scope
-
 -- the scope inside the node of a place, with this table of its children and with these variables
 abbrev pub entered : Scope → Place → Table → List (List ℕ) → Scope
 entered scope place children variables =
     record { name = place.name; path = place.path; children = children; variables = variables } ∷ scope
+
+-- the scope inside a node of the text with these children and with variables of these names
+abbrev pub inside : Scope → Place → Table → List (List ℕ) → Scope
+inside scope place children names = entered scope place (table children) (each_once names)

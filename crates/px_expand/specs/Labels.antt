@@ -43,6 +43,10 @@ abbrev mutual
 abbrev pub labels_of : PlanTree → List Identifier
 labels_of plan = option_to_list plan.label ++ block_labels plan.root
 
+-- each of these is an identifier
+abbrev pub are_identifiers : List Identifier → Bool
+are_identifiers = list_all (λ label. is_identifier label.name)
+
 -- each label is an identifier, and so none is a generated name
 abbrev pub has_identifiers : PlanTree → Bool
-has_identifiers plan = list_all (λ label. is_identifier label.name) (labels_of plan)
+has_identifiers plan = are_identifiers (labels_of plan)

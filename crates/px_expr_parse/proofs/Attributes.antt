@@ -1,5 +1,5 @@
 -- A dot and the word of an attribute.
-use Rattle.std.proofs.Common.{◌≡◌, ℕ, ◌+◌, ◌≤◌, ◌<◌, sym, ◌∙◌, List, length, Some, arith}
+use Rattle.std.proofs.Common.{◌≡◌, ℕ, ◌+◌, ◌≤◌, ◌<◌, refl, sym, ◌∙◌, List, length, Some, arith}
 use Rattle.px_lex.specs.declared.sign.Sign.TheVariants as signs
 use Rattle.px_lex.specs.declared.token.Token.{Token}
 use Rattle.px_lex.specs.declared.token.TokenKind.TheVariants as kinds
@@ -10,8 +10,8 @@ use Rattle.px_syntax.specs.ExprGrammar.{attribute_word}
 use Rattle.px_syntax.specs.Form.{kind_at}
 use Rattle.px_expr_parse.specs.Tail.{attribute}
 use Rattle.px_expr_parse.specs.Verdict.{IsMissing, HasSign, LacksSign}
-use Rattle.px_expr_parse.proofs.Completions.{begun_here, short_word, word}
-use Rattle.px_expr_parse.proofs.Parts.{ends_behind, missing_ending, missing_kind}
+use Rattle.px_expr_parse.proofs.Completions.{short_word, word}
+use Rattle.px_expr_parse.proofs.Parts.{ends_behind, missing_ending, missing_here, missing_kind}
 
 module _ (tokens : List Token) (at : ℕ) where
   pub no_dot :
@@ -23,9 +23,6 @@ module _ (tokens : List Token) (at : ℕ) where
       → ((which : AttributeWord) → kind_at tokens (at + 1) ≡ Some (kinds.Identifier (attribute_word which)) → ⊥)
       → IsMissing attribute tokens at (faults.SyntaxFault (at + 1))
   no_word inside dot none =
-      missing_ending (ends_behind (kinds.Sign signs.Dot) tokens at word dot) (faults.SyntaxFault (at + 1)) (
-        omega arith,
-        omega (arith, inside),
-        λ others agree which end o. none which (sym (agree (at + 1) (omega arith)) ∙ o.0),
-        begun_here short_word,
-      )
+      missing_ending (ends_behind (kinds.Sign signs.Dot) tokens at word dot) (faults.SyntaxFault (at + 1))
+      (missing_here word tokens (at + 1) (faults.SyntaxFault (at + 1)) refl (omega (arith, inside)) short_word
+      (λ others same which end o. none which (sym same ∙ o.0)))

@@ -1,8 +1,9 @@
 -- A name before a parenthesis: as an expression it ends there.
-use Rattle.std.proofs.Common.{◌≡◌, ℕ, ◌+◌, ◌≤◌, ◌<◌, inl, inr, refl, sym, ap, subst, ◌∙◌, List, length, Option, Some, None, arith, lit≤}
+use Rattle.std.proofs.Common.{◌≡◌, ℕ, ◌+◌, ◌≤◌, ◌<◌, inl, inr, refl, sym, ap, subst, ◌∙◌, List, length, Some, None, arith, lit≤}
 use Rattle.std.proofs.lemmas.Option.{slice_get_within}
 use Rattle.std.specs.List.{slice_get}
-use Rattle.std.specs.Option.{option_map, option_and_then}
+use Rattle.std.specs.Option.{option_and_then}
+use Rattle.px_value.proofs.General.{option_map_some}
 use Rattle.px_lex.specs.declared.sign.Sign.TheVariants as signs
 use Rattle.px_lex.specs.declared.token.Token.{Token}
 use Rattle.px_lex.specs.declared.token.TokenKind.{TokenKind}
@@ -12,24 +13,19 @@ use Rattle.px_syntax.specs.Expr.{Term}
 use Rattle.px_syntax.specs.ExprGrammar.{expression}
 use Rattle.px_syntax.specs.Form.{identifier, kind_at}
 use Rattle.px_syntax.specs.Operator.{binary_of, unary_of}
-use Rattle.px_expr_parse.specs.declared.opening.Opening.{Opening}
 use Rattle.px_expr_parse.specs.declared.opening.Opening.TheVariants as openings
-use Rattle.px_expr_parse.specs.Opening.{Begins, opening_of}
+use Rattle.px_expr_parse.specs.Opening.{Begins}
 use Rattle.px_expr_parse.specs.Verdict.{HasSign, IsFound}
 use Rattle.px_expr_parse.proofs.Closed.{closer_ends}
 use Rattle.px_expr_parse.proofs.Loops.{loop_begins, loop_ends}
 use Rattle.px_expr_parse.proofs.Openings.{opening_of_name}
-use Rattle.px_expr_parse.proofs.Primaries.{read_variable}
+use Rattle.px_expr_parse.proofs.Primaries.{begins_with, read_variable}
 
 -- what is at a place is within
 pub inside_of : (tokens : List Token) (place : ℕ) (kind : TokenKind) → kind_at tokens place ≡ Some kind → place < length tokens
-inside_of tokens place kind has = go (slice_get tokens place) refl
-  where
-    go : (there : Option Token) → slice_get tokens place ≡ there → place < length tokens
-    go (Some token) is = slice_get_within tokens place token is
-    go None is =
-        let none : kind_at tokens place ≡ None = ap (λ (there : Option Token). option_map (λ (token : Token). token.kind) there) is in
-        absurd (let both_are : Some kind ≡ None = sym has ∙ none in cc)
+inside_of tokens place kind has =
+    let found = option_map_some (λ (token : Token). token.kind) (slice_get tokens place) kind has in
+    slice_get_within tokens place found.0 found.1
 
 abbrev name_of : List ℕ → ℕ → Identifier
 name_of name token = record { name = name; token = token }
@@ -64,10 +60,8 @@ module _ (others : List Token) (from : ℕ) (name : List ℕ) (has : kind_at oth
 
     opens : Begins others from openings.Name
     opens =
-        record {
-          opens = ap (option_map opening_of) has ∙ ap (λ (opening : Opening). Some opening) (opening_of_name name);
-          no_operator = ap (option_and_then unary_of) has ∙ name_no_operator name;
-        }
+        begins_with others from (kinds.Identifier name) openings.Name has (sym (opening_of_name name))
+        (ap (option_and_then unary_of) has ∙ name_no_operator name)
 
     pub no_value :
         HasSign others (from + 1) signs.OpenParen → (tree : Term) (end : ℕ) → expression tree others from end

@@ -5,10 +5,10 @@ use Rattle.px_lex.specs.declared.token.Token.{Token}
 use Rattle.px_lex.specs.declared.token.TokenKind.TheVariants as kinds
 use Rattle.px_syntax.specs.declared.operator.BinaryOperator.{BinaryOperator}
 use Rattle.px_syntax.specs.declared.operator.Operator.TheVariants as operators
-use Rattle.px_syntax.specs.ExprGrammar.{operand, bare}
+use Rattle.px_syntax.specs.ExprGrammar.{operand, bare, binary_at}
 use Rattle.px_syntax.specs.Operator.{binary_of, level_of}
 use Rattle.px_syntax.specs.Expr.{Term, Unary, Binary}
-use Rattle.px_expr_parse.specs.Verdict.{binary_at, GoesOn, operation, index, attribute, IsLongest, IsCutShort}
+use Rattle.px_expr_parse.specs.Verdict.{GoesOn, operation, index, attribute, IsLongest, IsCutShort}
 use Rattle.px_syntax.proofs.Levels.{binary_level, unary_level}
 
 abbrev pub level : BinaryOperator → ℕ
@@ -164,7 +164,7 @@ module _ (tokens : List Token) (left : Term) (at : ℕ) (next : BinaryOperator) 
           | grown found ↦ grown (more operator first second middle end allowed found other_is o)
         ]
 
-  module _ (last : ℕ) (cut : (other : Term) (end : ℕ) → operand (level next + 1) other tokens (at + 1) end → (end ≤ last) × GoesOn (level next + 1) tokens end) where
+  module _ (last : ℕ) (cut : IsCutShort (level next + 1) tokens (at + 1) last) where
     pub stop :
         {floor : ℕ} {tree : Term} {end : ℕ} → Grown tokens left at floor tree end
         → Same left at tree end ⊎ ((end ≤ last) × GoesOn (level next + 1) tokens end × (floor ≤ level next))

@@ -14,19 +14,16 @@ use Rattle.px_syntax.specs.Form.{Form, kind_at}
 use Rattle.px_expr_parse.specs.Tail.{closed_arguments, look_rest}
 use Rattle.px_expr_parse.specs.Verdict.{Agree, AgreeBefore, IsMissing, HasSign, LacksSign}
 use Rattle.px_expr_parse.proofs.Closed.{not_both}
-use Rattle.px_expr_parse.proofs.Completions.{begun_here, short_look_end, short_tolerance}
-use Rattle.px_expr_parse.proofs.Parts.{before, behind, both, EndsWith}
+use Rattle.px_expr_parse.proofs.Completions.{short_look_end, short_tolerance}
+use Rattle.px_expr_parse.proofs.Parts.{before, behind, both, EndsWith, missing_here}
 
 pub no_tolerance :
     (tokens : List Token) (at : ℕ) → at ≤ length tokens
     → ((value : ℕ) → kind_at tokens at ≡ Some (kinds.Integer (pos value)) → ⊥)
     → IsMissing tolerance_number tokens at (faults.SyntaxFault at)
-no_tolerance tokens at within none = (
-  omega arith,
-  within,
-  λ others agree part end o. none part.distance (sym (agree at (omega arith)) ∙ o.1.0),
-  begun_here short_tolerance,
-)
+no_tolerance tokens at within none =
+    missing_here tolerance_number tokens at (faults.SyntaxFault at) refl within short_tolerance
+    (λ others same part end o. none part.distance (sym same ∙ o.1.0))
 
 -- ---- what closes a lookup
 
@@ -36,18 +33,16 @@ module _ (word : LookWord) (tokens : List Token) (from : ℕ) where
       (fault : ParseFault) → from ≤ length tokens → (word ≡ looks.LookupOnChange → HasSign tokens from signs.Comma → ⊥)
       → LacksSign tokens from signs.CloseParen fault → IsMissing (look_end word) tokens from fault
   missing_close fault within no_comma lacks =
-      subst (λ (g : ParseFault). IsMissing (look_end word) tokens from g) (sym lacks.0)
-      (omega arith, within, λ others agree. none word no_comma others agree, begun_here (short_look_end word))
+      missing_here (look_end word) tokens from fault lacks.0 within (short_look_end word) (none word no_comma)
     where
       none :
           (which : LookWord) → (which ≡ looks.LookupOnChange → HasSign tokens from signs.Comma → ⊥)
-          → (others : List Token) → Agree tokens others from → (other : Option Tolerance) (end : ℕ)
+          → (others : List Token) → kind_at others from ≡ kind_at tokens from → (other : Option Tolerance) (end : ℕ)
           → look_end which other others from end → ⊥
-      none which no_comma others agree None end o = lacks.1 (sym (agree from (omega arith)) ∙ o.0)
-      none looks.Lookup no_comma others agree (Some tolerance) end o = o
-      none looks.LookupNow no_comma others agree (Some tolerance) end o = o
-      none looks.LookupOnChange no_comma others agree (Some tolerance) end o =
-          no_comma refl (sym (agree from (omega arith)) ∙ o.1.0)
+      none which no_comma others same None end o = lacks.1 (sym same ∙ o.0)
+      none looks.Lookup no_comma others same (Some tolerance) end o = o
+      none looks.LookupNow no_comma others same (Some tolerance) end o = o
+      none looks.LookupOnChange no_comma others same (Some tolerance) end o = no_comma refl (sym same ∙ o.1.0)
 
 -- a comma, a tolerance and the parenthesis
 abbrev pub behind_comma : Tolerance → Form

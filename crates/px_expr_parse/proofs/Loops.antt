@@ -8,7 +8,8 @@ use Rattle.px_syntax.specs.declared.fault.ParseFault.TheVariants as faults
 use Rattle.px_syntax.specs.declared.operator.BinaryOperator.{BinaryOperator}
 use Rattle.px_syntax.specs.Expr.{Term, Binary}
 use Rattle.px_syntax.specs.Operator.{binary_of}
-use Rattle.px_expr_parse.specs.Verdict.{Agree, binary_at, GoesOn, operation, index, attribute, IsLongest, IsRead, IsRefused, IsExpression, IsFaultAt, IsNoExpression, HasSign}
+use Rattle.px_syntax.specs.ExprGrammar.{binary_at}
+use Rattle.px_expr_parse.specs.Verdict.{Agree, GoesOn, operation, index, attribute, IsLongest, IsRead, IsRefused, IsExpression, IsFaultAt, IsNoExpression, HasSign}
 use Rattle.px_expr_parse.proofs.Chains.{IsSpine, level, operand_looser, spine_begins, spine_goes_on, spine_ends, spine_stops, first_stops}
 use Rattle.px_expr_parse.proofs.Completions.{before, begins_expression, begun_as, begun_whole, moved}
 use Rattle.px_expr_parse.proofs.Parts.{agree_before}
@@ -139,32 +140,7 @@ module _ {tokens : List Token} {from : ℕ} where
       ended longest (index is) = no_bracket is
       ended longest (attribute is) = no_dot is
 
-  -- a bracket or a dot behind an expression
-  pub is_followed :
-      {tree : Term} {to : ℕ} → IsRead 0 tokens from tree to → GoesOn 0 tokens to
-      → IsFaultAt tokens from to
-  is_followed {tree = tree} {to = to} read follows =
-      record {
-        within = read.within;
-        none = λ other end o. elim ((read.longest tokens (λ place le. refl)).only other end o) [
-          | inl same ↦ subst (λ (place : ℕ). GoesOn 0 tokens place) (sym same.1) follows
-          | inr ends ↦ ends.1
-        ];
-        begun = record {
-          others = tokens;
-          agree = λ place inside. refl;
-          tree = tree;
-          end = to;
-          spelled = (read.longest tokens (λ place le. refl)).spelled;
-          reached = omega arith;
-        };
-        beyond = λ others agree inside other end o. elim ((read.longest others agree).only other end o) [
-          | inl same ↦ omega (arith, same.1)
-          | inr ends ↦ omega (arith, ends.0)
-        ];
-      }
-
-  -- the same of all tokens that agree
+  -- a bracket or a dot behind an expression, in all tokens that agree
   pub is_refused :
       {tree : Term} {to : ℕ} → IsRead 0 tokens from tree to → GoesOn 0 tokens to
       → IsRefused 0 tokens from (faults.SyntaxFault to)
@@ -184,3 +160,8 @@ module _ {tokens : List Token} {from : ℕ} where
           operation operator (ap (option_and_then binary_of) (agree to (omega arith)) ∙ is) allowed
       goes_on_too others agree (index is) = index (agree to (omega arith) ∙ is)
       goes_on_too others agree (attribute is) = attribute (agree to (omega arith) ∙ is)
+
+  pub is_followed :
+      {tree : Term} {to : ℕ} → IsRead 0 tokens from tree to → GoesOn 0 tokens to
+      → IsFaultAt tokens from to
+  is_followed {to = to} read follows = is_no_expression tokens from (faults.SyntaxFault to) (is_refused read follows)

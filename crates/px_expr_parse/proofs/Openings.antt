@@ -30,15 +30,14 @@ use Rattle.px_value.specs.declared.enums.NodeState.TheVariants as states
 use Rattle.px_value.specs.declared.enums.Outcome.TheVariants as outcomes
 use Rattle.px_value.proofs.General.{option_map_some}
 use Rattle.px_syntax.specs.Expr.{Term, Terms, Literal, Enumerated, Variable, Element, Attribute, Look, UnaryCall, BinaryCall, Unary, Binary}
-use Rattle.px_syntax.specs.ExprGrammar.{operand, bare, term_level, literal_kind, enumerated_keyword, look_keyword, unary_keyword, binary_keyword}
+use Rattle.px_syntax.specs.ExprGrammar.{indexed, operand, bare, term_level, literal_kind, enumerated_keyword, look_keyword, unary_keyword, binary_keyword, unary_at}
 use Rattle.px_syntax.specs.Form.{Form, kind_at, identifier, in_pairs, sign, ◌then◌}
 use Rattle.px_syntax.specs.Operator.{level_of, unary_of}
 use Rattle.px_syntax.proofs.Levels.{binary_level, unary_level}
 use Rattle.px_expr_parse.specs.declared.opening.Opening.{Opening}
 use Rattle.px_expr_parse.specs.declared.opening.Opening.TheVariants as openings
 use Rattle.px_expr_parse.specs.Opening.{opening_of, keyword_opening, enumerated_of, Begins}
-use Rattle.px_expr_parse.specs.Tail.{closed, indexed, attribute, named, argument, two_arguments, look_state}
-use Rattle.px_expr_parse.specs.Verdict.{unary_at}
+use Rattle.px_expr_parse.specs.Tail.{closed, attribute, named, argument, two_arguments, look_state}
 
 -- ---- what begins with the token of a word
 
@@ -238,10 +237,8 @@ pub record Opened (tokens : List Token) (from : ℕ) (tree : Term) (end : ℕ) :
 -- an operation of an operator before its operand
 pub record Prefixed (tokens : List Token) (from : ℕ) (tree : Term) (end : ℕ) : Type 0 where
   pub operator : UnaryOperator
-  pub part : Term
   pub is : unary_at tokens from ≡ Some operator
-  pub built : tree ≡ Unary operator from part
-  pub rest : operand 8 part tokens (from + 1) end
+  pub made : Produced (λ (part : Term). Unary operator from part) (operand 8) tokens from tree end
 
 module _ (tokens : List Token) (from : ℕ) where
   opens_by : (kind : TokenKind) (opening : Opening) → kind_at tokens from ≡ Some kind → opening_of kind ≡ opening
@@ -372,12 +369,14 @@ module _ (tokens : List Token) (from : ℕ) where
   open_bare (Unary operator token tree) end tight o =
       inr (record {
         operator = operator;
-        part = tree;
         is = o.1.1.0;
-        built = ap (λ (place : ℕ). Unary operator place tree) o.1.0;
-        rest =
-            subst (λ (floor : ℕ). operand floor tree tokens (from + 1) end) (unary_level operator)
-            (moved (operand (level_of (operators.Unary operator)) tree) o.0 end o.1.1.1 o.2);
+        made = record {
+          part = tree;
+          built = ap (λ (place : ℕ). Unary operator place tree) o.1.0;
+          rest =
+              subst (λ (floor : ℕ). operand floor tree tokens (from + 1) end) (unary_level operator)
+              (moved (operand (level_of (operators.Unary operator)) tree) o.0 end o.1.1.1 o.2);
+        };
       })
   open_bare (Binary operator left right) end tight o =
       absurd (omega (arith, tight, (binary_level operator).1))
@@ -427,9 +426,5 @@ module _ (tokens : List Token) (from : ℕ) where
             absurd (subst (λ (which : Opening). Rest which tokens from tree end) same found.rest)
         | inr found ↦
             let same : found.operator ≡ operator = same_Some found.operator operator (sym found.is ∙ is) in
-            record {
-              part = found.part;
-              built = found.built ∙ ap (λ (which : UnaryOperator). Unary which from found.part) same;
-              rest = found.rest;
-            }
+            subst (λ (which : UnaryOperator). Produced (λ (part : Term). Unary which from part) (operand 8) tokens from tree end) same found.made
       ]

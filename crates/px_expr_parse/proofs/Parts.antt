@@ -1,5 +1,5 @@
 -- Parts that end by themselves, joined to longer ones.
-use Rattle.std.proofs.Common.{◌≡◌, ℕ, ◌+◌, ◌≤◌, ◌<◌, inl, inr, refl, sym, ap, subst, ◌∙◌, List, length, Some, arith}
+use Rattle.std.proofs.Common.{◌≡◌, ℕ, ◌+◌, ◌-◌, ◌*◌, ◌≤◌, ◌<◌, inl, inr, refl, sym, ap, subst, ◌∙◌, List, length, arith}
 use Rattle.px_lex.specs.declared.token.Token.{Token}
 use Rattle.px_lex.specs.declared.token.TokenKind.{TokenKind}
 use Rattle.px_syntax.specs.declared.fault.ParseFault.{ParseFault}
@@ -7,9 +7,13 @@ use Rattle.px_syntax.specs.declared.fault.ParseFault.TheVariants as faults
 use Rattle.px_syntax.specs.Expr.{Term}
 use Rattle.px_syntax.specs.ExprGrammar.{expression}
 use Rattle.px_syntax.specs.Form.{Form, kind_at, one, ◌then◌}
-use Rattle.px_expr_parse.specs.Verdict.{Agree, AgreeBefore, GoesOn, IsRead, IsRefused, IsFound, IsMissing}
-use Rattle.px_expr_parse.proofs.Completions.{Shortest, before as before_late, begun_as, begun_before, begun_here, moved, short_behind, short_token}
+use Rattle.px_expr_parse.specs.Verdict.{Agree, AgreeBefore, GoesOn, IsRead, IsRefused, IsFound, IsMissing, HasKind, LacksKind}
+use Rattle.px_expr_parse.proofs.Completions.{Shortest, before as before_late, begun_as, begun_before, begun_here, moved, short_behind, short_both, short_token}
 use Rattle.px_expr_parse.proofs.Spans.{IsLocal, local_expression}
+
+-- the tokens that are left, and how far one reader may hand on to another at one place
+abbrev pub left : List Token → ℕ → ℕ → ℕ
+left tokens from rank = 8 * (length tokens - from) + rank
 
 -- tokens that agree up to a place agree up to each one before it
 pub agree_before :
@@ -23,6 +27,16 @@ two n = omega arith
 
 pub three : (n : ℕ) → n + 3 ≡ n + 1 + 1 + 1
 three n = omega arith
+
+-- a part is missing where none begins with the token there
+pub missing_here :
+    {A : Type 0} (form : A → Form) (tokens : List Token) (from : ℕ) (fault : ParseFault) → fault ≡ faults.SyntaxFault from
+    → from ≤ length tokens → Shortest form
+    → ((others : List Token) → kind_at others from ≡ kind_at tokens from → (part : A) (end : ℕ) → form part others from end → ⊥)
+    → IsMissing form tokens from fault
+missing_here form tokens from fault is within short none =
+    subst (λ (f : ParseFault). IsMissing form tokens from f) (sym is)
+    (omega arith, within, λ others agree. none others (agree from (omega arith)), begun_here short)
 
 -- ---- a part that ends with another, of which it is built
 
@@ -70,6 +84,9 @@ module _ {A B : Type 0} {whole : A → Form} {inner : B → Form} {build : B →
 
 abbrev pub both : {A B : Type 0} → (A → Form) → (B → Form) → A × B → Form
 both first second parts = first parts.0 then second parts.1
+
+pub short_pair : {A B : Type 0} {first : A → Form} {second : B → Form} → Shortest first → Shortest second → Shortest (both first second)
+short_pair f g = short_both f g (λ others from middle end a b o r. ((a, b), (middle, o, r)))
 
 -- a form that begins with no token with which an expression goes on
 abbrev pub IsClosing : {B : Type 0} → (B → Form) → Type 0
@@ -150,13 +167,6 @@ module _ {B : Type 0} (second : B → Form) (closing : IsClosing second) where
 
 -- ---- a token
 
-abbrev pub HasKind : List Token → ℕ → TokenKind → Type 0
-HasKind tokens place kind = kind_at tokens place ≡ Some kind
-
--- a token is named as missing where it is
-abbrev pub LacksKind : List Token → ℕ → TokenKind → ParseFault → Type 0
-LacksKind tokens place kind fault = (fault ≡ faults.SyntaxFault place) × (HasKind tokens place kind → ⊥)
-
 abbrev pub alone : TokenKind → Unit {0} → Form
 alone kind none = one kind
 
@@ -178,12 +188,7 @@ module _ (kind : TokenKind) (tokens : List Token) (from : ℕ) where
 
   pub missing_alone : (fault : ParseFault) → from ≤ length tokens → LacksKind tokens from kind fault → IsMissing (alone kind) tokens from fault
   missing_alone fault within lacks =
-      subst (λ (f : ParseFault). IsMissing (alone kind) tokens from f) (sym lacks.0) (
-        omega arith,
-        within,
-        λ others agree none end o. lacks.1 (sym (agree from (omega arith)) ∙ o.0),
-        begun_here (short_token kind),
-      )
+      missing_here (alone kind) tokens from fault lacks.0 within (short_token kind) (λ others same none end o. lacks.1 (sym same ∙ o.0))
 
 -- a word, which may have more than one spelling, before a part
 pub ends_word :
@@ -207,12 +212,8 @@ module _ {B : Type 0} (kind : TokenKind) (tokens : List Token) (from : ℕ) (sec
       (fault : ParseFault) → from ≤ length tokens → Shortest second → LacksKind tokens from kind fault
       → IsMissing (behind kind second) tokens from fault
   missing_kind fault within short lacks =
-      subst (λ (f : ParseFault). IsMissing (behind kind second) tokens from f) (sym lacks.0) (
-        omega arith,
-        within,
-        λ others agree other end o. lacks.1 (sym (agree from (omega arith)) ∙ o.1.0),
-        begun_here (short_behind kind short),
-      )
+      missing_here (behind kind second) tokens from fault lacks.0 within (short_behind kind short)
+      (λ others same other end o. lacks.1 (sym same ∙ o.1.0))
 
 -- a token behind a part
 module _ {A : Type 0} (kind : TokenKind) (tokens : List Token) (from : ℕ) (first : A → Form) where

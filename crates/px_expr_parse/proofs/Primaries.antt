@@ -19,15 +19,15 @@ use Rattle.px_syntax.specs.declared.word.BinaryFunction.{BinaryFunction}
 use Rattle.px_syntax.specs.declared.word.LookWord.{LookWord}
 use Rattle.px_syntax.specs.declared.word.UnaryFunction.{UnaryFunction}
 use Rattle.px_syntax.specs.Expr.{Term, Terms, Literal, Enumerated, Variable, Element, Attribute, Look, UnaryCall, BinaryCall, Unary}
-use Rattle.px_syntax.specs.ExprGrammar.{operand, literal_kind}
+use Rattle.px_syntax.specs.ExprGrammar.{indexed, operand, literal_kind, unary_at}
 use Rattle.px_syntax.specs.Form.{Form, kind_at, identifier, nothing, one}
 use Rattle.px_syntax.specs.Operator.{unary_of}
 use Rattle.px_syntax.proofs.Levels.{unary_level}
 use Rattle.px_expr_parse.specs.declared.opening.Opening.{Opening}
 use Rattle.px_expr_parse.specs.declared.opening.Opening.TheVariants as openings
 use Rattle.px_expr_parse.specs.Opening.{opening_of, Begins}
-use Rattle.px_expr_parse.specs.Tail.{closed, indexed, attribute, argument, two_arguments, look_state}
-use Rattle.px_expr_parse.specs.Verdict.{Agree, unary_at, index, attribute as attribute_follows, IsRead, IsRefused, IsFound, IsMissing, HasSign}
+use Rattle.px_expr_parse.specs.Tail.{closed, attribute, argument, two_arguments, look_state}
+use Rattle.px_expr_parse.specs.Verdict.{Agree, index, attribute as attribute_follows, IsRead, IsRefused, IsFound, IsMissing, HasSign}
 use Rattle.px_expr_parse.proofs.Closed.{not_both}
 use Rattle.px_expr_parse.proofs.Completions.{begun_as, begun_here, short_operand}
 use Rattle.px_expr_parse.proofs.Openings.{opened, IsLeaf, Produced, NameRest, named_attribute, rest_of, prefix_of, token_there}

@@ -17,7 +17,7 @@ use Rattle.px_value.specs.declared.enums.Handle.TheVariants as handles
 use Rattle.px_value.specs.declared.enums.NodeState.TheVariants as states
 use Rattle.px_value.specs.declared.enums.Outcome.TheVariants as outcomes
 use Rattle.px_syntax.specs.Form.{kind_at}
-use Rattle.px_expr_parse.specs.Verdict.{unary_at}
+use Rattle.px_syntax.specs.ExprGrammar.{unary_at}
 use Rattle.px_expr_parse.specs.declared.opening.Opening.{Opening}
 use Rattle.px_expr_parse.specs.declared.opening.Opening.TheVariants as openings
 

@@ -23,10 +23,6 @@ is_closer sign = false
 abbrev pub closed : Sign → Term → Form
 closed which tree = expression tree then sign which
 
--- an index in brackets
-abbrev pub indexed : Term → Form
-indexed tree = sign signs.OpenBracket then closed signs.CloseBracket tree
-
 -- a dot and an attribute
 abbrev pub attribute : Attribute → Form
 attribute which = sign signs.Dot then one (kinds.Identifier (attribute_word which))

@@ -1,6 +1,5 @@
 -- What the readers of expressions promise.
-use Rattle.std.specs.Prelude.{◌≡◌, ℕ, ◌+◌, ◌≤◌, ◌<◌, ◌⊎◌, List, [], ◌∷◌, length, Option, Some}
-use Rattle.std.specs.Option.{option_and_then}
+use Rattle.std.specs.Prelude.{◌≡◌, ℕ, ◌+◌, ◌≤◌, ◌<◌, ◌⊎◌, List, [], ◌∷◌, length, Some}
 use Rattle.px_lex.specs.declared.sign.Sign.{Sign}
 use Rattle.px_lex.specs.declared.sign.Sign.TheVariants as signs
 use Rattle.px_lex.specs.declared.token.Token.{Token}
@@ -10,10 +9,9 @@ use Rattle.px_syntax.specs.declared.fault.ParseFault.{ParseFault}
 use Rattle.px_syntax.specs.declared.fault.ParseFault.TheVariants as faults
 use Rattle.px_syntax.specs.declared.operator.BinaryOperator.{BinaryOperator}
 use Rattle.px_syntax.specs.declared.operator.Operator.TheVariants as operators
-use Rattle.px_syntax.specs.declared.operator.UnaryOperator.{UnaryOperator}
-use Rattle.px_syntax.specs.ExprGrammar.{expression, operand}
+use Rattle.px_syntax.specs.ExprGrammar.{binary_at, expression, operand}
 use Rattle.px_syntax.specs.Form.{Form, kind_at}
-use Rattle.px_syntax.specs.Operator.{binary_of, unary_of, level_of}
+use Rattle.px_syntax.specs.Operator.{level_of}
 use Rattle.px_syntax.specs.Expr.{Term}
 
 -- other tokens are these up to and including a place
@@ -35,14 +33,6 @@ pub record IsBegun {A : Type 0} (form : A → Form) (tokens : List Token) (from 
   pub completed :
       (others : List Token) → AgreeBefore tokens others token → Stand missing others token
       → (part : A) × form part others from (token + length missing)
-
--- the operator between two operands that a token is
-abbrev pub binary_at : List Token → ℕ → Option BinaryOperator
-binary_at tokens place = option_and_then binary_of (kind_at tokens place)
-
--- the operator before one operand that a token is
-abbrev pub unary_at : List Token → ℕ → Option UnaryOperator
-unary_at tokens place = option_and_then unary_of (kind_at tokens place)
 
 -- A token with which an expression goes on: an operator between operands of at least a level, [ or a dot.
 pub data GoesOn (floor : ℕ) (tokens : List Token) (place : ℕ) : Type 0 where
@@ -107,13 +97,20 @@ IsMissing form tokens from (faults.SyntaxFault token) =
 IsMissing form tokens from (faults.Deep token) = ⊥
 IsMissing form tokens from faults.NoMemory = Unit {0}
 
--- a sign stands at a place
-abbrev pub HasSign : List Token → ℕ → Sign → Type 0
-HasSign tokens place sign = kind_at tokens place ≡ Some (kinds.Sign sign)
+-- a token of this kind stands at a place
+abbrev pub HasKind : List Token → ℕ → TokenKind → Type 0
+HasKind tokens place kind = kind_at tokens place ≡ Some kind
 
--- a sign is named as missing where it is
+-- a token is named as missing where it is
+abbrev pub LacksKind : List Token → ℕ → TokenKind → ParseFault → Type 0
+LacksKind tokens place kind fault = (fault ≡ faults.SyntaxFault place) × (HasKind tokens place kind → ⊥)
+
+-- the same of a sign
+abbrev pub HasSign : List Token → ℕ → Sign → Type 0
+HasSign tokens place sign = HasKind tokens place (kinds.Sign sign)
+
 abbrev pub LacksSign : List Token → ℕ → Sign → ParseFault → Type 0
-LacksSign tokens place sign fault = (fault ≡ faults.SyntaxFault place) × (HasSign tokens place sign → ⊥)
+LacksSign tokens place sign = LacksKind tokens place (kinds.Sign sign)
 
 -- ---- what `parse_expr` promises
 

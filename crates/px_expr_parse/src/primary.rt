@@ -1,11 +1,11 @@
 // Expressions that are no operation.
 ghost use Rattle.std.specs.Prelude.{◌≡◌, ◌+◌, ◌≤◌, ◌<◌, length, Some, None, IfOk, IfErr, MatchOption};
 ghost use Rattle.px_syntax.specs.Expr.{term_of};
-ghost use Rattle.px_syntax.specs.ExprGrammar.{literal_kind};
+ghost use Rattle.px_syntax.specs.ExprGrammar.{literal_kind, unary_at};
 ghost use Rattle.px_syntax.specs.Form.{kind_at};
 ghost use Rattle.px_syntax.specs.declared.expr.Literal.{Literal as LiteralValue};
 ghost use Rattle.px_expr_parse.specs.Opening.{Begins};
-ghost use Rattle.px_expr_parse.specs.Verdict.{IsRead, IsRefused, unary_at};
+ghost use Rattle.px_expr_parse.specs.Verdict.{IsRead, IsRefused};
 
 use crate::argument::closed;
 use crate::build;

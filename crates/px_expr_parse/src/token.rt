@@ -1,7 +1,8 @@
 // Single tokens.
 ghost use Rattle.std.specs.Prelude.{◌≡◌, ◌+◌, ◌<◌, ◌≤◌, ◌↔◌, length, None, Some, IsSome, IsTrue, OnOk, IfOk, IfErr, MatchOption};
 ghost use Rattle.px_syntax.specs.Form.{identifier, kind_at};
-ghost use Rattle.px_expr_parse.specs.Verdict.{binary_at, unary_at, IsFound, IsMissing, HasSign, LacksSign};
+ghost use Rattle.px_syntax.specs.ExprGrammar.{binary_at, unary_at};
+ghost use Rattle.px_expr_parse.specs.Verdict.{IsFound, IsMissing, HasSign, LacksSign};
 
 use px_lex::{Sign, Token, TokenKind};
 use px_syntax::{BinaryOperator, Identifier, ParseFault, UnaryOperator};

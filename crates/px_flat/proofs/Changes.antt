@@ -5,7 +5,7 @@ use Rattle.std.proofs.lemmas.List.Sums.{sum_by-cons}
 use Rattle.px_value.specs.declared.value.Value.{Value}
 use Rattle.px_core.specs.Fit.{cells_of, AreDistinct}
 use Rattle.px_core.specs.Plan.{Site, VariableData, is_same}
-use Rattle.px_core.proofs.Paths.{same-self, same-other}
+use Rattle.px_core.proofs.Paths.{same-self, same-other, distinct_behind, head_apart, head_differs}
 use Rattle.px_sem.specs.Events.{with_entry, with_record}
 use Rattle.px_sem.specs.World.{World, NodeRecord, LookState, Report}
 use Rattle.px_flat.specs.declared.act.Act.{Act}
@@ -41,24 +41,21 @@ one_changed (site ∷ plan) f g first zero distinct within same =
     ∙ ap (λ b. (site.path, if b then g (first + 0) else f first) ∷ entries g (first + 1) plan) (sym (same-self site.path))
     ∙ ap (λ rest. (site.path, if is_same site.path site.path then g (first + 0) else f first) ∷ rest)
     (untouched plan f g (first + 1) site.path (g (first + 0))
-    (λ k within is. let e : suc k ≡ 0 = distinct (suc k) 0 (omega arith) (omega arith) is in absurd (omega arith))
+    (λ k within is. head_apart site plan k distinct within (sym is))
     (λ k within.
     let there : first + 1 + k ≡ first + suc k = omega arith in
     ap g there ∙ same (suc k) (omega arith) (λ is. absurd (omega arith)) ∙ ap f (sym there)))
 one_changed (site ∷ plan) f g first (suc node) distinct within same =
     let own : List ℕ = (site_in plan node).path in
+    let inside : node < length plan = omega arith in
     let here : first + 0 ≡ first = omega arith in
     let head : g first ≡ f first = ap g (sym here) ∙ same 0 (omega arith) (λ is. absurd (omega arith)) ∙ ap f here in
-    let behind : AreDistinct plan = λ j k hj hk is.
-    let e : suc j ≡ suc k = distinct (suc j) (suc k) (omega arith) (omega arith) is in omega arith in
-    let other : site.path ≢ own = λ is.
-    let e : 0 ≡ suc node = distinct 0 (suc node) (omega arith) (omega arith) is in absurd (omega arith) in
     let there : first + 1 + node ≡ first + suc node = omega arith in
     let r : NodeRecord = g (first + suc node) in
     ap (λ r. (site.path, r) ∷ entries g (first + 1) plan) head
-    ∙ ap (λ b. (site.path, if b then r else f first) ∷ entries g (first + 1) plan) (sym (same-other site.path own other))
+    ∙ ap (λ b. (site.path, if b then r else f first) ∷ entries g (first + 1) plan) (sym (head_differs site plan node distinct inside))
     ∙ ap (λ rest. (site.path, if is_same site.path own then r else f first) ∷ rest)
-    (one_changed plan f g (first + 1) node behind (omega arith) (λ k within apart.
+    (one_changed plan f g (first + 1) node (distinct_behind site plan distinct) inside (λ k within apart.
     let at : first + 1 + k ≡ first + suc k = omega arith in
     ap g at ∙ same (suc k) (omega arith) (λ is. apart (omega arith)) ∙ ap f (sym at))
     ∙ ap (λ n. with_entry own (g n) (entries f (first + 1) plan)) there)

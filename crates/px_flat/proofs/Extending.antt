@@ -1,7 +1,5 @@
 -- The extents of the first nodes, one after another.
-use Rattle.std.proofs.Common.{◌≡◌, ◌≢◌, ℕ, ◌+◌, ◌-◌, ◌<◌, ◌≤◌, nat_eq, true, false, List, [], ◌∷◌, ◌++◌, length, get_or, map, sum, ap, sym, ◌∙◌, arith, ◌⊎◌, inl, inr, length-append}
-use Rattle.std.proofs.lemmas.Bool.Decides.{eqb_tells}
-use Rattle.std.proofs.lemmas.List.{get_or_append_left, get_or_push}
+use Rattle.std.proofs.Common.{◌≡◌, ℕ, ◌+◌, ◌-◌, ◌<◌, ◌≤◌, List, [], ◌∷◌, ◌++◌, length, get_or, map, sum, ap, sym, ◌∙◌, arith, length-append}
 use Rattle.px_core.specs.declared.variable.Variable.{Variable}
 use Rattle.px_core.specs.Fit.{cells_of, cells_of_site}
 use Rattle.px_core.specs.Plan.{Site, no_site, variable_data}
@@ -11,8 +9,11 @@ use Rattle.px_flat.specs.Extents.{extent_of, AreExtents}
 use Rattle.px_flat.specs.Layout.{variable_cells, first_cell}
 use Rattle.px_flat.specs.Row.{site_in, after_last}
 use Rattle.px_flat.specs.Rows.{IsLaid, sites_of}
-use Rattle.px_flat.proofs.Sites.{length-sites_of, site_at_number}
-use Rattle.px_flat.proofs.Sums.{sum_more, sum_front}
+use Rattle.px_flat.proofs.Sites.{length-sites_of}
+use Rattle.px_flat.proofs.Slotted.{variables_at}
+use Rattle.px_flat.proofs.Sums.{sum_more}
+use Rattle.px_flat.proofs.Trees.{each_put}
+use Rattle.px_flat.proofs.Variables.{cells_within}
 
 -- the first nodes have their extents, and the next one its first cell
 pub record AreExtended (plan : List Site) (extents : List Extent) (cell i : ℕ) : Type 0 where
@@ -26,7 +27,10 @@ pub extended_more : (plan : List Site) (extents : List Extent) (cell i cells end
 extended_more plan extents cell i cells end within cells_is end_is so_far = record {
   long = omega (arith, length-append extents (added ∷ []), so_far.long);
   next = omega (arith, so_far.next, cells_is, sum_more cells_of_site plan i no_site within);
-  each = λ node d before. by node d before (eqb_tells node i);
+  each = λ node d before. each_put (λ node extent. extent ≡ extent_of plan node) extents added
+      (λ node d below. so_far.each node d (omega (arith, below, so_far.long)))
+      (added_is ∙ ap (extent_of plan) (sym so_far.long)) node d
+      (omega (arith, before, length-append extents (added ∷ []), so_far.long));
 }
   where
     added : Extent
@@ -34,16 +38,6 @@ extended_more plan extents cell i cells end within cells_is end_is so_far = reco
 
     added_is : added ≡ extent_of plan i
     added_is = λ j. record { first_cell = so_far.next j; cells = cells_is j; end = end_is j }
-
-    by : (node : ℕ) (d : Extent) → node < i + 1
-        → ((nat_eq node i ≡ true) × (node ≡ i)) ⊎ ((nat_eq node i ≡ false) × (node ≢ i))
-        → get_or (extents ++ added ∷ []) node d ≡ extent_of plan node
-    by node d before (inl same) =
-        get_or_push extents added d node (so_far.long ∙ sym same.1) ∙ added_is ∙ ap (extent_of plan) (sym same.1)
-    by node d before (inr other) =
-        let differ : node ≢ i = other.1 in
-        let lower : node < i = omega arith in
-        get_or_append_left extents (added ∷ []) d node (omega (arith, so_far.long)) ∙ so_far.each node d lower
 
 pub extended_all : (plan : List Site) (extents : List Extent) (cell i : ℕ) → i ≡ length plan
     → AreExtended plan extents cell i → AreExtents plan extents
@@ -58,8 +52,7 @@ pub cells_at : (rows : List Row) → IsLaid rows → (i : ℕ) (d : Row) (variab
     → variables ≡ (get_or rows i d).head.variables.items
     → sum (map cells_of (map variable_data variables)) ≡ cells_of_site (site_in (sites_of rows) i)
 cells_at rows laid i d variables within is =
-    ap (λ variables. sum (map cells_of (map variable_data variables))) is
-    ∙ sym (ap cells_of_site (site_at_number rows laid i no_site d within))
+    ap (λ variables. sum (map cells_of variables)) (variables_at rows laid i d variables within is)
 
 -- they are no more than a fit plan has
 pub cells_fit : (rows : List Row) → IsLaid rows → (i cell : ℕ) (d : Row) (variables : List Variable) → i < length rows
@@ -71,6 +64,5 @@ cells_fit rows laid i cell d variables within is few here =
     omega (
       arith,
       cells_at rows laid i d variables within is,
-      sum_more cells_of_site (sites_of rows) i no_site inside,
-      sum_front cells_of_site (sites_of rows) (i + 1),
+      cells_within (sites_of rows) i inside,
     )

@@ -5,8 +5,8 @@ use Rattle.std.specs.Borrow.{Bor}
 use Rattle.std.proofs.lemmas.List.{get_or-map, length-map, map-append}
 use Rattle.px_core.proofs.Trees.{node_tree}
 use Rattle.px_core.specs.declared.node.CoreNode.{CoreNode}
-use Rattle.px_core.specs.Plan.{Tree, NoNode, Branch, Site, no_site, path_under, sites, sites_under, trees_of}
-use Rattle.px_flat.specs.Laying.{below_it, heads_in, heads_of}
+use Rattle.px_core.specs.Plan.{Tree, NoNode, Branch, Site, no_site, path_under, sites, sites_under, trees_of, below_it}
+use Rattle.px_flat.specs.Laying.{heads_in, heads_of}
 use Rattle.px_flat.specs.Row.{site_in}
 use Rattle.px_flat.proofs.Trees.{node_head}
 

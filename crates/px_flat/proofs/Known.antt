@@ -5,58 +5,53 @@ use Rattle.std.proofs.Math.Logic.{∥∥₁_elim}
 use Rattle.std.proofs.Props.{props}
 use Rattle.std.proofs.lemmas.Bool.{and_parts, and_from, or_left, or_right}
 use Rattle.std.proofs.lemmas.Grind.{common_steps}
-use Rattle.std.proofs.lemmas.List.Folds.{list_all-append, list_any-append}
+use Rattle.std.proofs.lemmas.List.{length-map}
+use Rattle.std.proofs.lemmas.List.Folds.{list_any-append}
 use Rattle.std.proofs.lemmas.List.Sums.{AllPass-from_list_all}
-use Rattle.px_core.specs.Expr.{Term}
-use Rattle.px_core.specs.Fit.{Reference, references, references_of_site, path_is_there, variable_is_there, paths_are_there, variables_are_there, has_right_variables, AreDistinct, is_there}
+use Rattle.px_value.proofs.General.{list_all_parts}
+use Rattle.px_core.specs.Fit.{Reference, references_of_site, path_is_there, variable_is_there, paths_are_there, variables_are_there, has_right_variables, AreDistinct, is_there}
 use Rattle.px_core.specs.Plan.{Site, no_site, is_same}
 use Rattle.px_core.proofs.Paths.{same-self}
 use Rattle.px_flat.specs.declared.names.Names.{Names}
 use Rattle.px_flat.specs.Extents.{AreBelow}
 use Rattle.px_flat.specs.FitPlan.{IsFitPlan}
 use Rattle.px_flat.specs.Layout.{variable_cells}
-use Rattle.px_flat.specs.Lookups.{lookups_in, lookups_in_head, lookups_of, with_name}
+use Rattle.px_flat.specs.Lookups.{AreKnown, lookups_in_head, lookups_of, with_name}
 use Rattle.px_flat.specs.Names.{plan_in}
 use Rattle.px_flat.specs.Row.{site_in, after_last}
 use Rattle.px_flat.proofs.Numbers.{distinct_sites}
 use Rattle.px_flat.proofs.Subtrees.{are_below}
 use Rattle.px_flat.proofs.Trees.{length-sites_under}
 
--- all that expressions speak of and look up is the plan's
-pub record AreKnown (plan : List Site) (mentions : List Reference) (names : List (List ℕ)) : Type 0 where
-  pub mentioned : list_all (is_there plan) mentions ≡ true
-  pub looked_up : list_all (λ name. list_any (is_same name) (lookups_of plan)) names ≡ true
-
 pub front : (plan : List Site) (mentions more : List Reference) (names others : List (List ℕ))
     → AreKnown plan (mentions ++ more) (names ++ others) → AreKnown plan mentions names
 front plan mentions more names others known = record {
-  mentioned = (and_parts (list_all (is_there plan) mentions) (list_all (is_there plan) more)
-      (sym (list_all-append (is_there plan) mentions more) ∙ known.mentioned)).0;
-  looked_up = (and_parts (list_all (λ name. list_any (is_same name) (lookups_of plan)) names)
-      (list_all (λ name. list_any (is_same name) (lookups_of plan)) others)
-      (sym (list_all-append (λ name. list_any (is_same name) (lookups_of plan)) names others) ∙ known.looked_up)).0;
+  mentioned = (list_all_parts (is_there plan) mentions more known.mentioned).0;
+  looked_up = (list_all_parts (λ name. list_any (is_same name) (lookups_of plan)) names others known.looked_up).0;
 }
 
 pub back : (plan : List Site) (mentions more : List Reference) (names others : List (List ℕ))
     → AreKnown plan (mentions ++ more) (names ++ others) → AreKnown plan more others
 back plan mentions more names others known = record {
-  mentioned = (and_parts (list_all (is_there plan) mentions) (list_all (is_there plan) more)
-      (sym (list_all-append (is_there plan) mentions more) ∙ known.mentioned)).1;
-  looked_up = (and_parts (list_all (λ name. list_any (is_same name) (lookups_of plan)) names)
-      (list_all (λ name. list_any (is_same name) (lookups_of plan)) others)
-      (sym (list_all-append (λ name. list_any (is_same name) (lookups_of plan)) names others) ∙ known.looked_up)).1;
+  mentioned = (list_all_parts (is_there plan) mentions more known.mentioned).1;
+  looked_up = (list_all_parts (λ name. list_any (is_same name) (lookups_of plan)) names others known.looked_up).1;
 }
 
--- what holds of expressions together holds of each of them
-pub each_known : (plan : List Site) (terms : List Term) → AreKnown plan (flat_map references terms) (flat_map lookups_in terms)
-    → All (λ term. AreKnown plan (references term) (lookups_in term)) terms
-each_known plan [] known k d within = absurd (omega arith)
-each_known plan (term ∷ terms) known zero d within =
-    front plan (references term) (flat_map references terms) (lookups_in term) (flat_map lookups_in terms) known
-each_known plan (term ∷ terms) known (suc k) d within =
-    each_known plan terms
-    (back plan (references term) (flat_map references terms) (lookups_in term) (flat_map lookups_in terms) known)
-    k d (omega arith)
+-- what all that a list gives passes, all that one of its items gives does
+pub part_passes : {X Y : Type 0} (p : Y → Bool) (f : X → List Y) (xs : List X) (i : ℕ) (d : X)
+    → list_all p (flat_map f xs) ≡ true → i < length xs → list_all p (f (get_or xs i d)) ≡ true
+part_passes p f [] i d all within = absurd (omega arith)
+part_passes p f (x ∷ xs) zero d all within = (list_all_parts p (f x) (flat_map f xs) all).0
+part_passes p f (x ∷ xs) (suc i) d all within =
+    part_passes p f xs i d (list_all_parts p (f x) (flat_map f xs) all).1 (omega arith)
+
+-- what holds of expressions or targets together holds of each of them
+pub each_known : {X : Type 0} (plan : List Site) (mentions : X → List Reference) (names : X → List (List ℕ)) (xs : List X)
+    → AreKnown plan (flat_map mentions xs) (flat_map names xs) → All (λ x. AreKnown plan (mentions x) (names x)) xs
+each_known plan mentions names xs known k d within = record {
+  mentioned = part_passes (is_there plan) mentions xs k d known.mentioned within;
+  looked_up = part_passes (λ name. list_any (is_same name) (lookups_of plan)) names xs k d known.looked_up within;
+}
 
 -- ---- a fit plan
 
@@ -96,6 +91,10 @@ sound plan distinct fit = ∥∥₁_elim fit (hlevel props) (fit_sound plan dist
 pub names_sound : (names : Names) → IsSound (plan_in names)
 names_sound names = sound (plan_in names) (distinct_sites names.rows.items names.laid) names.fit
 
+-- it has as many paths as nodes
+pub length-paths : (names : Names) → length names.paths.keys ≡ length (plan_in names)
+length-paths names = ap length names.found ∙ length-map (plan_in names) (λ site. site.path)
+
 -- ---- what a node's expressions name
 
 both_pass : {X : Type 0} (p q : X → Bool) (xs : List X) → list_all p xs ≡ true → list_all q xs ≡ true
@@ -132,17 +131,6 @@ all_added names (name ∷ more) =
     by false is = list_any-append (is_same name) names (name ∷ [])
         ∙ or_right (list_any (is_same name) names) (list_any (is_same name) (name ∷ []))
         (or_left (is_same name name) false (same-self name))
-
--- of all names those of one node
-pub part_passes : {X Y : Type 0} (p : Y → Bool) (f : X → List Y) (xs : List X) (i : ℕ) (d : X)
-    → list_all p (flat_map f xs) ≡ true → i < length xs → list_all p (f (get_or xs i d)) ≡ true
-part_passes p f [] i d all within = absurd (omega arith)
-part_passes p f (x ∷ xs) zero d all within =
-    (and_parts (list_all p (f x)) (list_all p (flat_map f xs)) (sym (list_all-append p (f x) (flat_map f xs)) ∙ all)).0
-part_passes p f (x ∷ xs) (suc i) d all within =
-    part_passes p f xs i d
-    (and_parts (list_all p (f x)) (list_all p (flat_map f xs)) (sym (list_all-append p (f x) (flat_map f xs)) ∙ all)).1
-    (omega arith)
 
 pub site_known : (plan : List Site) → IsSound plan → (node : ℕ) → node < length plan
     → AreKnown plan (references_of_site (site_in plan node)) (lookups_in_head (site_in plan node).head)

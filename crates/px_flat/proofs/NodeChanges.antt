@@ -4,7 +4,7 @@ use Rattle.std.proofs.lemmas.List.{get_or-set_same, get_or-set_other, drop-set-a
 use Rattle.px_value.specs.declared.value.Value.{Value}
 use Rattle.px_value.specs.declared.value.Value.TheVariants as values
 use Rattle.px_core.specs.Fit.{cells_of_site, AreDistinct}
-use Rattle.px_core.specs.Plan.{Site, no_site}
+use Rattle.px_core.specs.Plan.{Site}
 use Rattle.px_sem.specs.Events.{with_record}
 use Rattle.px_sem.specs.World.{NodeRecord, LookState, Report, record_at}
 use Rattle.px_flat.specs.declared.act.Act.{Act}
@@ -14,7 +14,7 @@ use Rattle.px_flat.specs.Numbered.{held}
 use Rattle.px_flat.specs.Parts.{values_in, record_in, world_of, action_in, act_of, state_in, outcome_in, failure_in}
 use Rattle.px_flat.specs.Row.{site_in}
 use Rattle.px_flat.proofs.Changes.{values_in-behind, world_of-changed}
-use Rattle.px_flat.proofs.Sums.{sum_more, sum_front}
+use Rattle.px_flat.proofs.Variables.{cells_within}
 use Rattle.px_flat.proofs.Worlds.{record_at-world_of}
 
 -- a write behind the variables leaves those of each node
@@ -24,8 +24,7 @@ variables_stay : (plan : List Site) (cells : List Value) (cell : ℕ) (value : V
     ≡ values_in (site_in plan node).head.variables (drop (first_cell plan node) cells)
 variables_stay plan cells cell value node within behind =
     let first : ℕ = first_cell plan node in
-    let room : first + cells_of_site (site_in plan node) ≤ variable_cells plan =
-    omega (arith, sum_more cells_of_site plan node no_site within, sum_front cells_of_site plan (node + 1)) in
+    let room : first + cells_of_site (site_in plan node) ≤ variable_cells plan = cells_within plan node within in
     let far : cell ≡ first + (cell - first) = omega arith in
     ap (λ n. values_in (site_in plan node).head.variables (drop first (set cells n value))) far
     ∙ ap (values_in (site_in plan node).head.variables) (drop-set-add first cells (cell - first) value)

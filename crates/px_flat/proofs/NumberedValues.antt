@@ -2,23 +2,22 @@
 use Rattle.std.proofs.Common.{◌≡◌, ℕ, Bool, true, not, ◌&&◌, List, [], ◌∷◌, is_some, refl, ap, sym, ◌∙◌}
 use Rattle.std.specs.List.{list_all, list_any}
 use Rattle.std.proofs.lemmas.Bool.{and_parts}
-use Rattle.std.proofs.lemmas.List.Sums.{AllPass-from_list_all}
 use Rattle.px_value.specs.declared.value.Value.{Value}
 use Rattle.px_core.specs.Expr as terms
 use Rattle.px_core.specs.Expr.{Term, Terms, NoTerms, More}
-use Rattle.px_core.specs.Fit.{Reference, Node, CommandNode, UpdateNode, Scalar, Array, references, references_of_each, path_is_there, variable_is_there, has_right_variables, declares_scalar, declares_array, is_there}
-use Rattle.px_core.specs.Plan.{Site, VariableData, no_site, is_same}
+use Rattle.px_core.specs.Fit.{Reference, Node, CommandNode, UpdateNode, Scalar, Array, references, references_of_each, path_is_there, variable_is_there, declares_scalar, declares_array, is_there}
+use Rattle.px_core.specs.Plan.{Site, VariableData, is_same}
 use Rattle.px_sem.specs.Expressions.{value, value_of_each, element, looked_up, unary_value, binary_value}
 use Rattle.px_sem.specs.World.{LookState, Report, cells_at}
 use Rattle.px_flat.specs.declared.act.Act.{Act}
-use Rattle.px_flat.specs.Layout.{first_cell}
 use Rattle.px_flat.specs.Numbered.{numbered, each_numbered, numbered_value, numbered_values, reported_of}
 use Rattle.px_flat.specs.Parts.{IsParts, world_of}
-use Rattle.px_flat.specs.Lookups.{lookups_in, lookups_in_each, lookups_of}
-use Rattle.px_flat.specs.Row.{site_in}
-use Rattle.px_flat.proofs.Known.{IsSound, AreKnown, front, back}
+use Rattle.px_flat.specs.Lookups.{lookups_in, lookups_in_each, lookups_of, AreKnown}
+use Rattle.px_flat.specs.Values.{HasValue}
+use Rattle.px_flat.proofs.Known.{IsSound, front, back}
 use Rattle.px_flat.proofs.NodeValues.{state_value, outcome_of_value, failure_of_value, handle_of_value, acknowledged_value}
-use Rattle.px_flat.proofs.VariableValues.{has_place, IsPlaced, placed, name_at}
+use Rattle.px_flat.proofs.VariableValues.{IsPlaced, placed, name_at}
+use Rattle.px_flat.proofs.Variables.{declared}
 use Rattle.px_flat.proofs.Worlds.{IsThere, site_there}
 
 -- the path of the first thing spoken of is there
@@ -40,15 +39,14 @@ variable_at : (plan : List Site) (cells : List Value) (reports : List (LookState
     → IsThere plan owner (λ site. list_any (λ variable. is_same variable.name name && form variable) site.head.variables)
     → IsPlaced plan cells reports acts owner name
 variable_at plan cells reports acts owner name form sound there =
-    placed plan cells reports acts owner name there.node sound.distinct there.within there.path_is
-    (has_place form (first_cell plan there.node) (site_in plan there.node).head.variables name
-    (AllPass-from_list_all has_right_variables plan sound.arrays there.node no_site there.within) there.is)
+    let its = declared plan owner name form sound there in
+    placed plan cells reports acts owner name its.node sound.distinct its.within its.path_is its.has
 
 mutual
   pub numbered_value-numbered : (plan : List Site) (cells : List Value) (reports : List (LookState × Report))
       (acts : List Act) (term : Term) → IsSound plan → IsParts plan cells acts
       → AreKnown plan (references term) (lookups_in term)
-      → numbered_value plan cells reports (numbered plan term) ≡ value plan (world_of plan cells reports acts) term
+      → HasValue plan cells reports acts term
   numbered_value-numbered plan cells reports acts (terms.Literal given) sound parts known = refl
   numbered_value-numbered plan cells reports acts (terms.Var owner name) sound parts known =
       (variable_at plan cells reports acts owner name (λ variable. not (is_some variable.size)) sound

@@ -11,7 +11,7 @@ use Rattle.px_core.specs.Plan.{Site, no_site, site_at}
 use Rattle.px_core.proofs.Paths.{found_itself}
 use Rattle.px_sem.specs.World as world
 use Rattle.px_flat.specs.declared.row.Row.{Row}
-use Rattle.px_flat.specs.Rows.{site_of, grown, sites_of, IsBefore, IsLaid}
+use Rattle.px_flat.specs.Rows.{site_of, grown, sites_of, IsBefore, IsLaid, IsLinked}
 
 -- ---- sites of rows
 
@@ -60,8 +60,7 @@ grown_at sites (row ∷ rows) (suc i) d e h before =
 pub length-sites_of : (rows : List Row) → length (sites_of rows) ≡ length rows
 length-sites_of rows = omega (arith, length-grown [] rows)
 
-pub site_at_linked : (rows : List Row) → ((i : ℕ) (d : Row) → i < length rows → IsBefore i (get_or rows i d))
-    → (i : ℕ) (d : Site) (e : Row) → i < length rows
+pub site_at_linked : (rows : List Row) → IsLinked rows → (i : ℕ) (d : Site) (e : Row) → i < length rows
     → get_or (sites_of rows) i d ≡ site_of (sites_of rows) (get_or rows i e)
 site_at_linked rows linked i d e h =
     rw zero-add at (grown_at [] rows i d e h

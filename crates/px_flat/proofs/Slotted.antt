@@ -19,17 +19,13 @@ use Rattle.px_flat.specs.Layout.{place_from, first_cell}
 use Rattle.px_flat.specs.Numbered.{kind_among}
 use Rattle.px_flat.specs.Row.{site_in}
 use Rattle.px_flat.specs.Rows.{IsLaid, sites_of}
-use Rattle.px_flat.specs.Slots.{place_data, slots_from}
+use Rattle.px_flat.specs.Slots.{place_data, slot_at, slots_from}
 use Rattle.px_flat.proofs.Sites.{site_at_number}
 use Rattle.px_flat.proofs.Sums.{sum_more}
 use Rattle.px_flat.proofs.Trees.{each_put}
 use Rattle.px_core.proofs.Cells.{cells_are}
 
 -- ---- one after another
-
--- the slot of a variable that stands at a cell
-abbrev pub slot_at : ℕ → VariableData → Slot
-slot_at cell variable = record { first = cell; size = cells_of variable; kind = variable.kind }
 
 -- a name that is among others is not the one that differs from them
 other_name : (name : List ℕ) (variables : List VariableData) (i : ℕ) (d : VariableData) → i < length variables

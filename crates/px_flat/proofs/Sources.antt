@@ -1,9 +1,9 @@
 -- An expression has the same value wherever all its sources are the same.
-use Rattle.std.proofs.Common.{◌≡◌, ℕ, ◌+◌, ◌<◌, List, [], ◌∷◌, ◌++◌, length, take, drop, get_or, refl, ap, sym, ◌∙◌, subst, arith, All, rules}
-use Rattle.std.proofs.lemmas.List.{ext_get_or, get_or-append-add, get_or-drop, get_or-take, length-append, length-drop, length-take}
+use Rattle.std.proofs.Common.{◌≡◌, ℕ, ◌<◌, List, [], ◌∷◌, ◌++◌, length, take, drop, get_or, refl, ap, sym, ◌∙◌, subst, arith, All, rules}
+use Rattle.std.proofs.lemmas.List.{ext_get_or, get_or-drop, get_or-take, length-drop, length-take}
 use Rattle.std.proofs.lemmas.List.Elements.{All-head, All-tail}
 use Rattle.px_value.specs.declared.value.Value.TheVariants.{Unknown}
-use Rattle.px_value.proofs.General.{All-front}
+use Rattle.px_value.proofs.General.{All-back, All-front}
 use Rattle.px_core.specs.Plan.{Site}
 use Rattle.px_sem.specs.Expressions.{element, unary_value, binary_value}
 use Rattle.px_flat.specs.Layout.{state_cell, outcome_cell, failure_cell, handle_cell, acknowledgement_cell}
@@ -14,12 +14,6 @@ use Rattle.px_flat.specs.Sources.{Source, Cells, Reports, Present, IsSame, sourc
 module _ (plan : List Site) (one other : Present) (long : length one.cells ≡ length other.cells) where
   abbrev AreSame : List Source → Type 0
   AreSame sources = All (IsSame plan one other) sources
-
-  -- what is true of all of two lists is true of all of the second
-  back : (xs ys : List Source) → AreSame (xs ++ ys) → AreSame ys
-  back xs ys all k d inside =
-      subst (IsSame plan one other) (get_or-append-add xs ys k d)
-      (all (length xs + k) d (omega (arith, inside, length-append xs ys)))
 
   -- one cell holds the same
   cell : (at : ℕ) → AreSame (Cells at 1 ∷ []) → held one.cells at ≡ held other.cells at
@@ -66,14 +60,14 @@ module _ (plan : List Site) (one other : Present) (long : length one.cells ≡ l
     same_value (Binary op left right) all =
         (λ i. binary_value op
         (same_value left (All-front (IsSame plan one other) (sources_in plan left) (sources_in plan right) all) i)
-        (same_value right (back (sources_in plan left) (sources_in plan right) all) i))
+        (same_value right (All-back (IsSame plan one other) (sources_in plan left) (sources_in plan right) all) i))
 
     pub same_values : (args : EachNumbered) → AreSame (sources_in_each plan args)
         → numbered_values plan one.cells one.reports args ≡ numbered_values plan other.cells other.reports args
     same_values NoneNumbered all = refl
     same_values (MoreNumbered first rest) all =
         (λ i. same_value first (All-front (IsSame plan one other) (sources_in plan first) (sources_in_each plan rest) all) i
-        ∷ same_values rest (back (sources_in plan first) (sources_in_each plan rest) all) i)
+        ∷ same_values rest (All-back (IsSame plan one other) (sources_in plan first) (sources_in_each plan rest) all) i)
 
 pub read_only_sources : (plan : List Site) → ReadOnlySources plan
 read_only_sources plan expr one other long all = same_value plan one other long expr all

@@ -11,7 +11,7 @@ use Rattle.px_value.proofs.General.{each-append, each_front, each_back, each_map
 use Rattle.px_core.specs.Fit.{AreDistinct}
 use Rattle.px_core.specs.Plan.{Tree, NoNode, Branch, Site, no_site, is_same, count_of, path_under, site_under, sites_under, sites}
 use Rattle.px_core.proofs.Differing.{Differ}
-use Rattle.px_core.proofs.Paths.{same-other}
+use Rattle.px_core.proofs.Paths.{same-other, distinct_behind, head_apart}
 use Rattle.px_flat.specs.Extents.{AreBelow}
 use Rattle.px_flat.specs.FitPlan.{IsFitPlan}
 use Rattle.px_flat.specs.Row.{site_in, is_below, after_last}
@@ -37,10 +37,8 @@ differ_from : (plan : List Site) → AreDistinct plan → Differ plan
 differ_from [] distinct = tt
 differ_from (site ∷ plan) distinct = (
   recursion_from_All (λ (other : Site). site.path ≢ other.path) plan
-      (All-from_get_or (λ (other : Site). site.path ≢ other.path) plan no_site (λ i within same.
-      let e : 0 ≡ suc i = distinct 0 (suc i) (omega arith) (omega arith) same in absurd (omega arith))),
-  differ_from plan (λ i j hi hj same.
-      let e : suc i ≡ suc j = distinct (suc i) (suc j) (omega arith) (omega arith) same in omega arith),
+      (All-from_get_or (λ (other : Site). site.path ≢ other.path) plan no_site (λ i within. head_apart site plan i distinct within)),
+  differ_from plan (distinct_behind site plan distinct),
 )
 
 -- ---- a plan, split at a node

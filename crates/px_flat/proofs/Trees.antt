@@ -18,13 +18,13 @@ use Rattle.px_core.proofs.Trees.{node_tree}
 use Rattle.px_core.specs.declared.node.CoreNode.{CoreNode}
 use Rattle.px_core.specs.declared.node.CoreNode.TheViews.{out-CoreNode}
 use Rattle.px_core.specs.declared.node.CoreNode.TheFolds.{fold-CoreNode}
-use Rattle.px_core.specs.Plan.{Tree, Branch, NoNode, Head, count_of, Site, no_site, branch, head_of, path_under}
+use Rattle.px_core.specs.Plan.{Tree, Branch, NoNode, Head, count_of, Site, no_site, branch, head_of, path_under, below_it}
 use Rattle.px_core.specs.Plan.{site_under, sites_under, sites, trees_of}
 use Rattle.px_core.specs.Fit.{siblings_differ, has_short_path, has_name, AreDistinct}
 use Rattle.px_flat.specs.declared.row.Row.{Row}
 use Rattle.px_flat.specs.Row.{head_data}
 use Rattle.px_flat.specs.Rows.{above_in, site_of, sites_of, path_at, IsBefore, IsLaid, IsLinked, IsNamed}
-use Rattle.px_flat.specs.Laying.{below_it, ends_from, IsRowUnder, IsRootRow}
+use Rattle.px_flat.specs.Laying.{ends_from, IsRowUnder, IsRootRow}
 use Rattle.px_core.proofs.SitePaths.{paths_differ}
 use Rattle.px_flat.proofs.Sites.{length-sites_of, site_at_linked, grown-push}
 
@@ -69,23 +69,24 @@ pub parent_path : (old rows : List Row) (parent : ℕ) (done : List CoreNode) �
     → path_at rows parent ≡ (get_or (sites_of old) parent no_site).path
 parent_path old rows parent done h so_far = ap (λ site. site.path) (parent_stays old rows parent done h so_far)
 
+-- the site of these parts
+abbrev site_with : List ℕ → List (List ℕ) → Head → Site
+site_with path above head = record { path = path; above = above; head = head }
+
 -- the next node's row is its site
 pub row_is_site : (old rows : List Row) (parent : ℕ) (done : List CoreNode) (node : CoreNode) (row : Row)
     → parent < length old → LaidSoFar old rows parent done
     → IsRowUnder rows parent node row
     → site_of (sites_of rows) row ≡ site_under (above_in (sites_of old) (Some parent)) (node_head node)
 row_is_site old rows parent done node row h so_far is =
-    ap (λ path. at path (above_in (sites_of rows) row.parent) (head_data row.head))
+    ap (λ path. site_with path (above_in (sites_of rows) row.parent) (head_data row.head))
     (is.path_is ∙ ap (λ path. below path (node_head node).name) (parent_path old rows parent done h so_far))
-    ∙ ap (λ parent. at own (above_in (sites_of rows) parent) (head_data row.head)) is.parent_is
-    ∙ ap (λ head. at own (above_in (sites_of rows) (Some parent)) head) is.head_is
-    ∙ ap (λ parent. at own (parent.path ∷ parent.above) (node_head node)) (parent_stays old rows parent done h so_far)
+    ∙ ap (λ parent. site_with own (above_in (sites_of rows) parent) (head_data row.head)) is.parent_is
+    ∙ ap (λ head. site_with own (above_in (sites_of rows) (Some parent)) head) is.head_is
+    ∙ ap (λ parent. site_with own (parent.path ∷ parent.above) (node_head node)) (parent_stays old rows parent done h so_far)
   where
     own : List ℕ
     own = below (get_or (sites_of old) parent no_site).path (node_head node).name
-
-    at : List ℕ → List (List ℕ) → Head → Site
-    at path above head = record { path = path; above = above; head = head }
 
 -- all can be laid: the next node, and those below it
 pub record NextIsShort (above : List (List ℕ)) (node : CoreNode) : Type 0 where
@@ -178,14 +179,6 @@ pub next_room : (old rows : List Row) (parent : ℕ) (done : List CoreNode) (nod
     → length (path_at rows parent) + length (node_head node).name < 5000
 next_room old rows parent done node h so_far is_short = grind (arith, common_steps, parent_path, short_room)
 
--- a child has fewer nodes below it than its parent
-pub child_smaller : (nodes : List CoreNode) (i : ℕ) (d : CoreNode) → i < length nodes
-    → count_of (below_it (get_or nodes i d)) < count_of (trees_of nodes)
-child_smaller [] i d h = absurd (omega arith)
-child_smaller (node ∷ nodes) zero d h = omega (arith, ap count_of (node_tree node (trees_of nodes)))
-child_smaller (node ∷ nodes) (suc i) d h =
-    omega (arith, ap count_of (node_tree node (trees_of nodes)), child_smaller nodes i d (omega arith))
-
 -- ---- how many they are
 
 pub length-sites_under : (above : List (List ℕ)) (tree : Tree) → length (sites_under above tree) ≡ count_of tree
@@ -205,6 +198,16 @@ pub count_next : (nodes : List CoreNode) (i : ℕ) (d : CoreNode) → i < length
 count_next [] i d h = absurd (omega arith)
 count_next (node ∷ nodes) zero d h = omega (arith, ap count_of (node_tree node (trees_of nodes)))
 count_next (node ∷ nodes) (suc i) d h = grind (arith, common_steps, node_tree, count_next nodes i d (omega arith))
+
+-- so a child has fewer nodes below it than its parent
+pub child_smaller : (node : CoreNode) (children : List CoreNode) (i : ℕ) (child : CoreNode)
+    → children ≡ (out-CoreNode node).children.items → i < length children → child ≡ get_or children i child
+    → count_of (below_it child) < count_of (below_it node)
+child_smaller node children i child are within is =
+    let fewer : count_of (below_it (get_or children i child)) < count_of (trees_of children) =
+    omega (arith, count_next children i child within) in
+    subst (λ children. count_of (below_it child) < count_of (trees_of children)) are
+    (subst (λ child. count_of (below_it child) < count_of (trees_of children)) (sym is) fewer)
 
 -- how many rows are laid
 pub laid_count : (old rows : List Row) (parent : ℕ) (done : List CoreNode) → LaidSoFar old rows parent done
@@ -267,18 +270,15 @@ pub rooted : (front rows : List Row) (root : CoreNode) (row : Row) → front ≡
 rooted front rows root row none is root_is = subst (λ ps. IsRooted ps root)
     (sym (is ∙ ap (λ ps. ps ++ row ∷ []) none)) (record {
       sites = ap (λ site. site ∷ [])
-          (ap (λ path. at path (above_in [] row.parent) (head_data row.head)) root_is.path_is
-          ∙ ap (λ parent. at (node_head root).name (above_in [] parent) (head_data row.head)) root_is.parent_is
-          ∙ ap (λ head. at (node_head root).name [] head) root_is.head_is);
+          (ap (λ path. site_with path (above_in [] row.parent) (head_data row.head)) root_is.path_is
+          ∙ ap (λ parent. site_with (node_head root).name (above_in [] parent) (head_data row.head)) root_is.parent_is
+          ∙ ap (λ head. site_with (node_head root).name [] head) root_is.head_is);
       linked = each_put IsBefore [] row (λ i d h. absurd (omega arith)) (λ j e.
           let none : None ≡ Some j = sym root_is.parent_is ∙ e in absurd (cc));
       named = each_put (λ i p. is_name p.head.name ≡ true) [] row (λ i d h. absurd (omega arith))
           (ap (λ (head : Head). is_name head.name) root_is.head_is ∙ root_is.named);
       long = refl;
     })
-  where
-    at : List ℕ → List (List ℕ) → Head → Site
-    at path above head = record { path = path; above = above; head = head }
 
 pub above_root : (rows : List Row) (root : CoreNode) → IsRooted rows root
     → above_in (sites_of rows) (Some 0) ≡ (node_head root).name ∷ []

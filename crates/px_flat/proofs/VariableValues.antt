@@ -1,13 +1,16 @@
 -- What a numbered expression has of a variable and of a lookup name.
-use Rattle.std.proofs.Common.{◌≡◌, ℕ, suc, ◌+◌, ◌<◌, ◌≤◌, Bool, true, false, not, ◌&&◌, ◌⊎◌, cond, nat_le, map, sum, List, [], ◌∷◌, length, get_or, take, drop, position, refl, ap, sym, ◌∙◌, subst, arith, inl, inr, Option, Some, None, if◌then◌else◌}
+use Rattle.std.proofs.Common.{◌≡◌, ℕ, ◌+◌, ◌<◌, ◌≤◌, Bool, true, false, ◌&&◌, ◌⊎◌, nat_le, map, sum, List, [], ◌∷◌, length, get_or, take, drop, position, refl, ap, sym, ◌∙◌, arith, inl, inr, Option, Some, None, if◌then◌else◌}
 use Rattle.std.specs.List.{list_all, list_any, position_or_len}
 use Rattle.std.specs.Option.{unwrap_or}
 use Rattle.std.specs.Cmp.Lexicographic.{same_text}
 use Rattle.std.proofs.lemmas.Bool.{and_parts, or_cases, leb-true, lt-ltb}
 use Rattle.std.proofs.lemmas.Grind.{common_steps}
 use Rattle.std.proofs.lemmas.List.{get_or-take, get_or-drop}
+use Rattle.std.proofs.lemmas.List.Folds.{Any-from_list_any}
+use Rattle.std.proofs.lemmas.List.Sums.{passes_at_first}
 use Rattle.px_value.specs.declared.value.Value.{Value}
 use Rattle.px_value.specs.declared.value.Value.TheVariants.{Unknown}
+use Rattle.px_value.proofs.General.{not_behind}
 use Rattle.px_core.specs.Fit.{cells_of, has_right_cells, has_right_size, AreDistinct}
 use Rattle.px_core.specs.Plan.{Site, VariableData, is_same}
 use Rattle.px_sem.specs.World.{LookState, Report, NodeRecord, record_at, cells_at, of_variable}
@@ -137,30 +140,12 @@ placed plan cells reports acts owner name node distinct within path_is has =
 pub first_name : (names : List (List ℕ)) (name : List ℕ) → list_any (is_same name) names ≡ true
     → (position_or_len (is_same name) names < length names)
     × (get_or names (position_or_len (is_same name) names) [] ≡ name)
-first_name [] name there = absurd (cc)
-first_name (first ∷ names) name there =
-    by (is_same name first) refl (or_cases (is_same name first) (list_any (is_same name) names) there)
-    (first_name names name)
-  where
-    Found : ℕ → Type 0
-    Found place = (place < suc (length names)) × (get_or (first ∷ names) place [] ≡ name)
-
-    by : (same : Bool) → is_same name first ≡ same
-        → (is_same name first ≡ true) ⊎ (list_any (is_same name) names ≡ true)
-        → (list_any (is_same name) names ≡ true
-        → (position_or_len (is_same name) names < length names)
-        × (get_or names (position_or_len (is_same name) names) [] ≡ name))
-        → Found (cond (not (is_same name first)) (1 + position_or_len (is_same name) names) 0)
-    by true is either rest =
-        subst (λ b. Found (cond (not b) (1 + position_or_len (is_same name) names) 0)) (sym is)
-        (omega arith, sym (same_text name first (sym is)))
-    by false is (inl here) rest = absurd (cc (sym here ∙ is))
-    by false is (inr behind) rest =
-        let found = rest behind in
-        let lt : position_or_len (is_same name) names < length names = found.0 in
-        let next : 1 + position_or_len (is_same name) names ≡ suc (position_or_len (is_same name) names) = omega arith in
-        subst (λ b. Found (cond (not b) (1 + position_or_len (is_same name) names) 0)) (sym is)
-        (subst Found (sym next) (omega arith, found.1))
+first_name names name there =
+    let found = Any-from_list_any (is_same name) names there in
+    let first : ℕ = position_or_len (is_same name) names in
+    let inside : first < length names =
+    omega (arith, not_behind (is_same name) names found.0 found.1 (ap (is_same name) found.3 ∙ found.4), found.2) in
+    (inside, sym (same_text name (get_or names first []) (sym (passes_at_first (is_same name) names [] inside))))
 
 -- the name that stands at the number of a name
 pub name_at : (names : List (List ℕ)) (name : List ℕ) → list_any (is_same name) names ≡ true

@@ -5,13 +5,13 @@ use Rattle.std.specs.Cmp.Lexicographic.{same_text}
 use Rattle.std.proofs.lemmas.Bool.{and_parts, cases_lt}
 use Rattle.std.proofs.lemmas.Grind.{common_steps}
 use Rattle.std.proofs.lemmas.List.{take-take}
-use Rattle.std.proofs.lemmas.List.Folds.{list_all-append}
 use Rattle.std.proofs.lemmas.List.Sums.{AllPass-from_list_all}
+use Rattle.px_value.proofs.General.{list_all_parts}
 use Rattle.px_core.specs.Expr.{Term}
 use Rattle.px_core.specs.Fit.{Scalar, Array, Reference, references, references_of_target, terms_of, terms_of_conditions, targets_of, variable_is_there, variables_are_there, declares_scalar, declares_array, cells_of, cells_of_site, has_right_variables}
 use Rattle.px_core.specs.Plan.{Site, Head, BodyData, Nothing, Assign, Command, Update, TargetData, VariableData, no_site, is_same}
 use Rattle.px_sem.specs.Conflicts.{target_of}
-use Rattle.px_flat.specs.Layout.{Place, place_from, first_cell}
+use Rattle.px_flat.specs.Layout.{Place, place_from, first_cell, variable_cells}
 use Rattle.px_flat.specs.Numbered.{place_of}
 use Rattle.px_flat.specs.Row.{site_in}
 use Rattle.px_flat.proofs.Known.{IsSound}
@@ -42,6 +42,12 @@ place_behind cell (variable ∷ variables) name place at =
 pub cells_apart : (plan : List Site) (i j : ℕ) → i < j → j ≤ length plan
     → first_cell plan i + cells_of_site (site_in plan i) ≤ first_cell plan j
 cells_apart plan i j before within = grind (arith, common_steps, sum_more, sum_front, take-take)
+
+-- and all of them within the plan's
+pub cells_within : (plan : List Site) (node : ℕ) → node < length plan
+    → first_cell plan node + cells_of_site (site_in plan node) ≤ variable_cells plan
+cells_within plan node within =
+    omega (arith, sum_more cells_of_site plan node no_site within, sum_front cells_of_site plan (node + 1))
 
 -- ---- what is declared
 
@@ -101,9 +107,8 @@ target_declared plan node target sound within is =
     let targets : List Reference = flat_map references_of_target (targets_of head.body) in
     let all : list_all there (conditions ++ (terms ++ targets)) ≡ true =
     AllPass-from_list_all (variables_are_there plan) plan sound.declared node no_site within in
-    let body = and_parts (list_all there conditions) (list_all there (terms ++ targets))
-    (sym (list_all-append there conditions (terms ++ targets)) ∙ all) in
-    let written = and_parts (list_all there terms) (list_all there targets) (sym (list_all-append there terms targets) ∙ body.1) in
+    let body = list_all_parts there conditions (terms ++ targets) all in
+    let written = list_all_parts there terms targets body.1 in
     reference_declared plan target.owner target.name target.index sound (its_target plan head.body target is written.1)
 
 -- ---- one cell, one variable

@@ -1,22 +1,23 @@
 -- The numbers in what a node of a fit plan computes lie within the plan's tables and cells.
-use Rattle.std.proofs.Common.{◌≡◌, ℕ, zero, suc, ◌+◌, ◌<◌, Bool, true, not, ◌&&◌, List, [], ◌∷◌, ◌++◌, length, map, refl, ap, sym, ◌∙◌, subst, arith, Option, Some, None, is_some}
+use Rattle.std.proofs.Common.{◌≡◌, ℕ, ◌+◌, ◌<◌, Bool, true, not, ◌&&◌, List, [], ◌∷◌, ◌++◌, length, get_or, map, refl, ap, sym, ◌∙◌, subst, arith, Option, Some, None, is_some}
 use Rattle.std.specs.List.{list_all, list_any, flat_map, All}
 use Rattle.std.specs.Option.{option_map}
 use Rattle.std.proofs.lemmas.Bool.{and_parts}
+use Rattle.std.proofs.lemmas.List.Elements.{All-map}
+use Rattle.std.proofs.lemmas.Simd.{map-map}
 use Rattle.px_core.specs.Expr as terms
 use Rattle.px_core.specs.Expr.{Term, Terms, NoTerms, More}
-use Rattle.px_core.specs.Fit.{Node, CommandNode, UpdateNode, Scalar, Array, Reference, references, references_of_each, references_of_target, terms_of, terms_of_conditions, targets_of, declares_scalar, declares_array, is_command, is_update, cells_of_site}
+use Rattle.px_core.specs.Fit.{Node, CommandNode, UpdateNode, Scalar, Array, Reference, references, references_of_each, references_of_target, terms_of, terms_of_conditions, targets_of, declares_scalar, declares_array, is_command, is_update}
 use Rattle.px_core.specs.Plan as core
-use Rattle.px_core.specs.Plan.{Site, Head, ConditionTerms, TargetData, BodyData, PairData, VariableData, no_site, no_term, is_same}
-use Rattle.px_flat.specs.Lookups.{lookups_in, lookups_in_each, lookups_in_target, lookups_in_body, lookups_of}
+use Rattle.px_core.specs.Plan.{Site, Head, ConditionTerms, TargetData, BodyData, PairData, VariableData, no_term, is_same}
+use Rattle.px_flat.specs.Lookups.{lookups_in, lookups_in_each, lookups_in_target, lookups_in_body, lookups_of, AreKnown}
 use Rattle.px_flat.specs.Numbered.{numbered, each_numbered, numbered_target, numbered_body, numbered_conditions, numbered_node, node_of, place_of}
 use Rattle.px_flat.specs.Row.{site_in}
 use Rattle.px_flat.specs.Within.{IsPlace, IsWithin, AreWithin, IsTargetWithin, IsBodyWithin, AreConditionsWithin, IsNodeWithin}
-use Rattle.px_flat.proofs.Known.{IsSound, AreKnown, front, back, each_known, site_known}
+use Rattle.px_flat.proofs.Known.{IsSound, front, back, each_known, site_known}
 use Rattle.px_flat.proofs.NumberedValues.{first_path, first_variable}
-use Rattle.px_flat.proofs.Sums.{sum_more, sum_front}
 use Rattle.px_flat.proofs.VariableValues.{number_within}
-use Rattle.px_flat.proofs.Variables.{IsDeclared, declared, place_at}
+use Rattle.px_flat.proofs.Variables.{IsDeclared, declared, place_at, cells_within}
 use Rattle.px_flat.proofs.Worlds.{IsThere, site_there, node_of-path}
 
 -- a node that is there has its number
@@ -35,12 +36,7 @@ place_within plan owner name form sound there =
     subst (IsPlace plan) (sym (place_at plan owner name sound own))
     (record {
       some = own.has.some_cells;
-      within = omega (
-        arith,
-        own.has.within,
-        sum_more cells_of_site plan own.node no_site own.within,
-        sum_front cells_of_site plan (own.node + 1),
-      );
+      within = omega (arith, own.has.within, cells_within plan own.node own.within);
     })
 
 mutual
@@ -96,14 +92,8 @@ mutual
 -- each of expressions
 all_within : (plan : List Site) (terms : List Term) → IsSound plan
     → AreKnown plan (flat_map references terms) (flat_map lookups_in terms) → All (IsWithin plan) (map (numbered plan) terms)
-all_within plan [] sound known k d within = absurd (omega arith)
-all_within plan (term ∷ terms) sound known zero d within =
-    numbered_within plan term sound
-    (front plan (references term) (flat_map references terms) (lookups_in term) (flat_map lookups_in terms) known)
-all_within plan (term ∷ terms) sound known (suc k) d within =
-    all_within plan terms sound
-    (back plan (references term) (flat_map references terms) (lookups_in term) (flat_map lookups_in terms) known)
-    k d (omega arith)
+all_within plan terms sound known = All-map (IsWithin plan) (numbered plan) terms (λ k d within.
+    numbered_within plan (get_or terms k d) sound (each_known plan references lookups_in terms known k d within))
 
 -- ---- a node
 
@@ -165,19 +155,15 @@ body_within plan (core.Command name args (Some target)) sound known = (
       (back plan (flat_map references args) (references_of_target target ++ []) (flat_map lookups_in args) (lookups_in_target target ++ []) known))),
 )
 body_within plan (core.Update pairs) sound known =
-    subst (All (IsWithin plan)) (each_pair pairs)
+    subst (All (IsWithin plan)) (map-map (numbered plan) (λ (pair : PairData). pair.value) pairs)
     (all_within plan (map (λ pair. pair.value) pairs) sound
     (front plan (flat_map references (map (λ pair. pair.value) pairs)) [] (flat_map lookups_in (map (λ pair. pair.value) pairs)) [] known))
-  where
-    each_pair : (pairs : List PairData) → map (numbered plan) (map (λ pair. pair.value) pairs) ≡ map (λ pair. numbered plan pair.value) pairs
-    each_pair [] = refl
-    each_pair (pair ∷ pairs) = ap (λ rest. numbered plan pair.value ∷ rest) (each_pair pairs)
 
 conditions_within : (plan : List Site) (conditions : ConditionTerms) → IsSound plan
     → AreKnown plan (flat_map references (terms_of_conditions conditions)) (flat_map lookups_in (terms_of_conditions conditions))
     → AreConditionsWithin plan (numbered_conditions plan conditions)
 conditions_within plan conditions sound known =
-    let each = each_known plan (terms_of_conditions conditions) known in
+    let each = each_known plan references lookups_in (terms_of_conditions conditions) known in
     record {
       start = numbered_within plan conditions.start sound (each 0 no_term (omega arith));
       end = numbered_within plan conditions.end sound (each 1 no_term (omega arith));

@@ -1,16 +1,17 @@
 -- The world that parts stand for, node by node.
-use Rattle.std.proofs.Common.{◌≡◌, ◌≢◌, ℕ, zero, suc, ◌+◌, ◌<◌, Bool, true, false, ◌&&◌, cond, List, [], ◌∷◌, length, take, drop, refl, ap, sym, ◌∙◌, arith, inl, inr, Some, if◌then◌else◌}
+use Rattle.std.proofs.Common.{◌≡◌, ℕ, zero, suc, ◌+◌, ◌<◌, Bool, true, false, ◌&&◌, cond, List, [], ◌∷◌, length, take, drop, refl, ap, sym, ◌∙◌, arith, Some, if◌then◌else◌}
 use Rattle.std.specs.Map.{lookup}
 use Rattle.std.specs.Option.{unwrap_or}
 use Rattle.std.specs.Cmp.Lexicographic.{same_text}
-use Rattle.std.proofs.lemmas.Bool.{and_parts, or_cases}
+use Rattle.std.proofs.lemmas.Bool.{and_parts}
 use Rattle.std.proofs.lemmas.Grind.{common_steps}
-use Rattle.std.proofs.lemmas.List.{drop-drop}
+use Rattle.std.proofs.lemmas.List.{drop-drop, get_or_default}
+use Rattle.std.proofs.lemmas.List.Folds.{Any-from_list_any}
 use Rattle.px_value.specs.declared.value.Value.{Value}
 use Rattle.px_value.specs.declared.value.Value.TheVariants as values
 use Rattle.px_core.specs.Fit.{cells_of, has_site, AreDistinct}
-use Rattle.px_core.specs.Plan.{Site, VariableData, is_same}
-use Rattle.px_core.proofs.Paths.{same-self, same-other}
+use Rattle.px_core.specs.Plan.{Site, VariableData, is_same, no_site}
+use Rattle.px_core.proofs.Paths.{same-self, distinct_behind, head_differs}
 use Rattle.px_sem.specs.Expressions.{outcome_value, failure_value, handle_value, handle_of, is_acknowledged}
 use Rattle.px_sem.specs.World.{NodeRecord, LookState, Report, no_record, record_at, of_variable}
 use Rattle.px_flat.specs.declared.act.Act.{Act}
@@ -30,13 +31,10 @@ found_among [] f first i distinct within = absurd (omega arith)
 found_among (site ∷ plan) f first zero distinct within = grind (arith, common_steps, same-self)
 found_among (site ∷ plan) f first (suc i) distinct within =
     let own : List ℕ = (site_in plan i).path in
-    let other : site.path ≢ own = λ same.
-    let e : 0 ≡ suc i = distinct 0 (suc i) (omega arith) (omega arith) same in absurd (omega arith) in
-    let behind : AreDistinct plan = λ j k hj hk same.
-    let e : suc j ≡ suc k = distinct (suc j) (suc k) (omega arith) (omega arith) same in omega arith in
+    let inside : i < length plan = omega arith in
     let there : first + 1 + i ≡ first + suc i = omega arith in
-    ap (λ b. cond b (Some (f first)) (lookup (λ key. is_same key own) (entries f (first + 1) plan))) (same-other site.path own other)
-    ∙ found_among plan f (first + 1) i behind (omega arith)
+    ap (λ b. cond b (Some (f first)) (lookup (λ key. is_same key own) (entries f (first + 1) plan))) (head_differs site plan i distinct inside)
+    ∙ found_among plan f (first + 1) i (distinct_behind site plan distinct) inside
     ∙ ap (λ n. Some (f n)) there
 
 -- the record of the node with a number
@@ -126,16 +124,17 @@ pub record IsThere (plan : List Site) (path : List ℕ) (holds : Site → Bool) 
 
 pub site_there : (holds : Site → Bool) (path : List ℕ) (plan : List Site) → has_site holds path plan ≡ true
     → IsThere plan path holds
-site_there holds path [] there = absurd (cc)
-site_there holds path (site ∷ plan) there =
-    elim (or_cases (is_same site.path path && holds site) (has_site holds path plan) there) [
-      | inl here ↦
-          let both = and_parts (is_same site.path path) (holds site) here in
-          record { node = 0; within = omega arith; path_is = same_text site.path path (sym both.0); is = both.1 }
-      | inr behind ↦
-          let found = site_there holds path plan behind in
-          record { node = suc found.node; within = omega (arith, found.within); path_is = found.path_is; is = found.is }
-    ]
+site_there holds path plan there =
+    let found = Any-from_list_any (λ (site : Site). is_same site.path path && holds site) plan there in
+    let site : Site = found.1 in
+    let both = and_parts (is_same site.path path) (holds site) found.4 in
+    let here : site_in plan found.0 ≡ site = get_or_default plan found.0 no_site site found.2 ∙ found.3 in
+    record {
+      node = found.0;
+      within = found.2;
+      path_is = ap (λ (site : Site). site.path) here ∙ same_text site.path path (sym both.0);
+      is = ap holds here ∙ both.1;
+    }
 
 -- the number of a node by its path
 pub node_of-path : (plan : List Site) (node : ℕ) → AreDistinct plan → node < length plan

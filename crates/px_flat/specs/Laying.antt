@@ -6,14 +6,10 @@ use Rattle.px_value.specs.Path.{below}
 use Rattle.px_core.specs.declared.node.CoreNode.{CoreNode}
 use Rattle.px_core.specs.declared.node.CoreNode.TheOpen.{CoreNode-F}
 use Rattle.px_core.specs.declared.node.CoreNode.TheViews.{out-CoreNode}
-use Rattle.px_core.specs.Plan.{Tree, Head, NoNode, Branch, head_of, trees_of, count_of}
+use Rattle.px_core.specs.Plan.{Tree, Head, NoNode, Branch, head_of, count_of}
 use Rattle.px_flat.specs.declared.row.Row.{Row}
 use Rattle.px_flat.specs.Row.{head_data}
 use Rattle.px_flat.specs.Rows.{path_at}
-
--- the tree below a node
-abbrev pub below_it : CoreNode → Tree
-below_it node = trees_of (out-CoreNode node).children.items
 
 -- the heads of the nodes of a tree in preorder
 abbrev pub heads_in : Tree → List Head

@@ -1,7 +1,8 @@
 -- The names that a plan looks up, each once.
-use Rattle.std.specs.Prelude.{ℕ, List, [], ◌∷◌, ◌++◌, fold, Option, Some, None, if◌then◌else◌}
-use Rattle.std.specs.List.{list_any, flat_map}
-use Rattle.px_core.specs.Fit.{terms_of, terms_of_conditions, targets_of}
+use Rattle.std.specs.Prelude.{◌≡◌, ℕ, true, List, [], ◌∷◌, ◌++◌, fold, if◌then◌else◌}
+use Rattle.std.specs.List.{list_all, list_any, flat_map}
+use Rattle.std.specs.Option.{option_map_or}
+use Rattle.px_core.specs.Fit.{Reference, is_there, terms_of, terms_of_conditions, targets_of}
 use Rattle.px_core.specs.Plan.{Site, Head, TargetData, BodyData, is_same}
 use Rattle.px_core.specs.Expr.{Term, Terms, Literal, Var, Cell, StateOf, OutcomeOf, FailureOf, HandleOf, Acknowledged, Look, Unary, Binary, NoTerms, More}
 
@@ -25,11 +26,7 @@ abbrev mutual
   lookups_in_each (More first rest) = lookups_in first ++ lookups_in_each rest
 
 abbrev pub lookups_in_target : TargetData → List (List ℕ)
-lookups_in_target target = of_index target.index
-  where
-    of_index : Option Term → List (List ℕ)
-    of_index None = []
-    of_index (Some index) = lookups_in index
+lookups_in_target target = option_map_or lookups_in target.index []
 
 abbrev pub lookups_in_body : BodyData → List (List ℕ)
 lookups_in_body body = flat_map lookups_in (terms_of body) ++ flat_map lookups_in_target (targets_of body)
@@ -45,3 +42,8 @@ with_name names name = if list_any (is_same name) names then names else names ++
 -- each name that a plan looks up, once, in the order in which they stand first
 abbrev pub lookups_of : List Site → List (List ℕ)
 lookups_of plan = fold with_name [] (flat_map (λ site. lookups_in_head site.head) plan)
+
+-- all that expressions speak of and look up is the plan's
+pub record AreKnown (plan : List Site) (mentions : List Reference) (names : List (List ℕ)) : Type 0 where
+  pub mentioned : list_all (is_there plan) mentions ≡ true
+  pub looked_up : list_all (λ name. list_any (is_same name) (lookups_of plan)) names ≡ true

@@ -41,5 +41,5 @@ IsNamed rows = (i : ℕ) (d : Row) → i < length rows → IsTrue (is_name (slic
 
 -- parents stand before their children, and no two paths are the same
 pub record IsLaid (rows : List Row) : Type 0 where
-  pub linked : (i : ℕ) (d : Row) → i < length rows → IsBefore i (slice_index_or rows i d)
+  pub linked : IsLinked rows
   pub distinct : (i j : ℕ) → i < length rows → j < length rows → path_at rows i ≡ path_at rows j → i ≡ j

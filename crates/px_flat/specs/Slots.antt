@@ -10,12 +10,15 @@ use Rattle.px_flat.specs.Row.{site_in}
 abbrev pub place_data : Slot → Place
 place_data slot = record { first = slot.first; size = slot.size }
 
+-- the slot of a variable that stands at a cell
+abbrev pub slot_at : ℕ → VariableData → Slot
+slot_at cell variable = record { first = cell; size = cells_of variable; kind = variable.kind }
+
 -- the slots of variables, which stand one after another from a cell on, with their names
 abbrev pub slots_from : ℕ → List VariableData → List (List ℕ × Slot)
 slots_from cell [] = []
 slots_from cell (variable ∷ variables) =
-    (variable.name, record { first = cell; size = cells_of variable; kind = variable.kind })
-    ∷ slots_from (cell + cells_of variable) variables
+    (variable.name, slot_at cell variable) ∷ slots_from (cell + cells_of variable) variables
 
 -- these are the slots of each of a plan's nodes
 pub record AreSlots (plan : List Site) (slots : List (List (List ℕ × Slot))) : Type 0 where

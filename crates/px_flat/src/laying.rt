@@ -3,11 +3,11 @@ ghost use Rattle.std.specs.Prelude.{◌≡◌, ◌+◌, ◌<◌, ◌≤◌, ◌+
 ghost use Rattle.std.specs.List.{list_all};
 ghost use Rattle.px_core.specs.declared.node.CoreNode.TheViews.{out-CoreNode};
 ghost use Rattle.px_core.specs.Fit.{IsFit, has_short_path};
-ghost use Rattle.px_core.specs.Plan.{variable_data, head_of, count_of, sites_under, tree_of, sites};
+ghost use Rattle.px_core.specs.Plan.{variable_data, head_of, count_of, sites_under, tree_of, sites, below_it};
 ghost use Rattle.px_value.specs.Name.{is_name};
 ghost use Rattle.px_flat.specs.Row.{head_data};
 ghost use Rattle.px_flat.specs.Rows.{IsLaid, IsLinked, IsNamed, sites_of, above_in, path_at};
-ghost use Rattle.px_flat.specs.Laying.{below_it, IsRowAt, IsRootRow, IsRowUnder};
+ghost use Rattle.px_flat.specs.Laying.{IsRowAt, IsRootRow, IsRowUnder};
 
 use crate::row::{Head, Row};
 use px_core::{CoreNode, Plan, Variable};

@@ -10,16 +10,11 @@ use Rattle.px_sem.specs.World.{LookState, Report}
 use Rattle.px_flat.specs.declared.flat.Flat.{Flat}
 use Rattle.px_flat.specs.Flat.{plan_of}
 use Rattle.px_flat.specs.Layout.{all_cells}
-use Rattle.px_flat.specs.Numbered.{numbered_node}
-use Rattle.px_flat.specs.Row.{site_in}
 use Rattle.px_flat.specs.Sources.{Source, Cells, Reports, Present, IsSame, sources_in}
-use Rattle.px_flat.specs.Within.{IsWithin}
-use Rattle.px_flat.proofs.Tables.{flat_sound}
-use Rattle.px_flat.proofs.Withins.{node_is_within}
 use Rattle.px_cached.specs.Cached.{CachedData, HasTouchedCell, HasTouchedReports, IsSeen, IsSeenBut, is_touched, plan_in}
 use Rattle.px_cached.specs.Conditions.{all_sources, condition_in, source_number}
 use Rattle.px_cached.specs.Firsts.{HasCell}
-use Rattle.px_cached.proofs.Conditions.{kind_of_node, within_kind}
+use Rattle.px_cached.proofs.Conditions.{condition_within}
 use Rattle.px_cached.proofs.Listening.{IsThere, sources_there}
 use Rattle.px_cached.proofs.Reported.{report_behind, report_there}
 use Rattle.px_cached.proofs.Seeing.{was_untouched}
@@ -86,14 +81,6 @@ module _ (old new : CachedData) (values : List Value) (reports : List (LookState
 
 -- ---- something is reported
 
-there_in : (flat : Flat) (node : ℕ) (kind : ConditionKind) → node < length (plan_of flat)
-    → IsWithin (plan_of flat) (condition_in (plan_of flat) node kind)
-there_in flat node kind there =
-    let plan : List Site = plan_of flat in
-    subst (IsWithin plan) (kind_of_node plan node kind)
-    (within_kind plan (numbered_node plan (site_in plan node).head).conditions kind
-    (node_is_within plan node (flat_sound flat) there).conditions)
-
 module _ (old new : CachedData) (values : List Value) (reports later : List (LookState × Report))
     (touched : HasTouchedReports old new) (seen : IsSeenBut old (record { cells = values; reports = reports })) where
   abbrev was : Present
@@ -121,6 +108,6 @@ module _ (old new : CachedData) (values : List Value) (reports later : List (Loo
       let plan : List Site = plan_in new in
       let source : Source = get_or (sources_of plan node kind) k d in
       cells_alone source
-      (sources_there plan (condition_in plan node kind) (there_in new.flat node kind there) k d inside) untouched
+      (sources_there plan (condition_in plan node kind) (condition_within new.flat node kind there) k d inside) untouched
       (was_seen old new was touched.flat touched.seen seen node kind there k d inside
       (was_untouched old new (source_number plan source) touched.others untouched))

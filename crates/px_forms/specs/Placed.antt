@@ -1,6 +1,6 @@
 -- What the code has of places and nodes, with terms in place of expressions and lists in place of vectors.
 use Rattle.std.specs.Global.{Box}
-use Rattle.px_core.specs.Plan.{Tree, head_of, tree_of_node, trees_of}
+use Rattle.px_core.specs.Plan.{Tree, below_it, head_of, tree_of_node}
 use Rattle.px_core.specs.declared.node.CoreNode.{CoreNode}
 use Rattle.px_core.specs.declared.node.CoreNode.TheViews.{out-CoreNode}
 use Rattle.px_forms.specs.declared.place.Place.{Place as PlaceData}
@@ -16,4 +16,4 @@ tree_in boxed = tree_of_node boxed.value
 
 -- a node without those beside it
 abbrev pub node_of : CoreNode → Node
-node_of node = record { head = head_of (out-CoreNode node); children = trees_of (out-CoreNode node).children.items }
+node_of node = record { head = head_of (out-CoreNode node); children = below_it node }

@@ -1,11 +1,10 @@
 -- What each moment of a creation leaves: the closed master gate, what goes behind it, and the open one.
-use Rattle.std.proofs.Common.{◌≡◌, ◌≤◌, ◌<◌, ◌+◌, ◌⊎◌, inl, inr, ⊎_elim, ℕ, true, false, List, [], ◌∷◌, ◌++◌, length, take, drop, refl, sym, ◌∙◌, ap, subst, arith, append_assoc, IsTrue}
-use Rattle.std.specs.Prelude.{Some, None, Result, Ok, Err, OnOk, IsFalse, is_some, nat_lt, slice_range}
+use Rattle.std.proofs.Common.{◌≡◌, ◌≤◌, ◌<◌, ◌+◌, ◌⊎◌, inl, inr, ⊎_elim, ℕ, false, List, [], ◌∷◌, ◌++◌, length, take, drop, refl, sym, ◌∙◌, ap, subst, arith, append_assoc, IsTrue}
+use Rattle.std.specs.Prelude.{Some, Result, Ok, Err, OnOk, IsFalse, is_some, nat_lt, slice_range}
 use Rattle.std.specs.Option.{ForSome, option_map}
-use Rattle.std.proofs.lemmas.Bool.{cases_Bool, or_left, or_right, or_from}
-use Rattle.std.proofs.lemmas.Bool.Decides.{nat_tests}
+use Rattle.std.proofs.lemmas.Bool.{cases_Bool, le-ltb, lt-ltb, or_left, or_right, or_from}
 use Rattle.std.proofs.lemmas.List.{take_at, drop_at, drop-drop, length-take}
-use Rattle.px_value.proofs.General.{option_map_some}
+use Rattle.px_value.proofs.General.{is_some_at, option_map_some, told_of}
 use Rattle.px_ports.specs.Disk.{Told}
 use Rattle.px_ports.specs.Moment.{Images, Torn, Elapses, Stays, overwritten}
 use Rattle.px_ports.specs.declared.disk.DiskFault.{DiskFault}
@@ -19,20 +18,14 @@ use Rattle.px_journal.proofs.Moments.{leaves, leaves_more, leaves_on}
 use Rattle.px_journal.proofs.Reading.{part_is}
 use Rattle.px_journal.proofs.Torn.{torn_below, torn_above, written_below, written_from, written_above}
 
-short_test : (n : ℕ) → n < 13 → nat_lt n 13 ≡ true
-short_test n short = grind (arith, nat_tests)
-
-long_test : (n : ℕ) → 13 ≤ n → nat_lt n 13 ≡ false
-long_test n long = grind (arith, nat_tests)
-
 pub short_nothing : (bytes : List ℕ) → length bytes < 13 → IsTrue (is_nothing bytes)
-short_nothing bytes short = or_left _ _ (short_test (length bytes) short)
+short_nothing bytes short = or_left (nat_lt (length bytes) 13) (is_closed bytes) (lt-ltb (length bytes) 13 short)
 
 pub closed_nothing : (bytes : List ℕ) → IsTrue (is_closed bytes) → IsTrue (is_nothing bytes)
 closed_nothing bytes closed = or_right _ _ closed
 
 pub not_nothing : (bytes : List ℕ) → 13 ≤ length bytes → is_closed bytes ≡ false → IsFalse (is_nothing bytes)
-not_nothing bytes long shut = or_from _ _ (long_test (length bytes) long) shut
+not_nothing bytes long shut = or_from (nat_lt (length bytes) 13) (is_closed bytes) (le-ltb (length bytes) 13 long) shut
 
 -- the first byte that was read
 pub gate_read : (told gate : List ℕ) → 13 ≤ length told → gate ≡ slice_range told 0 1 → (gate ≡ take 1 told) × (1 ≤ length gate)
@@ -149,8 +142,7 @@ if_opened version images was mid then old half new text content (Ok unit) short 
 
 -- what was told before is told after
 pub told_after : (was now : Told) (told : List ℕ) → is_some now ≡ is_some was → was ≡ Some told → (after : List ℕ) × (now ≡ Some after)
-told_after was None told same is = absurd (let both : false ≡ true = same ∙ ap is_some is in cc)
-told_after was (Some after) told same is = (after, refl)
+told_after was now told same is = told_of now (same ∙ is_some_at was told is)
 
 -- the whole of a creation
 pub old_or_new : (version : Version) (images : Images) (text : List ℕ) (old mid new : List Moment)

@@ -1,8 +1,9 @@
 -- The bytes up to a gate decide what stands before it.
-use Rattle.std.proofs.Common.{rules, ◌≡◌, ◌≤◌, ◌+◌, ◌-◌, ℕ, List, [], ◌∷◌, ◌++◌, length, take, drop, refl, sym, ◌∙◌, ap, subst, arith, IsTrue}
+use Rattle.std.proofs.Common.{rules, ◌≡◌, ◌≤◌, ◌+◌, ◌-◌, ℕ, true, List, [], ◌∷◌, ◌++◌, length, take, drop, refl, sym, ◌∙◌, ap, subst, arith, IsTrue}
 use Rattle.std.proofs.lemmas.List.{take-take, drop-take, drop-drop}
 use Rattle.std.specs.List.{list_all}
-use Rattle.std.proofs.lemmas.Bool.{and_from, and_parts}
+use Rattle.std.proofs.lemmas.Bool.{and_from}
+use Rattle.std.proofs.lemmas.List.Folds.{list_all-append}
 use Rattle.px_event.specs.declared.named.NamedEntry.{NamedEntry}
 use Rattle.px_journal.specs.Layout.{heading, record_bytes, is_fit, is_open, is_closed, Opens, Records, records_size, next_gate, Front, StandsAs}
 use Rattle.px_journal.specs.declared.version.Version.{Version}
@@ -72,8 +73,9 @@ module _ (version : Version) where
 
   pub fits-push : (history : List NamedEntry) (entry : NamedEntry) → IsTrue (list_all (is_fit version) history) → IsTrue (is_fit version entry)
       → IsTrue (list_all (is_fit version) (history ++ entry ∷ []))
-  fits-push [] entry all fit = and_from _ _ fit refl
-  fits-push (first ∷ later) entry all fit = let parts = and_parts _ _ all in and_from _ _ (parts.0) (fits-push later entry (parts.1) fit)
+  fits-push history entry all fit =
+      list_all-append (is_fit version) history (entry ∷ [])
+      ∙ and_from (list_all (is_fit version) history) (list_all (is_fit version) (entry ∷ [])) all (and_from (is_fit version entry) true fit refl)
 
   pub Front-push : (bytes text : List ℕ) (history : List NamedEntry) (entry : NamedEntry) → Front version bytes text history → IsTrue (is_fit version entry)
       → Opens (record_bytes version entry) (drop (next_gate version text history) bytes) → Front version bytes text (history ++ entry ∷ [])

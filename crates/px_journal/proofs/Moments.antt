@@ -2,9 +2,9 @@
 use Rattle.std.proofs.Common.{rules, ◌≡◌, ◌≤◌, ◌⊎◌, inl, inr, ⊎_elim, ℕ, List, length, take, refl, sym, ◌∙◌, ap, subst, arith}
 use Rattle.std.specs.Prelude.{Result, Ok, Err}
 use Rattle.std.proofs.lemmas.Bool.{cases_lt}
-use Rattle.std.proofs.lemmas.List.{take-take, take_all, length-take}
+use Rattle.std.proofs.lemmas.List.{take-take, take_all}
 use Rattle.std.specs.Option.{ForSome}
-use Rattle.px_value.proofs.General.{begins_further}
+use Rattle.px_value.proofs.General.{begins_further, begins_shorter}
 use Rattle.px_ports.specs.Disk.{Told, OnlyReads, Writes, Syncs}
 use Rattle.px_ports.specs.Moment.{Images, LeftSince, Torn, Elapses, Stays}
 use Rattle.px_ports.specs.declared.disk.DiskFault.{DiskFault}
@@ -12,7 +12,7 @@ use Rattle.px_ports.specs.declared.moment.Moment.{Moment}
 use Rattle.px_journal.specs.Crash.{Puts, LeavesOnly}
 
 pub grows_length : (old new : List Moment) → take (length old) new ≡ old → length old ≤ length new
-grows_length old new grows = omega (arith, ap length grows, length-take (length old) new)
+grows_length old new grows = begins_shorter old new grows
 
 module _ (images : Images) where
   -- what a crash now may leave is among what one since an earlier moment may leave

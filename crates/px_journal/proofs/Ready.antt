@@ -1,9 +1,10 @@
 -- What a ready journal says in whatever version, for the crates above.
-use Rattle.std.proofs.Common.{◌≡◌, ◌≤◌, List, [], ◌∷◌, ℕ, length, ◌∙◌, refl, subst, arith, IsTrue}
-use Rattle.std.proofs.lemmas.Bool.{and_parts, and_from}
+use Rattle.std.proofs.Common.{◌≡◌, ◌≤◌, List, ℕ, length, ◌∙◌, subst, arith, IsTrue}
+use Rattle.std.proofs.lemmas.List.Folds.{list_all-map}
 use Rattle.std.specs.Prelude.{IsFalse}
 use Rattle.std.specs.List.{list_all}
 use Rattle.std.specs.Option.{ForSome}
+use Rattle.px_value.proofs.Ascii.{list_all-weaker}
 use Rattle.px_event.specs.Fit.{is_fit_entry}
 use Rattle.px_event.specs.declared.entry.Entry.{Entry}
 use Rattle.px_event.specs.declared.named.NamedEntry.{NamedEntry}
@@ -19,10 +20,9 @@ use Rattle.px_journal.proofs.Histories.{entries_count, length-heading}
 use Rattle.px_journal.proofs.Undamaged.{open_not_closed}
 
 entries_fit : (version : Version) (named : List NamedEntry) → IsTrue (list_all (is_fit version) named) → IsTrue (list_all is_fit_entry (entries named))
-entries_fit version [] fit = refl
-entries_fit version (first ∷ later) fit =
-    let parts = and_parts (is_fit version first) (list_all (is_fit version) later) fit in
-    and_from (is_fit_entry first.entry) (list_all is_fit_entry (entries later)) (entry_fits version first (parts.0)) (entries_fit version later (parts.1))
+entries_fit version named fit =
+    list_all-map is_fit_entry (λ (n : NamedEntry). n.entry) named
+    ∙ list_all-weaker (is_fit version) (λ (n : NamedEntry). is_fit_entry n.entry) (entry_fits version) named fit
 
 module _ {D : Type 0} (members : Disk.Ghosts D) (journal : Journal D) (text : List ℕ) (history : List Entry) (ready : IsReady members journal text history) where
   pub ready_stands : ForSome (members.content journal.disk) (λ told. Stands told text history)

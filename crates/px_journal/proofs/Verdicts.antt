@@ -2,13 +2,12 @@
 use Rattle.std.proofs.Common.{rules, ◌≡◌, ◌≢◌, ◌≤◌, ◌<◌, ◌+◌, ◌⊎◌, inl, inr, ℕ, zero, suc, false, List, [], ◌∷◌, ◌++◌, Option, Some, None, length, take, drop, refl, sym, ◌∙◌, ap, arith, length-append, take-add, IsTrue}
 use Rattle.std.specs.Prelude.{slice_index, IsFalse}
 use Rattle.std.proofs.lemmas.Bool.{both_ways, cases_lt, cases_eq, cases_Bool}
-use Rattle.std.proofs.lemmas.List.{take-take, length-take, length-drop, drop-drop, get_or-drop}
+use Rattle.std.proofs.lemmas.List.{take-take, length-take, length-drop, drop-drop, get_or-drop, get_or-take}
 use Rattle.byteorder.specs.Endian.{big_bytes}
 use Rattle.byteorder.specs.Numbers.{big_from-take}
 use Rattle.px_event.specs.declared.entry.Entry.{Entry}
 use Rattle.px_event.specs.declared.named.NamedEntry.{NamedEntry}
-use Rattle.px_event.proofs.Fields.{IsBytes, two_back, four_back}
-use Rattle.std.proofs.lemmas.List.{get_or-take, get_or_past}
+use Rattle.px_event.proofs.Fields.{IsBytes, IsBytes-drop, IsBytes-take, two_back, four_back}
 use Rattle.px_journal.specs.Damage as Damage
 use Rattle.px_journal.specs.Damage.{body, body_length, text_length, IsNoBody}
 use Rattle.px_journal.specs.Damage.Damaged.{magic_differs, version_differs, text_is_cut, record_is}
@@ -24,7 +23,7 @@ use Rattle.px_journal.proofs.Histories.{length-heading, length-record}
 -- ---- bytes
 
 part_bytes : (n k : ℕ) (bytes : List ℕ) → IsBytes bytes → IsBytes (take n (drop k bytes))
-part_bytes n k bytes fits i = search (rules, cases_lt, get_or-take, get_or-drop, get_or_past, length-take)
+part_bytes n k bytes fits = IsBytes-take n (drop k bytes) (IsBytes-drop k bytes fits)
 
 -- a length is spelled where it was read
 two_spelled : (bytes : List ℕ) → IsBytes bytes → 3 ≤ length bytes → take 2 (drop 1 bytes) ≡ big_bytes 2 (body_length bytes)
@@ -113,7 +112,7 @@ module _ (version : Version) where
     step history front few opened next =
         let gate = next_gate version text history in
         let rest = drop (next_gate version text history) bytes in
-        let rest_fits : IsBytes rest = λ i. rw get_or-drop (fits (gate + i)) in
+        let rest_fits : IsBytes rest = IsBytes-drop gate bytes fits in
         elim (cases_lt (gate + 3 + body_length rest) (length bytes)) [
           | inr cut ↦ inr (gate + 1, record_is version text history (gate + 1) front (record { open_gate = opened; row = inr (few, inl (refl, cut)) }))
           | inl whole ↦
@@ -169,8 +168,7 @@ module _ (version : Version) where
 
 -- ---- the whole
 
-pub verdict : (bytes : List ℕ) → IsBytes bytes → IsFalse (is_nothing bytes)
-    → ((text : List ℕ) × (history : List Entry) × Stands bytes text history) ⊎ ((at : ℕ) × Damage.Damaged bytes at)
+pub verdict : (bytes : List ℕ) → IsBytes bytes → IsFalse (is_nothing bytes) → Verdict bytes
 verdict bytes fits something = elim (first_difference (take 7 (drop 1 bytes)) magic seven) [
   | inr at ↦ inr (
     1 + at.0,

@@ -1,6 +1,7 @@
 -- A journal that was read up to a gate.
 use Rattle.std.proofs.Common.{◌≡◌, ◌≤◌, ◌<◌, ◌+◌, ◌⊎◌, inl, inr, ⊎_elim, ℕ, Bool, List, [], ◌∷◌, ◌++◌, Option, length, drop, refl, ◌∙◌, subst, arith, length-append, IsTrue}
 use Rattle.std.specs.Prelude.{◌==◌, IsFalse, Some}
+use Rattle.std.proofs.lemmas.Bool.{eqb-true}
 use Rattle.std.proofs.lemmas.Bool.Decides.{nat_tests}
 use Rattle.std.specs.List.{list_all}
 use Rattle.std.specs.Option.{ForSome}
@@ -95,7 +96,7 @@ read_nothing members disk version plan size within front =
     }
 
 pub full_history : (n : ℕ) → IsTrue (n == 100000) → n ≡ 100000
-full_history n full = grind (arith, nat_tests)
+full_history n full = eqb-true n 100000 full
 
 pub room_in_history : (n : ℕ) → n ≤ 100000 → IsFalse (n == 100000) → n < 100000
 room_in_history n few not_full = grind (arith, nat_tests)

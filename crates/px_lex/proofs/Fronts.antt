@@ -6,7 +6,6 @@ use Rattle.std.specs.Str.{bytes_eq}
 use Rattle.std.proofs.Math.Seq.{take-append_seam, drop-append_seam}
 use Rattle.std.proofs.lemmas.Bool.{and_parts, and_from, or_parts, or_left, cases_Bool, false≢true, lt-ltb, le-ltb, le-leb, eqb-true, not-true, ne_eqb}
 use Rattle.std.proofs.lemmas.Bool.Decides.{nat_tests}
-use Rattle.std.proofs.lemmas.Option.{none-some}
 use Rattle.px_value.specs.Name.{is_digit, begins_identifier, continues_identifier}
 use Rattle.px_value.proofs.General.{is_none-None, prefix_run}
 use Rattle.px_lex.specs.declared.keyword.Keyword.{Keyword}
@@ -17,7 +16,7 @@ use Rattle.px_lex.specs.Gap.{begins, is_white_space, is_in_line, after_close, Is
 use Rattle.px_lex.specs.Keyword.{keyword_of}
 use Rattle.px_lex.specs.Word.{IsWord}
 use Rattle.px_lex.specs.Number.{IsNumber, number_of}
-use Rattle.px_lex.specs.String.{is_quote, read_string}
+use Rattle.px_lex.specs.String.{is_quote, read_string, string_from}
 use Rattle.px_lex.specs.Sign.{sign_rows, sign_of, opens_comment, ends_sign}
 use Rattle.px_lex.specs.Token.{IsToken}
 use Rattle.px_lex.specs.Fault.{FaultKind, Bad, is_other, word_fault, number_fault, string_fault, IsFaulty}
@@ -207,15 +206,17 @@ front_sign (a ∷ b ∷ c ∷ cs) rest sign h ends = let short : length (a ∷ b
 
 -- ---- strings
 
-read_quote : (text : List ℕ) (read : List ℕ × List ℕ) → read_string text ≡ Some read → begins is_quote text ≡ true
-read_quote [] read h = cc
-read_quote (c ∷ cs) read h = elim (cases_Bool (c == 34)) [
-  | inl quote ↦ quote
-  | inr other ↦ absurd (none-some read (rw other at h))
+-- a string is read from behind its quote
+pub opened : (text content rest : List ℕ) → read_string text ≡ Some (content, rest)
+    → (inside : List ℕ) × (text ≡ 34 ∷ inside) × (string_from inside ≡ Some (content, rest))
+opened [] content rest h = cc
+opened (c ∷ cs) content rest h = elim (cases_Bool (is_quote c)) [
+  | inl quote ↦ (cs, ap (λ q. q ∷ cs) (eqb-true c 34 quote), rw quote at h)
+  | inr other ↦ let none : ◌≡◌ {A = Option (List ℕ × List ℕ)} None (Some (content, rest)) = rw other at h in cc
 ]
 
 string_is : (text content rest : List ℕ) → read_string text ≡ Some (content, rest) → front text ≡ string_front (Some (content, rest))
-string_is text content rest h = rw (class_quote text (read_quote text (content, rest) h), h)
+string_is text content rest h = rw (class_quote text (ap (begins is_quote) (opened text content rest h).1), h)
 
 -- ---- what stands is at the front
 

@@ -5,17 +5,12 @@ use Rattle.std.specs.Int.{w32}
 use Rattle.std.specs.Result.{result_ok, OkIff}
 use Rattle.std.specs.Char.{digit_value}
 use Rattle.std.specs.List.{list_all}
-use Rattle.std.specs.Str.Parse.{ParsesSigned, AllDigits, digits_value, IsNumeral}
+use Rattle.std.specs.Str.Parse.{ParsesSigned, digits_value, IsNumeral}
 use Rattle.std.proofs.lemmas.Bool.{and_parts, ltb-true, le-ltb, ne_eqb, cases_lt, false≢true}
 use Rattle.std.proofs.lemmas.Bool.Decides.{nat_tests}
+use Rattle.px_value.proofs.Digits.{all_digits_of}
 use Rattle.px_lex.specs.Number.{IsNumber, is_numeral, numeral, number_of, is_fraction}
 use Rattle.px_lex.specs.Fault.{Bad, Real, TooLong, IsFaulty}
-
-all_digits : (base : ℕ) (ds : List ℕ) → list_all (λ c. nat_lt (digit_value c) base) ds ≡ true → AllDigits base ds
-all_digits base [] h = tt
-all_digits base (c ∷ cs) h =
-    let parts : (nat_lt (digit_value c) base ≡ true) × (list_all (λ c. nat_lt (digit_value c) base) cs ≡ true) = and_parts (nat_lt (digit_value c) base) (list_all (λ c. nat_lt (digit_value c) base) cs) h in
-    (ltb-true (digit_value c) base parts.0, all_digits base cs parts.1)
 
 digit_from_0 : (c base : ℕ) → base ≤ 36 → nat_lt (digit_value c) base ≡ true → 48 ≤ c
 digit_from_0 c base low h = let small : digit_value c < base = ltb-true (digit_value c) base h in
@@ -36,7 +31,7 @@ parsed base [] r low h p = absurd (false≢true h)
 parsed base (c ∷ cs) r low h p =
     let each : list_all (λ c. nat_lt (digit_value c) base) (c ∷ cs) ≡ true = (and_parts (nat_lt 0 (length (c ∷ cs))) (list_all (λ c. nat_lt (digit_value c) base) (c ∷ cs)) h).1 in
     let first : 48 ≤ c = digit_from_0 c base low (and_parts (nat_lt (digit_value c) base) (list_all (λ c. nat_lt (digit_value c) base) cs) each).0 in
-    by_result base (c ∷ cs) r (omega arith, all_digits base (c ∷ cs) each) (rw (ne_eqb c 45 (λ e. omega arith), ne_eqb c 43 (λ e. omega arith)) at p)
+    by_result base (c ∷ cs) r (omega arith, all_digits_of base (c ∷ cs) each) (rw (ne_eqb c 45 (λ e. omega arith), ne_eqb c 43 (λ e. omega arith)) at p)
 
 pub numeral_none : (base : ℕ) (ds : List ℕ) → is_numeral base ds ≡ false → numeral base ds ≡ None
 numeral_none base ds h = rw h

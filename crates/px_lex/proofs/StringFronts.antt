@@ -1,5 +1,6 @@
 -- A string at the front of a text.
 use Rattle.std.proofs.Common.{◌≡◌, ℕ, ◌≤◌, true, false, ◌==◌, ◌||◌, List, [], ◌∷◌, ◌++◌, length, drop, Option, Some, None, refl, sym, ap, ◌∙◌, arith, inl, inr}
+use Rattle.std.specs.Option.{option_map_or}
 use Rattle.std.specs.Str.{IsUtf8, IsCharBoundary}
 use Rattle.std.proofs.lemmas.Bool.{cases_Bool, eqb-true}
 use Rattle.std.proofs.lemmas.Option.{none-some}
@@ -13,12 +14,10 @@ use Rattle.px_lex.specs.declared.token.TokenKind.TheVariants as kinds
 use Rattle.px_lex.proofs.Cuts.{cut_behind}
 
 abbrev pub content_of : Option (List ℕ × List ℕ) → List ℕ
-content_of None = []
-content_of (Some read) = read.0
+content_of read = option_map_or (λ one. one.0) read []
 
 abbrev behind_of : Option (List ℕ × List ℕ) → List ℕ
-behind_of None = []
-behind_of (Some read) = read.1
+behind_of read = option_map_or (λ one. one.1) read []
 
 -- a byte and what is read behind it
 pub record Before (byte : Option ℕ) (read : Option (List ℕ × List ℕ)) (content rest : List ℕ) : Type 0 where

@@ -1,23 +1,23 @@
 -- A cell is linked in behind the others of a list.
 use Rattle.std.proofs.Common.{◌≡◌, ◌≢◌, ℕ, ◌<◌, true, false, nat_eq, List, [], ◌∷◌, ◌++◌, length, set, Option, Some, None, AllPairs, ap, sym, ◌∙◌, arith, inl, inr, subst, rules}
 use Rattle.std.specs.Prelude.{if◌then◌else◌}
+use Rattle.std.specs.Cmp.{nat_eq_equiv}
 use Rattle.std.specs.List.{position}
 use Rattle.std.specs.Option.{option_or}
 use Rattle.std.proofs.lemmas.Bool.{eq-eqb, cases_Bool}
 use Rattle.std.proofs.lemmas.Bool.Decides.{eqb_tells}
 use Rattle.std.proofs.lemmas.Grind.{common_steps}
 use Rattle.std.proofs.lemmas.List.{get_or-set_same, get_or-set_other}
-use Rattle.std.proofs.lemmas.List.Folds.{list_any_at}
-use Rattle.std.proofs.lemmas.List.Quantifiers.{all_pairs_push}
 use Rattle.px_value.specs.General.{is_number}
+use Rattle.px_value.proofs.General.{once_push}
 use Rattle.px_links.specs.declared.cell.Cell.{Cell}
 use Rattle.px_links.specs.declared.cell.Ends.{Ends}
 use Rattle.px_links.specs.Lists.{has, nth, with_last}
-use Rattle.px_links.specs.Keeping.{cell_at, ends_at, AreLinked, IsTable}
+use Rattle.px_links.specs.Keeping.{cell_at, no_ends, ends_at, AreLinked, IsTable}
 use Rattle.px_links.specs.Relinking.{with_next}
 use Rattle.px_links.proofs.Linking.{linked_same, linked_push, number_here}
 use Rattle.px_links.proofs.Reading.{holder-read}
-use Rattle.px_links.proofs.Tables.{next_in, before_in, no_ends, leads_on_in, last_in, last_within, one_holder, next-set, length-next}
+use Rattle.px_links.proofs.Tables.{next_in, before_in, leads_on_in, last_in, last_within, one_holder, next-set, length-next}
 
 -- the links of the table with the cell
 abbrev pub cells_with : List Cell → List Ends → ℕ → ℕ → List Cell
@@ -124,9 +124,7 @@ module _ (cells : List Cell) (ends : List Ends) (lists : List (List ℕ)) (table
   once_then : (other : ℕ) → AllPairs (λ cell other. cell ≢ other) (nth lists_then other)
   once_then other = elim (eqb_tells list other) [
     | inl same ↦ subst (λ other. AllPairs (λ cell other. cell ≢ other) (nth lists_then other)) same.1 (
-        rw nth-there (all_pairs_push (λ cell other. cell ≢ other) (nth lists list) new (table.once list)
-        (λ k d before same. absurd (cc (sym (in_none list)
-        ∙ list_any_at (nat_eq new) (nth lists list) k d before (eq-eqb new _ (sym same)))))))
+        rw nth-there (once_push nat_eq nat_eq_equiv.refl (nth lists list) new (in_none list) (table.once list)))
     | inr apart ↦ rw (nth-other other apart.1) (table.once other)
   ]
 

@@ -10,7 +10,7 @@ use Rattle.px_value.specs.General.{is_number}
 use Rattle.px_links.specs.declared.cell.Cell.{Cell}
 use Rattle.px_links.specs.declared.cell.Ends.{Ends}
 use Rattle.px_links.specs.Lists.{has, nth}
-use Rattle.px_links.specs.Keeping.{cell_at, ends_at, walk, lists_in, IsTable}
+use Rattle.px_links.specs.Keeping.{cell_at, no_ends, ends_at, walk, lists_in, IsTable}
 use Rattle.px_links.specs.Relinking.{with_next}
 use Rattle.px_links.proofs.Linking.{LeadsOn, LeadsBack, walk-list, leads_on, leads_back, first_is, last_is, here_number, if_some}
 
@@ -20,9 +20,6 @@ next_in cells cell = (cell_at cells cell).next
 
 abbrev pub before_in : List Cell → ℕ → Option ℕ
 before_in cells cell = (cell_at cells cell).before
-
-abbrev pub no_ends : Ends
-no_ends = record { first = None; last = None }
 
 abbrev walked : List Cell → Ends → List ℕ
 walked cells end = walk (next_in cells) end.first (length cells)

@@ -13,7 +13,7 @@ use Rattle.px_value.specs.General.{is_number}
 use Rattle.px_links.specs.declared.cell.Cell.{Cell}
 use Rattle.px_links.specs.declared.cell.Ends.{Ends}
 use Rattle.px_links.specs.Lists.{has, without, nth, without_cell}
-use Rattle.px_links.specs.Keeping.{cell_at, ends_at, AreLinked, IsTable}
+use Rattle.px_links.specs.Keeping.{absent_cell, cell_at, ends_at, AreLinked, IsTable}
 use Rattle.px_links.specs.Relinking.{past, with_next, with_before}
 use Rattle.px_links.proofs.Linking.{leads_apart, linked_without, number_here, here_number, if_some}
 use Rattle.px_links.proofs.Reading.{holder-read}
@@ -35,8 +35,7 @@ has-other list gone cell apart =
 abbrev pub cells_without : List Cell → ℕ → List Cell
 cells_without cells gone =
     let at = cell_at cells gone in
-    set (with_before at.next at.before (with_next at.before at.next cells)) gone
-    (record { next = None; before = None; holder = None })
+    set (with_before at.next at.before (with_next at.before at.next cells)) gone absent_cell
 
 abbrev pub ends_without : List Cell → List Ends → ℕ → ℕ → List Ends
 ends_without cells ends list gone = set ends list (record {
@@ -86,7 +85,7 @@ module _ (cells : List Cell) (ends : List Ends) (lists : List (List ℕ)) (table
   cells_then = cells_without cells gone
 
   -- the cell itself, and another one
-  at_gone : cell_at cells_then gone ≡ record { next = None; before = None; holder = None }
+  at_gone : cell_at cells_then gone ≡ absent_cell
   at_gone = grind (arith, common_steps)
 
   at_other : (cell : ℕ) → cell ≢ gone → cell_at cells_then cell ≡ record {

@@ -7,13 +7,21 @@ use Rattle.px_links.specs.declared.links.Links.TheInside.{Inside}
 use Rattle.px_links.specs.Links.{LinksData}
 use Rattle.px_links.specs.Lists.{has, nth}
 
+-- a cell that is in no list
+abbrev pub absent_cell : Cell
+absent_cell = record { next = None; before = None; holder = None }
+
 -- the links of a cell
 abbrev pub cell_at : List Cell → ℕ → Cell
-cell_at cells cell = slice_index_or cells cell (record { next = None; before = None; holder = None })
+cell_at cells cell = slice_index_or cells cell absent_cell
+
+-- the ends of a list that has no cell
+abbrev pub no_ends : Ends
+no_ends = record { first = None; last = None }
 
 -- the ends of a list
 abbrev pub ends_at : List Ends → ℕ → Ends
-ends_at ends list = slice_index_or ends list (record { first = None; last = None })
+ends_at ends list = slice_index_or ends list no_ends
 
 -- the cells from one on by the links, at most so many
 abbrev pub walk : (ℕ → Option ℕ) → Option ℕ → ℕ → List ℕ

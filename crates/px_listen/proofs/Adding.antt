@@ -1,16 +1,17 @@
 -- A pair is added: a watcher stands behind the others of a source.
 use Rattle.std.proofs.Common.{◌≡◌, ◌≢◌, ℕ, ◌+◌, ◌<◌, ◌≤◌, true, false, nat_eq, max, List, [], ◌∷◌, ◌++◌, length, map, set, get_or, Some, None, is_none, All, AllPairs, refl, ap, sym, ◌∙◌, arith, inl, inr, subst, length-append}
 use Rattle.std.specs.Prelude.{if◌then◌else◌}
-use Rattle.std.specs.List.{position, position_or_len}
-use Rattle.std.proofs.lemmas.Bool.{cases_lt, eq-eqb, lt-ltb}
+use Rattle.std.specs.Cmp.{nat_eq_equiv}
+use Rattle.std.specs.List.{position}
+use Rattle.std.proofs.lemmas.Bool.{cases_lt, eq-eqb}
 use Rattle.std.proofs.lemmas.Bool.Decides.{eqb_tells}
 use Rattle.std.proofs.lemmas.List.{get_or_append_left, get_or_default, get_or_past, get_or-set_same, get_or-set_other, length-map, length-set, map-append, map-set}
 use Rattle.std.proofs.lemmas.List.Elements.{All-head, All-push, All-set, All-tail, All-weaker}
 use Rattle.std.proofs.lemmas.List.Folds.{list_any_at, list_any_none}
-use Rattle.std.proofs.lemmas.List.Quantifiers.{all_pairs_push}
-use Rattle.std.proofs.lemmas.List.Sums.{fails_before_first, sum_by-set}
+use Rattle.std.proofs.lemmas.List.Sums.{sum_by-set}
 use Rattle.std.proofs.Math.ListN.{get_or-map}
 use Rattle.std.proofs.Math.Seq.{get_or-append_seam}
+use Rattle.px_value.proofs.General.{nowhere, once_push}
 use Rattle.px_links.specs.Links.{LinksData, HoldsOthersAsBefore, holder_of, is_absent, pushed}
 use Rattle.px_links.specs.Lists.{has, nth}
 use Rattle.px_listen.specs.Keeping.{ArePairs, listening}
@@ -21,11 +22,7 @@ use Rattle.px_listen.specs.Walking.{watchers_in}
 none-has : (lists : List (List ℕ)) (cell : ℕ) → position (λ list. has list cell) lists ≡ None
     → (list : ℕ) → has (nth lists list) cell ≡ false
 none-has lists cell none list = elim (cases_lt list (length lists)) [
-  | inl below ↦ elim (cases_lt (position_or_len (λ list. has list cell) lists) (length lists)) [
-    | inl found ↦ absurd (cc (sym none ∙ ap (λ b. if b then Some (position_or_len (λ list. has list cell) lists) else None)
-        (lt-ltb (position_or_len (λ list. has list cell) lists) (length lists) found)))
-    | inr all ↦ fails_before_first (λ list. has list cell) lists list [] (omega (arith, below, all))
-  ]
+  | inl below ↦ nowhere (λ list. has list cell) lists list [] none below
   | inr past ↦ ap (λ list. has list cell) (get_or_past lists list [] past)
 ]
 
@@ -43,6 +40,15 @@ all-same watcher_of watcher [] below = refl
 all-same watcher_of watcher (cells ∷ lists) below = λ i.
     same-watchers watcher_of watcher cells (All-head (All (λ cell. cell < length watcher_of)) cells lists below) i
     ∷ all-same watcher_of watcher lists (All-tail (All (λ cell. cell < length watcher_of)) cells lists below) i
+
+-- with one more there is one pair more
+pub pairs-more : (listeners : ListenData) (source watcher : ℕ) → source < length listeners.dependents
+    → pairs_of (with_dependent listeners source watcher) ≡ pairs_of listeners + 1
+pairs-more listeners source watcher there = omega (
+  arith,
+  length-append (dependents_of listeners source) (watcher ∷ []),
+  sum_by-set (λ (list : List ℕ). length list) listeners.dependents source (dependents_of listeners source ++ watcher ∷ []) [] there,
+)
 
 module _ (watchers : ℕ) (links : LinksData) (watcher_of bounds : List ℕ) (kept : ArePairs watchers links watcher_of bounds)
     (source watcher : ℕ) where
@@ -105,12 +111,7 @@ module _ (watchers : ℕ) (links : LinksData) (watcher_of bounds : List ℕ) (ke
     as_many = omega (arith, there, length-map links.lists (watchers_in watcher_of))
 
     pairs-then : pairs_of (with_dependent listeners source watcher) ≡ length watcher_of + 1
-    pairs-then = omega (
-      arith,
-      kept.pairs,
-      length-append before (watcher ∷ []),
-      sum_by-set (λ (list : List ℕ). length list) listeners.dependents source (before ++ watcher ∷ []) [] as_many,
-    )
+    pairs-then = pairs-more listeners source watcher as_many ∙ ap (λ pairs. pairs + 1) kept.pairs
 
     -- what holds of the listeners holds of them with the pair
     sound-then : AreSound (with_dependent listeners source watcher)
@@ -119,8 +120,7 @@ module _ (watchers : ℕ) (links : LinksData) (watcher_of bounds : List ℕ) (ke
           (All-push (λ watcher. watcher < watchers) before watcher (kept.sound.within source [] as_many) small)
           kept.sound.within;
       once = All-set (AllPairs (λ a b. a ≢ b)) listeners.dependents source (before ++ watcher ∷ [])
-          (all_pairs_push (λ a b. a ≢ b) before watcher (kept.sound.once source [] as_many) (λ k d within same.
-          absurd (cc (sym new ∙ list_any_at (nat_eq watcher) before k d within (eq-eqb watcher _ (sym same))))))
+          (once_push nat_eq nat_eq_equiv.refl before watcher new (kept.sound.once source [] as_many))
           kept.sound.once;
       few = omega (arith, pairs-then, few, kept.pairs);
     }

@@ -1,8 +1,9 @@
 -- Listeners without a pair.
-use Rattle.std.proofs.Common.{◌≡◌, ℕ, ◌<◌, ◌≢◌, List, [], ◌∷◌, length, map, replicate, sum_by, get_or, None, All, AllPairs, refl, ap, sym, ◌∙◌, arith, subst, zero, suc}
+use Rattle.std.proofs.Common.{◌≡◌, ℕ, ◌<◌, ◌≢◌, List, [], length, map, replicate, sum_by, get_or, None, All, AllPairs, refl, ap, sym, ◌∙◌, arith, subst}
 use Rattle.std.proofs.lemmas.List.{length-replicate}
 use Rattle.std.proofs.lemmas.List.Elements.{All-nil, All-replicate}
-use Rattle.std.proofs.lemmas.List.Sums.{sum_by-cons}
+use Rattle.std.proofs.lemmas.List.Folds.{map_fixed, sum_by-replicate}
+use Rattle.std.proofs.Math.Nat.{mul-zero}
 use Rattle.px_value.proofs.General.{replicate-same}
 use Rattle.px_links.specs.Links.{LinksData, empty, holder_of}
 use Rattle.px_listen.specs.Keeping.{ArePairs, listening}
@@ -13,13 +14,11 @@ abbrev none : ℕ → List (List ℕ)
 none sources = replicate sources []
 
 no-lists : (sources : ℕ) → map (watchers_in []) (none sources) ≡ none sources
-no-lists zero = refl
-no-lists (suc sources) = ap (λ lists. [] ∷ lists) (no-lists sources)
+no-lists sources =
+    map_fixed (watchers_in []) (none sources) (All-replicate (λ (list : List ℕ). watchers_in [] list ≡ list) sources [] refl)
 
 no-pairs : (sources : ℕ) → sum_by (λ (list : List ℕ). length list) (none sources) ≡ 0
-no-pairs zero = refl
-no-pairs (suc sources) =
-    sum_by-cons (λ (list : List ℕ). length list) [] (none sources) ∙ omega (arith, no-pairs sources)
+no-pairs sources = sum_by-replicate (λ (list : List ℕ). length list) sources [] ∙ mul-zero sources
 
 -- what they are to contracts
 pub listening-none : (sources watchers room : ℕ)

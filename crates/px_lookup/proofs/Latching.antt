@@ -1,17 +1,19 @@
 -- Each tolerance has latched a value in each report, whatever is reported and taken back.
-use Rattle.std.proofs.Common.{◌≡◌, ℕ, zero, suc, ◌-◌, Bool, true, false, List, [], ◌∷◌, ◌++◌, length, map, slice_get, Option, Some, None, IfSome, is_some, nat_eq, All, refl, ap, sym, subst, ◌∙◌, if◌then◌else◌}
+use Rattle.std.proofs.Common.{◌≡◌, ℕ, zero, suc, ◌-◌, Bool, true, false, List, [], ◌∷◌, ◌++◌, length, map, slice_get, Option, Some, None, IfSome, is_some, nat_eq, All, ap, sym, subst, ◌∙◌, if◌then◌else◌}
 use Rattle.std.specs.Borrow.{Bor}
 use Rattle.std.specs.List.{list_any}
 use Rattle.std.specs.Map.{keys_of, lookup, values_of}
 use Rattle.std.specs.Option.{option_copied}
-use Rattle.std.proofs.lemmas.List.{take-map}
+use Rattle.std.proofs.lemmas.List.{map-id, take-map}
 use Rattle.std.proofs.lemmas.List.Elements.{All-cons, All-get_or, All-head, All-nil, All-push, All-tail, All-take}
 use Rattle.std.proofs.lemmas.Map.Made.{is_some-lookup}
 use Rattle.std.proofs.lemmas.Map.Views.{IfSome-lookup_from_All}
 use Rattle.std.proofs.lemmas.Option.{get_or_from_slice_get, slice_get_within}
+use Rattle.std.proofs.lemmas.Simd.{map-map}
 use Rattle.indexmap.specs.IndexMap.{IndexMap, insert_entry, set_value_at}
 use Rattle.indexmap.proofs.MapLemmas.{Missing-position}
 use Rattle.px_value.specs.declared.value.Value.{Value}
+use Rattle.px_value.proofs.General.{is_some_mapped}
 use Rattle.px_sem.specs.Events.{first_report, next_report}
 use Rattle.px_sem.specs.World.{LookState, Report, is_same_state, latched_at}
 use Rattle.px_lookup.specs.declared.reports.Change.{Change}
@@ -20,12 +22,11 @@ use Rattle.px_lookup.specs.Undoing.{HadLatchedEach, IsChange, LatchEach, place_o
 use Rattle.px_lookup.proofs.Reporting.{latched_then, set_value_at-back, take-insert_entry}
 
 first_each : (tolerances : List ℕ) (given : Value) → keys_of (map (λ tolerance. (tolerance, given)) tolerances) ≡ tolerances
-first_each [] given = refl
-first_each (tolerance ∷ tolerances) given = ap (λ rest. tolerance ∷ rest) (first_each tolerances given)
+first_each tolerances given =
+    map-map (λ (kept : ℕ × Value). kept.0) (λ (tolerance : ℕ). (tolerance, given)) tolerances ∙ map-id tolerances
 
 next_each : (latched : List (ℕ × Value)) (given : Value) → keys_of (map (latched_then given) latched) ≡ keys_of latched
-next_each [] given = refl
-next_each (kept ∷ latched) given = ap (λ rest. kept.0 ∷ rest) (next_each latched given)
+next_each latched given = map-map (λ (kept : ℕ × Value). kept.0) (latched_then given) latched
 
 next_latches : (tolerances : List ℕ) (report : Report) (given : Value) → LatchEach tolerances report
     → LatchEach tolerances (next_report report given)
@@ -99,8 +100,7 @@ found_latches tolerances state es found all is =
     (IfSome-lookup_from_All (LatchEach tolerances) (is_same_state state) es all)
 
 pub copied_some : {X : Type 0} (lent : Option (Bor X)) → is_some lent ≡ is_some (option_copied lent)
-copied_some None = refl
-copied_some (Some x) = refl
+copied_some {X} lent = is_some_mapped (λ (x : Bor X). x.now) lent
 
 pub latched_some : (tolerances : List ℕ) (report : Report) (tolerance : ℕ) → LatchEach tolerances report
     → is_some (latched_at report tolerance) ≡ list_any (nat_eq tolerance) tolerances

@@ -18,7 +18,7 @@ use Rattle.px_parts.specs.Parts.{AreStanding, plan_in, world_in, record_of}
 use Rattle.px_micro.specs.declared.truths.Truths.{Truths}
 use Rattle.px_micro.specs.Guarded.{guards_at, guards_in}
 use Rattle.px_micro.proofs.Guarding.{guards_are}
-use Rattle.px_micro.proofs.Seeing.{record_is}
+use Rattle.px_parts.proofs.Found.{record_is}
 use Rattle.px_machine.specs.declared.kept.Kept.{Kept}
 use Rattle.px_machine.specs.Kept.{arrival_of, is_rest, own_seen, parent_state, truths_of, truths_read}
 use Rattle.px_machine.specs.Right.{IsNow, IsRight}

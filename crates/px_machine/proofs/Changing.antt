@@ -13,6 +13,7 @@ use Rattle.px_claims.specs.Claims.{AreOf, with_holding}
 use Rattle.px_claims.proofs.Contested.{nobody_as_before}
 use Rattle.px_cached.specs.Cached.{kept_truth}
 use Rattle.px_cached.specs.Cached as cached
+use Rattle.px_cached.proofs.OneList.{not_both, was_absent}
 use Rattle.px_micro.specs.Above.{asks_in}
 use Rattle.px_micro.specs.Going.{is_start}
 use Rattle.px_assign.specs.Conflicts.{is_writer}
@@ -33,7 +34,7 @@ use Rattle.px_machine.specs.Still.{IsStill, claims_now, is_marked}
 use Rattle.px_machine.specs.Told.{Agrees, IsCaughtUp}
 use Rattle.px_machine.proofs.Arrivals.{HasTheSame, same_arrival}
 use Rattle.px_machine.proofs.Places.{parents_at}
-use Rattle.px_machine.proofs.Waiting.{not_both, still_behind, wakes_both, wakes_none, was_absent}
+use Rattle.px_machine.proofs.Waiting.{still_behind, wakes_both, wakes_none}
 
 -- ---- frames
 
@@ -53,17 +54,21 @@ still_same parts parts' kept kept' node same mark still = record {
 
 -- ---- a node takes the state that was seen
 
--- where it is the state of before, nothing has changed
+-- where it is the state of before, so is who counts
+same_marked : (kept : Kept) (nodes node : ℕ) (state : NodeState) → node < nodes → Agrees nodes kept → state ≡ kept_state kept node
+    → marked kept.busy node (not (is_at_rest state)) ≡ kept.busy
+same_marked kept nodes node state here agrees same =
+    ap (marked kept.busy node) (ap (λ state. not (is_at_rest state)) same ∙ sym (agrees.busy node here))
+    ∙ ap (λ counting. record { groups = kept.busy.groups; group_of = kept.busy.group_of; counting = counting })
+    (set-get_or kept.busy.counting node false)
+
+-- and nothing has changed
 pub same_taken : (plan : List Site) (old new : Kept) (node : ℕ) (state : NodeState) → node < length plan → Agrees (length plan) old
     → new ≡ record old { states = new.states } → new.states.items ≡ set old.states.items node state → state ≡ kept_state old node
     → HasTakenState plan old new node state
 same_taken plan old new node state here agrees is states same = record {
   states = states;
-  busy = (λ i. (is i).busy) ∙ sym (
-      ap (marked old.busy node) counts
-      ∙ ap (λ counting. record { groups = old.busy.groups; group_of = old.busy.group_of; counting = counting })
-      (set-get_or old.busy.counting node false)
-      );
+  busy = (λ i. (is i).busy) ∙ sym (same_marked old (length plan) node state here agrees same);
   counts = λ other. (λ i. is_counted (is i).busy other) ∙ elim (cases_eq node other) [
     | inl this ↦
         ap (is_counted old.busy) (sym this) ∙ sym counts
@@ -127,11 +132,7 @@ module _ (parts : Parts) (old new : Kept) (node : ℕ) (right : IsRight parts ol
 
   -- where the state is the same, so is who counts
   same_busy : state ≡ kept_state old node → new.busy ≡ old.busy
-  same_busy same =
-      taken.busy
-      ∙ ap (marked old.busy node) (ap (λ state. not (is_at_rest state)) same ∙ sym (right.agrees.busy node here))
-      ∙ ap (λ counting. record { groups = old.busy.groups; group_of = old.busy.group_of; counting = counting })
-      (set-get_or old.busy.counting node false)
+  same_busy same = taken.busy ∙ same_marked old (length (plan_in parts)) node state here right.agrees same
 
   -- ---- who waits nowhere
 

@@ -7,7 +7,7 @@ use Rattle.std.specs.Option.{option_map, unwrap_or}
 use Rattle.std.proofs.lemmas.Bool.{and_from, and_parts, eqb-true, false≢true, not-true}
 use Rattle.std.proofs.lemmas.Bool.Decides.{Decides-eqb}
 use Rattle.std.proofs.lemmas.List.{append_assoc, get_or-map, length-map, map-append}
-use Rattle.std.proofs.lemmas.List.Elements.{All-append, All-contains_itself, Contains-append_left, Contains-append_right, filter_map-append}
+use Rattle.std.proofs.lemmas.List.Elements.{All-append, All-contains_itself, All-map, Contains-append_left, Contains-append_right, filter_map-append}
 use Rattle.std.proofs.lemmas.List.Sorted.{All-permutation, Contains-permutation, IsPermutation-map}
 use Rattle.std.proofs.lemmas.Map.Keys.{IsDistinct-IsPermutation}
 use Rattle.std.proofs.lemmas.Map.Made.{AllPairs-from_IsDistinct, IsDistinct-from_AllPairs}
@@ -30,6 +30,7 @@ use Rattle.px_parts.specs.Parts.{AreStanding, plan_in, world_in}
 use Rattle.px_micro.specs.declared.sight.Going.{Going}
 use Rattle.px_micro.specs.Going.{AreAllGoing, is_start, with_node}
 use Rattle.px_micro.proofs.Choosing.{start_goes, would_start_is}
+use Rattle.px_micro.proofs.Lists.{pairs_map, pairs_unmap}
 use Rattle.px_micro.proofs.Resting.{state_is}
 use Rattle.px_machine.specs.declared.kept.Kept.{Kept}
 use Rattle.px_machine.specs.Contest.{HasLooked, IsEachGoing}
@@ -227,24 +228,17 @@ module _ (parts : Parts) (kept : Kept) (going : List Going) (winners : List ℕ)
   chosen_at k d inside = get_or-map (with_there to) winners k d.node d inside
 
   within : All (λ (one : Going). one.node < length plan) chosen
-  within k d inside =
-      let few : k < length winners = omega (arith, inside, length-map winners (with_there to)) in
-      omega (arith, ap (λ (one : Going). one.node) (chosen_at k d few), won.within k d.node few)
+  within = All-map (λ (one : Going). one.node < length plan) (with_there to) winners won.within
 
   once : AllPairs (λ (a b : Going). a.node ≢ b.node) chosen
-  once i j d before inside same =
-      let few : j < length winners = omega (arith, inside, length-map winners (with_there to)) in
-      won.once i j d.node before few
-      (sym (ap (λ (one : Going). one.node) (chosen_at i d (omega (arith, before, few)))) ∙ same
-      ∙ ap (λ (one : Going). one.node) (chosen_at j d few))
+  once = pairs_map (λ (a b : Going). a.node ≢ b.node) (with_there to) winners won.once
 
   each : All (λ (one : Going). transition plan world (site_in plan one.node) ≡ Some one.arrival) chosen
-  each k d inside =
-      let few : k < length winners = omega (arith, inside, length-map winners (with_there to)) in
-      let node : ℕ = get_or winners k d.node in
-      let one = wins k d.node few in
-      subst (λ (one : Going). transition plan world (site_in plan one.node) ≡ Some one.arrival) (sym (chosen_at k d few))
-      (goes_by parts kept stand right now node (there (to node)) one.within one.stays (there_is (to node) (goes_somewhere node one)))
+  each = All-map (λ (one : Going). transition plan world (site_in plan one.node) ≡ Some one.arrival) (with_there to) winners
+      (λ k d inside.
+      let node : ℕ = get_or winners k d in
+      let one = wins k d inside in
+      goes_by parts kept stand right now node (there (to node)) one.within one.stays (there_is (to node) (goes_somewhere node one)))
 
   each_free : All (λ (one : Going). transition plan world (site_in plan one.node) ≡ Some one.arrival) going
   each_free k d inside =
@@ -334,12 +328,7 @@ in_order plan world before after each moved sorted = record {
     moves = IsPermutation-map (λ (one : Going). one.node) before after moved
 
     apart_before : AllPairs (λ a b. a ≢ b) (numbers before)
-    apart_before i j d less inside same =
-        let few : j < length before = omega (arith, inside, length-map before (λ (one : Going). one.node)) in
-        let one : Going = record { node = d; arrival = record { to = states.Executing; outcome = None; failure = None } } in
-        each.once i j one less few
-        (sym (get_or-map (λ (one : Going). one.node) before i one d (omega (arith, less, few))) ∙ same
-        ∙ get_or-map (λ (one : Going). one.node) before j one d few)
+    apart_before = pairs_map (λ (a b : ℕ). a ≢ b) (λ (one : Going). one.node) before each.once
 
     apart_after : AllPairs (λ a b. a ≢ b) (numbers after)
     apart_after = AllPairs-from_IsDistinct Decides-eqb (numbers after)
@@ -348,10 +337,7 @@ in_order plan world before after each moved sorted = record {
 
     rises : (i j : ℕ) (d : Going) → i < j → j < length after → (get_or after i d).node < (get_or after j d).node
     rises i j d less inside =
-        let few : j < length (numbers after) = omega (arith, inside, length-map after (λ (one : Going). one.node)) in
-        let differ : (get_or after i d).node ≢ (get_or after j d).node = λ same.
-        apart_after i j d.node less few
-        (get_or-map (λ (one : Going). one.node) after i d d.node (omega (arith, less, inside)) ∙ same
-        ∙ sym (get_or-map (λ (one : Going). one.node) after j d d.node inside)) in
+        let differ : (get_or after i d).node ≢ (get_or after j d).node =
+        pairs_unmap (λ (a b : ℕ). a ≢ b) (λ (one : Going). one.node) after apart_after i j d less inside in
         let no_more : (get_or after i d).node ≤ (get_or after j d).node = sorted i j d (omega (arith, less)) inside in
         omega (arith, differ, no_more)

@@ -11,6 +11,7 @@ use Rattle.px_links.specs.Links.{is_absent}
 use Rattle.px_tally.specs.Tally.{is_counted, total}
 use Rattle.px_told.specs.Told.{AreTold, own_at, told_at}
 use Rattle.px_cached.specs.Cached.{kept_truth}
+use Rattle.px_cached.proofs.OneList.{not_both}
 use Rattle.px_parts.specs.declared.parts.Parts.{Parts}
 use Rattle.px_parts.specs.Parts.{plan_in}
 use Rattle.px_micro.specs.Above.{asks_in}
@@ -21,7 +22,6 @@ use Rattle.px_machine.specs.Right.{IsRight}
 use Rattle.px_machine.specs.Told.{Agrees, IsCaughtUp}
 use Rattle.px_machine.proofs.Arrivals.{HasTheSame}
 use Rattle.px_machine.proofs.Changing.{still_same}
-use Rattle.px_machine.proofs.Waiting.{not_both}
 
 -- All but the conditions, the queue and the parts is the same; who was behind is, and who waits nowhere did.
 pub record IsFramed (old new : Parts) (before after : Kept) : Type 0 where

@@ -1,16 +1,15 @@
 -- Which reports an event changes: those of the name that is heard of, at most.
-use Rattle.std.proofs.Common.{◌≡◌, ◌≢◌, ℕ, ◌<◌, Bool, true, false, not, ◌&&◌, nat_lt, cond, [], ◌∷◌, ◌++◌, fold, position, List, length, get_or, Option, Some, None, AllPairs, refl, ap, sym, ◌∙◌, subst, arith, inl, inr, if◌then◌else◌}
+use Rattle.std.proofs.Common.{◌≡◌, ◌≢◌, ℕ, ◌<◌, Bool, true, false, not, ◌&&◌, cond, [], ◌∷◌, ◌++◌, position, List, length, get_or, Option, Some, None, AllPairs, refl, ap, sym, ◌∙◌, subst, arith, inl, inr, if◌then◌else◌}
 use Rattle.std.specs.Cmp.Lexicographic.{pointwise, same_text}
-use Rattle.std.specs.List.{flat_map, list_any, position_or_len}
+use Rattle.std.specs.List.{flat_map, list_any}
 use Rattle.std.specs.Option.{option_and_then, option_map, unwrap_or}
-use Rattle.std.proofs.lemmas.Bool.{and_parts, cases_lt, false_from_ne_true, false≢true, ltb-false}
-use Rattle.std.proofs.lemmas.List.Folds.{list_any_at}
-use Rattle.std.proofs.lemmas.List.Quantifiers.{all_pairs_push, position-Some}
-use Rattle.std.proofs.lemmas.List.Sums.{fails_before_first}
+use Rattle.std.proofs.lemmas.Bool.{and_parts, cases_lt, false_from_ne_true, false≢true}
+use Rattle.std.proofs.lemmas.List.Quantifiers.{position-Some}
 use Rattle.std.proofs.Math.Nat.{eq-or-lt_of_le}
 use Rattle.px_value.specs.declared.value.Value.{Value}
 use Rattle.px_value.specs.declared.value.Value.TheVariants.{Unknown}
 use Rattle.px_value.specs.Value.{is_known}
+use Rattle.px_value.proofs.General.{nowhere, once_push}
 use Rattle.px_core.specs.Plan.{Site, is_same}
 use Rattle.px_core.proofs.Paths.{same-self}
 use Rattle.px_event.specs.declared.event.Event.{Event}
@@ -29,35 +28,26 @@ use Rattle.px_cached.proofs.Seeing.{was_untouched}
 use Rattle.px_lookup.specs.Reports.{HasStayed, ReportsData, reports_after}
 use Rattle.px_parts.specs.declared.parts.Parts.{Parts}
 use Rattle.px_parts.specs.Parts.{plan_in}
+use Rattle.px_micro.proofs.Hits.{fold_keeps}
 use Rattle.px_machine.specs.Hearing.{heard_by}
 use Rattle.px_machine.specs.Seen.{IsSameReport, IsSeen}
 
 -- ---- names
 
 -- each name stands once
-names_apart : (found names : List (List ℕ)) → AllPairs (λ a b. a ≢ b) found → AllPairs (λ a b. a ≢ b) (fold with_name found names)
-names_apart found [] apart = apart
-names_apart found (name ∷ names) apart = names_apart (with_name found name) names (by (list_any (is_same name) found) refl)
+name_apart : (found : List (List ℕ)) (name : List ℕ) → AllPairs (λ a b. a ≢ b) found → AllPairs (λ a b. a ≢ b) (with_name found name)
+name_apart found name apart = by (list_any (is_same name) found) refl
   where
     by : (among : Bool) → list_any (is_same name) found ≡ among → AllPairs (λ a b. a ≢ b) (if among then found else found ++ name ∷ [])
     by true is = apart
-    by false is = all_pairs_push (λ a b. a ≢ b) found name apart (λ k d inside same.
-        absurd (false≢true (sym is ∙ list_any_at (is_same name) found k d inside (ap (is_same name) same ∙ same-self name))))
+    by false is = once_push is_same same-self found name is apart
 
 names_differ : (plan : List Site) → AllPairs (λ a b. a ≢ b) (lookups_of plan)
 names_differ plan =
-    names_apart [] (flat_map (λ site. lookups_in_head site.head) plan) (λ i j d before inside. absurd (omega (arith, inside)))
+    fold_keeps with_name (AllPairs (λ a b. a ≢ b)) (λ name. Unit {0}) (λ found name fit. name_apart found name)
+    (flat_map (λ site. lookups_in_head site.head) plan) [] (λ k d inside. tt) (λ i j d before inside. absurd (omega (arith, inside)))
 
--- what stands nowhere fails everywhere
-nowhere : {X : Type 0} (p : X → Bool) (xs : List X) (k : ℕ) (d : X) → position p xs ≡ None → k < length xs → p (get_or xs k d) ≡ false
-nowhere p xs k d none within = by (nat_lt (position_or_len p xs) (length xs)) refl none
-  where
-    by : (few : Bool) → nat_lt (position_or_len p xs) (length xs) ≡ few → cond few (Some (position_or_len p xs)) None ≡ None
-        → p (get_or xs k d) ≡ false
-    by true is none = absurd (cc none)
-    by false is none = fails_before_first p xs k d (omega (arith, within, ltb-false (position_or_len p xs) (length xs) is))
-
--- so the number of a name is the one where it stands
+-- the number of a name is the one where it stands
 number_is : (plan : List Site) (name : List ℕ) (number : ℕ) → number < length (lookups_of plan)
     → is_same name (get_or (lookups_of plan) number []) ≡ true → position (is_same name) (lookups_of plan) ≡ Some number
 number_is plan name number within same = by (position (is_same name) names) refl

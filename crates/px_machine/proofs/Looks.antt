@@ -16,6 +16,7 @@ use Rattle.px_links.specs.Links.{is_absent}
 use Rattle.px_links.specs.Lists.{has, nth}
 use Rattle.px_assign.specs.Conflicts.{is_writer}
 use Rattle.px_claims.specs.Claims.{ClaimsData}
+use Rattle.px_cached.proofs.OneList.{not_both}
 use Rattle.px_parts.specs.declared.parts.Parts.{Parts}
 use Rattle.px_parts.specs.Parts.{AreStanding, plan_in, world_in}
 use Rattle.px_micro.specs.declared.sight.Going.{Going}
@@ -30,7 +31,7 @@ use Rattle.px_machine.specs.Still.{claims_now, free_arrival, is_marked}
 use Rattle.px_machine.proofs.Arrivals.{HasTheSame, arrival_now, same_arrival}
 use Rattle.px_machine.proofs.Changing.{still_same}
 use Rattle.px_machine.proofs.Choosing.{claims_are, writer_loses}
-use Rattle.px_machine.proofs.Waiting.{in_one_of_two, not_both}
+use Rattle.px_machine.proofs.Waiting.{in_one_of_two}
 
 -- the marks of all nodes but those ahead are exact, and these are all of them that go without asking for a variable
 pub record HaveLookedBut (parts : Parts) (kept : Kept) (going : List Going) (ahead : List ℕ) : Type 0 where

@@ -15,21 +15,18 @@ use Rattle.px_flat.specs.declared.flat.Flat.{Flat}
 use Rattle.px_flat.specs.Flat.{plan_of}
 use Rattle.px_flat.specs.Layout.{acknowledgement_cell, failure_cell, handle_cell, outcome_cell, state_cell}
 use Rattle.px_flat.specs.Lookups.{lookups_of}
-use Rattle.px_flat.specs.Numbered.{Numbered, held, numbered_node, reported_of}
+use Rattle.px_flat.specs.Numbered.{Numbered, held, reported_of}
 use Rattle.px_flat.specs.Parts.{action_in, failure_in, outcome_in, state_in}
-use Rattle.px_flat.specs.Row.{site_in}
 use Rattle.px_flat.specs.Sources.{Cells, IsSame, Reports, Source, sources_in}
-use Rattle.px_flat.specs.Within.{IsWithin}
-use Rattle.px_flat.proofs.Tables.{flat_sound}
-use Rattle.px_flat.proofs.Withins.{node_is_within}
 use Rattle.px_links.specs.Links.{is_absent}
 use Rattle.px_claims.specs.Claims.{AreOf}
 use Rattle.px_cached.specs.Cached.{CachedData, HasTouchedCell, IsTouchedAt, SeenIn, TouchedIn, TellsChanged, is_touched, kept_truth, present_in}
 use Rattle.px_cached.specs.Cached as cached
 use Rattle.px_cached.specs.Conditions.{condition_in, number_of, source_number}
 use Rattle.px_cached.specs.Firsts.{HasCell}
-use Rattle.px_cached.proofs.Conditions.{kind_of_node, within_kind}
+use Rattle.px_cached.proofs.Conditions.{condition_within}
 use Rattle.px_cached.proofs.Listening.{IsThere, sources_there}
+use Rattle.px_cached.proofs.OneList.{still_waits, was_absent}
 use Rattle.px_cached.proofs.Seeing.{was_untouched}
 use Rattle.px_parts.specs.declared.parts.Parts.{Parts}
 use Rattle.px_parts.specs.Parts.{AreSame, AreStanding, plan_in}
@@ -41,7 +38,7 @@ use Rattle.px_machine.specs.Queue.{FallBehind, IsBehind, NobodyIsWoken}
 use Rattle.px_machine.specs.Right.{IsRight}
 use Rattle.px_machine.specs.Seen.{IsSeen}
 use Rattle.px_machine.proofs.Framing.{IsFramed, right_framed}
-use Rattle.px_machine.proofs.Waiting.{falls_both, in_one_of_two, none_woken, still_behind, still_waits, was_absent}
+use Rattle.px_machine.proofs.Waiting.{falls_both, in_one_of_two, none_woken, still_behind}
 
 -- where nobody is woken, whoever waits at all is behind
 pub all_behind : (kept : Kept) (node : ℕ) → length kept.queue.lists ≡ 2 → NobodyIsWoken kept.queue
@@ -242,11 +239,8 @@ module _ (old new : Parts) (before middle after : Kept) (stand : AreStanding old
   seen_in : SeenIn plan after.conditions (present_in new.cells new.reports)
   seen_in node kind here k d inside =
       let expr : Numbered = condition_in plan node kind in
-      let within : IsWithin plan expr =
-      subst (IsWithin plan) (kind_of_node plan node kind)
-      (within_kind plan (numbered_node plan (site_in plan node).head).conditions kind
-      (node_is_within plan node (flat_sound old.flat) here).conditions) in
-      source_same (get_or (sources_in plan expr) k d) (sources_there plan expr within k d inside)
+      source_same (get_or (sources_in plan expr) k d)
+      (sources_there plan expr (condition_within old.flat node kind here) k d inside)
       (λ cell own among. All-contains (TouchedIn plan after.conditions) old.cells.news cell touched_at among node kind here k d inside own)
 
   pub noticed : IsNoticed new after

@@ -18,7 +18,7 @@ use Rattle.px_flat.specs.Layout.{all_cells}
 use Rattle.px_flat.specs.Lookups.{lookups_of}
 use Rattle.px_flat.specs.Numbered.{reported_of}
 use Rattle.px_flat.specs.Sources.{Reports}
-use Rattle.px_flat.specs.Parts.{IsParts, world_of}
+use Rattle.px_flat.specs.Parts.{IsParts}
 use Rattle.px_links.specs.Links.{LinksData}
 use Rattle.px_lookup.specs.Reports.{reports_after}
 use Rattle.px_lookup.proofs.Taking.{reports-take}
@@ -29,6 +29,7 @@ use Rattle.px_parts.specs.declared.parts.Parts.{Parts}
 use Rattle.px_parts.specs.Marks.{AreMarked, AreUnmarked, marked_world}
 use Rattle.px_parts.specs.Parts.{AreOfOnePlan, AreSame, AreStanding, plan_in, world_in}
 use Rattle.px_parts.specs.Seen.{AreSeenAsBefore}
+use Rattle.px_parts.proofs.Stepped as stepped
 use Rattle.px_micro.specs.declared.sight.Going.{Going}
 use Rattle.px_micro.specs.Stepping.{moves_after}
 use Rattle.px_machine.specs.declared.begun.Begun.{Begun}
@@ -261,15 +262,16 @@ marked_nothing now parts none unmarked = record {
 }
 
 -- what is begun by the stepper's state
+event_is : (now : Begun) (settled : World) → stepper.is_event (begun_in now settled) ≡ is_event now
+event_is begun.Nothing settled = refl
+event_is begun.Start settled = refl
+event_is (begun.Event heard) settled = refl
+
 pub no_event : (now : Begun) (settled : World) → begun_in now settled ≡ stepper.Nothing → is_event now ≡ false
-no_event begun.Nothing settled is = refl
-no_event begun.Start settled is = refl
-no_event (begun.Event heard) settled is = absurd (cc is)
+no_event now settled is = sym (event_is now settled) ∙ ap stepper.is_event is
 
 pub some_event : (now : Begun) (settled : World) → stepper.is_event (begun_in now settled) ≡ true → is_event now ≡ true
-some_event begun.Nothing settled is = absurd (false≢true is)
-some_event begun.Start settled is = absurd (false≢true is)
-some_event (begun.Event heard) settled is = refl
+some_event now settled is = sym (event_is now settled) ∙ is
 
 pub one_both : (first middle last : Parts) → AreOfOnePlan first middle → AreOfOnePlan middle last → AreOfOnePlan first last
 one_both first middle last one two = record {
@@ -289,12 +291,7 @@ same_stand old new same stand =
 -- ---- the stepper's state
 
 pub same_state : (now : Begun) (old new : Parts) → AreSame old new → state_with now new ≡ state_with now old
-same_state now old new same i = record {
-  nodes = same.plan i;
-  world = world_of (same.plan i) (same.cells i).values (same.reports i).reports (same.actions i).values;
-  pending = begun_in now (world_of (same.plan i) (unwrap_or (same.cells i).marked []) (unwrap_or (same.reports i).marked [])
-      (unwrap_or (same.actions i).marked []));
-}
+same_state now = stepped.same_state (begun_in now)
 
 pub same_quiet : (now : Begun) (old new : Parts) (quiet : Bool) → AreSame old new → is_quiet (plan_in new) (world_in new) ≡ quiet
     → is_quiet (plan_in old) (world_in old) ≡ quiet
@@ -304,12 +301,7 @@ same_quiet now old new quiet same is =
 pub stepped_state : (now : Begun) (old middle new : Parts) → AreSame old middle → AreOfOnePlan middle new
     → world_in new ≡ micro (plan_in middle) (world_in middle) → state_with now new ≡ stepper.stepped (state_with now old)
 stepped_state now old middle new same one world =
-    (λ i. record {
-      nodes = one.plan i;
-      world = world i;
-      pending = begun_in now (world_of (one.plan i) (unwrap_or (one.cells i) []) (unwrap_or (one.reports i) [])
-          (unwrap_or (one.actions i) []));
-    }) ∙ ap stepper.stepped (same_state now old middle same)
+    stepped.stepped_state (begun_in now) middle new one world ∙ ap stepper.stepped (same_state now old middle same)
 
 -- what a step tells is what was done, and else the moves are those of before
 pub moves_behind : (tells : Bool) (now : Begun) (old middle new : Parts) → AreSame old middle

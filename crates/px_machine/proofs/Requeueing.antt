@@ -3,6 +3,7 @@ use Rattle.std.proofs.Common.{◌≡◌, ℕ, ◌<◌, true, List, [], length, i
 use Rattle.std.proofs.lemmas.Bool.{cases_eq}
 use Rattle.px_core.specs.Plan.{Site}
 use Rattle.px_links.specs.Links.{LinksData, is_absent, SameCounts}
+use Rattle.px_cached.proofs.OneList.{not_both}
 use Rattle.px_parts.specs.declared.parts.Parts.{Parts}
 use Rattle.px_parts.specs.Parts.{plan_in}
 use Rattle.px_micro.specs.declared.sight.Going.{Going}
@@ -13,7 +14,6 @@ use Rattle.px_machine.specs.Right.{IsRight}
 use Rattle.px_machine.specs.Stepping.{HasChosen}
 use Rattle.px_machine.specs.Still.{IsStill}
 use Rattle.px_machine.specs.Told.{Agrees, IsCaughtUp}
-use Rattle.px_machine.proofs.Waiting.{not_both}
 
 abbrev pub with_queue : Kept → LinksData → Kept
 with_queue kept queue = record kept { queue = queue }

@@ -11,13 +11,13 @@ use Rattle.px_told.specs.Asking.{either, nothing}
 use Rattle.px_told.specs.Preorder.{parent_of}
 use Rattle.px_told.specs.Told.{AreTold, asked_under, silent}
 use Rattle.px_claims.specs.Claims.{AreNobodys}
+use Rattle.px_cached.proofs.OneList.{not_both}
 use Rattle.px_parts.specs.declared.parts.Parts.{Parts}
 use Rattle.px_parts.specs.Parts.{plan_in}
 use Rattle.px_machine.specs.declared.kept.Kept.{Kept}
 use Rattle.px_machine.specs.Kept.{IsOfPlan, kept_state, parents_of}
 use Rattle.px_machine.specs.Queue.{IsBehind}
 use Rattle.px_machine.specs.Right.{IsRight}
-use Rattle.px_machine.proofs.Waiting.{not_both}
 
 -- nobody asks, so nobody is told
 pub silent_told : (tree : List Place) → AreTold (silent tree)

@@ -2,22 +2,17 @@
 use Rattle.std.proofs.Common.{◌≡◌, ◌≢◌, ◌⊎◌, ℕ, ◌<◌, Bool, true, false, nat_eq, List, [], ◌∷◌, ◌++◌, length, map, Contains, Option, Some, None, is_none, refl, ap, sym, ◌∙◌, subst, arith, inl, inr, if◌then◌else◌}
 use Rattle.std.specs.Cmp.{nat_eq_equiv}
 use Rattle.std.specs.List.{list_any}
-use Rattle.std.proofs.lemmas.Bool.{cases_eq, cases_lt, eq-eqb, eqb-true, false_from_ne_true, false≢true, ne_eqb}
+use Rattle.std.proofs.lemmas.Bool.{cases_eq, cases_lt, eqb-true, false≢true, ne_eqb}
 use Rattle.std.proofs.lemmas.List.{get_or-set_other, map-append}
 use Rattle.std.proofs.lemmas.List.Elements.{Contains-append_left, Contains-append_right, Contains-push_cases}
 use Rattle.std.proofs.lemmas.List.Quantifiers.{position-Some}
 use Rattle.std.proofs.lemmas.Map.Views.{Contains-from_any, list_any-from_Contains}
 use Rattle.px_links.specs.Links.{LinksData, HoldsOthersAsBefore, SameCounts, holder_of, is_absent, pushed}
 use Rattle.px_links.specs.Lists.{has}
-use Rattle.px_cached.proofs.OneList.{elsewhere, holders_then}
+use Rattle.px_cached.specs.Adding.{AddsTo}
+use Rattle.px_cached.proofs.OneList.{adds_both, elsewhere, holders_then, kept_here, not_both, pushed_here}
 use Rattle.px_micro.specs.declared.sight.Going.{Going}
-use Rattle.px_machine.specs.Queue.{AddsTo, FallBehind, HaveGone, IsBehind, IsWoken, NobodyIsWoken, Wakes, behind_in}
-
--- who waits is not absent
-pub not_both : (queue : LinksData) (node list : ℕ) → holder_of queue node ≡ Some list → is_absent queue node ≡ true → ⊥
-not_both queue node list held absent =
-    let none : is_none (Some list) ≡ true = ap is_none (sym held) ∙ absent in
-    absurd (cc)
+use Rattle.px_machine.specs.Queue.{FallBehind, HaveGone, IsBehind, IsWoken, NobodyIsWoken, Wakes, behind_in}
 
 -- who waits at all waits in one of the two
 pub in_one_of_two : (queue : LinksData) (node : ℕ) → length queue.lists ≡ 2 → is_absent queue node ≡ false
@@ -39,13 +34,6 @@ in_one_of_two queue node lists waits = by (holder_of queue node) refl
               inr (is ∙ ap Some second)
         ]
 
--- who waits nowhere did before
-pub was_absent : (old new : LinksData) (list node : ℕ) → AddsTo list old new → is_absent new node ≡ true → is_absent old node ≡ true
-was_absent old new list node added absent = elim (added node) [
-  | inl same ↦ ap is_none (sym same) ∙ absent
-  | inr pushed ↦ pushed.0
-]
-
 -- who was behind is
 pub still_behind : (old new : LinksData) (list node : ℕ) → AddsTo list old new → IsBehind old node → IsBehind new node
 still_behind old new list node added behind = elim (added node) [
@@ -60,25 +48,6 @@ none_woken old new falls nobody node woken = elim (falls.added node) [
   | inr pushed ↦
       let lists : Some 0 ≡ Some 1 = sym pushed.1 ∙ woken in
       absurd (cc lists)
-]
-
--- who waited waits
-pub still_waits : (list : ℕ) (old new : LinksData) (node : ℕ) → AddsTo list old new → is_absent old node ≡ false
-    → is_absent new node ≡ false
-still_waits list old new node added waits =
-    false_from_ne_true (is_absent new node) (λ absent. false≢true (sym waits ∙ was_absent old new list node added absent))
-
--- pushes into one list, one after another
-pub adds_both : (list : ℕ) (first middle last : LinksData) → AddsTo list first middle → AddsTo list middle last → AddsTo list first last
-adds_both list first middle last one two node = elim (two node) [
-  | inl same ↦ elim (one node) [
-    | inl before ↦ inl (same ∙ before)
-    | inr added ↦ inr (added.0, same ∙ added.1)
-  ]
-  | inr now ↦ elim (one node) [
-    | inl before ↦ inr (ap is_none (sym before) ∙ now.0, now.1)
-    | inr added ↦ absurd (not_both middle node list added.1 now.0)
-  ]
 ]
 
 pub falls_both : (first middle last : LinksData) → FallBehind first middle → FallBehind middle last → FallBehind first last
@@ -98,14 +67,6 @@ wakes_both first middle last one two = record {
 }
 
 -- ---- one push
-
-module _ (old new : LinksData) (cell list : ℕ)
-    (holders : HoldsOthersAsBefore old new cell (if is_absent old cell then Some list else holder_of old cell)) where
-  pub pushed_here : is_absent old cell ≡ true → holder_of new cell ≡ Some list
-  pushed_here absent = rw (eq-eqb cell cell refl, absent) at (holders cell)
-
-  pub kept_here : is_absent old cell ≡ false → holder_of new cell ≡ holder_of old cell
-  kept_here waits = rw (eq-eqb cell cell refl, waits) at (holders cell)
 
 -- one push into the list of those woken
 pub push_wakes : (old new : LinksData) (cell : ℕ)

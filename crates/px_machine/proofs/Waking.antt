@@ -6,10 +6,11 @@ use Rattle.px_flat.specs.Flat.{plan_of}
 use Rattle.px_flat.specs.Row.{after_last, parent_number}
 use Rattle.px_flat.proofs.Tables.{flat_sound}
 use Rattle.px_links.specs.Links.{LinksData, is_absent}
+use Rattle.px_cached.proofs.OneList.{still_waits}
 use Rattle.px_micro.proofs.Families.{behind, child_below, is_child}
 use Rattle.px_micro.proofs.Passing.{HavePassed, passed_child, passed_more}
 use Rattle.px_machine.specs.Queue.{Wakes}
-use Rattle.px_machine.proofs.Waiting.{still_waits, wakes_both}
+use Rattle.px_machine.proofs.Waiting.{wakes_both}
 
 -- the children among those passed wait
 pub record HasWokenBefore (plan : List Site) (node next : ℕ) (old new : LinksData) : Type 0 where

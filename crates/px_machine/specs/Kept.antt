@@ -1,5 +1,5 @@
 -- What is kept of each node, and where the node goes by it.
-use Rattle.std.specs.Prelude.{◌≡◌, ℕ, ◌<◌, ◌^◌, Bool, nat_eq, List, [], length, map, slice_index_or, Option, Some, None}
+use Rattle.std.specs.Prelude.{◌≡◌, ℕ, ◌<◌, ◌^◌, Bool, List, [], length, map, slice_index_or, Option, Some, None}
 use Rattle.std.specs.List.{range_with_len}
 use Rattle.px_value.specs.declared.enums.NodeState.{NodeState}
 use Rattle.px_value.specs.declared.enums.NodeState.TheVariants as states
@@ -10,11 +10,9 @@ use Rattle.px_sem.specs.declared.guards.Arrival.{Arrival}
 use Rattle.px_sem.specs.Table.{dest}
 use Rattle.px_sem.specs.World.{NodeRecord}
 use Rattle.px_flat.specs.declared.act.Act.{Act}
-use Rattle.px_flat.specs.Layout.{state_cell, outcome_cell, failure_cell, handle_cell, acknowledgement_cell}
-use Rattle.px_flat.specs.Numbered.{held}
-use Rattle.px_flat.specs.Parts.{act_of, action_in, failure_in, outcome_in, state_in}
+use Rattle.px_flat.specs.Parts.{record_in}
 use Rattle.px_flat.specs.Row.{site_in, parent_number, after_last}
-use Rattle.px_tally.specs.Tally.{total}
+use Rattle.px_tally.specs.Tally.{is_nobody}
 use Rattle.px_told.specs.declared.place.Place.{Place}
 use Rattle.px_told.specs.Told.{told_at}
 use Rattle.px_claims.specs.Claims.{AreOf}
@@ -57,13 +55,7 @@ pub record IsOfPlan (plan : List Site) (kept : Kept) : Type 0 where
 
 -- its record in these cells and acts, its variables apart, which no guard reads
 abbrev pub own_in : List Site → List Value → List Act → ℕ → NodeRecord
-own_in plan cells acts node = record {
-  state = state_in (held cells (state_cell plan node));
-  outcome = outcome_in (held cells (outcome_cell plan node));
-  failure = failure_in (held cells (failure_cell plan node));
-  variables = [];
-  action = action_in (act_of acts node) (held cells (handle_cell plan node)) (held cells (acknowledgement_cell plan node));
-}
+own_in plan cells acts node = record (record_in plan cells acts node) { variables = [] }
 
 -- as it was last seen
 abbrev pub own_seen : Parts → ℕ → NodeRecord
@@ -80,7 +72,7 @@ parent_state kept (Some parent) = kept_state kept parent
 
 -- no child of it is busy
 abbrev pub is_rest : Kept → ℕ → Bool
-is_rest kept node = nat_eq (total kept.busy node) 0
+is_rest kept node = is_nobody kept.busy node
 
 -- the truths of its conditions
 abbrev pub kept_truths : CachedData → ℕ → Truths

@@ -4,9 +4,8 @@ use Rattle.px_sem.specs.declared.moves.Move.{Move}
 use Rattle.px_sem.specs.Conflicts.{is_quiet}
 use Rattle.px_sem.specs.Step.{moves}
 use Rattle.px_sem.specs.Stepper.{State, stepped}
-use Rattle.px_parts.specs.Marks.{marked_world}
+use Rattle.px_parts.specs.Marks.{state_by}
 use Rattle.px_parts.specs.declared.parts.Parts.{Parts}
-use Rattle.px_parts.specs.Parts.{plan_in, world_in}
 use Rattle.px_micro.specs.Stepping.{moves_after}
 use Rattle.px_machine.specs.declared.begun.Begun.{Begun}
 use Rattle.px_machine.specs.declared.machine.Machine.{Machine}
@@ -14,8 +13,7 @@ use Rattle.px_machine.specs.Begun.{begun_in}
 
 -- the state of a stepper with these parts, where this is begun
 abbrev pub state_with : Begun → Parts → State
-state_with now parts =
-    record { nodes = plan_in parts; world = world_in parts; pending = begun_in now (marked_world parts) }
+state_with now parts = state_by (begun_in now) parts
 
 abbrev pub state_in : Machine → State
 state_in machine = state_with machine.begun machine.parts

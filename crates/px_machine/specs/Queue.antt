@@ -2,6 +2,7 @@
 use Rattle.std.specs.Prelude.{◌≡◌, ◌≢◌, ◌⊎◌, ℕ, ◌<◌, true, List, map, length, Some, Contains}
 use Rattle.px_links.specs.Links.{LinksData, holder_of, is_absent, SameCounts}
 use Rattle.px_links.specs.Lists.{nth}
+use Rattle.px_cached.specs.Adding.{AddsTo}
 use Rattle.px_micro.specs.declared.sight.Going.{Going}
 use Rattle.px_machine.specs.declared.queue.TheConstants.{BEHIND, WOKEN}
 
@@ -24,11 +25,6 @@ behind_in queue = nth queue.lists BEHIND
 -- the same nodes wait
 abbrev pub HaveTheSame : LinksData → LinksData → Type 0
 HaveTheSame old new = (node : ℕ) → is_absent new node ≡ is_absent old node
-
--- each node waits where it did, or waited nowhere and is in this list
-abbrev pub AddsTo : ℕ → LinksData → LinksData → Type 0
-AddsTo list old new = (node : ℕ) → (holder_of new node ≡ holder_of old node)
-    ⊎ ((is_absent old node ≡ true) × (holder_of new node ≡ Some list))
 
 -- some fall behind
 pub record FallBehind (old new : LinksData) : Type 0 where

@@ -1,14 +1,12 @@
 -- TOLD: what is kept beside the conditions is right of each node that was caught up, and agrees with itself always.
 use Rattle.std.specs.Prelude.{◌≡◌, ℕ, ◌<◌, not, false, length, slice_index_or}
-use Rattle.px_core.specs.declared.conditions.ConditionKind.TheVariants as which
 use Rattle.px_sem.specs.Guards.{is_active, is_at_rest}
 use Rattle.px_tally.specs.Tally.{is_counted}
 use Rattle.px_told.specs.Told.{own_at, AreTold}
-use Rattle.px_cached.specs.Cached.{kept_truth}
 use Rattle.px_parts.specs.declared.parts.Parts.{Parts}
 use Rattle.px_parts.specs.Parts.{plan_in}
-use Rattle.px_micro.specs.Above.{asks_in}
 use Rattle.px_machine.specs.declared.kept.Kept.{Kept}
+use Rattle.px_machine.specs.CatchingUp.{IsAskedFor}
 use Rattle.px_machine.specs.Kept.{kept_state, own_seen}
 use Rattle.px_machine.specs.Queue.{IsBehind}
 
@@ -22,8 +20,7 @@ pub record Agrees (nodes : ℕ) (kept : Kept) : Type 0 where
 -- its state is the one that was seen, and it asks what it asks by that and by its kept conditions
 pub record IsCaughtUp (parts : Parts) (kept : Kept) (node : ℕ) : Type 0 where
   pub state : kept_state kept node ≡ (own_seen parts node).state
-  pub asks : own_at kept.told node ≡ asks_in (own_seen parts node) (kept_truth kept.conditions node which.Exit)
-      (kept_truth kept.conditions node which.Invariant) (kept_truth kept.conditions node which.End)
+  pub asks : IsAskedFor parts kept node (own_at kept.told node)
 
 -- each node is, or is behind
 abbrev pub AreCaughtUp : Parts → Kept → Type 0

@@ -8,9 +8,7 @@ use Rattle.px_value.specs.declared.value.Value.{Value}
 use Rattle.px_value.specs.declared.value.Value.TheVariants as values
 use Rattle.px_core.specs.Plan.{Site}
 use Rattle.px_sem.specs.Expressions.{outcome_value, failure_value}
-use Rattle.px_flat.specs.declared.act.Abort.TheVariants as aborts
 use Rattle.px_flat.specs.declared.act.Act.{Act}
-use Rattle.px_flat.specs.declared.act.Act.TheVariants as acts
 use Rattle.px_flat.specs.Layout.{all_cells, node_cell, state_cell, outcome_cell, failure_cell, handle_cell, acknowledgement_cell}
 use Rattle.px_flat.specs.Numbered.{held}
 use Rattle.px_flat.specs.Parts.{act_of}
@@ -19,6 +17,7 @@ use Rattle.px_micro.specs.declared.effects.UnderWay.{UnderWay}
 use Rattle.px_micro.specs.declared.effects.UnderWay.TheVariants as under_way
 use Rattle.px_micro.specs.declared.turns.Turn.{Turn}
 use Rattle.px_micro.specs.Moving.{with_said, arrived, with_turn, with_turn_act}
+use Rattle.px_micro.specs.Turns.{act_then}
 use Rattle.px_micro.proofs.Hits.{hit_by, fold_keeps, none_hit, one_hit, keys_apart}
 
 -- ---- one turn
@@ -56,11 +55,6 @@ said_after turn old = record {
   handle = handle_after turn.under_way old.handle;
   acknowledgement = acknowledgement_after turn.under_way old.acknowledgement;
 }
-
-abbrev pub act_then : UnderWay → Act → Act
-act_then under_way.Kept old = old
-act_then (under_way.Begun act) old = act
-act_then (under_way.Aborting index) old = acts.Sent index aborts.Sent
 
 arrived_length : (plan : List Site) (cells : List Value) (turn : Turn) → length (arrived plan cells turn) ≡ length cells
 arrived_length plan cells turn = grind (arith, common_steps, length-set)

@@ -1,40 +1,29 @@
 -- The initial values of the nodes that begin to wait.
 use Rattle.std.proofs.Common.{◌≡◌, ◌≢◌, ℕ, ◌+◌, ◌<◌, ◌≤◌, Bool, true, false, List, [], ◌∷◌, length, get_or, drop, fold, map, nat_eq, refl, ap, sym, ◌∙◌, subst, arith, inl, inr, Option, Some, None, All, AllPairs, if◌then◌else◌}
-use Rattle.std.specs.List.{flat_map, find, list_all}
+use Rattle.std.specs.List.{flat_map, find}
 use Rattle.std.proofs.lemmas.Bool.{cases_lt, eqb-true, eqb-false}
-use Rattle.std.proofs.lemmas.Grind.{common_steps}
 use Rattle.std.proofs.lemmas.List.Elements.{All-append, All-cons, All-head, All-nil, All-tail}
-use Rattle.std.proofs.lemmas.List.Sums.{AllPass-from_list_all}
 use Rattle.px_value.specs.declared.value.Value.{Value}
 use Rattle.px_value.specs.declared.value.Value.TheVariants as values
 use Rattle.px_value.proofs.General.{found_has}
-use Rattle.px_core.specs.Fit.{cells_of_site, has_right_cells, has_right_variables}
-use Rattle.px_core.specs.Plan.{Site, VariableData, no_site}
-use Rattle.px_sem.specs.Effects.{initial_values, is_initializing, move_kind}
+use Rattle.px_core.specs.Fit.{cells_of_site}
+use Rattle.px_core.specs.Plan.{Site, VariableData}
+use Rattle.px_sem.specs.Effects.{initial_values}
 use Rattle.px_flat.specs.Layout.{all_cells, first_cell, variable_cells}
 use Rattle.px_flat.specs.Numbered.{held}
 use Rattle.px_flat.specs.Parts.{values_in}
 use Rattle.px_flat.specs.Row.{site_in}
-use Rattle.px_flat.proofs.Known.{IsSound}
 use Rattle.px_flat.proofs.Tables.{flat_sound}
-use Rattle.px_flat.proofs.Variables.{cells_apart}
-use Rattle.px_command.proofs.Writes.{cells_within}
+use Rattle.px_flat.proofs.Variables.{cells_apart, cells_within}
 use Rattle.px_parts.specs.declared.parts.Parts.{Parts}
 use Rattle.px_micro.specs.declared.sight.Going.{Going}
 use Rattle.px_micro.specs.declared.turns.CellValue.{CellValue}
 use Rattle.px_micro.specs.Moving.{put_value}
-use Rattle.px_parts.specs.Parts.{plan_in, record_of}
-use Rattle.px_micro.specs.Turns.{from_cell, initial_in}
-use Rattle.px_micro.proofs.Initial.{as_many_of_each}
+use Rattle.px_parts.specs.Parts.{plan_in}
+use Rattle.px_micro.specs.Turns.{begins, from_cell, initial_in, initial_of}
+use Rattle.px_micro.proofs.Initial.{initial_cells, right_cells}
 use Rattle.px_micro.proofs.Blocks.{values_in-same, values_in-initial, begun_off, begun_at, set_length, fold-flat_map}
 use Rattle.px_micro.proofs.Hits.{hit_by, one_hit, keys_apart}
-
--- whether a node begins to wait
-abbrev pub begins : Parts → Going → Bool
-begins parts one = is_initializing (move_kind (record_of parts one.node).state one.arrival.to)
-
-abbrev initial_of : List Site → ℕ → List Value
-initial_of plan node = flat_map initial_values (site_in plan node).head.variables
 
 -- a cell of the variables of a node after it
 abbrev begun : Parts → ℕ → Going → Value → Value
@@ -43,15 +32,6 @@ begun parts i one old = if begins parts one then get_or (initial_of (plan_in par
 -- what one node puts into cells
 abbrev step : Parts → List Value → Going → List Value
 step parts cells one = fold put_value cells (initial_in parts one)
-
-right_cells : (plan : List Site) (node : ℕ) → IsSound plan → node < length plan
-    → list_all has_right_cells (site_in plan node).head.variables ≡ true
-right_cells plan node sound within = AllPass-from_list_all has_right_variables plan sound.arrays node no_site within
-
-initial_cells : (plan : List Site) (node : ℕ) → IsSound plan → node < length plan
-    → length (initial_of plan node) ≡ cells_of_site (site_in plan node)
-initial_cells plan node sound within =
-    as_many_of_each (site_in plan node).head.variables (right_cells plan node sound within)
 
 -- cells of variables of different nodes differ
 nodes_apart : (plan : List Site) (a b i j : ℕ) → a < length plan → b < length plan → a ≢ b
@@ -85,7 +65,23 @@ hit : (parts : Parts) (cells : List Value) (one : Going) (i : ℕ) → one.node 
     → i < cells_of_site (site_in (plan_in parts) one.node) → length cells ≡ all_cells (plan_in parts)
     → held (step parts cells one) (first_cell (plan_in parts) one.node + i)
     ≡ begun parts i one (held cells (first_cell (plan_in parts) one.node + i))
-hit parts cells one i one_in few all = grind (arith, common_steps, initial_cells, flat_sound, begun_at, cells_within)
+hit parts cells one i one_in few all = by (begins parts one)
+  where
+    plan : List Site
+    plan = plan_in parts
+
+    given : List Value
+    given = initial_of plan one.node
+
+    many : length given ≡ cells_of_site (site_in plan one.node)
+    many = initial_cells plan one.node (flat_sound parts.flat) one_in
+
+    by : (b : Bool)
+        → held (fold put_value cells (if b then from_cell (first_cell plan one.node) given else [])) (first_cell plan one.node + i)
+        ≡ (if b then get_or given i values.Unknown else held cells (first_cell plan one.node + i))
+    by true = begun_at given (first_cell plan one.node) cells i (omega (arith, few, many))
+        (omega (arith, many, all, cells_within plan one.node one_in))
+    by false = refl
 
 -- the values of a node's variables, by the move that it takes
 abbrev pub begun_as : Parts → Option Going → List (List Value) → List (List Value) → List (List Value)

@@ -4,7 +4,6 @@ use Rattle.std.specs.List.{flat_map, list_all}
 use Rattle.std.proofs.lemmas.Bool.{and_parts}
 use Rattle.std.proofs.lemmas.Grind.{common_steps}
 use Rattle.std.proofs.lemmas.List.{ext_get_or, get_or-take, get_or-drop, get_or-set_same, get_or-set_other, get_or_append_left, get_or-append-add, length-set, length-take-le, drop-drop}
-use Rattle.std.proofs.lemmas.List.Elements.{All-head, All-tail}
 use Rattle.std.proofs.lemmas.List.Sums.{fold-append, sum_by-cons}
 use Rattle.px_value.specs.declared.value.Value.{Value}
 use Rattle.px_value.specs.declared.value.Value.TheVariants as values
@@ -15,6 +14,7 @@ use Rattle.px_flat.specs.Numbered.{held}
 use Rattle.px_flat.specs.Parts.{values_in}
 use Rattle.px_micro.specs.Moving.{put_value}
 use Rattle.px_micro.specs.Turns.{from_cell}
+use Rattle.px_micro.proofs.Hits.{fold_keeps}
 use Rattle.px_micro.proofs.Initial.{as_many}
 
 -- ---- blocks of cells
@@ -106,17 +106,17 @@ module _ {X : Type 0} (place : X → ℕ) (given : X → Value) where
   all_set cells items = fold (λ cells item. set cells (place item) (given item)) cells items
 
   pub set_length : (items : List X) (cells : List Value) → length (all_set cells items) ≡ length cells
-  set_length [] cells = refl
-  set_length (item ∷ items) cells =
-      set_length items (set cells (place item) (given item)) ∙ length-set cells (place item) (given item)
+  set_length items cells =
+      fold_keeps (λ (cells : List Value) (item : X). set cells (place item) (given item)) (λ after. length after ≡ length cells)
+      (λ item. Unit {0}) (λ after item fit same. length-set after (place item) (given item) ∙ same) items cells (λ k d within. tt) refl
 
   pub set_off : (items : List X) (cells : List Value) (bound cell : ℕ) → All (λ item. place item < bound) items → bound ≤ cell
       → held (all_set cells items) cell ≡ held cells cell
-  set_off [] cells bound cell small far = refl
-  set_off (item ∷ items) cells bound cell small far =
-      set_off items (set cells (place item) (given item)) bound cell (All-tail (λ (x : X). place x < bound) item items small) far
-      ∙ get_or-set_other cells (place item) cell (given item) values.Unknown
-      (λ same. absurd (omega (arith, same, far, All-head (λ (x : X). place x < bound) item items small)))
+  set_off items cells bound cell small far =
+      fold_keeps (λ (cells : List Value) (item : X). set cells (place item) (given item)) (λ after. held after cell ≡ held cells cell)
+      (λ item. place item < bound) (λ after item before same.
+      get_or-set_other after (place item) cell (given item) values.Unknown (λ is. absurd (omega (arith, is, far, before))) ∙ same)
+      items cells small refl
 
 -- what is done with the items of each is done with each in turn
 pub fold-flat_map : {A B S : Type 0} (step : S → B → S) (f : A → List B) (items : List A) (s : S)

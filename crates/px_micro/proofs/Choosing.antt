@@ -3,13 +3,13 @@ use Rattle.std.proofs.Common.{◌≡◌, ℕ, ◌<◌, Bool, true, false, not, �
 use Rattle.std.specs.Cmp.{nat_eq_equiv}
 use Rattle.std.specs.List.{list_any, cons_option, range_with_len}
 use Rattle.std.proofs.lemmas.Bool.{and_from, and_parts, eqb-true}
-use Rattle.std.proofs.lemmas.List.{get_or-map, length-map, take_more}
-use Rattle.std.proofs.lemmas.List.Elements.{All-cons, All-nil, All-head, All-tail, All-filter, filter_map-append}
-use Rattle.std.proofs.lemmas.List.FromFn.{length-range_with_len, get_or-range_with_len}
+use Rattle.std.proofs.lemmas.List.{take_more}
+use Rattle.std.proofs.lemmas.List.Elements.{All-head, All-tail, All-filter, filter_map-append}
 use Rattle.std.proofs.lemmas.List.Kept.{AllPairs-filter}
 use Rattle.std.proofs.lemmas.Map.Views.{any-filter_same, list_any-from_Contains, Contains-from_any}
 use Rattle.std.proofs.Math.Bool.{and-false, and-true}
 use Rattle.std.proofs.lemmas.Grind.{common_steps}
+use Rattle.px_value.proofs.General.{All-unmap, IfSome-map, all_given}
 use Rattle.px_core.specs.Plan.{Site}
 use Rattle.px_sem.specs.declared.guards.Arrival.{Arrival}
 use Rattle.px_sem.specs.Conflicts.{destination, transition, would_start, holds_variable, is_loser}
@@ -20,7 +20,7 @@ use Rattle.px_assign.specs.Conflicts.{AreWriters, is_loser_in}
 use Rattle.px_micro.specs.declared.sight.Going.{Going}
 use Rattle.px_micro.specs.Candidates.{AreCandidates}
 use Rattle.px_micro.specs.Going.{with_node, is_start, wanted, wanting, holding, going, AreAllGoing}
-use Rattle.px_micro.proofs.Lists.{in_range}
+use Rattle.px_micro.proofs.Lists.{in_range, pairs_unmap, range_below}
 
 -- ---- those that would start
 
@@ -119,9 +119,7 @@ wanting_within plan now nodes are =
 pub holding_within : (plan : List Site) (now : World) → All (λ node. node < length plan) (holding plan now)
 holding_within plan now =
     All-filter (λ node. is_active (state_at now (site_in plan node).path)) (λ node. node < length plan)
-    (range_with_len 0 (length plan)) (λ k d within.
-    let small : k < length plan = omega (arith, within, length-range_with_len 0 (length plan)) in
-    omega (arith, get_or-range_with_len 0 (length plan) k d small, small))
+    (range_with_len 0 (length plan)) (range_below (length plan))
 
 -- ---- the losers
 
@@ -201,16 +199,14 @@ numbers_are plan now (node ∷ nodes) = step (transition plan now (site_in plan 
 
 each_goes : (plan : List Site) (now : World) (nodes : List ℕ)
     → All (λ (one : Going). transition plan now (site_in plan one.node) ≡ Some one.arrival) (going plan now nodes)
-each_goes plan now [] = All-nil (λ (one : Going). transition plan now (site_in plan one.node) ≡ Some one.arrival)
-each_goes plan now (node ∷ nodes) = step (transition plan now (site_in plan node)) refl (each_goes plan now nodes)
+each_goes plan now nodes =
+    all_given Goes (λ node. with_node node (transition plan now (site_in plan node))) nodes
+    (λ k d within.
+    let node : ℕ = get_or nodes k d in
+    IfSome-map Goes (λ (to : Arrival). record { node = node; arrival = to }) (transition plan now (site_in plan node)) (λ to is. is))
   where
     Goes : Going → Type 0
     Goes one = transition plan now (site_in plan one.node) ≡ Some one.arrival
-
-    step : (to : Option Arrival) → transition plan now (site_in plan node) ≡ to → All Goes (going plan now nodes)
-        → All Goes (cons_option (with_node node to) (going plan now nodes))
-    step None is rest = rest
-    step (Some to) is rest = All-cons Goes (record { node = node; arrival = to }) (going plan now nodes) is rest
 
 -- where a node goes it has a destination
 goes_somewhere : (loses : Bool) (to : Option Arrival) → IsSome (cond loses None to) → IsSome to
@@ -220,12 +216,11 @@ goes_somewhere false to some = some
 all_going : (plan : List Site) (now : World) (nodes : List ℕ) → AreCandidates plan now nodes
     → AreAllGoing plan now (going plan now nodes)
 all_going plan now nodes are = record {
-  rise = λ i j d before within.
-      let both = rise i j d.node before (omega (arith, within, long)) in
-      omega (arith, both, at i d (omega (arith, before, within)), at j d within);
-  within = λ k d inside.
-      let small = inside_plan k d.node (omega (arith, inside, long)) in
-      omega (arith, small, at k d inside);
+  rise = pairs_unmap (λ (a b : ℕ). a < b) (λ (one : Going). one.node) (going plan now nodes)
+      (subst (AllPairs (λ a b. a < b)) (sym (numbers_are plan now nodes)) (AllPairs-filter (λ a b. a < b) goes nodes are.rise));
+  within = All-unmap (λ (node : ℕ). node < length plan) (λ (one : Going). one.node) (going plan now nodes)
+      (subst (All (λ node. node < length plan)) (sym (numbers_are plan now nodes))
+      (All-filter goes (λ node. node < length plan) nodes are.within));
   each = each_goes plan now nodes;
   all = λ node here some.
       subst (λ numbers. Contains numbers node) (sym (numbers_are plan now nodes))
@@ -236,26 +231,8 @@ all_going plan now nodes are = record {
       (are.all node here (goes_somewhere (is_loser_in plan now node) (destination plan now (site_in plan node)) some)))));
 }
   where
-    ones : List Going
-    ones = going plan now nodes
-
     goes : ℕ → Bool
     goes node = is_some (transition plan now (site_in plan node))
-
-    long : length (map (λ (one : Going). one.node) ones) ≡ length ones
-    long = length-map ones (λ (one : Going). one.node)
-
-    at : (k : ℕ) (d : Going) → k < length ones
-        → get_or (map (λ (one : Going). one.node) ones) k d.node ≡ (get_or ones k d).node
-    at k d inside = get_or-map (λ (one : Going). one.node) ones k d d.node inside
-
-    rise : AllPairs (λ a b. a < b) (map (λ (one : Going). one.node) ones)
-    rise = subst (AllPairs (λ a b. a < b)) (sym (numbers_are plan now nodes))
-        (AllPairs-filter (λ a b. a < b) goes nodes are.rise)
-
-    inside_plan : All (λ node. node < length plan) (map (λ (one : Going). one.node) ones)
-    inside_plan = subst (All (λ node. node < length plan)) (sym (numbers_are plan now nodes))
-        (All-filter goes (λ node. node < length plan) nodes are.within)
 
 -- the candidates that have a destination and are no losers are all that go
 pub staying_go : (plan : List Site) (now : World) (nodes losers : List ℕ) → AreCandidates plan now nodes
@@ -276,17 +253,9 @@ wanted_more plan now nodes i to within is = grind (arith, common_steps, filter_m
 
 pub wanted_within : (plan : List Site) (now : World) (nodes : List ℕ) → All (λ node. node < length plan) nodes
     → All (λ (one : Going). one.node < length plan) (wanted plan now nodes)
-wanted_within plan now [] all = All-nil (λ (one : Going). one.node < length plan)
-wanted_within plan now (node ∷ nodes) all =
-    step (destination plan now (site_in plan node))
-    (wanted_within plan now nodes (All-tail (λ node. node < length plan) node nodes all))
-  where
-    Within : Going → Type 0
-    Within one = one.node < length plan
-
-    step : (to : Option Arrival) → All Within (wanted plan now nodes)
-        → All Within (cons_option (with_node node to) (wanted plan now nodes))
-    step None rest = rest
-    step (Some to) rest =
-        All-cons Within (record { node = node; arrival = to }) (wanted plan now nodes)
-        (All-head (λ node. node < length plan) node nodes all) rest
+wanted_within plan now nodes all =
+    all_given (λ (one : Going). one.node < length plan) (λ node. with_node node (destination plan now (site_in plan node))) nodes
+    (λ k d within.
+    let node : ℕ = get_or nodes k d in
+    IfSome-map (λ (one : Going). one.node < length plan) (λ (to : Arrival). record { node = node; arrival = to })
+    (destination plan now (site_in plan node)) (λ to is. all k d within))

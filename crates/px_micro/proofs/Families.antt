@@ -1,10 +1,10 @@
 -- Descendants and children, by number.
-use Rattle.std.proofs.Common.{◌≡◌, ℕ, zero, suc, ◌<◌, ◌≤◌, Bool, true, false, ◌||◌, ◌⊎◌, nat_lt, List, [], ◌∷◌, length, take_while, ap, sym, ◌∙◌, subst, arith, inl, inr, length-drop, Some}
-use Rattle.std.specs.List.{list_any}
+use Rattle.std.proofs.Common.{◌≡◌, ℕ, zero, suc, ◌<◌, ◌≤◌, Bool, true, false, ◌||◌, ◌⊎◌, nat_lt, List, length, take_while, ap, sym, ◌∙◌, subst, arith, inl, inr, length-drop, Some}
+use Rattle.std.specs.List.{list_any, prefix_len}
 use Rattle.std.specs.Cmp.Lexicographic.{same_text}
 use Rattle.std.proofs.lemmas.Bool.{and_parts, and_from, or_cases, or_left, or_right, ltb-true, lt-ltb}
 use Rattle.std.proofs.lemmas.Grind.{common_steps}
-use Rattle.std.proofs.lemmas.List.Sums.{take_while-cons}
+use Rattle.std.proofs.lemmas.List.{length-take}
 use Rattle.px_core.specs.Plan.{Site, is_same, is_child_of}
 use Rattle.px_core.proofs.Paths.{same-self}
 use Rattle.px_flat.specs.declared.flat.Flat.{Flat}
@@ -34,8 +34,7 @@ among plan node other sound here there after before =
     (lt-ltb other (after_last plan node) before)
 
 short_run : (p : Site → Bool) (sites : List Site) → length (take_while p sites) ≤ length sites
-short_run p [] = omega arith
-short_run p (site ∷ sites) = grind (arith, common_steps, take_while, take_while-cons, short_run p sites)
+short_run p sites = omega (arith, length-take (prefix_len p sites) sites)
 
 pub end_within : (plan : List Site) (node : ℕ) → node < length plan → after_last plan node ≤ length plan
 end_within plan node here = grind (arith, common_steps, short_run, length-drop)

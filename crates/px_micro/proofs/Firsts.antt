@@ -1,50 +1,44 @@
 -- Of the writes of one variable the first counts.
 use Rattle.std.proofs.Common.{◌≡◌, ℕ, Bool, true, false, cond, List, [], ◌∷◌, ◌++◌, get_or, fold, nat_eq, refl, ap, sym, ◌∙◌, arith, Option, Some, None, All, AllPairs, if◌then◌else◌}
 use Rattle.std.specs.Cmp.{nat_eq_equiv}
-use Rattle.std.specs.List.{find, list_any}
+use Rattle.std.specs.List.{find}
 use Rattle.std.specs.Option.{option_or}
 use Rattle.std.proofs.lemmas.Bool.{eqb-true, false_from_ne_true}
 use Rattle.std.proofs.lemmas.Grind.{common_steps}
-use Rattle.std.proofs.lemmas.List.Elements.{All-head, All-nil, All-push, All-tail}
+use Rattle.std.proofs.lemmas.List.Elements.{All-nil, All-push}
 use Rattle.std.proofs.lemmas.List.Folds.{find-append, list_any_none}
 use Rattle.std.proofs.lemmas.List.Quantifiers.{all_pairs_push}
 use Rattle.px_value.proofs.General.{none_found}
 use Rattle.px_flat.proofs.Subtrees.{one_fails}
 use Rattle.px_micro.specs.declared.effects.CellWrite.{CellWrite}
-use Rattle.px_micro.specs.Turns.{with_write, first_writes}
+use Rattle.px_micro.specs.Turns.{is_written, with_write, first_writes}
+use Rattle.px_micro.proofs.Hits.{fold_keeps}
 
 -- a write of this variable
 abbrev pub writes_to : ℕ → CellWrite → Bool
 writes_to variable write = nat_eq write.variable variable
 
-abbrev is_written : List CellWrite → CellWrite → Bool
-is_written writes write = list_any (λ other. nat_eq write.variable other.variable) writes
-
 -- what holds of all holds of the first ones
-all_from : (P : CellWrite → Type 0) (writes before : List CellWrite) → All P before → All P writes
-    → All P (fold with_write before writes)
-all_from P [] before all more = all
-all_from P (write ∷ writes) before all more =
-    all_from P writes (with_write before write) (by (is_written before write)) (All-tail P write writes more)
+all_with : (P : CellWrite → Type 0) (before : List CellWrite) (write : CellWrite) → P write → All P before
+    → All P (with_write before write)
+all_with P before write one all = by (is_written before write.variable)
   where
     by : (b : Bool) → All P (if b then before else before ++ write ∷ [])
     by true = all
-    by false = All-push P before write all (All-head P write writes more)
+    by false = All-push P before write all one
 
 pub firsts_all : (P : CellWrite → Type 0) (writes : List CellWrite) → All P writes → All P (first_writes writes)
-firsts_all P writes all = all_from P writes [] (All-nil P) all
+firsts_all P writes all = fold_keeps with_write (All P) P (all_with P) writes [] all (All-nil P)
 
 -- one variable is written once
 abbrev AreApart : ℕ → List CellWrite → Type 0
 AreApart variable writes = AllPairs (λ a b. writes_to variable a ≡ true → writes_to variable b ≡ false) writes
 
-apart_from : (variable : ℕ) (writes before : List CellWrite) → AreApart variable before
-    → AreApart variable (fold with_write before writes)
-apart_from variable [] before apart = apart
-apart_from variable (write ∷ writes) before apart =
-    apart_from variable writes (with_write before write) (by (is_written before write) refl)
+apart_with : (variable : ℕ) (before : List CellWrite) (write : CellWrite) → AreApart variable before
+    → AreApart variable (with_write before write)
+apart_with variable before write apart = by (is_written before write.variable) refl
   where
-    by : (b : Bool) → is_written before write ≡ b → AreApart variable (if b then before else before ++ write ∷ [])
+    by : (b : Bool) → is_written before write.variable ≡ b → AreApart variable (if b then before else before ++ write ∷ [])
     by true known = apart
     by false fresh =
         all_pairs_push (λ a b. writes_to variable a ≡ true → writes_to variable b ≡ false) before write apart
@@ -56,7 +50,9 @@ apart_from variable (write ∷ writes) before apart =
         absurd (cc (sym missed ∙ (λ i. nat_eq (other i) (one i)) ∙ nat_eq_equiv.refl variable))))
 
 pub firsts_apart : (variable : ℕ) (writes : List CellWrite) → AreApart variable (first_writes writes)
-firsts_apart variable writes = apart_from variable writes [] (λ i j d before within. absurd (omega arith))
+firsts_apart variable writes =
+    fold_keeps with_write (AreApart variable) (λ write. Unit {0}) (λ before write fit. apart_with variable before write) writes []
+    (λ k d within. tt) (λ i j d before within. absurd (omega arith))
 
 -- it is the first of those writes
 find_from : (variable : ℕ) (writes before : List CellWrite)
@@ -64,7 +60,7 @@ find_from : (variable : ℕ) (writes before : List CellWrite)
     ≡ option_or (find (writes_to variable) before) (find (writes_to variable) writes)
 find_from variable [] before = grind (arith, common_steps)
 find_from variable (write ∷ writes) before =
-    find_from variable writes (with_write before write) ∙ by (is_written before write) refl
+    find_from variable writes (with_write before write) ∙ by (is_written before write.variable) refl
   where
     rest : Option CellWrite
     rest = find (writes_to variable) writes
@@ -82,13 +78,13 @@ find_from variable (write ∷ writes) before =
     fresh None true = refl
     fresh None false = refl
 
-    by : (b : Bool) → is_written before write ≡ b
+    by : (b : Bool) → is_written before write.variable ≡ b
         → option_or (find (writes_to variable) (if b then before else before ++ write ∷ [])) rest
         ≡ option_or (find (writes_to variable) before) (cond (writes_to variable write) (Some write) rest)
     by true is =
         known (find (writes_to variable) before) (writes_to variable write) (λ none to.
         let same : write.variable ≡ variable = eqb-true write.variable variable to in
-        let never : is_written before write ≡ false =
+        let never : is_written before write.variable ≡ false =
         list_any_none (λ (other : CellWrite). nat_eq write.variable other.variable) before (λ k d within.
         let missed : nat_eq (get_or before k d).variable variable ≡ false =
         none_found (writes_to variable) before none k d within in

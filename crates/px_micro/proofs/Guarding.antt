@@ -17,7 +17,8 @@ use Rattle.px_micro.specs.Guarded.{guards_at, guards_in, ready_in}
 use Rattle.px_parts.specs.Parts.{AreStanding, plan_in, world_in, record_of, value_in}
 use Rattle.px_micro.specs.declared.truths.Truths.{Truths}
 use Rattle.px_micro.specs.Truths.{truths_in}
-use Rattle.px_micro.proofs.Seeing.{record_is, truths_by, truths_are}
+use Rattle.px_parts.proofs.Found.{record_is}
+use Rattle.px_micro.proofs.Seeing.{truths_by, truths_are}
 
 -- whether a node is ready, by its kind
 ready_is : (plan : List Site) (now : World) (site : Site)

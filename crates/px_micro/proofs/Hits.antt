@@ -1,13 +1,13 @@
 -- A fold of which at most one item has to do with what is looked at.
-use Rattle.std.proofs.Common.{◌≡◌, ℕ, suc, ◌<◌, Bool, true, false, cond, List, [], ◌∷◌, get_or, fold, nat_eq, refl, ap, ◌∙◌, arith, Option, Some, None, All, AllPairs}
+use Rattle.std.proofs.Common.{◌≡◌, ℕ, suc, ◌<◌, Bool, true, false, cond, List, [], ◌∷◌, get_or, fold, nat_eq, refl, ap, ◌∙◌, arith, Option, Some, All, AllPairs}
 use Rattle.std.specs.List.{find}
+use Rattle.std.specs.Option.{option_map_or}
 use Rattle.std.proofs.lemmas.Bool.{eqb-true, false_from_ne_true}
 use Rattle.std.proofs.lemmas.List.Elements.{All-head, All-tail}
 
 -- what is seen after the item that was found, where one was
 abbrev pub hit_by : {A V : Type 0} → (A → V → V) → V → Option A → V
-hit_by f old None = old
-hit_by f old (Some item) = f item old
+hit_by f old found = option_map_or (λ item. f item old) found old
 
 -- what holds of a state holds after all items
 pub fold_keeps : {A S : Type 0} (step : S → A → S) (Ok : S → Type 0) (Fits : A → Type 0)

@@ -1,15 +1,16 @@
 -- The initial values of variables, cell by cell.
-use Rattle.std.proofs.Common.{◌≡◌, ℕ, zero, suc, ◌+◌, ◌-◌, ◌<◌, ◌≤◌, true, List, [], ◌∷◌, ◌++◌, length, map, sum, get_or, take, append-nil, refl, ap, sym, ◌∙◌, arith, length-append}
+use Rattle.std.proofs.Common.{◌≡◌, ℕ, ◌+◌, ◌-◌, ◌<◌, ◌≤◌, true, List, [], ◌∷◌, ◌++◌, length, map, sum, get_or, take, append-nil, refl, ap, sym, ◌∙◌, arith, length-append}
 use Rattle.std.specs.List.{flat_map, list_all}
-use Rattle.std.proofs.lemmas.Bool.{and_parts, and_from, cases_lt}
+use Rattle.std.proofs.lemmas.Bool.{and_parts, cases_lt}
 use Rattle.std.proofs.lemmas.Grind.{flat_map-append, common_steps}
-use Rattle.std.proofs.lemmas.List.Sums.{AllPass-from_list_all, sum_by-cons}
+use Rattle.std.proofs.lemmas.List.Sums.{AllPass-from_list_all, list_all-from_AllPass, sum_by-cons}
+use Rattle.std.proofs.lemmas.List.Elements.{All-take}
 use Rattle.std.proofs.lemmas.List.{take_more, get_or-map, length-map, get_or_past, length-take-le, get_or_append_left, get_or-append_right, get_or-replicate, length-replicate}
 use Rattle.px_value.specs.declared.value.Value.{Value}
 use Rattle.px_value.specs.declared.value.Value.TheVariants as values
 use Rattle.px_core.proofs.Cells.{few_initials}
 use Rattle.px_core.specs.declared.variable.Variable.{Variable}
-use Rattle.px_core.specs.Fit.{cells_of, has_right_cells, has_right_variables}
+use Rattle.px_core.specs.Fit.{cells_of, cells_of_site, has_right_cells, has_right_variables}
 use Rattle.px_core.specs.Plan.{Site, Head, VariableData, no_site, variable_data}
 use Rattle.px_sem.specs.Effects.{initial_values}
 use Rattle.px_flat.specs.declared.row.Row.{Row}
@@ -18,8 +19,8 @@ use Rattle.px_flat.specs.Numbered.{held}
 use Rattle.px_flat.specs.Row.{site_in, IsRowOf}
 use Rattle.px_flat.proofs.Known.{IsSound}
 use Rattle.px_flat.proofs.Sums.{sum_more, sum_front}
-use Rattle.px_command.proofs.Writes.{cells_within}
-use Rattle.px_micro.specs.Turns.{from_cell}
+use Rattle.px_flat.proofs.Variables.{cells_within}
+use Rattle.px_micro.specs.Turns.{from_cell, initial_of}
 
 -- values behind others go to the cells behind theirs
 pub from_cell-append : (cell : ℕ) (some more : List Value)
@@ -57,14 +58,22 @@ as_many_of_each (variable ∷ variables) right =
 
 -- ---- the variables of a node, one after another
 
+-- each is declared as the plan has it right
+pub right_cells : (plan : List Site) (node : ℕ) → IsSound plan → node < length plan
+    → list_all has_right_cells (site_in plan node).head.variables ≡ true
+right_cells plan node sound within = AllPass-from_list_all has_right_variables plan sound.arrays node no_site within
+
+-- as many initial values as cells
+pub initial_cells : (plan : List Site) (node : ℕ) → IsSound plan → node < length plan
+    → length (initial_of plan node) ≡ cells_of_site (site_in plan node)
+initial_cells plan node sound within =
+    as_many_of_each (site_in plan node).head.variables (right_cells plan node sound within)
+
 list_all_front : (i : ℕ) (variables : List VariableData) → list_all has_right_cells variables ≡ true
     → list_all has_right_cells (take i variables) ≡ true
-list_all_front zero variables right = refl
-list_all_front (suc i) [] right = refl
-list_all_front (suc i) (variable ∷ variables) right =
-    let parts = and_parts (has_right_cells variable) (list_all has_right_cells variables) right in
-    and_from (has_right_cells variable) (list_all has_right_cells (take i variables)) parts.0
-    (list_all_front i variables parts.1)
+list_all_front i variables right =
+    list_all-from_AllPass has_right_cells (take i variables)
+    (All-take (λ variable. has_right_cells variable ≡ true) i variables (AllPass-from_list_all has_right_cells variables right))
 
 -- this is the next variable of a node, whose first cell this is
 pub record IsNext (plan : List Site) (node i cell : ℕ) (variable : VariableData) : Type 0 where
@@ -82,7 +91,7 @@ next_variable plan node i cell row items item sound here row_is items_are inside
   within = within;
   is = is;
   right = sym (ap has_right_cells is) ∙ AllPass-from_list_all has_right_cells own
-      (AllPass-from_list_all has_right_variables plan sound.arrays node no_site here) i (variable_data item) within;
+      (right_cells plan node sound here) i (variable_data item) within;
   small = omega (
     arith,
     cell_is,
@@ -139,5 +148,4 @@ values_more plan node i cell variable sound here next is =
     before = flat_map initial_values (take i own)
 
     long : length before ≡ sum (map cells_of (take i own))
-    long = as_many_of_each (take i own) (list_all_front i own
-        (AllPass-from_list_all has_right_variables plan sound.arrays node no_site here))
+    long = as_many_of_each (take i own) (list_all_front i own (right_cells plan node sound here))

@@ -7,6 +7,7 @@ use Rattle.std.proofs.lemmas.Grind.{common_steps}
 use Rattle.px_value.specs.declared.value.Value.{Value}
 use Rattle.px_value.specs.declared.value.Value.TheVariants as values
 use Rattle.px_value.specs.Value.{value_index}
+use Rattle.px_value.proofs.General.{All-unmap}
 use Rattle.px_core.specs.Expr.{Term}
 use Rattle.px_core.specs.Fit.{terms_of, targets_of}
 use Rattle.px_core.specs.Plan.{Site, BodyData, Nothing, Assign, Command, Update, TargetData, PairData}
@@ -18,7 +19,6 @@ use Rattle.px_sem.specs.Expressions.{value}
 use Rattle.px_sem.specs.World as world
 use Rattle.px_sem.specs.World.{World, NodeRecord, Action, NoAction, cells_at}
 use Rattle.px_eval.specs.Arrays.{place_in}
-use Rattle.px_flat.specs.declared.act.Abort.{Abort}
 use Rattle.px_flat.specs.declared.act.Abort.TheVariants as aborts
 use Rattle.px_flat.specs.declared.act.Act.{Act}
 use Rattle.px_flat.specs.declared.act.Act.TheVariants as acts
@@ -26,7 +26,7 @@ use Rattle.px_flat.specs.Layout.{handle_cell, acknowledgement_cell, variable_cel
 use Rattle.px_flat.specs.Numbered.{BodyNumbered, TargetNumbered, held, kind_of, numbered, numbered_body, numbered_target, place_of}
 use Rattle.px_flat.specs.Parts.{fits, action_in, act_of}
 use Rattle.px_flat.specs.Row.{site_in}
-use Rattle.px_flat.specs.Within.{IsTargetWithin, IsBodyWithin}
+use Rattle.px_flat.specs.Within.{IsBodyWithin}
 use Rattle.px_flat.proofs.NodeTerms.{have_values}
 use Rattle.px_flat.proofs.Tables.{flat_sound}
 use Rattle.px_flat.proofs.Withins.{node_is_within}
@@ -35,6 +35,7 @@ use Rattle.px_flat.proofs.Variables.{IsDeclared, target_declared}
 use Rattle.px_eval.proofs.Elements.{index_is}
 use Rattle.px_micro.specs.declared.effects.Effects.{Effects}
 use Rattle.px_micro.specs.declared.effects.UnderWay.TheVariants as under_way
+use Rattle.px_command.proofs.Rows.{command_fits}
 use Rattle.px_parts.specs.declared.parts.Parts.{Parts}
 use Rattle.px_micro.specs.declared.sight.Going.{Going}
 use Rattle.px_micro.specs.Doing.{silent, assigned, sent, updated, failed, done, done_by, kept, kept_cell, writing}
@@ -42,7 +43,7 @@ use Rattle.px_parts.specs.Parts.{plan_in, world_in, record_of, value_in, AreStan
 use Rattle.px_micro.specs.declared.places.Place.{Place}
 use Rattle.px_micro.specs.Places.{place_data, place_now}
 use Rattle.px_micro.specs.Turns.{effects_in, IsDone, AreEffects}
-use Rattle.px_micro.proofs.Seeing.{record_is}
+use Rattle.px_parts.proofs.Found.{record_is}
 use Rattle.px_micro.proofs.Targets.{HasCells, has_cells, value_held, place_is}
 
 -- ---- one row
@@ -193,11 +194,13 @@ taken_fits parts command owner name args (Some term) = grind (arith, common_step
 abbrev HasWorth : Parts → Term → Type 0
 HasWorth parts term = value_in parts (numbered (plan_in parts) term) ≡ value (plan_in parts) (world_in parts) term
 
-values_are : (parts : Parts) (args : List Term) → All (HasWorth parts) args
-    → map (value_in parts) (map (numbered (plan_in parts)) args) ≡ map (value (plan_in parts) (world_in parts)) args
-values_are parts [] worth = refl
-values_are parts (arg ∷ args) worth = λ i.
-    worth 0 arg (omega arith) i ∷ values_are parts args (λ k d inside. worth (suc k) d (omega (arith, inside))) i
+-- the values of terms of some items
+values_are : {X : Type 0} (parts : Parts) (term : X → Term) (items : List X) → All (λ item. HasWorth parts (term item)) items
+    → map (value_in parts) (map (λ item. numbered (plan_in parts) (term item)) items)
+    ≡ map (λ item. value (plan_in parts) (world_in parts) (term item)) items
+values_are parts term [] worth = refl
+values_are parts term (item ∷ items) worth = λ i.
+    worth 0 item (omega arith) i ∷ values_are parts term items (λ k d inside. worth (suc k) d (omega (arith, inside))) i
 
 sends_as : (parts : Parts) (node : ℕ) (name : List ℕ) (args : List Term) (result : Option TargetData)
     → All (HasWorth parts) args
@@ -210,22 +213,15 @@ sends_as parts node name args None worth has at = record {
   write = refl;
   action = refl;
   fits = refl;
-  told = ap (λ given. Some (effects.Sent name given)) (values_are parts args worth);
+  told = ap (λ given. Some (effects.Sent name given)) (values_are parts (λ (arg : Term). arg) args worth);
 }
 sends_as parts node name args (Some target) worth has at = record {
   write = refl;
   action = ap (λ index. world.Commanded index None world.NoAbort)
       (index_taken parts target.owner target.name target.index (has target refl) (λ term is. at target term refl is));
   fits = taken_fits parts name target.owner target.name args target.index;
-  told = ap (λ given. Some (effects.Sent name given)) (values_are parts args worth);
+  told = ap (λ given. Some (effects.Sent name given)) (values_are parts (λ (arg : Term). arg) args worth);
 }
-
-pairs_are : (parts : Parts) (pairs : List PairData) → All (HasWorth parts) (map (λ pair. pair.value) pairs)
-    → map (value_in parts) (map (λ (pair : PairData). numbered (plan_in parts) pair.value) pairs)
-    ≡ map (λ (pair : PairData). value (plan_in parts) (world_in parts) pair.value) pairs
-pairs_are parts [] worth = refl
-pairs_are parts (pair ∷ pairs) worth = λ i.
-    worth 0 pair.value (omega arith) i ∷ pairs_are parts pairs (λ k d inside. worth (suc k) d (omega (arith, inside))) i
 
 updates_as : (parts : Parts) (node : ℕ) (pairs : List PairData) → All (HasWorth parts) (map (λ pair. pair.value) pairs)
     → IsDone parts node (Update pairs)
@@ -235,7 +231,9 @@ updates_as parts node pairs worth = record {
   write = refl;
   action = refl;
   fits = refl;
-  told = ap (λ given. Some (effects.Updated (map (λ (pair : PairData). pair.name) pairs) given)) (pairs_are parts pairs worth);
+  told = ap (λ given. Some (effects.Updated (map (λ (pair : PairData). pair.name) pairs) given))
+      (values_are parts (λ (pair : PairData). pair.value) pairs
+      (All-unmap (HasWorth parts) (λ (pair : PairData). pair.value) pairs worth));
 }
 
 -- ---- a node fails
@@ -255,14 +253,6 @@ assign_fails parts node target right (acts.Element index old) is fit =
 assign_fails parts node target right (acts.Sent index abort) is fit = absurd (cc fit)
 assign_fails parts node target right acts.Updated is fit = absurd (cc fit)
 
--- whatever is asked of a command, what it has under way fits
-fits_still : (plan : List Site) (name : List ℕ) (args : List Term) (result : Option TargetData) (index : Option ℕ)
-    (abort : Abort) → fits plan (Command name args result) (acts.Sent index abort) ≡ true
-    → fits plan (Command name args result) (acts.Sent index aborts.Sent) ≡ true
-fits_still plan name args result None abort fit = refl
-fits_still plan name args None (Some index) abort fit = absurd (cc fit)
-fits_still plan name args (Some target) (Some index) abort fit = fit
-
 command_fails : (parts : Parts) (node : ℕ) (name : List ℕ) (args : List Term) (result : Option TargetData) (act : Act)
     → own_act parts node ≡ act → fits (plan_in parts) (Command name args result) act ≡ true
     → IsDone parts node (Command name args result)
@@ -278,7 +268,7 @@ command_fails parts node name args result acts.Unwritten is fit = absurd (cc fit
 command_fails parts node name args result (acts.Scalar old) is fit = absurd (cc fit)
 command_fails parts node name args result (acts.Element index old) is fit = absurd (cc fit)
 command_fails parts node name args result (acts.Sent index abort) is fit =
-    record { write = refl; action = refl; fits = fits_still (plan_in parts) name args result index abort fit; told = refl }
+    record { write = refl; action = refl; fits = command_fits (plan_in parts) (Command name args result) index abort aborts.Sent fit; told = refl }
 command_fails parts node name args result acts.Updated is fit = absurd (cc fit)
 
 -- ---- the whole table
@@ -311,21 +301,14 @@ each_row parts node move body stand here is = by move body is
         (have_values plan parts.cells.contents.values parts.reports.reports parts.actions.contents.values node
         (flat_sound parts.flat) here stand).indices
 
-    within : (body : BodyData) → (site_in plan node).head.body ≡ body → IsBodyWithin plan (numbered_body plan body)
-    within body is =
-        subst (λ body. IsBodyWithin plan (numbered_body plan body)) is
-        (node_is_within plan node (flat_sound parts.flat) here).body
-
     declared : (body : BodyData) (target : TargetData) → (site_in plan node).head.body ≡ body → target_of body ≡ Some target
         → IsDeclared plan target.owner target.name
     declared body target is of =
         target_declared plan node target (flat_sound parts.flat) here (ap target_of is ∙ of)
 
     cells : (body : BodyData) (target : TargetData) → (site_in plan node).head.body ≡ body → target_of body ≡ Some target
-        → IsTargetWithin plan (numbered_target plan target) → HasCells parts target.owner target.name
-    cells body target is of inside =
-        has_cells parts target.owner target.name stand (declared body target is of)
-        (omega (arith, inside.place.within, stand.all_cells))
+        → HasCells parts target.owner target.name
+    cells body target is of = has_cells parts target.owner target.name stand (declared body target is of)
 
     by : (move : sem.MoveKind) (body : BodyData) → (site_in plan node).head.body ≡ body
         → IsDone parts node body (done parts own move body (numbered_body plan body))
@@ -341,7 +324,7 @@ each_row parts node move body stand here is = by move body is
     by sem.Starts Nothing is = nothing parts node (fit Nothing is)
     by sem.Starts (Assign target right) is =
         assigns_as parts node target.owner target.name target.index right
-        (cells (Assign target right) target is refl (within (Assign target right) is).0)
+        (cells (Assign target right) target is refl)
         (λ given. taken_alike plan target given (flat_sound parts.flat) (declared (Assign target right) target is refl))
         (have (Assign target right) is 0 right (omega arith))
         (λ term at. indices (Assign target right) is 0 target (omega arith) term at)
@@ -351,7 +334,7 @@ each_row parts node move body stand here is = by move body is
     by sem.Starts (Command name args (Some result)) is =
         sends_as parts node name args (Some result) (have (Command name args (Some result)) is)
         (λ target same. subst (λ target. HasCells parts target.owner target.name) (one result target same)
-        (cells (Command name args (Some result)) result is refl ((within (Command name args (Some result)) is).1 (numbered_target plan result) refl)))
+        (cells (Command name args (Some result)) result is refl))
         (λ target term same at. indices (Command name args (Some result)) is 0 result (omega arith) term
         (ap (λ (target : TargetData). target.index) (one result target same) ∙ at))
       where

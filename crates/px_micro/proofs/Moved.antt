@@ -3,19 +3,18 @@ use Rattle.std.proofs.Common.{◌≡◌, ℕ, ◌+◌, ◌<◌, ◌≤◌, true,
 use Rattle.std.specs.List.{filter_map, find, zip}
 use Rattle.std.specs.Option.{option_map}
 use Rattle.std.proofs.lemmas.Bool.{eqb-true}
-use Rattle.std.proofs.lemmas.List.{get_or-map, length-map}
 use Rattle.px_value.specs.declared.enums.Failure.{Failure}
 use Rattle.px_value.specs.declared.enums.Outcome.{Outcome}
 use Rattle.px_value.specs.declared.value.Value.{Value}
 use Rattle.px_value.specs.declared.value.Value.TheVariants as values
-use Rattle.px_value.proofs.General.{find-map, found_has}
+use Rattle.px_value.proofs.General.{All-unmap, find-map, found_has}
 use Rattle.px_core.specs.Fit.{cells_of_site}
 use Rattle.px_core.specs.Plan.{Site, BodyData, Nothing, Assign, Command, Update, VariableData}
 use Rattle.px_sem.specs.declared.guards.Arrival.{Arrival}
 use Rattle.px_sem.specs.Conflicts.{transition}
-use Rattle.px_sem.specs.Effects.{initial_values, is_initializing, move_kind, write_to, written}
+use Rattle.px_sem.specs.Effects.{initial_values, is_initializing, move_kind}
 use Rattle.px_sem.specs.Expressions.{outcome_value, failure_value}
-use Rattle.px_sem.specs.Step.{micro, record_after, step_writes}
+use Rattle.px_sem.specs.Step.{micro, next_record, record_after, written_in_step}
 use Rattle.px_sem.specs.World.{World, NodeRecord}
 use Rattle.px_flat.specs.declared.act.Abort.TheVariants as aborts
 use Rattle.px_flat.specs.declared.act.Act.{Act}
@@ -26,7 +25,8 @@ use Rattle.px_flat.specs.Parts.{IsNode, IsParts, action_in, act_of, fits, values
 use Rattle.px_flat.specs.Row.{site_in}
 use Rattle.px_flat.proofs.Changes.{nodes_are}
 use Rattle.px_flat.proofs.Tables.{flat_sound}
-use Rattle.px_command.proofs.Writes.{cells_within}
+use Rattle.px_flat.proofs.Variables.{cells_within}
+use Rattle.px_command.proofs.Rows.{command_handle}
 use Rattle.px_micro.specs.declared.effects.CellWrite.{CellWrite}
 use Rattle.px_micro.specs.declared.effects.UnderWay.{UnderWay}
 use Rattle.px_micro.specs.declared.effects.UnderWay.TheVariants as under_way
@@ -38,15 +38,16 @@ use Rattle.px_micro.specs.declared.turns.Turns.{Turns}
 use Rattle.px_micro.specs.Going.{AreAllGoing}
 use Rattle.px_micro.specs.Moving.{with_turn, with_turn_act, put_value, put_write}
 use Rattle.px_parts.specs.Parts.{AreStanding, plan_in, world_in, record_of}
-use Rattle.px_micro.specs.Turns.{action_after, act_after, effects_in, first_writes, AreTurns, IsTurn}
-use Rattle.px_micro.proofs.Arriving.{Said, said_in, said_after, handle_after, acknowledgement_after, act_then, AreWithin, Rise, all_length, all_acts_length, variable_stays, said_then, acts_then}
-use Rattle.px_micro.proofs.Beginning.{begins, begun_as, begun_variables, initial_small}
+use Rattle.px_micro.specs.Turns.{action_after, act_after, act_then, begins, effects_in, first_writes, written_in, AreTurns, IsTurn}
+use Rattle.px_micro.proofs.Arriving.{Said, said_in, said_after, handle_after, acknowledgement_after, AreWithin, Rise, all_length, all_acts_length, variable_stays, said_then, acts_then}
+use Rattle.px_micro.proofs.Beginning.{begun_as, begun_variables, initial_small}
 use Rattle.px_micro.proofs.Blocks.{values_in-same, set_length, set_off}
 use Rattle.px_micro.proofs.Firsts.{firsts_all}
 use Rattle.px_micro.proofs.Goers.{stays}
 use Rattle.px_micro.proofs.Hits.{hit_by}
-use Rattle.px_micro.proofs.Seeing.{record_is}
-use Rattle.px_micro.proofs.Writing.{IsWriteOf, written_in, writes_inside, writes_small, written_variables}
+use Rattle.px_micro.proofs.Lists.{pairs_unmap}
+use Rattle.px_parts.proofs.Found.{record_is}
+use Rattle.px_micro.proofs.Writing.{IsWriteOf, writes_inside, writes_small, written_variables}
 
 -- all that is known of the turns of a step
 pub record AreReady (parts : Parts) (made : Turns) : Type 0 where
@@ -99,15 +100,8 @@ pub turns_within : (parts : Parts) (made : Turns) → AreReady parts made → Ar
 turns_within parts made ready = λ k d few. (ready.turns.each k d few).within
 
 turns_rise : (parts : Parts) (made : Turns) → AreReady parts made → Rise made.turns.items
-turns_rise parts made ready = λ i j d before few.
-    let inside : j < length (goers made) = omega (arith, few, length-map made.turns.items (λ (turn : Turn). turn.going)) in
-    let less = ready.going.rise i j d.going before inside in
-    omega (
-      arith,
-      less,
-      ap (λ (one : Going). one.node) (get_or-map (λ (turn : Turn). turn.going) made.turns.items i d d.going (omega (arith, before, few))),
-      ap (λ (one : Going). one.node) (get_or-map (λ (turn : Turn). turn.going) made.turns.items j d d.going few),
-    )
+turns_rise parts made ready =
+    pairs_unmap (λ (a b : Going). a.node < b.node) (λ (turn : Turn). turn.going) made.turns.items ready.going.rise
 
 -- ---- the cells of a node before its turn
 
@@ -138,8 +132,7 @@ own parts node = (site_in (plan_in parts) node).head.variables
 -- as all that go write them
 abbrev as_written : Parts → ℕ → List (List Value) → List (List Value)
 as_written parts node old =
-    map (λ variable. written variable.1 (write_to (site_in (plan_in parts) node).path variable.0.name
-    (step_writes (plan_in parts) (world_in parts)))) (zip (own parts node) old)
+    map (written_in_step (plan_in parts) (world_in parts) (site_in (plan_in parts) node)) (zip (own parts node) old)
 
 variables_then : (parts : Parts) (made : Turns) (node : ℕ) (found : Option Turn) → AreReady parts made
     → node < length (plan_in parts) → find (λ turn. nat_eq turn.going.node node) made.turns.items ≡ found
@@ -308,13 +301,6 @@ false_right (acts.Element index old) = refl
 false_right (acts.Sent index abort) = refl
 false_right acts.Updated = refl
 
--- what was said of a command is said of it still when it is asked to abort
-handle_still : (act : Act) (index : Option ℕ) (handle : Value) → is_handle_of act handle ≡ true
-    → is_handle_of (acts.Sent index aborts.Sent) handle ≡ true
-handle_still act index values.Unknown is = refl
-handle_still act index (values.Handle handle) is = refl
-handle_still act index handle is = absurd (cc is)
-
 -- a node that has a command has no update under way
 acknowledgement_still : (plan : List Site) (body : BodyData) (act : Act) (index : Option ℕ) (acknowledgement : Value)
     → fits plan body act ≡ true → fits plan body (acts.Sent index aborts.Sent) ≡ true
@@ -340,7 +326,7 @@ turn_right parts turn stand of = record {
   failure = failure_right turn.going.arrival.failure;
   handle = handle_right turn.under_way of.fits;
   acknowledgement = acknowledgement_right turn.under_way of.fits;
-  act = act_right turn.under_way of.fits;
+  act = of.fits;
 }
   where
     plan : List Site
@@ -365,7 +351,7 @@ turn_right parts turn stand of = record {
         → is_handle_of (act_then way old) (handle_after way said.handle) ≡ true
     handle_right under_way.Kept fit = was.handle
     handle_right (under_way.Begun act) fit = unknown_right act
-    handle_right (under_way.Aborting index) fit = handle_still old index said.handle was.handle
+    handle_right (under_way.Aborting index) fit = command_handle old index aborts.Sent said.handle was.handle
 
     acknowledgement_right : (way : UnderWay) → fits plan body (act_after parts node way) ≡ true
         → is_acknowledgement_of (act_then way old) (acknowledgement_after way said.acknowledgement) ≡ true
@@ -373,11 +359,6 @@ turn_right parts turn stand of = record {
     acknowledgement_right (under_way.Begun act) fit = false_right act
     acknowledgement_right (under_way.Aborting index) fit =
         acknowledgement_still plan body old index said.acknowledgement was.act fit was.acknowledgement
-
-    act_right : (way : UnderWay) → fits plan body (act_after parts node way) ≡ true → fits plan body (act_then way old) ≡ true
-    act_right under_way.Kept fit = fit
-    act_right (under_way.Begun act) fit = fit
-    act_right (under_way.Aborting index) fit = fit
 
 action_then : (parts : Parts) (node : ℕ) (way : UnderWay)
     → action_in (act_then way (act_of parts.actions.contents.values node))
@@ -442,9 +423,8 @@ each_goes : (parts : Parts) (made : Turns) → AreReady parts made
     made.turns.items
 each_goes parts made ready = λ k d few. (
   ready.turns.each k d few,
-  let inside : k < length (goers made) = omega (arith, few, length-map made.turns.items (λ (turn : Turn). turn.going)) in
-      subst (λ (one : Going). transition (plan_in parts) (world_in parts) (site_in (plan_in parts) one.node) ≡ Some one.arrival)
-      (get_or-map (λ (turn : Turn). turn.going) made.turns.items k d d.going few) (ready.going.each k d.going inside),
+  All-unmap (λ (one : Going). transition (plan_in parts) (world_in parts) (site_in (plan_in parts) one.node) ≡ Some one.arrival)
+      (λ (turn : Turn). turn.going) made.turns.items ready.going.each k d few,
 )
 
 node_after : (parts : Parts) (made : Turns) (node : ℕ) → AreReady parts made → node < length (plan_in parts)
@@ -468,7 +448,7 @@ pub world_after : (parts : Parts) (made : Turns) → AreReady parts made
     ≡ micro (plan_in parts) (world_in parts)
 world_after parts made ready = λ i. record {
   nodes = nodes_are plan 0 (record_in plan (cells_after parts made) (acts_after parts made))
-      (λ site. record_after plan (world_in parts) site (transition plan (world_in parts) site))
+      (next_record plan (world_in parts))
       (λ node here.
       let same : 0 + node ≡ node = omega arith in
       ap (record_in plan (cells_after parts made) (acts_after parts made)) same

@@ -12,7 +12,7 @@ use Rattle.px_parts.specs.declared.parts.Parts.{Parts}
 use Rattle.px_parts.specs.Parts.{plan_in, world_in, record_of}
 use Rattle.px_micro.proofs.Families.{IsBelow, behind, among, child_below, next_child}
 use Rattle.px_micro.proofs.Passing.{HavePassed, passed_child, passed_more}
-use Rattle.px_micro.proofs.Seeing.{record_is}
+use Rattle.px_parts.proofs.Found.{record_is}
 
 -- So far: these children were passed, and are at rest.
 pub record IsSeen (parts : Parts) (node next : ℕ) : Type 0 where

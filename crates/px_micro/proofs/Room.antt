@@ -2,27 +2,22 @@
 use Rattle.std.proofs.Common.{◌≡◌, ℕ, zero, suc, ◌+◌, ◌*◌, ◌^◌, ◌<◌, ◌≤◌, Bool, true, false, List, [], ◌∷◌, length, fold, get_or, refl, ap, sym, ◌∙◌, arith, length-append, if◌then◌else◌, Option, All, AllPairs}
 use Rattle.std.proofs.lemmas.Grind.{common_steps}
 use Rattle.std.specs.List.{flat_map, filter_map}
-use Rattle.std.specs.Option.{option_map}
 use Rattle.std.proofs.lemmas.List.{length-map}
 use Rattle.std.proofs.lemmas.List.Elements.{All-head, All-tail}
-use Rattle.std.proofs.lemmas.List.Sums.{AllPass-from_list_all}
 use Rattle.px_value.specs.declared.value.Value.{Value}
-use Rattle.px_core.specs.Fit.{cells_of_site, has_right_variables}
-use Rattle.px_core.specs.Plan.{Site, no_site}
-use Rattle.px_sem.specs.Effects.{move_kind, is_initializing, initial_values}
+use Rattle.px_core.specs.Plan.{Site}
 use Rattle.px_flat.specs.Layout.{first_cell, variable_cells}
-use Rattle.px_flat.specs.Row.{site_in}
 use Rattle.px_flat.proofs.Tables.{flat_sound}
-use Rattle.px_command.proofs.Writes.{cells_within}
+use Rattle.px_flat.proofs.Variables.{cells_within}
 use Rattle.px_micro.specs.declared.effects.CellWrite.{CellWrite}
 use Rattle.px_parts.specs.declared.parts.Parts.{Parts}
 use Rattle.px_micro.specs.declared.sight.Going.{Going}
 use Rattle.px_micro.specs.declared.turns.Turn.{Turn}
 use Rattle.px_micro.specs.declared.turns.Turns.{Turns}
 use Rattle.px_micro.specs.Going.{AreAllGoing}
-use Rattle.px_parts.specs.Parts.{plan_in, world_in, record_of}
-use Rattle.px_micro.specs.Turns.{in_cells, effects_in, from_cell, initial_in, with_write, AreTurns}
-use Rattle.px_micro.proofs.Initial.{as_many_of_each}
+use Rattle.px_parts.specs.Parts.{plan_in, world_in}
+use Rattle.px_micro.specs.Turns.{begins, from_cell, initial_in, initial_of, with_write, written_in, AreTurns}
+use Rattle.px_micro.proofs.Initial.{initial_cells}
 
 -- ---- no more nodes go than there are
 
@@ -63,23 +58,22 @@ from_cell_long cell [] = refl
 from_cell_long cell (value ∷ values) = ap suc (from_cell_long (cell + 1) values)
 
 initial_few : (parts : Parts) (one : Going) → one.node < length (plan_in parts) → length (initial_in parts one) ≤ 131072
-initial_few parts one here = by (is_initializing (move_kind (record_of parts one.node).state one.arrival.to))
+initial_few parts one here = by (begins parts one)
   where
     plan : List Site
     plan = plan_in parts
 
-    given : List Value
-    given = flat_map initial_values (site_in plan one.node).head.variables
-
-    long : length given ≡ cells_of_site (site_in plan one.node)
-    long = as_many_of_each (site_in plan one.node).head.variables
-        (AllPass-from_list_all has_right_variables plan (flat_sound parts.flat).arrays one.node no_site here)
-
     few : variable_cells plan ≤ 131072
     few = (flat_sound parts.flat).cells
 
-    by : (b : Bool) → length (if b then from_cell (first_cell plan one.node) given else []) ≤ 131072
-    by true = omega (arith, from_cell_long (first_cell plan one.node) given, long, cells_within plan one.node here, few)
+    by : (b : Bool) → length (if b then from_cell (first_cell plan one.node) (initial_of plan one.node) else []) ≤ 131072
+    by true = omega (
+      arith,
+      from_cell_long (first_cell plan one.node) (initial_of plan one.node),
+      initial_cells plan one.node (flat_sound parts.flat) here,
+      cells_within plan one.node here,
+      few,
+    )
     by false = omega arith
 
 initials_few : (parts : Parts) (ones : List Going) → All (λ one. one.node < length (plan_in parts)) ones
@@ -108,11 +102,8 @@ turns_small parts ones made go are =
       turns,
     )
   where
-    written : Going → Option CellWrite
-    written one = option_map (in_cells (plan_in parts)) (effects_in parts one).write
-
     writes : length made.writes.items ≤ length ones
-    writes = omega (arith, ap length are.writes, writes_few [] (filter_map written ones), length-filter_map written ones)
+    writes = omega (arith, ap length are.writes, writes_few [] (filter_map (written_in parts) ones), length-filter_map (written_in parts) ones)
 
     initial : length made.initial.items ≤ 131072 * length ones
     initial = omega (arith, ap length are.initial, initials_few parts ones go.within)

@@ -5,27 +5,20 @@ use Rattle.px_value.specs.declared.enums.NodeState.TheVariants as states
 use Rattle.px_value.specs.declared.value.Value.{Value}
 use Rattle.px_value.specs.Truth.{truth_of}
 use Rattle.px_core.specs.Plan.{Site, no_term}
-use Rattle.px_sem.specs.World.{World, NodeRecord, record_at, parent_state}
+use Rattle.px_sem.specs.World.{World, NodeRecord, parent_state}
 use Rattle.px_flat.specs.Numbered.{Numbered, ConditionsNumbered, numbered_conditions}
 use Rattle.px_flat.specs.Row.{site_in}
 use Rattle.px_flat.proofs.NodeTerms.{have_values}
 use Rattle.px_flat.proofs.Sites.{found_site}
 use Rattle.px_flat.proofs.Tables.{flat_sound}
-use Rattle.px_flat.proofs.Worlds.{record_at-world_of}
 use Rattle.px_parts.specs.declared.parts.Parts.{Parts}
 use Rattle.px_told.specs.Asking.{either}
 use Rattle.px_micro.specs.Above.{asked_by, asked_of, asked_below, asks_at, asks_in}
 use Rattle.px_parts.specs.Parts.{plan_in, world_in, record_of, value_in, AreStanding}
+use Rattle.px_parts.proofs.Found.{record_is}
 use Rattle.px_micro.specs.declared.truths.Truths.{Truths}
 use Rattle.px_micro.specs.Truths.{truths_in}
 use Rattle.px_micro.proofs.Ancestors.{IsTop, IsUnder}
-
--- the record of a node
-pub record_is : (parts : Parts) (node : ℕ) → node < length (plan_in parts)
-    → record_at (world_in parts) (site_in (plan_in parts) node).path ≡ record_of parts node
-record_is parts node here =
-    record_at-world_of (plan_in parts) parts.cells.contents.values parts.reports.reports parts.actions.contents.values node
-    (flat_sound parts.flat).distinct here
 
 -- the truths of numbered conditions
 abbrev pub truths_by : (Numbered → Value) → ConditionsNumbered → Truths

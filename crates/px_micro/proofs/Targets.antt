@@ -16,16 +16,15 @@ use Rattle.px_flat.specs.Layout.{Place}
 use Rattle.px_flat.specs.Numbered.{held, numbered, numbered_target, place_of}
 use Rattle.px_flat.proofs.Tables.{flat_sound}
 use Rattle.px_flat.proofs.VariableValues.{placed}
-use Rattle.px_flat.proofs.Variables.{IsDeclared, place_at}
+use Rattle.px_flat.proofs.Variables.{IsDeclared, cells_within, place_at}
 use Rattle.px_eval.proofs.Elements.{index_is}
 use Rattle.px_parts.specs.declared.parts.Parts.{Parts}
-use Rattle.px_micro.specs.declared.places.Place.TheVariants as places
 use Rattle.px_parts.specs.Parts.{plan_in, world_in, value_in, AreStanding}
 use Rattle.px_micro.specs.Places.{place_data, place_now}
 
 -- ---- the cells of a variable
 
--- the values of a declared variable stand at its place, which lies within the cells
+-- the values of a declared variable stand at its place
 pub record HasCells (parts : Parts) (owner name : List ℕ) : Type 0 where
   pub cells : cells_at (plan_in parts) (world_in parts) owner name
       ≡ take (place_of (plan_in parts) owner name).size (drop (place_of (plan_in parts) owner name).first parts.cells.contents.values)
@@ -33,16 +32,22 @@ pub record HasCells (parts : Parts) (owner name : List ℕ) : Type 0 where
   pub some : 0 < (place_of (plan_in parts) owner name).size
 
 pub has_cells : (parts : Parts) (owner name : List ℕ) → AreStanding parts → IsDeclared (plan_in parts) owner name
-    → (place_of (plan_in parts) owner name).first + (place_of (plan_in parts) owner name).size
-    ≤ length parts.cells.contents.values
     → HasCells parts owner name
-has_cells parts owner name stand declared within =
+has_cells parts owner name stand declared =
     let plan : List Site = plan_in parts in
     let place : Place = place_of plan owner name in
     let all : List Value = parts.cells.contents.values in
     let are = placed plan all parts.reports.reports parts.actions.contents.values owner name declared.node
     (flat_sound parts.flat).distinct declared.within declared.path_is declared.has in
     let is : place ≡ declared.has.place = place_at plan owner name (flat_sound parts.flat) declared in
+    let within : place.first + place.size ≤ length all = omega (
+      arith,
+      stand.all_cells,
+      declared.has.within,
+      cells_within plan declared.node declared.within,
+      ap (λ (place : Place). place.first) is,
+      ap (λ (place : Place). place.size) is,
+    ) in
     record {
       cells = are.values_are;
       long = ap length are.values_are

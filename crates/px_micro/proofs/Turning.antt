@@ -1,7 +1,6 @@
 -- The turns of one more node that goes.
-use Rattle.std.proofs.Common.{◌≡◌, Bool, true, false, List, [], ◌∷◌, ◌++◌, fold, map, append-nil, refl, ap, sym, ◌∙◌, subst, Option}
+use Rattle.std.proofs.Common.{◌≡◌, Bool, true, false, List, [], ◌∷◌, ◌++◌, fold, map, append-nil, refl, ap, sym, ◌∙◌, subst}
 use Rattle.std.specs.List.{filter_map, flat_map, cons_option, All}
-use Rattle.std.specs.Option.{option_map}
 use Rattle.std.proofs.lemmas.Grind.{flat_map-append}
 use Rattle.std.proofs.lemmas.List.{map-append}
 use Rattle.std.proofs.lemmas.List.Elements.{All-push, filter_map-append}
@@ -14,21 +13,20 @@ use Rattle.px_cells.specs.Marked.{Contents, MarkedData}
 use Rattle.px_flat.specs.declared.act.Act.{Act}
 use Rattle.px_flat.specs.Flat.{plan_of}
 use Rattle.px_flat.specs.Row.{site_in}
-use Rattle.px_micro.specs.declared.effects.CellWrite.{CellWrite}
 use Rattle.px_parts.specs.declared.parts.Parts.{Parts}
 use Rattle.px_micro.specs.declared.sight.Going.{Going}
 use Rattle.px_micro.specs.declared.turns.Turn.{Turn}
 use Rattle.px_micro.specs.declared.turns.Turns.{Turns}
 use Rattle.px_parts.specs.Parts.{plan_in, world_in}
-use Rattle.px_micro.specs.Turns.{in_cells, effects_in, initial_in, moves_told, with_write, IsTurn, AreTurns, IsAdded}
+use Rattle.px_micro.specs.Turns.{initial_in, moves_told, with_write, written_in, IsTurn, AreTurns, IsAdded}
 
 pub turns_more : (parts : Parts) (going : List Going) (one : Going) (old new : Turns) → AreTurns parts going old
     → IsAdded parts one old new → AreTurns parts (going ++ one ∷ []) new
 turns_more parts going one old new are added = record {
   writes = added.writes
-      ∙ ap (λ before. fold with_write before (cons_option (written one) [])) are.writes
-      ∙ sym (fold-append with_write [] (filter_map written going) (cons_option (written one) []))
-      ∙ ap (fold with_write []) (sym (filter_map-append written going (one ∷ [])));
+      ∙ ap (λ before. fold with_write before (cons_option (written_in parts one) [])) are.writes
+      ∙ sym (fold-append with_write [] (filter_map (written_in parts) going) (cons_option (written_in parts one) []))
+      ∙ ap (fold with_write []) (sym (filter_map-append (written_in parts) going (one ∷ [])));
   initial = added.initial ∙ ap (λ before. before ++ initial_in parts one) are.initial
       ∙ ap (λ more. flat_map (initial_in parts) going ++ more) (sym (append-nil (initial_in parts one)))
       ∙ sym (flat_map-append (initial_in parts) going (one ∷ []));
@@ -38,9 +36,6 @@ turns_more parts going one old new are added = record {
   each = subst (All (IsTurn parts)) (sym added.turns)
       (All-push (IsTurn parts) old.turns.items added.turn are.each added.is);
 }
-  where
-    written : Going → Option CellWrite
-    written one = option_map (in_cells (plan_in parts)) (effects_in parts one).write
 
 moves_more : (parts : Parts) (tells : Bool) (going : List Going) (one : Going)
     → moves_told parts tells going ++ moves_told parts tells (one ∷ []) ≡ moves_told parts tells (going ++ one ∷ [])

@@ -7,20 +7,19 @@ use Rattle.std.proofs.lemmas.Bool.{and_from, and_parts, eqb-false, ltb-true, fal
 use Rattle.std.proofs.lemmas.Bool.Decides.{eqb_tells}
 use Rattle.std.proofs.lemmas.Grind.{common_steps}
 use Rattle.std.proofs.lemmas.List.{get_or-drop, get_or-set_same, get_or-set_other, get_or-take, length-set, length-take-le}
-use Rattle.std.proofs.lemmas.List.Elements.{All-cons, All-head, All-map, All-nil, All-tail}
-use Rattle.std.proofs.lemmas.List.Sums.{AllPass-from_list_all}
+use Rattle.std.proofs.lemmas.List.Elements.{All-head, All-map, All-tail}
+use Rattle.px_value.proofs.General.{IfSome-map, all_given}
 use Rattle.px_value.specs.declared.value.Value.{Value}
 use Rattle.px_value.specs.declared.value.Value.TheVariants as values
 use Rattle.px_core.specs.Expr.{Term}
-use Rattle.px_core.specs.Fit.{has_right_variables}
-use Rattle.px_core.specs.Plan.{Site, BodyData, Nothing, Assign, Command, Update, TargetData, VariableData, no_site, is_same}
+use Rattle.px_core.specs.Plan.{Site, BodyData, Nothing, Assign, Command, Update, TargetData, VariableData, is_same}
 use Rattle.px_core.proofs.Paths.{same-self}
 use Rattle.px_sem.specs.declared.guards.Arrival.{Arrival}
 use Rattle.px_sem.specs.Conflicts.{target_of, transition}
 use Rattle.px_sem.specs.Effects as sem
 use Rattle.px_sem.specs.Effects.{Write, cell_of, effects_of, move_kind, row_of, write_at, write_to, written}
 use Rattle.px_sem.specs.Expressions.{value}
-use Rattle.px_sem.specs.Step.{step_writes}
+use Rattle.px_sem.specs.Step.{own_write, step_writes, written_in_step}
 use Rattle.px_sem.specs.World as world
 use Rattle.px_sem.specs.World.{World, NodeRecord}
 use Rattle.px_sem.proofs.Writes.{IsTo, found_to}
@@ -32,23 +31,23 @@ use Rattle.px_flat.specs.Parts.{action_in, act_of, fits, values_in}
 use Rattle.px_flat.specs.Row.{site_in}
 use Rattle.px_flat.proofs.Known.{IsSound}
 use Rattle.px_flat.proofs.Tables.{flat_sound}
-use Rattle.px_flat.proofs.Variables.{IsDeclared, place_at, target_declared, one_cell}
+use Rattle.px_flat.proofs.Variables.{IsDeclared, place_at, target_declared, one_cell, cells_within}
 use Rattle.px_eval.proofs.Elements.{index_is}
 use Rattle.px_command.proofs.Returns.{flat_differs}
-use Rattle.px_command.proofs.Writes.{cells_within}
 use Rattle.px_micro.specs.declared.effects.CellWrite.{CellWrite}
 use Rattle.px_parts.specs.declared.parts.Parts.{Parts}
 use Rattle.px_micro.specs.declared.sight.Going.{Going}
 use Rattle.px_micro.specs.Going.{AreAllGoing}
 use Rattle.px_micro.specs.Moving.{put_write}
 use Rattle.px_parts.specs.Parts.{AreStanding, plan_in, world_in, record_of}
-use Rattle.px_micro.specs.Turns.{in_cells, effects_in, first_writes}
+use Rattle.px_micro.specs.Turns.{in_cells, effects_in, first_writes, written_in}
 use Rattle.px_micro.proofs.Blocks.{block_is}
 use Rattle.px_micro.proofs.Firsts.{writes_to, firsts_all, firsts_apart, firsts_find}
 use Rattle.px_micro.proofs.Goers.{gone}
 use Rattle.px_micro.proofs.Hits.{fold_keeps, hit_by, one_hit}
+use Rattle.px_micro.proofs.Initial.{right_cells}
 use Rattle.px_micro.proofs.Meaning.{place_inside}
-use Rattle.px_micro.proofs.Seeing.{record_is}
+use Rattle.px_parts.proofs.Found.{record_is}
 use Rattle.px_micro.proofs.Slots.{IsSlot, slot_has, values_in-by}
 use Rattle.px_micro.proofs.Targets.{HasCells, has_cells}
 
@@ -132,31 +131,18 @@ row_inside parts node move body stand here is = by move body is
     declared target right is =
         target_declared plan node target (flat_sound parts.flat) here (ap target_of is)
 
-    cells : (target : TargetData) → IsDeclared plan target.owner target.name → HasCells parts target.owner target.name
-    cells target declared =
-        let place = place_at plan target.owner target.name (flat_sound parts.flat) declared in
-        has_cells parts target.owner target.name stand declared
-        (omega (
-          arith,
-          stand.all_cells,
-          declared.has.within,
-          cells_within plan declared.node declared.within,
-          ap (λ (place : Place). place.first) place,
-          ap (λ (place : Place). place.size) place,
-        ))
-
     by : (move : sem.MoveKind) (body : BodyData) → (site_in plan node).head.body ≡ body
         → ForSome (row_of plan (world_in parts) (record_of parts node) move body).write (IsInside plan)
     by move Nothing is = λ write none. absurd (cc none)
     by sem.Initializes body is = λ write none. absurd (cc none)
     by sem.Resets body is = λ write none. absurd (cc none)
     by sem.Starts (Assign target right) is =
-        assigns_inside parts target right (declared target right is) (cells target (declared target right is))
+        assigns_inside parts target right (declared target right is) (has_cells parts target.owner target.name stand (declared target right is))
     by sem.Starts (Command name args result) is = λ write none. absurd (cc none)
     by sem.Starts (Update pairs) is = λ write none. absurd (cc none)
     by sem.Fails (Assign target right) is =
         back_inside parts target right (act_of parts.actions.contents.values node) _ _ (declared target right is)
-        (cells target (declared target right is))
+        (has_cells parts target.owner target.name stand (declared target right is))
         (ap (λ body. fits plan body (act_of parts.actions.contents.values node)) (sym is) ∙ (stand.nodes node here).act)
     by sem.Fails (Command name args result) is = λ write none. absurd (cc none)
     by sem.Fails (Update pairs) is = λ write none. absurd (cc none)
@@ -182,10 +168,6 @@ pub record IsWriteOf (plan : List Site) (write : CellWrite) : Type 0 where
   pub inside : IsInside plan source
   pub is : in_cells plan source ≡ write
 
--- what a node that goes writes
-abbrev pub written_in : Parts → Going → Option CellWrite
-written_in parts one = option_map (in_cells (plan_in parts)) (effects_in parts one).write
-
 -- what all write, as the semantics has it
 abbrev all_writes : Parts → List Going → List (Option Write)
 all_writes parts going = map (λ one. (effects_in parts one).write) going
@@ -193,19 +175,12 @@ all_writes parts going = map (λ one. (effects_in parts one).write) going
 pub writes_inside : (parts : Parts) (going : List Going) → AreStanding parts
     → All (λ one. one.node < length (plan_in parts)) going
     → All (IsWriteOf (plan_in parts)) (filter_map (written_in parts) going)
-writes_inside parts [] stand within = All-nil (IsWriteOf (plan_in parts))
-writes_inside parts (one ∷ going) stand within =
-    by (effects_in parts one).write
-    (write_inside parts one stand (All-head (λ (one : Going). one.node < length (plan_in parts)) one going within))
-    (writes_inside parts going stand (All-tail (λ (one : Going). one.node < length (plan_in parts)) one going within))
-  where
-    by : (write : Option Write) → ForSome write (IsInside (plan_in parts))
-        → All (IsWriteOf (plan_in parts)) (filter_map (written_in parts) going)
-        → All (IsWriteOf (plan_in parts)) (cons_option (option_map (in_cells (plan_in parts)) write) (filter_map (written_in parts) going))
-    by None inside rest = rest
-    by (Some write) inside rest =
-        All-cons (IsWriteOf (plan_in parts)) (in_cells (plan_in parts) write) (filter_map (written_in parts) going)
-        (record { source = write; inside = inside write refl; is = refl }) rest
+writes_inside parts going stand within =
+    all_given (IsWriteOf (plan_in parts)) (written_in parts) going
+    (λ k d here.
+    let one : Going = get_or going k d in
+    IfSome-map (IsWriteOf (plan_in parts)) (in_cells (plan_in parts)) (effects_in parts one).write
+    (λ write found. record { source = write; inside = write_inside parts one stand (within k d here) write found; is = refl }))
 
 -- ---- the write to one variable
 
@@ -272,7 +247,7 @@ found_alike parts (one ∷ going) owner name declared inside =
 
 -- those that go are all that write
 sites_write : (plan : List Site) (now : World) (sites : List Site) (owner name : List ℕ)
-    → write_to owner name (map (λ site. option_and_then (λ arrival. (effects_of plan now site arrival).write) (transition plan now site)) sites)
+    → write_to owner name (map (own_write plan now) sites)
     ≡ write_to owner name
     (filter_map (λ site. option_map (λ arrival. (effects_of plan now site arrival).write) (transition plan now site)) sites)
 sites_write plan now [] owner name = refl
@@ -283,7 +258,7 @@ sites_write plan now (site ∷ sites) owner name =
     one arrival = (effects_of plan now site arrival).write
 
     all : List (Option Write)
-    all = map (λ site. option_and_then (λ arrival. (effects_of plan now site arrival).write) (transition plan now site)) sites
+    all = map (own_write plan now) sites
 
     some : List (Option Write)
     some = filter_map (λ site. option_map (λ arrival. (effects_of plan now site arrival).write) (transition plan now site)) sites
@@ -465,8 +440,7 @@ pub written_variables : (parts : Parts) (going : List Going) (cells : List Value
     → node < length (plan_in parts)
     → values_in (site_in (plan_in parts) node).head.variables
     (drop (first_cell (plan_in parts) node) (fold put_write cells (first_writes (filter_map (written_in parts) going))))
-    ≡ map (λ variable. written variable.1 (write_to (site_in (plan_in parts) node).path variable.0.name
-    (step_writes (plan_in parts) (world_in parts))))
+    ≡ map (written_in_step (plan_in parts) (world_in parts) (site_in (plan_in parts) node))
     (zip (site_in (plan_in parts) node).head.variables
     (values_in (site_in (plan_in parts) node).head.variables (drop (first_cell (plan_in parts) node) cells)))
 written_variables parts going cells node stand are all here =
@@ -475,7 +449,7 @@ written_variables parts going cells node stand are all here =
     (flat_differs parts.flat node here)
     (λ name slot at.
     let found : IsSlot first own name slot =
-    slot_has first own name slot (AllPass-from_list_all has_right_variables plan (flat_sound parts.flat).arrays node no_site here) at in
+    slot_has first own name slot (right_cells plan node (flat_sound parts.flat) here) at in
     let declared : IsDeclared plan path name = record { node = node; within = here; path_is = refl; has = found.has } in
     subst (λ (slot : Place). take slot.size (drop slot.first
     (fold put_write cells (first_writes (filter_map (written_in parts) going))))

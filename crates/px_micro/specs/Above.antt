@@ -27,18 +27,16 @@ asked_of plan now node = asked_by plan now (site_in plan node).above
 abbrev pub asked_below : List Site → world.World → ℕ → Asks
 asked_below plan now node = asked_by plan now ((site_in plan node).path ∷ (site_in plan node).above)
 
--- what the node at a path asks
-abbrev pub asks_at : List Site → world.World → List ℕ → Asks
-asks_at plan now path = record {
-  exit = exit_asks (record_at now path) (condition plan now (site_at plan path) which.Exit);
-  invariant = invariant_asks (record_at now path) (condition plan now (site_at plan path) which.Invariant);
-  end = end_asks (record_at now path) (condition plan now (site_at plan path) which.End);
-}
-
 -- what a node with this record asks, by the truths of its Exit, its Invariant and its End
 abbrev pub asks_in : world.NodeRecord → Truth → Truth → Truth → Asks
 asks_in r exit invariant end =
     record { exit = exit_asks r exit; invariant = invariant_asks r invariant; end = end_asks r end }
+
+-- what the node at a path asks
+abbrev pub asks_at : List Site → world.World → List ℕ → Asks
+asks_at plan now path =
+    asks_in (record_at now path) (condition plan now (site_at plan path) which.Exit)
+    (condition plan now (site_at plan path) which.Invariant) (condition plan now (site_at plan path) which.End)
 
 -- a record with this state and failure
 abbrev pub in_state : NodeState → Option Failure → world.NodeRecord

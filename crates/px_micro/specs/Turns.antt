@@ -1,5 +1,5 @@
 -- What is gathered of a step: the turns of the nodes that go, and their moves where these are told.
-use Rattle.std.specs.Prelude.{◌≡◌, ℕ, ◌+◌, ◌<◌, Bool, true, false, nat_eq, List, [], ◌∷◌, ◌++◌, fold, map, length, IsTrue, if◌then◌else◌}
+use Rattle.std.specs.Prelude.{◌≡◌, ℕ, ◌+◌, ◌<◌, Bool, true, false, nat_eq, List, [], ◌∷◌, ◌++◌, Some, fold, map, length, IsTrue, if◌then◌else◌, Option}
 use Rattle.std.specs.BTreeSet.{contains}
 use Rattle.std.specs.List.{flat_map, filter_map, cons_option, list_any, All}
 use Rattle.std.specs.Ordering.{nat_cmp}
@@ -9,8 +9,8 @@ use Rattle.px_value.specs.declared.value.Value.TheVariants as values
 use Rattle.px_core.specs.Plan.{Site, BodyData}
 use Rattle.px_sem.specs.declared.moves.Move.{Move}
 use Rattle.px_sem.specs.Effects as sem
-use Rattle.px_sem.specs.Effects.{Write, move_kind, is_initializing, initial_values, cell_of}
-use Rattle.px_sem.specs.Step.{move_of}
+use Rattle.px_sem.specs.Effects.{Write, initial_values, cell_of}
+use Rattle.px_sem.specs.Step.{initializes, move_of}
 use Rattle.px_sem.specs.World.{Action}
 use Rattle.px_flat.specs.declared.act.Abort.TheVariants as aborts
 use Rattle.px_flat.specs.declared.act.Act.{Act}
@@ -38,11 +38,15 @@ in_cells plan write = record {
   value = write.value;
 }
 
--- what a node has under way after its move
+-- what is under way after a move, by what was
+abbrev pub act_then : UnderWay → Act → Act
+act_then under_way.Kept old = old
+act_then (under_way.Begun act) old = act
+act_then (under_way.Aborting index) old = acts.Sent index aborts.Sent
+
+-- of a node
 abbrev pub act_after : Parts → ℕ → UnderWay → Act
-act_after parts node under_way.Kept = act_of parts.actions.contents.values node
-act_after parts node (under_way.Begun act) = act
-act_after parts node (under_way.Aborting index) = acts.Sent index aborts.Sent
+act_after parts node way = act_then way (act_of parts.actions.contents.values node)
 
 -- nothing was said so far of what has begun
 abbrev pub action_after : Parts → ℕ → UnderWay → Action
@@ -53,6 +57,10 @@ action_after parts node other = action_in (act_after parts node other)
 
 abbrev pub effects_in : Parts → Going → sem.Effects
 effects_in parts going = sem.effects_of (plan_in parts) (world_in parts) (site_in (plan_in parts) going.node) going.arrival
+
+-- what a node that goes writes
+abbrev pub written_in : Parts → Going → Option CellWrite
+written_in parts one = option_map (in_cells (plan_in parts)) (effects_in parts one).write
 
 -- what is made has these effects at a node with this body
 pub record IsDone (parts : Parts) (node : ℕ) (body : BodyData) (made : Effects) (effects : sem.Effects) : Type 0 where
@@ -66,6 +74,14 @@ abbrev pub AreEffects : Parts → Going → Effects → Type 0
 AreEffects parts going made =
     IsDone parts going.node (site_in (plan_in parts) going.node).head.body made (effects_in parts going)
 
+-- whether a node begins to wait
+abbrev pub begins : Parts → Going → Bool
+begins parts one = initializes (record_of parts one.node) (Some one.arrival)
+
+-- the initial values of a node's variables
+abbrev pub initial_of : List Site → ℕ → List Value
+initial_of plan node = flat_map initial_values (site_in plan node).head.variables
+
 -- the initial values of a node that begins to wait, cell by cell
 abbrev pub from_cell : ℕ → List Value → List CellValue
 from_cell cell [] = []
@@ -73,23 +89,22 @@ from_cell cell (value ∷ values) = record { cell = cell; value = value } ∷ fr
 
 abbrev pub initial_in : Parts → Going → List CellValue
 initial_in parts going =
-    if is_initializing (move_kind (record_of parts going.node).state going.arrival.to)
-    then from_cell (first_cell (plan_in parts) going.node)
-    (flat_map initial_values (site_in (plan_in parts) going.node).head.variables)
-    else []
+    if begins parts going then from_cell (first_cell (plan_in parts) going.node) (initial_of (plan_in parts) going.node) else []
+
+-- one of these writes is of the variable
+abbrev pub is_written : List CellWrite → ℕ → Bool
+is_written writes variable = list_any (λ other. nat_eq variable other.variable) writes
 
 -- of the writes of one variable the first counts
 abbrev pub with_write : List CellWrite → CellWrite → List CellWrite
-with_write writes write =
-    if list_any (λ other. nat_eq write.variable other.variable) writes then writes else writes ++ write ∷ []
+with_write writes write = if is_written writes write.variable then writes else writes ++ write ∷ []
 
 abbrev pub first_writes : List CellWrite → List CellWrite
 first_writes writes = fold with_write [] writes
 
 -- it is known which variables are written
 abbrev pub KnowsWritten : Turns → Type 0
-KnowsWritten made = (variable : ℕ) → contains nat_cmp made.written variable
-    ≡ list_any (λ other. nat_eq variable other.variable) made.writes.items
+KnowsWritten made = (variable : ℕ) → contains nat_cmp made.written variable ≡ is_written made.writes.items variable
 
 -- nothing is gathered
 pub record IsOfNoStep (made : Turns) : Type 0 where
@@ -109,7 +124,7 @@ pub record IsTurn (parts : Parts) (turn : Turn) : Type 0 where
 -- these are the turns of the nodes that go
 pub record AreTurns (parts : Parts) (going : List Going) (made : Turns) : Type 0 where
   pub writes : made.writes.items
-      ≡ first_writes (filter_map (λ one. option_map (in_cells (plan_in parts)) (effects_in parts one).write) going)
+      ≡ first_writes (filter_map (written_in parts) going)
   pub initial : made.initial.items ≡ flat_map (initial_in parts) going
   pub goers : map (λ turn. turn.going) made.turns.items ≡ going
   pub each : All (IsTurn parts) made.turns.items
@@ -126,6 +141,5 @@ pub record IsAdded (parts : Parts) (going : Going) (old new : Turns) : Type 0 wh
   pub is : IsTurn parts turn
   pub goes : turn.going ≡ going
   pub turns : new.turns.items ≡ old.turns.items ++ turn ∷ []
-  pub writes : new.writes.items ≡ fold with_write old.writes.items
-      (cons_option (option_map (in_cells (plan_in parts)) (effects_in parts going).write) [])
+  pub writes : new.writes.items ≡ fold with_write old.writes.items (cons_option (written_in parts going) [])
   pub initial : new.initial.items ≡ old.initial.items ++ initial_in parts going

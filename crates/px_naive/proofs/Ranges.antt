@@ -5,6 +5,7 @@ use Rattle.std.proofs.lemmas.List.FromFn.{length-range_with_len, get_or-range_wi
 use Rattle.px_core.specs.Plan.{Site}
 use Rattle.px_sem.specs.World.{World}
 use Rattle.px_micro.specs.Candidates.{AreCandidates}
+use Rattle.px_micro.proofs.Lists.{range_below, range_has}
 
 all_nodes : (plan : List Site) (world : World) → AreCandidates plan world (range_with_len 0 (length plan))
 all_nodes plan world = record {
@@ -12,14 +13,8 @@ all_nodes plan world = record {
       let far : j < length plan = omega (arith, inside, length-range_with_len 0 (length plan)) in
       let near : i < length plan = omega (arith, far, before) in
       omega (arith, before, get_or-range_with_len 0 (length plan) i d near, get_or-range_with_len 0 (length plan) j d far);
-  within = λ k d inside.
-      let small : k < length plan = omega (arith, inside, length-range_with_len 0 (length plan)) in
-      omega (arith, small, get_or-range_with_len 0 (length plan) k d small);
-  all = λ node inside goes. (
-    node,
-    omega (arith, inside, length-range_with_len 0 (length plan)),
-    omega (arith, get_or-range_with_len 0 (length plan) node node inside),
-  );
+  within = range_below (length plan);
+  all = λ node inside goes. range_has (length plan) node inside;
 }
 
 pub are_candidates : (plan : List Site) (world : World) (nodes : List ℕ) → nodes ≡ range_with_len 0 (length plan)

@@ -9,7 +9,7 @@ use Rattle.px_sem.specs.Log.{HasRun, events_of}
 use Rattle.px_sem.specs.Run.{settled, started, posted, settled_world, run_on, run}
 use Rattle.px_sem.specs.Stepper.{State, fresh, settled_state}
 use Rattle.px_output.specs.Summary.{steps_in, steps_on, steps_of, sum_in, sum_behind}
-use Rattle.px_output.proofs.Telling.{IsNext, event_settles, run_on_event, begun_nodes, posted_is}
+use Rattle.px_output.proofs.Telling.{IsNext, run_on_event, begun_nodes, posted_is}
 
 no_steps : (plan : List Site) (world : World) → steps_on plan (Some world) [] ≡ 0
 unfolding steps_on
@@ -48,10 +48,6 @@ module _ (plan : List Site) (history : List Entry) (position : ℕ) (now begun :
 
   here : IsSome (run_on plan (Some now.world) (entry.event ∷ behind))
   here = subst (λ entries. IsSome (run_on plan (Some now.world) (events_of entries))) next.behind counted.runs
-
-  pub next_counts : IsSome (settled begun.nodes begun.world)
-  next_counts =
-      subst (λ o. IsSome o) (sym (posted_is plan history position now begun entry next)) (event_settles plan now.world entry.event behind here)
 
   -- after one event more
   pub counted_more : (after : State) (count : ℕ) → settled begun.nodes begun.world ≡ Some (after.world, count)

@@ -1,6 +1,7 @@
 -- The text of a log, part by part: the trace of its history, the line of each post, and how the plan stands; and the line of
 -- a stalled thread.
-use Rattle.std.proofs.Common.{◌≡◌, ℕ, List, ◌++◌, Option, Some, None, IsSome, Result, refl, ap, subst, sym, ◌∙◌}
+use Rattle.std.proofs.Common.{◌≡◌, ℕ, List, ◌++◌, Option, Some, IsSome, Result, ap, subst, sym, ◌∙◌}
+use Rattle.px_value.proofs.General.{told_of}
 use Rattle.px_core.specs.Plan.{Site}
 use Rattle.px_event.specs.declared.entry.Entry.{Entry}
 use Rattle.px_script.specs.declared.stall.Stall.{Stall}
@@ -21,14 +22,11 @@ pub prints_text : (plan : List Site) (history : List Entry) (log : Log) (old new
     → IsSome (run plan (events_of history))
     → ((world : World) → run plan (events_of history) ≡ Some world → Prints old p new q (log_text plan history log world) r)
     → (before : List Entry) → history ≡ before ++ accepted log → Prints old p new q (text_of plan before log) r
-prints_text plan history log old new p q r some prints before whole = at (run plan (events_of history)) refl some
-  where
-    at : (o : Option World) → run plan (events_of history) ≡ o → IsSome o → Prints old p new q (text_of plan before log) r
-    at None is some = cc
-    at (Some world) is some =
-        let runs : run plan (events_of (before ++ accepted log)) ≡ Some world = sym (ap (λ h. run plan (events_of h)) whole) ∙ is in
-        rw (text_of_is plan before log world runs)
-        (subst (λ h. Prints old p new q (log_text plan h log world) r) whole (prints world is))
+prints_text plan history log old new p q r some prints before whole =
+    let (world, is) = told_of (run plan (events_of history)) some in
+    let runs : run plan (events_of (before ++ accepted log)) ≡ Some world = sym (ap (λ h. run plan (events_of h)) whole) ∙ is in
+    rw (text_of_is plan before log world runs)
+    (subst (λ h. Prints old p new q (log_text plan h log world) r) whole (prints world is))
 
 -- the world after the history is the only one
 pub world_is : (plan nodes : List Site) (history : List Entry) (at world : World) → nodes ≡ plan

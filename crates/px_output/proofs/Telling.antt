@@ -26,7 +26,7 @@ run_settles plan (Some found) events some = refl
 pub run_starts : (plan : List Site) (events : List Event) → IsSome (run plan events) → IsSome (started plan)
 run_starts plan events some = run_settles plan (started plan) events some
 
-pub event_settles : (plan : List Site) (world : World) (event : Event) (events : List Event)
+event_settles : (plan : List Site) (world : World) (event : Event) (events : List Event)
     → IsSome (run_on plan (Some world) (event ∷ events)) → IsSome (posted plan world event)
 unfolding run_on
 event_settles plan world event events some = run_settles plan (posted plan world event) events some
@@ -101,15 +101,21 @@ text_is plan history position now begun entry n =
     ap (λ nodes. settled_text nodes begun.world) (begun_nodes plan history position now begun entry n)
     ∙ ap (settled_text plan) (begun_world plan history position now begun entry n)
 
+-- the next event settles where the events that are left run
+pub left_settles : (plan : List Site) (history : List Entry) (position : ℕ) (now begun : State) (entry : Entry)
+    → IsNext plan history position now begun entry → IsSome (run_on plan (Some now.world) (events_of (drop position history)))
+    → IsSome (settled begun.nodes begun.world)
+left_settles plan history position now begun entry n some =
+    let first_one : IsSome (run_on plan (Some now.world) (entry.event ∷ events_of (drop (position + 1) history))) =
+    subst (λ entries. IsSome (run_on plan (Some now.world) (events_of entries))) n.behind some in
+    subst (λ o. IsSome o) (sym (posted_is plan history position now begun entry n))
+    (event_settles plan now.world entry.event (events_of (drop (position + 1) history)) first_one)
+
 pub next_settles : (plan : List Site) (history : List Entry) (position : ℕ) (now begun : State) (old new : View) (p q : List ℕ) (entry : Entry)
     → IsTold plan history position now old p new q → IsNext plan history position now begun entry
     → IsSome (run plan (events_of history)) → IsSome (settled begun.nodes begun.world)
 next_settles plan history position now begun old new p q entry t n some =
-    let here : IsSome (run_on plan (Some now.world) (events_of (drop position history))) = subst (λ o. IsSome o) (sym t.runs) some in
-    let first_one : IsSome (run_on plan (Some now.world) (entry.event ∷ events_of (drop (position + 1) history))) =
-    subst (λ entries. IsSome (run_on plan (Some now.world) (events_of entries))) n.behind here in
-    subst (λ o. IsSome o) (sym (posted_is plan history position now begun entry n))
-    (event_settles plan now.world entry.event (events_of (drop (position + 1) history)) first_one)
+    left_settles plan history position now begun entry n (subst (λ o. IsSome o) (sym t.runs) some)
 
 -- what of the trace is behind what was told: the heading of the next event, its steps, and the events after it
 pub event_left : (plan : List Site) (history : List Entry) (position : ℕ) (now begun : State) (old new : View) (p q : List ℕ) (entry : Entry)

@@ -1,14 +1,15 @@
 -- The text of micro steps on its way to the sink.
-use Rattle.std.proofs.Common.{◌≡◌, ℕ, ◌+◌, ◌≤◌, Bool, true, false, List, ◌++◌, Option, Some, None, IsSome, refl, ap, subst, ◌∙◌, sym, append_assoc, arith}
+use Rattle.std.proofs.Common.{◌≡◌, ℕ, ◌+◌, ◌≤◌, Bool, true, false, List, ◌++◌, Some, IsSome, ap, subst, ◌∙◌, sym, append_assoc, arith}
 use Rattle.std.specs.Option.{unwrap_or}
+use Rattle.px_value.proofs.General.{told_of}
 use Rattle.px_core.specs.Plan.{Site}
 use Rattle.px_sem.specs.World.{World}
 use Rattle.px_sem.specs.declared.moves.Move.{Move}
 use Rattle.px_sem.specs.Step.{moves}
 use Rattle.px_sem.specs.Stepper.{State, Steps}
-use Rattle.px_sem.specs.Run.{after_steps, settled}
+use Rattle.px_sem.specs.Run.{after_steps, settled, steps_until_quiet}
 use Rattle.px_sem.specs.Text.{step_text, steps_text, quiet_text, settled_text}
-use Rattle.px_sem.proofs.Settles.{IsUnderway, underway_at_once, underway_after_step, underway_within, settles_at, steps_until_quiet, settled_count}
+use Rattle.px_sem.proofs.Settles.{IsUnderway, underway_at_once, underway_after_step, underway_within, settles_at, settled_count}
 use Rattle.px_sem.proofs.Texts.{steps_text_none, steps_text_more, steps_text_front, settled_text_is}
 use Rattle.px_output.specs.Printing.{Buffers}
 use Rattle.px_output.specs.Printing.{run_text}
@@ -104,9 +105,6 @@ settling_is plan world to count is =
 
 pub run_within : (plan : List Site) (world : World) → IsSome (settled plan world)
     → (later : List ℕ) × (settled_text plan world ≡ run_text plan world ++ later)
-run_within plan world some = at (settled plan world) refl some
-  where
-    at : (o : Option (World × ℕ)) → settled plan world ≡ o → IsSome o
-        → (later : List ℕ) × (settled_text plan world ≡ run_text plan world ++ later)
-    at None is some = cc
-    at (Some found) is some = (quiet_text found.1, settling_is plan world found.0 found.1 is)
+run_within plan world some =
+    let (found, is) = told_of (settled plan world) some in
+    (quiet_text found.1, settling_is plan world found.0 found.1 is)

@@ -1,11 +1,10 @@
 -- What a text is on its way: some of it emitted, and the rest in the buffer.
 use Rattle.std.specs.Prelude.{◌≡◌, ◌<◌, ℕ, List, ◌++◌, length, Result, Ok, Err, OnOk}
-use Rattle.std.specs.Option.{unwrap_or}
 use Rattle.px_core.specs.Plan.{Site}
 use Rattle.px_ports.specs.Host.{Emits}
 use Rattle.px_ports.specs.declared.host.Host
 use Rattle.px_sem.specs.World.{World}
-use Rattle.px_sem.specs.Run.{settling_count}
+use Rattle.px_sem.specs.Run.{steps_until_quiet}
 use Rattle.px_sem.specs.Text.{steps_text}
 use Rattle.px_output.specs.declared.printer.PrintFault.{PrintFault}
 use Rattle.px_output.specs.declared.printer.PrintFault.TheVariants.{SinkFailed, NoMemory}
@@ -34,4 +33,4 @@ pub record Gathers {H : Type 0} (members : Host.Ghosts H) (old : H) (held : List
 
 -- the text of the micro steps until the world is quiet
 abbrev pub run_text : List Site → World → List ℕ
-run_text plan world = steps_text plan world (unwrap_or (settling_count plan world) 0)
+run_text plan world = steps_text plan world (steps_until_quiet plan world)

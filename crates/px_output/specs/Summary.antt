@@ -2,7 +2,7 @@
 use Rattle.std.specs.Prelude.{ℕ, ◌+◌, ℤ, pos, not, List, [], ◌∷◌, ◌++◌, length, Option, Some, None, codes, decimal}
 use Rattle.std.specs.Fmt.{signed_decimal}
 use Rattle.std.specs.List.{count_by}
-use Rattle.std.specs.Option.{unwrap_or}
+use Rattle.std.specs.Option.{option_map_or, unwrap_or}
 use Rattle.px_core.specs.Plan.{Site}
 use Rattle.px_event.specs.declared.entry.Entry.{Entry}
 use Rattle.px_event.specs.declared.event.Event.{Event}
@@ -18,8 +18,7 @@ refused_count log = count_by (λ logged. not (is_accepted logged.reply)) log
 
 -- those of a world that has settled
 abbrev pub steps_in : Option (World × ℕ) → ℕ
-steps_in None = 0
-steps_in (Some settled) = settled.1
+steps_in settled = option_map_or (λ settled. settled.1) settled 0
 
 -- those of events from a world on
 unfoldable pub steps_on : List Site → Option World → List Event → ℕ
@@ -40,11 +39,7 @@ sum_in plan world = unwrap_or (integer_at plan world (codes "Soak") (codes "sum"
 
 -- the same behind events
 abbrev pub sum_behind : List Site → List Event → ℤ
-sum_behind plan events = in_run (run plan events)
-  where
-    in_run : Option World → ℤ
-    in_run None = pos 0
-    in_run (Some world) = sum_in plan world
+sum_behind plan events = option_map_or (sum_in plan) (run plan events) (pos 0)
 
 -- ---- the lines
 

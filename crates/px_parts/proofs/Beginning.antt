@@ -1,6 +1,6 @@
 -- The cells of a plan that has not begun stand for its initial world.
 use Rattle.std.proofs.Common.{◌≡◌, ℕ, zero, suc, ◌+◌, ◌-◌, false, ◌*◌, ◌<◌, ◌≤◌, List, [], ◌∷◌, ◌++◌, length, map, sum, take, drop, get_or, replicate, refl, ap, ◌∙◌, arith, length-append}
-use Rattle.std.proofs.lemmas.List.{get_or-append-add, get_or_append_left, get_or-replicate, length-replicate, take-append-le, take-replicate}
+use Rattle.std.proofs.lemmas.List.{drop-append-le, drop-replicate, get_or-append-add, get_or_append_left, get_or-replicate, length-replicate, take-append-le, take-replicate}
 use Rattle.std.proofs.lemmas.List.Sums.{sum_by-cons}
 use Rattle.px_value.specs.declared.enums.NodeState.TheVariants.{Inactive}
 use Rattle.px_value.specs.declared.value.Value.{Value}
@@ -15,7 +15,7 @@ use Rattle.px_flat.specs.Numbered.{held}
 use Rattle.px_flat.specs.Parts.{IsNode, IsParts, act_of, action_in, state_in, outcome_in, failure_in, record_in, values_in, world_of, is_state, is_outcome, is_failure, is_handle_of, is_acknowledgement_of, fits}
 use Rattle.px_flat.specs.Row.{site_in}
 use Rattle.px_flat.proofs.Changes.{nodes_are}
-use Rattle.px_command.proofs.Writes.{cells_within}
+use Rattle.px_flat.proofs.Variables.{cells_within}
 use Rattle.px_parts.specs.Fresh.{at_rest, all_at_rest, first_cells}
 
 -- ---- the cells of nodes
@@ -74,10 +74,9 @@ unknown variables = map (λ variable. replicate (cells_of variable) values.Unkno
 
 drop_unknown : (some count : ℕ) (behind : List Value) → some ≤ count
     → drop some (replicate count values.Unknown ++ behind) ≡ replicate (count - some) values.Unknown ++ behind
-drop_unknown zero count behind few = ap (λ n. replicate n values.Unknown ++ behind) (omega arith)
-drop_unknown (suc some) zero behind few = absurd (omega arith)
-drop_unknown (suc some) (suc count) behind few =
-    drop_unknown some count behind (omega arith) ∙ ap (λ n. replicate n values.Unknown ++ behind) (omega arith)
+drop_unknown some count behind few =
+    drop-append-le some (replicate count values.Unknown) behind (omega (arith, few, length-replicate count values.Unknown))
+    ∙ ap (λ rest. rest ++ behind) (drop-replicate some count values.Unknown)
 
 all_unknown : (variables : List VariableData) (count : ℕ) (behind : List Value) → sum (map cells_of variables) ≤ count
     → values_in variables (replicate count values.Unknown ++ behind) ≡ unknown variables

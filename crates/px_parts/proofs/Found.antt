@@ -63,11 +63,16 @@ root_is : (plan : List Site) → root_of plan ≡ site_in plan 0
 root_is [] = refl
 root_is (root ∷ others) = refl
 
+-- the record of a node
+pub record_is : (parts : Parts) (node : ℕ) → node < length (plan_in parts)
+    → record_at (world_in parts) (site_in (plan_in parts) node).path ≡ record_of parts node
+record_is parts node here =
+    record_at-world_of (plan_in parts) parts.cells.contents.values parts.reports.reports parts.actions.contents.values node
+    (flat_sound parts.flat).distinct here
+
 pub root_record : (parts : Parts) → record_at (world_in parts) (root_of (plan_in parts)).path ≡ record_of parts 0
 root_record parts =
-    ap (λ site. record_at (world_in parts) site.path) (root_is (plan_in parts))
-    ∙ record_at-world_of (plan_in parts) parts.cells.contents.values parts.reports.reports parts.actions.contents.values 0
-    (flat_sound parts.flat).distinct (some_node parts)
+    ap (λ site. record_at (world_in parts) site.path) (root_is (plan_in parts)) ∙ record_is parts 0 (some_node parts)
 
 finished : (plan : List Site) (world : World) → (record_at world (root_of plan).path).state ≡ states.Finished
     → Finished (unwrap_or (record_at world (root_of plan).path).outcome Success)

@@ -1,6 +1,5 @@
 -- The Integers that scalars hold.
 use Rattle.std.proofs.Common.{◌≡◌, ℕ, ◌+◌, ◌<◌, ◌≤◌, Bool, true, false, cond, List, [], ◌∷◌, length, map, sum, take, drop, refl, ap, sym, ◌∙◌, subst, arith, Option, Some, None, is_some, if◌then◌else◌}
-use Rattle.std.specs.List.{find}
 use Rattle.std.specs.Option.{option_and_then, unwrap_or}
 use Rattle.std.proofs.Math.Seq.{drop-cons}
 use Rattle.std.proofs.lemmas.List.{drop-drop}
@@ -10,7 +9,7 @@ use Rattle.px_core.proofs.Cells.{cells_are}
 use Rattle.px_core.specs.declared.variable.Variable.{Variable}
 use Rattle.px_core.specs.Fit.{cells_of, AreDistinct}
 use Rattle.px_core.specs.Plan.{Site, VariableData, variable_data, is_same, no_site, site_at}
-use Rattle.px_sem.specs.World.{World, integer_at, record_at, of_variable, known_cells, variable_at}
+use Rattle.px_sem.specs.World.{World, integer_at, record_at, of_variable, known_cells, variable_among, variable_at}
 use Rattle.px_flat.specs.declared.row.Extent.{Extent}
 use Rattle.px_flat.specs.declared.row.Row.{Row}
 use Rattle.px_flat.specs.Extents.{extent_of}
@@ -21,9 +20,9 @@ use Rattle.px_flat.specs.Row.{head_data, site_in, number_at}
 use Rattle.px_flat.proofs.Sites.{found_site}
 use Rattle.px_flat.proofs.Sums.{sum_rest}
 use Rattle.px_flat.proofs.Tables.{flat_sound}
+use Rattle.px_flat.proofs.Variables.{cells_within}
 use Rattle.px_flat.proofs.Worlds.{record_at-world_of}
 use Rattle.px_command.proofs.Told.{told_path, no_site_at}
-use Rattle.px_command.proofs.Writes.{cells_within}
 use Rattle.px_parts.specs.declared.parts.Parts.{Parts}
 use Rattle.px_parts.specs.Parts.{AreStanding, plan_in, world_in}
 use Rattle.px_parts.specs.Readings.{integer_in, scalar_from}
@@ -39,21 +38,21 @@ data Declared (cells : List Value) (found : Option VariableData) (held_there : O
       → held_there ≡ Some (take 1 (drop cell cells)) → Declared cells found held_there (Some cell)
 
 declared : (variables : List VariableData) (cells : List Value) (cell : ℕ) (name : List ℕ)
-    → Declared cells (find (λ variable. is_same variable.name name) variables)
+    → Declared cells (variable_among variables name)
     (of_variable name variables (values_in variables (drop cell cells))) (scalar_from cell variables name)
 declared [] cells cell name = nothing refl
 declared (variable ∷ variables) cells cell name =
     by (is_same variable.name name) variable.size refl
-    (subst (λ behind. Declared cells (find (λ variable. is_same variable.name name) variables)
+    (subst (λ behind. Declared cells (variable_among variables name)
     (of_variable name variables (values_in variables behind)) (scalar_from (cell + cells_of variable) variables name))
     (sym (drop-drop (cells_of variable) cell cells)) (declared variables cells (cell + cells_of variable) name))
   where
     by : (same : Bool) (size : Option ℕ) → variable.size ≡ size
-        → Declared cells (find (λ variable. is_same variable.name name) variables)
+        → Declared cells (variable_among variables name)
         (of_variable name variables (values_in variables (drop (cells_of variable) (drop cell cells))))
         (scalar_from (cell + cells_of variable) variables name)
         → Declared cells
-        (cond same (Some variable) (find (λ variable. is_same variable.name name) variables))
+        (cond same (Some variable) (variable_among variables name))
         (cond same (Some (take (cells_of variable) (drop cell cells)))
         (of_variable name variables (values_in variables (drop (cells_of variable) (drop cell cells)))))
         (if same then (if is_some variable.size then None else Some cell)
@@ -138,10 +137,10 @@ integer_read parts owner name node within is long =
     (told_path plan owner node is)
     (read plan (world_in parts) own.path name cells found
     (λ cell at. omega (arith, scalar_within parts node name cell within at))
-    (subst (λ site. Declared cells (find (λ variable. is_same variable.name name) site.head.variables)
+    (subst (λ site. Declared cells (variable_among site.head.variables name)
     (of_variable name site.head.variables (record_at (world_in parts) own.path).variables) found)
     (sym (found_site plan node distinct within))
-    (subst (λ r. Declared cells (find (λ variable. is_same variable.name name) own.head.variables)
+    (subst (λ r. Declared cells (variable_among own.head.variables name)
     (of_variable name own.head.variables r.variables) found)
     (sym (record_at-world_of plan cells parts.reports.reports parts.actions.contents.values node distinct within))
     (declared own.head.variables cells (first_cell plan node) name))))

@@ -4,4 +4,5 @@ pub mod Integers
 pub mod Refreshing
 pub mod Scalars
 pub mod Sending
+pub mod Stepped
 pub mod Taken

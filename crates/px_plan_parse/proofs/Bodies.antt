@@ -20,7 +20,7 @@ use Rattle.px_plan_parse.specs.declared.start.Start.TheVariants as starts
 use Rattle.px_plan_parse.specs.Named.{NamedData, Calls, Writes, Value, Answer, named, named_body}
 use Rattle.px_plan_parse.specs.Part.{Anything}
 use Rattle.px_plan_parse.specs.Start.{NoBranch, NoElse as NotElse, NoElseIf as NotElseIf, NoName, is_branch, keyword_start, start_at}
-use Rattle.px_plan_parse.specs.Tail.{counter, end_if, update_pairs, test}
+use Rattle.px_plan_parse.specs.Tail.{closed_branch, counter, end_if, update_pairs, test}
 use Rattle.px_plan_parse.proofs.Blocks.{block_sort, body_sort}
 use Rattle.px_plan_parse.proofs.Parts.{Begins, HasKind, Joins, Makes, Splits, behind, both, makes_by}
 use Rattle.px_plan_parse.proofs.Sorts as sorts
@@ -42,7 +42,7 @@ makes_branch tokens from = makes_by (λ others part end o. o) (λ others same. s
     split others (Branch name parts) end o = ((name, parts), refl, o)
 
 abbrev pub test_and_branch : Term × BranchTree → Form
-test_and_branch = behind (kinds.Sign signs.OpenParen) (both (closed signs.CloseParen) branch)
+test_and_branch = behind (kinds.Sign signs.OpenParen) closed_branch
 
 pub makes_guarded :
     (tokens : List Token) (from : ℕ)
@@ -119,7 +119,7 @@ abbrev pub if_made : GuardedTree × (ElseIfs × (ElseTree × Unit {0})) → Body
 if_made parts = If parts.0 parts.1.0 parts.1.1.0
 
 abbrev pub for_parts : (Identifier × ℤ) × (Term × (Term × BranchTree)) → Form
-for_parts = behind (kinds.Keyword words.For) (both counter (both (closed signs.Semicolon) (both (closed signs.CloseParen) branch)))
+for_parts = behind (kinds.Keyword words.For) (both counter (both (closed signs.Semicolon) closed_branch))
 
 abbrev pub for_made : (Identifier × ℤ) × (Term × (Term × BranchTree)) → BodyTree
 for_made parts = For parts.0.0 parts.0.1 parts.1.0 parts.1.1.0 parts.1.1.1

@@ -5,7 +5,7 @@ use Rattle.std.specs.Option.{option_map, option_map_or}
 use Rattle.std.proofs.lemmas.List.{get_or-drop, length-append, length-drop, take-append-le, take_all, take_more}
 use Rattle.std.proofs.Math.Bool.{and-true, or-false}
 use Rattle.std.proofs.Math.Nat.{eq-or-lt_of_le}
-use Rattle.std.proofs.lemmas.Bool.{and_parts, le-leb, leb-true}
+use Rattle.std.proofs.lemmas.Bool.{and_parts, false_from_ne_true, le-leb, leb-true}
 use Rattle.std.proofs.lemmas.Bool.Decides.{leb_tells}
 use Rattle.std.proofs.lemmas.List.Folds.{list_all-append, list_any-append}
 use Rattle.std.proofs.lemmas.List.Sums.{sum_by-append}
@@ -329,11 +329,12 @@ closed_stack tokens at t is (top ∷ rest) st opens closes =
 
 -- ---- how many are open
 
-in_below : {tokens : List Token} {at : ℕ} (inside bound : ℕ) (stack : List ℕ) → Stack tokens at inside bound stack → (place : ℕ) → In place stack
-    → place < bound
-in_below inside bound [] st other found = elim found [ ]
-in_below inside bound (place ∷ rest) (within before op st) other first = before
-in_below inside bound (top ∷ rest) (within before op st) other (later more) = omega (arith, before, in_below (inside + 1) top rest st other more)
+open_in_stack : {tokens : List Token} {at : ℕ} (inside bound : ℕ) (stack : List ℕ) → Stack tokens at inside bound stack → (place : ℕ) → In place stack
+    → (within_bound : place < bound) × (stays_open (slice_range tokens (place + 1) at) ≡ true)
+open_in_stack inside bound [] st other found = elim found [ ]
+open_in_stack inside bound (place ∷ rest) (within before op st) other first = (before, op.stays)
+open_in_stack inside bound (top ∷ rest) (within before op st) other (later more) =
+    let r = open_in_stack (inside + 1) top rest st other more in (omega (arith, before, r.0), r.1)
 
 open_at : List Token → ℕ → ℕ → Bool
 open_at tokens at place = passes is_opening tokens place && stays_open (slice_range tokens (place + 1) at)
@@ -346,14 +347,11 @@ unfolding open_at
 count_stack tokens at zero inside [] st all = refl
 count_stack tokens at zero inside (place ∷ rest) (within before op st) all = absurd (omega (arith, before))
 count_stack tokens at (suc n) inside [] st all =
-    count_none (open_at tokens at) (suc n) (λ place before. go place before (open_at tokens at place) refl)
+    count_none (open_at tokens at) (suc n)
+    (λ place before. false_from_ne_true (open_at tokens at place) (λ e. no_element place (all place before e)))
   where
-    go : (place : ℕ) → place < suc n → (b : Bool) → open_at tokens at place ≡ b → open_at tokens at place ≡ false
-    go place before true e = absurd (no_element place (all place before e))
-      where
-        no_element : (p : ℕ) → In p [] → ⊥
-        no_element p inside_none = elim inside_none [ ]
-    go place before false e = e
+    no_element : (p : ℕ) → In p [] → ⊥
+    no_element p inside_none = elim inside_none [ ]
 count_stack tokens at (suc n) inside (place ∷ rest) (within before op st) all =
     go (eq-or-lt_of_le (omega (arith, before)))
     (λ below fewer. count_stack tokens at n (inside + 1) rest below fewer)
@@ -369,7 +367,7 @@ count_stack tokens at (suc n) inside (place ∷ rest) (within before op st) all 
     none_at : place < n → (b : Bool) → open_at tokens at n ≡ b → one_if (open_at tokens at n) ≡ 0
     none_at less true e =
         let top : n < place + 1 =
-        in_below inside (place + 1) (place ∷ rest) (within (omega arith) op st) n (all n (omega arith) e) in
+        (open_in_stack inside (place + 1) (place ∷ rest) (within (omega arith) op st) n (all n (omega arith) e)).0 in
         absurd (omega (arith, less, top))
     none_at less false e = ap (λ (b : Bool). cond b 1 0) e
 
@@ -468,13 +466,6 @@ counted_list tokens (top ∷ rest) some =
         ∙ ap (λ (x : Bool). cond x (in_lists tokens rest + 1) (in_lists tokens rest)) e in
         absurd (omega (arith, is_none, none.1, some))
 
-open_in_stack : {tokens : List Token} {at : ℕ} (inside bound : ℕ) (stack : List ℕ) → Stack tokens at inside bound stack → (place : ℕ) → In place stack
-    → (within_bound : place < bound) × (stays_open (slice_range tokens (place + 1) at) ≡ true)
-open_in_stack inside bound [] st other found = elim found [ ]
-open_in_stack inside bound (place ∷ rest) (within before op st) other first = (before, op.stays)
-open_in_stack inside bound (top ∷ rest) (within before op st) other (later more) =
-    let r = open_in_stack (inside + 1) top rest st other more in (omega (arith, before, r.0), r.1)
-
 passing_kind : (tokens : List Token) (place : ℕ) (kind : Option TokenKind) → option_map_or is_list_opening kind false ≡ true
     → option_map_or is_opening kind false ≡ true
 passing_kind tokens place None e = e
@@ -488,12 +479,11 @@ lists_agree tokens at stack st = go (some_or_none (in_lists tokens stack))
     test : ℕ → Bool
     test place = passes is_list_opening tokens place && stays_open (slice_range tokens (place + 1) at)
 
-    none_passes : in_lists tokens stack ≡ 0 → (place : ℕ) → place < at → (b : Bool) → test place ≡ b → test place ≡ false
-    none_passes none place before true e =
+    none_passes : in_lists tokens stack ≡ 0 → (place : ℕ) → place < at → test place ≡ false
+    none_passes none place before = false_from_ne_true (test place) (λ e.
         let b = and_parts (passes is_list_opening tokens place) _ e in
         let opens = passing_kind tokens place (kind_at tokens place) b.0 in
-        absurd (omega (arith, none, list_counts tokens stack place (st.all place before opens b.1) b.0))
-    none_passes none place before false e = e
+        absurd (omega (arith, none, list_counts tokens stack place (st.all place before opens b.1) b.0)))
 
     go :
         ((nat_lt 0 (in_lists tokens stack) ≡ true) × (0 < in_lists tokens stack)) ⊎ ((nat_lt 0 (in_lists tokens stack) ≡ false) × (in_lists tokens stack ≡ 0))
@@ -505,7 +495,7 @@ lists_agree tokens at stack st = go (some_or_none (in_lists tokens stack))
         let many = count_some test at r.0 o.0 passes_test in
         le-leb 1 (open_before is_list_opening tokens at) (omega (arith, many)) ∙ sym some.0
     go (inr none) =
-        let zero_many = count_none test at (λ place before. none_passes none.1 place before (test place) refl) in
+        let zero_many = count_none test at (none_passes none.1) in
         ap (nat_lt 0) zero_many ∙ sym none.0
 
 -- ---- operators of a statement

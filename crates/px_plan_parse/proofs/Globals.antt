@@ -39,13 +39,13 @@ lacks_here tokens from fault e within short none = lack_here e within short (λ 
 abbrev pub named_type : TypeName → Option Identifier → Form
 named_type of_type name = type_word of_type then maybe identifier name
 
-abbrev as_parameter : TypeName → Option Identifier → Parameter
+abbrev pub as_parameter : TypeName → Option Identifier → Parameter
 as_parameter of_type name = record { of_type = of_type; name = name }
 
 module _ (tokens : List Token) (from : ℕ) where
   pub makes_parameter :
       (of_type : TypeName) → start_at tokens from ≡ starts.Type of_type
-      → Makes parameter (named_type of_type) (λ (name : Option Identifier). record { of_type = of_type; name = name }) tokens from
+      → Makes parameter (named_type of_type) (as_parameter of_type) tokens from
   makes_parameter of_type is =
       makes_by_start (λ others part end o. o) (λ others same tree end o.
       let s = (type_starts tree.of_type others from o.0 o.1).0 in

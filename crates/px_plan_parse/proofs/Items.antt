@@ -11,11 +11,10 @@ use Rattle.px_syntax.specs.declared.expr.Identifier.{Identifier}
 use Rattle.px_syntax.specs.declared.expr.Literal.{Literal}
 use Rattle.px_syntax.specs.declared.expr.Literal.TheVariants as literals
 use Rattle.px_syntax.specs.declared.fault.ParseFault.{ParseFault}
-use Rattle.px_syntax.specs.declared.fault.ParseFault.TheVariants as faults
 use Rattle.px_syntax.specs.declared.word.Condition.{Condition}
 use Rattle.px_syntax.specs.declared.word.TypeName.{TypeName}
 use Rattle.px_syntax.specs.Block.{InitialData, Value, Listed, Variables, Conditions, Priority, VariableData}
-use Rattle.px_syntax.specs.BlockGrammar.{condition_word, initial, item, listed, literal, type_word, variable}
+use Rattle.px_syntax.specs.BlockGrammar.{condition_word, first_value, initial, item, listed, literal, type_word, variable}
 use Rattle.px_syntax.specs.Expr.{Term}
 use Rattle.px_syntax.specs.ExprGrammar.{literal_kind}
 use Rattle.px_syntax.specs.Form.{Form, identifier, kind_at, ◌then◌}
@@ -26,7 +25,7 @@ use Rattle.px_expr_parse.proofs.Primaries.{literal_kind_one}
 use Rattle.px_plan_parse.specs.declared.start.Start.TheVariants as starts
 use Rattle.px_plan_parse.specs.Part.{Anything, IsLacking, IsPart}
 use Rattle.px_plan_parse.specs.Start.{keyword_start, start_at}
-use Rattle.px_plan_parse.specs.Tail.{array_size, closed_variables, first_value, listed_values, NoLiteral, Only, priority, test, Unless, VariableEnded}
+use Rattle.px_plan_parse.specs.Tail.{array_size, closed_variables, listed_values, NoLiteral, Only, priority, test, Unless, VariableEnded}
 use Rattle.px_plan_parse.proofs.Commas.{Separates}
 use Rattle.px_plan_parse.proofs.Parts.{Begins, HasKind, Makes, Splits, behind, both, lack_here, lack_memory, makes_by, optional_alone}
 use Rattle.px_plan_parse.proofs.Shortests.{short_literal}
@@ -83,13 +82,13 @@ module _ (tokens : List Token) (from : ℕ) (kind : TokenKind) (has : HasKind to
         ])
     lacks_literal fault (inr memory) = rw memory lack_memory
 
-abbrev listed_as : Literal → ℕ → ListedLiteral
+abbrev pub listed_as : Literal → ℕ → ListedLiteral
 listed_as value token = record { value = value; token = token }
 
 -- a literal of a list, and whether a comma is behind it
 pub makes_listed :
     (tokens : List Token) (from : ℕ)
-    → Makes listed (both literal (optional_alone (kinds.Sign signs.Comma))) (λ (parts : Literal × Unit {0}). record { value = parts.0; token = from }) tokens from
+    → Makes listed (both literal (optional_alone (kinds.Sign signs.Comma))) (λ (parts : Literal × Unit {0}). listed_as parts.0 from) tokens from
 makes_listed tokens from =
     makes_by (λ others parts end o. (o.0, (refl, o.1), o.2))
     (λ others same part end o. ((part.value, tt), ap (λ (t : ℕ). listed_as part.value t) o.1.0, (o.0, o.1.1, o.2)))

@@ -8,9 +8,10 @@ use Rattle.px_syntax.specs.Expr.{Term}
 use Rattle.px_syntax.specs.ExprGrammar.{expression}
 use Rattle.px_syntax.specs.Form.{Form, kind_at, one, optional, ◌then◌, maybe, each}
 use Rattle.px_expr_parse.specs.Verdict.{Agree, AgreeBefore, IsBegun, IsRead, IsRefused, IsFound, IsMissing}
-use Rattle.px_expr_parse.proofs.Completions.{Shortest, before as before_late, begun_as, begun_before, begun_here, moved, short_token}
-pub use Rattle.px_expr_parse.proofs.Parts.{HasKind, LacksKind, alone, before, behind, both, two}
-use Rattle.px_expr_parse.proofs.Parts.{EndsWith, agree_before, ends_behind, found_alone, missing_alone, missing_kind}
+use Rattle.px_expr_parse.proofs.Completions.{Shortest, before as before_late, begun_as, begun_before, moved, short_as, short_token}
+pub use Rattle.px_expr_parse.specs.Verdict.{HasKind, LacksKind}
+pub use Rattle.px_expr_parse.proofs.Parts.{alone, before, behind, both, two}
+use Rattle.px_expr_parse.proofs.Parts.{EndsWith, agree_before, ends_before, ends_behind, found_alone, missing_alone, missing_here, missing_kind}
 use Rattle.px_expr_parse.proofs.Spans.{IsLocal, local_nothing, local_then}
 use Rattle.px_plan_parse.specs.Part.{Follow, Ended, IsPart, Lacks, IsLacking}
 
@@ -30,19 +31,23 @@ lack_at {form = form} {Last = Last} {tokens = tokens} {from = from} {at = at} e 
       shallow = λ token is. cc;
     }
 
+-- what the readers of expressions say is missing
+pub of_missing :
+    {A : Type 0} (form : A → Form) (tokens : List Token) (from : ℕ) (fault : ParseFault) (Next : Follow)
+    → IsMissing form tokens from fault → IsLacking form Next tokens from fault
+of_missing form tokens from (faults.SyntaxFault token) Next f =
+    lack_at refl (record { reached = f.0; within = f.1; begun = f.3; none = λ others agree part end o next. f.2 others agree part end o })
+of_missing form tokens from (faults.Deep token) Next f = absurd f
+of_missing form tokens from faults.NoMemory Next f = lack_memory
+
 -- a part is missing where none begins with the token there
 pub lack_here :
     {A : Type 0} {form : A → Form} {Last : Follow} {tokens : List Token} {from : ℕ} {fault : ParseFault} → fault ≡ faults.SyntaxFault from
     → from ≤ length tokens → Shortest form
     → ((others : List Token) → kind_at others from ≡ kind_at tokens from → (part : A) (end : ℕ) → form part others from end → ⊥)
     → IsLacking form Last tokens from fault
-lack_here {from = from} e within short none =
-    lack_at e (record {
-      reached = omega arith;
-      within = within;
-      begun = begun_here short;
-      none = λ others agree part end o last. none others (agree from (omega arith)) part end o;
-    })
+lack_here {form = form} {Last = Last} {tokens = tokens} {from = from} {fault = fault} e within short none =
+    of_missing form tokens from fault Last (missing_here form tokens from fault e within short none)
 
 -- where a part is missing, so is each that begins before it and holds one there
 pub lack_holding :
@@ -172,14 +177,6 @@ of_found Next f =
           record { spelled = only.spelled; only = λ other end o next. only.only other end o };
     }
 
-pub of_missing :
-    {A : Type 0} (form : A → Form) (tokens : List Token) (from : ℕ) (fault : ParseFault) (Next : Follow)
-    → IsMissing form tokens from fault → IsLacking form Next tokens from fault
-of_missing form tokens from (faults.SyntaxFault token) Next f =
-    lack_at refl (record { reached = f.0; within = f.1; begun = f.3; none = λ others agree part end o next. f.2 others agree part end o })
-of_missing form tokens from (faults.Deep token) Next f = absurd f
-of_missing form tokens from faults.NoMemory Next f = lack_memory
-
 pub of_read :
     {tokens : List Token} {from to : ℕ} {tree : Term}
     → IsRead 0 tokens from tree to → IsPart expression Ended tokens from tree to
@@ -261,9 +258,7 @@ module _ {A B : Type 0} {first : A → Form} {second : B → Form} {Next Last : 
 
   pub lack_first : {fault : ParseFault} → Shortest second → IsLacking first Next tokens from fault → IsLacking (both first second) Last tokens from fault
   lack_first short =
-      lack_holding (omega arith)
-      (λ token le begun. begun_before short begun (λ others agree middle end a b o r. ((a, b), (middle, o, r))))
-      (λ others agree other end o last. (other.0, o.0, o.1, begins others other.1 o.0 end o.2 last))
+      lack_first_of (λ (a : A). second) (λ a. begins) (short_as short (λ others from end b o. ((λ (a : A). b), λ (a : A). o)))
 
 -- ---- a token before a part
 
@@ -325,37 +320,28 @@ module _ {kind : TokenKind} {Last : Follow} {tokens : List Token} {from : ℕ} w
 
 -- ---- a token behind a part
 
+module _ {kind : TokenKind} {Next : Follow} (Last : Follow) (follows : (others : List Token) (place : ℕ) → HasKind others place kind → Next others place) where
+  token_begins : Begins (alone kind) Last Next
+  token_begins others none place end o last = follows others place o.0
+
 module _ {A : Type 0} {first : A → Form} {kind : TokenKind} {Next Last : Follow} {tokens : List Token} {from : ℕ}
     (follows : (others : List Token) (place : ℕ) → HasKind others place kind → Next others place)
   where
-    joins_before :
-        {middle : ℕ} {a : A} → IsLocal (first a) → IsPart first Next tokens from a middle
-        → Joins (before first kind) (alone kind) (λ (none : Unit {0}). a) Last Last tokens from middle
-    joins_before {middle = middle} {a = a} local f =
-        record {
-          begins = f.advances;
-          builds = λ others agree none end o. (middle, moved tokens local (λ others agree. (f.sole others agree).spelled) others agree, o);
-          splits = λ others agree other end o last.
-              let is = (f.sole others agree).only other o.0 o.1 (follows others o.0 o.2.0) in
-              (tt, is.0, subst (λ (place : ℕ). one kind others place end) is.1 o.2, last);
-        }
-
     pub part_before :
         {middle : ℕ} {a : A} → IsLocal (first a) → middle < length tokens → IsPart first Next tokens from a middle → HasKind tokens middle kind
         → IsPart (before first kind) Last tokens from a (middle + 1)
-    part_before local inside f has = part_joined (joins_before local f) (part_alone inside has)
+    part_before local inside f has =
+        part_made (ends_before kind tokens from first) (part_joined (joins_both (token_begins Last follows) local f) (part_alone inside has))
 
     pub lack_token :
         {middle : ℕ} {a : A} {fault : ParseFault} → IsLocal (first a) → IsPart first Next tokens from a middle
         → LacksKind tokens middle kind fault → IsLacking (before first kind) Last tokens from fault
-    lack_token local f lacks = lack_joined (joins_before local f) (lack_alone f.within lacks)
+    lack_token local f lacks =
+        lack_made (ends_before kind tokens from first) (lack_joined (joins_both (token_begins Last follows) local f) (lack_alone f.within lacks))
 
     pub lack_before :
         {fault : ParseFault} → IsLacking first Next tokens from fault → IsLacking (before first kind) Last tokens from fault
-    lack_before =
-        lack_holding (omega arith)
-        (λ token le begun. begun_before (short_token kind) begun (λ others agree middle end a none o r. (a, (middle, o, r))))
-        (λ others agree other end o last. (other, o.0, o.1, follows others o.0 o.2.0))
+    lack_before f = lack_made (ends_before kind tokens from first) (lack_first (token_begins Last follows) (short_token kind) f)
 
 -- ---- parts in turn
 

@@ -10,22 +10,20 @@ use Rattle.px_syntax.specs.declared.word.BlockForm.{BlockForm}
 use Rattle.px_syntax.specs.declared.word.BlockForm.TheVariants as forms
 use Rattle.px_syntax.specs.declared.word.TypeName.TheVariants as types
 use Rattle.px_syntax.specs.Block.{Priority, Braces, NoActions, Branch, NoElseIfs, NoElse, Inner}
-use Rattle.px_syntax.specs.BlockGrammar.{block, body, branch, else_ifs, item, label, literal, otherwise, signed}
+use Rattle.px_syntax.specs.BlockGrammar.{block, body, branch, else_ifs, first_value, item, label, literal, otherwise, signed}
 use Rattle.px_syntax.specs.ExprGrammar.{expression}
 use Rattle.px_syntax.specs.Form.{Form, identifier, number, optional}
 use Rattle.px_syntax.specs.Plan.{Command}
 use Rattle.px_syntax.specs.PlanGrammar.{declaration, parameter}
 use Rattle.px_expr_parse.specs.Tail.{closed}
-use Rattle.px_expr_parse.proofs.Completions.{Shortest, in_one, short_as, short_before, short_behind, short_both, short_closed, short_expression, short_name, short_nothing}
+use Rattle.px_expr_parse.proofs.Completions.{Shortest, in_one, short_as, short_before, short_behind, short_closed, short_expression, short_name, short_nothing}
+use Rattle.px_expr_parse.proofs.Parts.{short_pair}
 use Rattle.px_plan_parse.specs.Named.{written}
 use Rattle.px_plan_parse.specs.Named as named_parts
-use Rattle.px_plan_parse.specs.Tail.{array_size, closed_actions, declared_parameters, end_if, first_value, list_word, signature}
+use Rattle.px_plan_parse.specs.Tail.{array_size, closed_actions, closed_branch, declared_parameters, end_if, list_word, signature}
 use Rattle.px_plan_parse.proofs.Blocks.{block_tail}
 use Rattle.px_plan_parse.proofs.Globals.{worded}
 use Rattle.px_plan_parse.proofs.Parts.{before, behind, both, each_of}
-
-pub short_pair : {A B : Type 0} {first : A → Form} {second : B → Form} → Shortest first → Shortest second → Shortest (both first second)
-short_pair f g = short_both f g (λ others from middle end a b o r. ((a, b), (middle, o, r)))
 
 -- ---- blocks
 
@@ -63,10 +61,10 @@ pub short_branch : Shortest branch
 short_branch = short_as short_block (λ others from end tree o. (Branch None tree, (from, refl, o)))
 
 -- a test that is open, and its branch
-pub short_tested : Shortest (both (closed signs.CloseParen) branch)
+pub short_tested : Shortest closed_branch
 short_tested = short_pair (short_closed signs.CloseParen) short_branch
 
-pub short_loop : Shortest (both (closed signs.Semicolon) (both (closed signs.CloseParen) branch))
+pub short_loop : Shortest (both (closed signs.Semicolon) closed_branch)
 short_loop = short_pair (short_closed signs.Semicolon) short_tested
 
 pub short_optional : {form : Form} → Shortest (λ (none : Unit {0}). optional form)
@@ -123,8 +121,7 @@ pub short_declared : Shortest declared_parameters
 short_declared = in_one (kinds.Sign signs.Semicolon) (λ others place has. ([], (place, inl refl, (has, refl))))
 
 pub short_signature : Shortest signature
-short_signature =
-    short_both short_name short_declared (λ others from middle end name parts o r. ((name, parts), (middle, o, r)))
+short_signature = short_pair short_name short_declared
 
 pub short_worded : Shortest worded
 short_worded =

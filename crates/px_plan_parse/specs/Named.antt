@@ -7,7 +7,7 @@ use Rattle.px_syntax.specs.declared.expr.Identifier.{Identifier}
 use Rattle.px_syntax.specs.Block.{CallData, call_data, BodyTree, Assign, CallInto, Call}
 use Rattle.px_syntax.specs.BlockGrammar.{call}
 use Rattle.px_syntax.specs.Expr.{Term, Terms, term_of}
-use Rattle.px_syntax.specs.ExprGrammar.{arguments, expression}
+use Rattle.px_syntax.specs.ExprGrammar.{arguments, expression, indexed}
 use Rattle.px_syntax.specs.Form.{Form, kind_at, maybe, sign, ◌then◌}
 use Rattle.px_plan_parse.specs.declared.named.Assigned.{Assigned}
 use Rattle.px_plan_parse.specs.declared.named.Assigned.TheVariants as values
@@ -29,11 +29,8 @@ pub data NamedData : Type 0 where
   Calls : (args : Terms) → NamedData
   Writes : (index : Option Term) (value : WrittenData) → NamedData
 
-abbrev pub index_of : Term → Form
-index_of index = sign signs.OpenBracket then expression index then sign signs.CloseBracket
-
 abbrev pub optional_index : Option Term → Form
-optional_index = maybe index_of
+optional_index = maybe indexed
 
 abbrev pub called : Terms → Form
 called args = (sign signs.OpenParen then arguments args then sign signs.CloseParen) then sign signs.Semicolon

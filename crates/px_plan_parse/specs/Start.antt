@@ -112,6 +112,3 @@ NoElseIf tokens place = start_at tokens place ≡ starts.ElseIf → ⊥
 
 abbrev pub NoElse : Follow
 NoElse tokens place = start_at tokens place ≡ starts.Else → ⊥
-
-abbrev pub NoEndIf : Follow
-NoEndIf tokens place = start_at tokens place ≡ starts.EndIf → ⊥

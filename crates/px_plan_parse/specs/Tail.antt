@@ -12,9 +12,9 @@ use Rattle.px_syntax.specs.declared.fault.ParseFault.TheVariants as faults
 use Rattle.px_syntax.specs.declared.plan.Parameter.{Parameter}
 use Rattle.px_syntax.specs.declared.word.BlockForm.{BlockForm}
 use Rattle.px_syntax.specs.declared.word.BlockForm.TheVariants as forms
-use Rattle.px_syntax.specs.Block.{InitialData, VariableData, ItemData, PairData, Actions, BranchTree}
-use Rattle.px_syntax.specs.BlockGrammar.{branch, each_action, form_word, initial, item, listed, pair, signed, size_of, variable}
-use Rattle.px_syntax.specs.ExprGrammar.{expression, literal_kind}
+use Rattle.px_syntax.specs.Block.{VariableData, ItemData, PairData, Actions, BranchTree}
+use Rattle.px_syntax.specs.BlockGrammar.{branch, each_action, form_word, item, listed, pair, signed, size_of, variable}
+use Rattle.px_syntax.specs.ExprGrammar.{literal_kind}
 use Rattle.px_syntax.specs.Expr.{Term}
 use Rattle.px_syntax.specs.Form.{Form, identifier, keyword, never, nothing, optional, sign, ◌then◌, maybe, each, with_commas, number}
 use Rattle.px_syntax.specs.Plan.{DeclarationData}
@@ -41,9 +41,6 @@ NoLiteral kind token fault =
 abbrev pub listed_values : List ListedLiteral → Form
 listed_values values = each listed values then sign signs.CloseParen
 
-abbrev pub first_value : Option InitialData → Form
-first_value = maybe (λ value. sign signs.Assign then initial value)
-
 abbrev pub array_size : Option ℕ → Form
 array_size = maybe size_of
 
@@ -51,14 +48,11 @@ array_size = maybe size_of
 abbrev pub VariableEnded : Follow
 VariableEnded tokens place = Unless signs.OpenBracket tokens place × Unless signs.Assign tokens place
 
-abbrev pub further_variable : VariableData → Form
-further_variable next = sign signs.Comma then variable next
-
 abbrev pub closed_variables : List VariableData → Form
 closed_variables variables = with_commas variable variables then sign signs.Semicolon
 
 abbrev pub test : Term → Form
-test tree = optional (sign signs.Colon) then expression tree then sign signs.Semicolon
+test tree = optional (sign signs.Colon) then closed signs.Semicolon tree
 
 abbrev pub priority : ℕ → Form
 priority value = optional (sign signs.Colon) then number value then sign signs.Semicolon
@@ -87,7 +81,7 @@ abbrev pub closed_pairs : List PairData → Form
 closed_pairs pairs = with_commas pair pairs then sign signs.Semicolon
 
 abbrev pub update_pairs : List PairData → Form
-update_pairs pairs = optional (sign signs.Colon) then with_commas pair pairs then sign signs.Semicolon
+update_pairs pairs = optional (sign signs.Colon) then closed_pairs pairs
 
 -- ---- what a `for` counts
 

@@ -1,10 +1,10 @@
 // Literals, and what variables hold at first.
 ghost use Rattle.std.specs.Prelude.{◌≡◌, ◌+◌, ◌≤◌, ◌<◌, length, map, option_map, IfOk, IfErr};
 ghost use Rattle.px_syntax.specs.Block.{initial_data};
-ghost use Rattle.px_syntax.specs.BlockGrammar.{initial, listed, literal};
+ghost use Rattle.px_syntax.specs.BlockGrammar.{first_value, initial, listed, literal};
 ghost use Rattle.px_syntax.specs.ExprGrammar.{literal_kind};
 ghost use Rattle.px_plan_parse.specs.Part.{Anything, IsLacking, IsPart};
-ghost use Rattle.px_plan_parse.specs.Tail.{first_value, listed_values, NoLiteral, Unless, VariableEnded};
+ghost use Rattle.px_plan_parse.specs.Tail.{listed_values, NoLiteral, Unless, VariableEnded};
 ghost use Rattle.px_lex.specs.declared.sign.Sign.TheVariants as signs;
 
 use crate::build::{first_list, first_literal};

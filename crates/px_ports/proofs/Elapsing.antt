@@ -3,6 +3,7 @@ use Rattle.std.proofs.Common.{◌≡◌, ◌≤◌, ◌⊎◌, ⊎_elim, ℕ, Li
 use Rattle.std.specs.Prelude.{Result, Ok, Err, IfOk, Some, Vec}
 use Rattle.std.proofs.lemmas.Bool.{cases_lt}
 use Rattle.std.proofs.lemmas.List.{take_at, take_all, length_push}
+use Rattle.std.proofs.lemmas.Result.{IfOk-weaker}
 use Rattle.px_ports.specs.Moment.{overwritten, Torn, Elapses, Stays}
 use Rattle.px_ports.specs.Disk.{NoShorter, Writes, Syncs}
 use Rattle.px_ports.specs.Replay.{read_after, LeftByWrite, MayLeave, read_of, images_of, picked}
@@ -103,5 +104,4 @@ module _ (moments later : List Moment) where
 -- the picked image is one that a crash may leave
 pub picked-if_ok : {Z E : Type 0} (result : Result (Vec ℕ Z) E) (pick : Pick) (moments : List Moment) → IfOk result (λ image. image.items ≡ picked pick moments)
     → IfOk result (λ image. images_of moments image.items)
-picked-if_ok (Ok image) pick moments is = subst (images_of moments) (sym is) (picked-left pick moments)
-picked-if_ok (Err e) pick moments is = tt
+picked-if_ok result pick moments is = IfOk-weaker result _ _ (λ image same. subst (images_of moments) (sym same) (picked-left pick moments)) is

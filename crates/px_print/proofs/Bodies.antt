@@ -14,8 +14,8 @@ use Rattle.px_syntax.specs.declared.word.BlockForm.TheVariants as forms
 use Rattle.px_syntax.specs.Block.{ItemData, TargetData, CallData, PairData, BlockTree, Braces, Actions, NoActions, More, ActionTree, Labelled, BranchTree, Branch, GuardedTree, Guarded, ElseIfs, NoElseIfs, ElseIf, ElseTree, NoElse, Else, BodyTree, Inner, Assign, CallInto, Call, Update, If, While, For}
 use Rattle.px_syntax.specs.BlockGrammar.{item, label, target, call, pair, form_word, node_list_word, block, each_action, action, branch, guarded, else_ifs, otherwise, body}
 use Rattle.px_syntax.specs.Expr.{Term}
-use Rattle.px_syntax.specs.ExprGrammar.{expression}
-use Rattle.px_syntax.specs.Form.{Form, sign, ◌then◌, maybe}
+use Rattle.px_syntax.specs.ExprGrammar.{indexed}
+use Rattle.px_syntax.specs.Form.{Form, maybe}
 use Rattle.px_print.specs.BlockLayout.{deeper, line, item_text, label_text, index_text, target_text, call_text, pair_text, form_text, node_list_text, block_text, actions_text, action_text, branch_text, guarded_text, else_ifs_text, else_text, body_text}
 use Rattle.px_print.specs.Unnumbered.{plain_name, plain_item, plain_target, plain_call, plain_pair, plain_block, plain_actions, plain_action, plain_branch, plain_guarded, plain_else_ifs, plain_else, plain_body}
 use Rattle.px_print.proofs.Exprs.{Alike, prints_open, prints_close, prints_name, prints_whole, prints_arguments}
@@ -70,10 +70,7 @@ module _ {source : List ℕ} (given : List Token) (all : AllCan source given) wh
       → Prints source (Alike target plain_target part) (target_text part) rest
   prints_target part from to h rest ends = of_index part.index h.2
     where
-      index_form : Term → Form
-      index_form index = sign signs.OpenBracket then expression index then sign signs.CloseBracket
-
-      of_index : (index : Option Term) → maybe index_form index given h.0 to
+      of_index : (index : Option Term) → maybe indexed index given h.0 to
           → Prints source (Alike target plain_target (record { name = part.name; index = index })) (part.name.name ++ index_text index) rest
       of_index None nothing_is =
           let none = prints_nothing rest in

@@ -300,15 +300,15 @@ module _ {source : List ℕ} (given : List Token) (all : AllCan source given) wh
   literal_negates (literals.Boolean false) from to h rest = refl
   literal_negates (literals.Text content) from to h rest = refl
 
+  name_negates : (name : Identifier) (from to : ℕ) → identifier name given from to → (rest : List ℕ) → Negates (name.name ++ rest)
+  name_negates name from to h rest = word_negates name.name rest (all from (kinds.Identifier name.name) h.1.0).word
+
   node_negates : (node : NodeReference) (from to : ℕ) → node_reference node given from to → (rest : List ℕ) → Negates (node_text node ++ rest)
-  node_negates (nodes.Named name) from to h rest = word_negates name.name rest (all from (kinds.Identifier name.name) h.1.0).word
+  node_negates (nodes.Named name) from to h rest = name_negates name from to h rest
   node_negates (nodes.SelfNode token) from to h rest = refl
   node_negates (nodes.Parent token) from to h rest = refl
   node_negates (nodes.Sibling token name) from to h rest = refl
   node_negates (nodes.Child token name) from to h rest = refl
-
-  name_negates : (name : Identifier) (from to : ℕ) → identifier name given from to → (rest : List ℕ) → Negates (name.name ++ rest)
-  name_negates name from to h rest = word_negates name.name rest (all from (kinds.Identifier name.name) h.1.0).word
 
   -- behind `!` an operand begins with no `=`
   operand_negates : (term : Term) (from to : ℕ) → bare term given from to → (rest : List ℕ) → Negates (operand_text term ++ rest)

@@ -16,7 +16,7 @@ use Rattle.px_syntax.specs.declared.word.Condition.TheVariants as conditions
 use Rattle.px_syntax.specs.declared.word.TypeName.{TypeName}
 use Rattle.px_syntax.specs.declared.word.TypeName.TheVariants as types
 use Rattle.px_syntax.specs.Block.{InitialData, Value, Listed, VariableData, ItemData, Variables, Conditions, Priority}
-use Rattle.px_syntax.specs.BlockGrammar.{type_word, condition_word, signed, literal, listed, initial, size_of, variable, item}
+use Rattle.px_syntax.specs.BlockGrammar.{type_word, condition_word, signed, literal, listed, initial, first_value, size_of, variable, item}
 use Rattle.px_syntax.specs.Form.{Form, sign, ◌then◌, maybe, each, number}
 use Rattle.px_print.specs.ExprLayout.{literal_text}
 use Rattle.px_print.specs.BlockLayout.{type_text, condition_text, size_text, initial_text, first_value_text, variable_text, item_text}
@@ -107,9 +107,9 @@ module _ {source : List ℕ} (given : List Token) (all : AllCan source given) wh
 
   -- ---- variables
 
-  prints_first_value : (value : Option InitialData) (from to : ℕ) → maybe (λ value. sign signs.Assign then initial value) value given from to
+  prints_first_value : (value : Option InitialData) (from to : ℕ) → first_value value given from to
       → (rest : List ℕ) → Stops rest
-      → Prints source (Alike (maybe (λ value. sign signs.Assign then initial value)) (option_map plain_initial) value) (first_value_text value) rest
+      → Prints source (Alike first_value (option_map plain_initial) value) (first_value_text value) rest
   prints_first_value None from to h rest stops = prints_as (prints_nothing rest) (λ tokens from to r. (None, refl, r))
   prints_first_value (Some value) from to h rest stops =
       prints_as (prints_equals (prints_initial value h.0 to h.2 rest stops))

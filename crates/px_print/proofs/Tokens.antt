@@ -1,18 +1,18 @@
 -- Which tokens a text can have, and how each is printed.
-use Rattle.std.proofs.Common.{◌≡◌, ℕ, ◌+◌, ◌<◌, ◌≤◌, ◌^◌, Bool, true, false, ◌&&◌, ◌==◌, List, [], ◌∷◌, ◌++◌, length, drop, Option, Some, None, refl, sym, ap, ◌∙◌, subst, arith, append_assoc, append-nil, inl, inr}
-use Rattle.std.specs.Prelude.{if◌then◌else◌, codes, decimal, pos, nat_lt, zero, suc}
+use Rattle.std.proofs.Common.{◌≡◌, ℕ, ◌+◌, ◌<◌, ◌≤◌, ◌^◌, Bool, true, false, ◌&&◌, ◌==◌, List, [], ◌∷◌, ◌++◌, length, drop, Some, None, refl, ap, ◌∙◌, subst, arith, append_assoc}
+use Rattle.std.specs.Prelude.{if◌then◌else◌, codes, decimal, pos, nat_lt}
 use Rattle.std.specs.Char.{digit_value}
 use Rattle.std.specs.List.{list_all, flat_map}
 use Rattle.std.specs.Str.{IsUtf8}
 use Rattle.std.specs.Str.Parse.{digits_value}
 use Rattle.std.proofs.Math.Bool.{and-false}
-use Rattle.std.proofs.lemmas.Bool.{and_parts, or_right, and_from, cases_Bool, eqb-true, lt-ltb}
+use Rattle.std.proofs.lemmas.Bool.{and_parts, or_right, and_from, lt-ltb}
 use Rattle.std.proofs.lemmas.Bool.Decides.{nat_tests}
 use Rattle.std.proofs.lemmas.Fmt.{decimal_is_IsNumeral, decimal_nonempty, IsAscii-decimal}
 use Rattle.std.proofs.lemmas.Str.{IsUtf8-from_ascii}
 use Rattle.px_value.specs.Name.{is_digit, begins_identifier, continues_identifier, is_identifier}
 use Rattle.px_value.proofs.Ascii.{list_all-weaker, ascii_text, identifier_text}
-use Rattle.px_value.proofs.Digits.{decimal_digits}
+use Rattle.px_value.proofs.Digits.{decimal_digits, of_ten}
 use Rattle.px_lex.specs.declared.keyword.Keyword.{Keyword}
 use Rattle.px_lex.specs.declared.sign.Sign.{Sign}
 use Rattle.px_lex.specs.declared.token.Token.{Token}
@@ -20,15 +20,17 @@ use Rattle.px_lex.specs.declared.token.TokenKind.{TokenKind}
 use Rattle.px_lex.specs.declared.token.TokenKind.TheVariants as kinds
 use Rattle.px_lex.specs.Gap.{begins}
 use Rattle.px_lex.specs.Keyword.{keyword_rows, keyword_of}
-use Rattle.px_lex.specs.Lexer.{Piece, Stands, spelled, AllStand, token_at, tokens_from, Splits}
+use Rattle.px_lex.specs.Lexer.{Splits}
 use Rattle.px_lex.specs.Number.{IsNumber, numeral, number_of, is_fraction}
 use Rattle.px_lex.specs.Sign.{sign_of, ends_sign}
-use Rattle.px_lex.specs.String.{is_quote, read_string, string_from}
+use Rattle.px_lex.specs.String.{string_from}
 use Rattle.px_lex.specs.Token.{IsToken}
 use Rattle.px_lex.specs.Word.{is_real_type}
+use Rattle.px_lex.proofs.Fronts.{opened}
 use Rattle.px_lex.proofs.Numbers.{numeral_some}
 use Rattle.px_lex.proofs.Signs.{row_of-all, sign_is_ascii}
 use Rattle.px_syntax.specs.Form.{kind_at, one, sign, keyword}
+use Rattle.px_syntax.proofs.Spelled.{spelled_in}
 use Rattle.px_value.specs.Text.{escaped, quoted}
 use Rattle.px_print.proofs.Printing.{Prints, prints_token}
 use Rattle.px_print.proofs.Strings.{is_spelled, all_spelled, read_all}
@@ -56,15 +58,6 @@ Can source (kinds.Integer z) = (value : ℕ) × (z ≡ pos value) × (value < 2 
 Can source (kinds.Text content) = IsContent source content
 Can source (kinds.Sign sign) = Unit {0}
 
--- a string is read from behind its quote
-opened : (text content rest : List ℕ) → read_string text ≡ Some (content, rest)
-    → (inside : List ℕ) × (text ≡ 34 ∷ inside) × (string_from inside ≡ Some (content, rest))
-opened [] content rest h = cc
-opened (c ∷ cs) content rest h = elim (cases_Bool (is_quote c)) [
-  | inl quote ↦ (cs, ap (λ q. q ∷ cs) (eqb-true c 34 quote), rw quote at h)
-  | inr other ↦ let none : ◌≡◌ {A = Option (List ℕ × List ℕ)} None (Some (content, rest)) = rw other at h in cc
-]
-
 can : (source front : List ℕ) (kind : TokenKind) (spelling rest : List ℕ) → source ≡ front ++ (spelling ++ rest)
     → IsToken kind spelling rest → Can source kind
 can source front (kinds.Identifier name) spelling rest is t =
@@ -85,25 +78,10 @@ can source front (kinds.Sign sign) spelling rest is t = tt
 abbrev pub AllCan : List ℕ → List Token → Type 0
 AllCan source tokens = (number : ℕ) (kind : TokenKind) → kind_at tokens number ≡ Some kind → Can source kind
 
-first_can : (source front : List ℕ) (kind : Option TokenKind) (spelling rest : List ℕ) (at : ℕ) (others : List Token)
-    → source ≡ front ++ (spelling ++ rest) → Stands kind spelling rest → AllCan source others → AllCan source (token_at at kind ++ others)
-first_can source front None spelling rest at others is stands more number other h = more number other h
-first_can source front (Some kind) spelling rest at others is stands more zero other h =
-    let same : kind ≡ other = cc in subst (Can source) same (can source front kind spelling rest is stands)
-first_can source front (Some kind) spelling rest at others is stands more (suc number) other h = more number other h
-
-pieces_can : (source front : List ℕ) (pieces : List Piece) (rest : List ℕ) (at : ℕ) → source ≡ front ++ (spelled pieces ++ rest)
-    → AllStand pieces rest → AllCan source (tokens_from at pieces)
-pieces_can source front [] rest at is stand number kind h = cc
-pieces_can source front (p ∷ ps) rest at is stand number kind h =
-    let behind = spelled ps ++ rest in
-    let here = is ∙ ap (λ text. front ++ text) (append_assoc p.spelling (spelled ps) rest) in
-    first_can source front p.kind p.spelling behind at (tokens_from (at + length p.spelling) ps) here stand.0
-    (pieces_can source (front ++ p.spelling) ps rest (at + length p.spelling) (here ∙ sym (append_assoc front p.spelling behind)) stand.1) number kind h
-
 pub split_can : (text : List ℕ) (tokens : List Token) → Splits text tokens → AllCan text tokens
-split_can text tokens s =
-    subst (AllCan text) (sym s.listed) (pieces_can text [] s.pieces [] 0 (s.whole ∙ sym (append-nil (spelled s.pieces))) s.stand)
+split_can text tokens splits number kind has =
+    let there = spelled_in text tokens splits kind number has in
+    can text there.front kind there.spelling there.rest there.there there.token
 
 -- ---- printing one token
 
@@ -142,9 +120,6 @@ prints_word name rest is ends =
 
 -- ---- integers
 
-of_ten : (c : ℕ) → is_digit c ≡ true → nat_lt (digit_value c) 10 ≡ true
-of_ten c h = grind (arith, nat_tests)
-
 no_x : (c : ℕ) → is_digit c ≡ true → (c == 120) ≡ false
 no_x c h = grind (arith, nat_tests)
 
@@ -157,11 +132,10 @@ number_is (d ∷ ds) rest some all ends = record {
 }
 
 numeral_is : (ds : List ℕ) → 0 < length ds → list_all is_digit ds ≡ true → numeral 10 ds ≡ Some (digits_value 10 ds)
-numeral_is [] some all = absurd (omega arith)
-numeral_is (d ∷ ds) some all =
-    numeral_some 10 (d ∷ ds)
-    (and_from (nat_lt 0 (length (d ∷ ds))) (list_all (λ c. nat_lt (digit_value c) 10) (d ∷ ds)) (lt-ltb 0 (length (d ∷ ds)) some)
-    (list_all-weaker is_digit (λ c. nat_lt (digit_value c) 10) of_ten (d ∷ ds) all))
+numeral_is ds some all =
+    numeral_some 10 ds
+    (and_from (nat_lt 0 (length ds)) (list_all (λ c. nat_lt (digit_value c) 10) ds) (lt-ltb 0 (length ds) some)
+    (list_all-weaker is_digit (λ c. nat_lt (digit_value c) 10) of_ten ds all))
 
 writes : (ds : List ℕ) → 0 < length ds → list_all is_digit ds ≡ true → number_of ds ≡ Some (digits_value 10 ds)
 writes [] some all = absurd (omega arith)

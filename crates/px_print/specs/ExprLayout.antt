@@ -113,7 +113,7 @@ abbrev mutual
       look_text word then codes "(" then name.name
       then as_optional args (arguments_text args) then tolerance_text tolerance then codes ")"
   term_text (UnaryCall function token argument) =
-      unary_function_text function then codes "(" then term_text argument then codes ")"
+      unary_function_text function then enclosed (term_text argument)
   term_text (BinaryCall function token first second) =
       binary_function_text function then codes "(" then term_text first then codes ", " then term_text second then codes ")"
   term_text (Unary operator token operand) = unary_sign operator then as_operand operand (term_text operand)

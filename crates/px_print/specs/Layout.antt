@@ -6,6 +6,7 @@ use Rattle.px_syntax.specs.declared.plan.Parameter.{Parameter}
 use Rattle.px_syntax.specs.declared.word.TypeName.{TypeName}
 use Rattle.px_syntax.specs.Plan.{DeclarationData, Command, Lookup, PlanTree}
 use Rattle.px_print.specs.BlockLayout.{line, type_text, label_text, block_text}
+use Rattle.px_print.specs.ExprLayout.{enclosed}
 use Rattle.px_print.specs.Texts.{◌then◌}
 
 -- a name behind a blank, where there is one
@@ -19,7 +20,7 @@ parameter_text parameter = type_text parameter.of_type then name_text parameter.
 -- in parentheses where there are any
 abbrev pub parameters_text : List Parameter → List ℕ
 parameters_text [] = []
-parameters_text (first ∷ rest) = codes "(" then join_by parameter_text (codes ", ") (first ∷ rest) then codes ")"
+parameters_text (first ∷ rest) = enclosed (join_by parameter_text (codes ", ") (first ∷ rest))
 
 -- the type of a command's answer, where it has one
 abbrev pub answer_text : Option TypeName → List ℕ

@@ -9,8 +9,9 @@ use Rattle.px_session.proofs.Sessions.{untouched_at_once}
 use Rattle.px_words.specs.Asked.{asked}
 use Rattle.px_words.specs.declared.command.Command.{Command as Asked}
 use Rattle.px_words.specs.Words.{Command, TraceStart, DryRun, Check, Format, Run, Resume, Trace, Names, Soak, journal_operand}
-use Rattle.px_run.specs.Course.{Untouched, Due, EndsIn, AfterFile}
+use Rattle.px_run.specs.Course.{Course, Untouched, Due, EndsIn, AfterFile}
 use Rattle.px_run.specs.Ending.{usage}
+use Rattle.px_run.specs.Finishing.{Carries}
 use Rattle.px_run.specs.Format.{FormatCalls}
 use Rattle.px_run.specs.Journaled.{AfterJournal, NamesCalls}
 use Rattle.px_run.specs.Names.{NamesCarries}
@@ -101,52 +102,35 @@ module _ {D : Type 0} (members : Disk.Ghosts D) (before now : View) (disk : D) (
   bound_for asked journal is (inl bound) = inr (journal, is, bound)
   bound_for asked journal is (inr unbound) = inl unbound
 
-  pub run_performed : (words : Option Command) (plan script journal : List ℕ) (limit : ℕ) → words ≡ Some (Run plan script journal limit)
-      → RunCarries members plan script journal limit before now disk carried → Performed members words before now disk carried
-  run_performed words plan script journal limit is c = rw is (record {
+  -- it is performed, where what it performs is what the command calls for
+  carried_out : {Calls : D → Course → Due → Type 0} (words : Option Command) (asked : Command) (journal : List ℕ) → words ≡ Some asked
+      → journal_operand asked ≡ Some journal → (c : Carries members journal Calls before now disk carried)
+      → Performs before now (CommandCallsFor members (Some asked) before now disk carried.disk c.course) carried.result
+      → Performed members words before now disk carried
+  carried_out words asked journal is operand c performs = rw is (record {
     course = c.course;
-    performs = c.performs;
+    performs = performs;
     leaves = c.leaves;
-    bound = bound_for (Run plan script journal limit) journal refl c.bound;
+    bound = bound_for asked journal operand c.bound;
     back = c.back;
   })
+
+  pub run_performed : (words : Option Command) (plan script journal : List ℕ) (limit : ℕ) → words ≡ Some (Run plan script journal limit)
+      → RunCarries members plan script journal limit before now disk carried → Performed members words before now disk carried
+  run_performed words plan script journal limit is c = carried_out words (Run plan script journal limit) journal is refl c c.performs
 
   pub resume_performed : (words : Option Command) (script journal : List ℕ) (limit : ℕ) → words ≡ Some (Resume script journal limit)
       → ResumeCarries members script journal limit before now disk carried → Performed members words before now disk carried
-  resume_performed words script journal limit is c = rw is (record {
-    course = c.course;
-    performs = c.performs;
-    leaves = c.leaves;
-    bound = bound_for (Resume script journal limit) journal refl c.bound;
-    back = c.back;
-  })
+  resume_performed words script journal limit is c = carried_out words (Resume script journal limit) journal is refl c c.performs
 
   pub trace_performed : (words : Option Command) (journal : List ℕ) → words ≡ Some (Trace journal)
       → TraceCarries members journal before now disk carried → Performed members words before now disk carried
-  trace_performed words journal is c = rw is (record {
-    course = c.course;
-    performs = c.performs;
-    leaves = c.leaves;
-    bound = bound_for (Trace journal) journal refl c.bound;
-    back = c.back;
-  })
+  trace_performed words journal is c = carried_out words (Trace journal) journal is refl c c.performs
 
   pub names_performed : (words : Option Command) (journal : List ℕ) → words ≡ Some (Names journal)
       → NamesCarries members journal before now disk carried → Performed members words before now disk carried
-  names_performed words journal is c = rw is (record {
-    course = c.course;
-    performs = c.performs;
-    leaves = c.leaves;
-    bound = bound_for (Names journal) journal refl c.bound;
-    back = c.back;
-  })
+  names_performed words journal is c = carried_out words (Names journal) journal is refl c c.performs
 
   pub soak_performed : (words : Option Command) (count seed : ℕ) (journal : List ℕ) → words ≡ Some (Soak count seed journal)
       → SoakCarries members count seed journal before now disk carried → Performed members words before now disk carried
-  soak_performed words count seed journal is c = rw is (record {
-    course = c.course;
-    performs = c.performs;
-    leaves = c.leaves;
-    bound = bound_for (Soak count seed journal) journal refl c.bound;
-    back = c.back;
-  })
+  soak_performed words count seed journal is c = carried_out words (Soak count seed journal) journal is refl c c.performs

@@ -1,10 +1,9 @@
 -- From the headline to its cause.
-use Rattle.std.proofs.Common.{◌≡◌, ℕ, inl, inr, List, [], Option, Some, None, IsSome, IsTrue, refl, ap, subst, sym, ◌∙◌}
-use Rattle.std.specs.Option.{ForSome, option_map, option_and_then}
+use Rattle.std.proofs.Common.{◌≡◌, ℕ, inl, inr, List, [], Option, Some, None, IsSome, refl, ap, subst, sym, ◌∙◌}
+use Rattle.std.specs.Option.{option_map, option_and_then}
 use Rattle.px_compile.specs.Compiled.{IsCompiled}
 use Rattle.px_core.specs.Plan.{Site, Tree, sites}
 use Rattle.px_event.specs.declared.entry.Entry.{Entry}
-use Rattle.px_journal.specs.Layout.{is_nothing, Stands}
 use Rattle.px_output.specs.View.{View}
 use Rattle.px_ports.specs.Host.{Emits, Rose}
 use Rattle.px_ports.specs.declared.disk.Disk
@@ -18,7 +17,7 @@ use Rattle.px_syntax.specs.Plan.{PlanTree}
 use Rattle.px_sem.specs.Log.{events_of}
 use Rattle.px_sem.specs.Run.{run, started}
 use Rattle.px_sem.specs.World.{World}
-use Rattle.px_session.specs.Session.{Session}
+use Rattle.px_session.specs.Session.{Session, IsNothing, StandsFor}
 use Rattle.px_words.specs.Words.{Command, TraceStart, DryRun, Check, Format, Run, Resume, Trace, Names, Soak, plan_operand, script_operand, journal_operand, takes_up, runs_plan, command}
 use Rattle.px_run.specs.Causes.{HasPlan, HasScript, HasJournal, TakesUpJournal, IsSoak, AsksForRun, ReadsScript, Starts, OperandIsRefused, FailsToRead, StallsBehind, StallsOver, TakesUp, Cause}
 use Rattle.px_run.specs.Course.{Course, Untouched, TakenUp, GoneOn, Due, EndsIn, AfterFile}
@@ -213,7 +212,7 @@ module _ {D : Type 0} (members : Disk.Ghosts D) (words : List (List ℕ)) (befor
     no_journal_caused _ (HasNoJournal.damaged at told) =
         λ emits. Cause.journal_refused (inr (reopens, journal, _, inl (HasNoJournal.damaged at told), refl))
 
-    not_run_caused : (text : List ℕ) (first : List Entry) (ending : Ending) → ForSome (members.content old) (λ told. Stands told text first)
+    not_run_caused : (text : List ℕ) (first : List Entry) (ending : Ending) → StandsFor members old text first
         → CannotRun text first ending → IsCaused ending
     not_run_caused text first _ told (CannotRun.no_plan fault other refused) =
         λ emits. Cause.journal_refused (inr (reopens, journal, _, inr (text, first, told, CannotRun.no_plan fault other refused), refl))
@@ -224,16 +223,16 @@ module _ {D : Type 0} (members : Disk.Ghosts D) (words : List (List ℕ)) (befor
 
     -- the disk's plan and history are such
     taken_up : (text : List ℕ) (first : List Entry) (tree : Tree) (IsSuch : Tree → List Entry → Type 0)
-        → ForSome (members.content old) (λ told. Stands told text first) → IsCompiled text tree → IsSuch tree first → TakesUp members words old IsSuch
+        → StandsFor members old text first → IsCompiled text tree → IsSuch tree first → TakesUp members words old IsSuch
     taken_up text first tree IsSuch told compiled such = (reopens, journal, text, first, tree, told, compiled, such)
 
-    done_by : (text : List ℕ) (first : List Entry) (tree : Tree) → ForSome (members.content old) (λ told. Stands told text first) → IsCompiled text tree
+    done_by : (text : List ℕ) (first : List Entry) (tree : Tree) → StandsFor members old text first → IsCompiled text tree
         → IsSome (run (sites tree) (events_of first)) → ReadsScript words before now tree → Cause members words before now old new 0
     done_by text first tree told compiled runs scripts =
         Cause.taken_up (taken_up text first tree (λ t h. ReadsScript words before now t × IsSome (run (sites t) (events_of h))) told compiled (scripts, runs))
 
     after_journal : (Next : List ℕ → List Entry → Tree → Course → Due → Type 0) (course : Course) (due : Due)
-        → ((text : List ℕ) (first : List Entry) (tree : Tree) → ForSome (members.content old) (λ told. Stands told text first) → IsCompiled text tree
+        → ((text : List ℕ) (first : List Entry) (tree : Tree) → StandsFor members old text first → IsCompiled text tree
         → IsSome (run (sites tree) (events_of first)) → Next text first tree course due → AreCaused due)
         → AfterJournal members old new Next course due → AreCaused due
     after_journal Next _ _ behind (AfterJournal.not_read same) = tt
@@ -281,7 +280,7 @@ module _ {D : Type 0} (members : Disk.Ghosts D) (words : List (List ℕ)) (befor
 
     -- behind its start
     module _ (starts : Starts words before now (λ found. IsSome found)) where
-      soaked_caused : (session : Session) (due : Due) → ForSome (members.content old) (λ told. IsTrue (is_nothing told))
+      soaked_caused : (session : Session) (due : Due) → IsNothing members old
           → DueBehind members tellings.Summary (sites tree) (rest (soak_threads count seed) []) session old new due → AreCaused due
       soaked_caused session _ nothing (DueBehind.whole none all) = λ emits. Cause.done starts (λ has. nothing)
       soaked_caused session _ nothing (DueBehind.stalled waits none stalled) =

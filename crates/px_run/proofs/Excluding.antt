@@ -1,10 +1,9 @@
 -- What the bytes of a journal exclude of one another: what stands for a text and a history is refused only where that runs
 -- away.
 use Rattle.std.proofs.Common.{◌≡◌, inl, inr, ℕ, List, [], ◌∷◌, ◌++◌, Option, Some, None, IsSome, IsTrue, refl, ap, subst, sym, ◌∙◌, append_assoc}
-use Rattle.std.specs.Option.{ForSome}
 use Rattle.std.proofs.lemmas.Bool.{both_ways}
 use Rattle.std.proofs.lemmas.List.{map-append}
-use Rattle.px_value.proofs.General.{none_or_some}
+use Rattle.px_value.proofs.General.{is_some_at, none_or_some}
 use Rattle.px_core.specs.Plan.{Site, Tree, sites}
 use Rattle.px_event.specs.declared.entry.Entry.{Entry}
 use Rattle.px_event.specs.declared.event.Event.{Event}
@@ -21,12 +20,13 @@ use Rattle.px_sem.specs.Log.{events_of}
 use Rattle.px_sem.specs.Run.{posted, started, settled_world, run_on, run}
 use Rattle.px_sem.specs.World.{World}
 use Rattle.px_run.specs.Ending.{Ending, no_journal, journal_damaged, journal_plan, journal_runaway}
+use Rattle.px_session.specs.Session.{StandsFor}
 use Rattle.px_run.specs.Journaled.{JournalRefuses, HasNoJournal, CannotRun}
 
 -- ---- runs
 
 pub some_or_none : {A : Type 0} {found : Option A} (some : A) → found ≡ Some some → found ≡ None → ⊥
-some_or_none some has none = let both = sym none ∙ has in cc
+some_or_none some has none = none_or_some _ none (is_some_at _ some has)
 
 -- a run over a history is one over each front of it
 front_runs : (plan : List Site) (now : Option World) (front rest : List Event) → IsSome (run_on plan now (front ++ rest)) → IsSome (run_on plan now front)
@@ -65,13 +65,13 @@ pub data RunsAway (tree : Tree) (first : List Entry) (ending : Ending) : Type 0 
 
 module _ {D : Type 0} (members : Disk.Ghosts D) (disk : D) (bytes text : List ℕ) (first : List Entry) (tree : Tree) (told : members.content disk ≡ Some bytes)
     (stands : Stands bytes text first) (compiled : IsCompiled text tree) where
-  pub same_text : (other : List ℕ) (others : List Entry) → ForSome (members.content disk) (λ b. Stands b other others) → other ≡ text
+  pub same_text : (other : List ℕ) (others : List Entry) → StandsFor members disk other others → other ≡ text
   same_text other others so = one_meaning_text bytes other text others first (so bytes told) stands
 
-  pub same_first : (other : List ℕ) (others : List Entry) → ForSome (members.content disk) (λ b. Stands b other others) → others ≡ first
+  pub same_first : (other : List ℕ) (others : List Entry) → StandsFor members disk other others → others ≡ first
   same_first other others so = one_meaning_history bytes other text others first (so bytes told) stands
 
-  pub same_tree : (other : List ℕ) (others : List Entry) (found : Tree) → ForSome (members.content disk) (λ b. Stands b other others) → IsCompiled other found
+  pub same_tree : (other : List ℕ) (others : List Entry) (found : Tree) → StandsFor members disk other others → IsCompiled other found
       → found ≡ tree
   same_tree other others found so spells = one_plan text found tree (subst (λ t. IsCompiled t found) (same_text other others so) spells) compiled
 

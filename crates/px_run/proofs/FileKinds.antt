@@ -29,6 +29,12 @@ plan_kind = record {
   never = λ bytes a ending s r. no_refusal bytes a r.0 r.1 s r.2;
 }
 
+-- a script is its threads and its names
+pub same_script : (a b : Script) → a.threads ≡ b.threads → a.names ≡ b.names → a ≡ b
+same_script a b threads names =
+    let of : List Todo → List ThreadName → Script = λ threads names. record { threads = threads; names = names } in
+    ap (λ threads. of threads a.names) threads ∙ ap (of b.threads) names
+
 pub script_kind : (plan : List Site) → IsKind Script (script_file plan) 4
 script_kind plan = record {
   too_long = refl;
@@ -37,15 +43,12 @@ script_kind plan = record {
   never = λ bytes a ending s r. none bytes a r.0 r.1 s r.2;
 }
   where
-    of : List Todo → List ThreadName → Script
-    of threads names = record { threads = threads; names = names }
-
     same : (bytes : List ℕ) (a b : Script) → script plan bytes ≡ Threads a.threads a.names → script plan bytes ≡ Threads b.threads b.names → a ≡ b
     same bytes a b s t =
         let both = sym s ∙ t in
         let threads : a.threads ≡ b.threads = cc in
         let names : a.names ≡ b.names = cc in
-        ap (λ threads. of threads a.names) threads ∙ ap (of b.threads) names
+        same_script a b threads names
 
     none : (bytes : List ℕ) (a : Script) (number kind : ℕ) → script plan bytes ≡ Threads a.threads a.names → script plan bytes ≡ Fault number kind → ⊥
     none bytes a number kind s f = let both = sym s ∙ f in cc

@@ -1,20 +1,23 @@
 -- The end of a session, from what its posts have come to and what was printed.
-use Rattle.std.proofs.Common.{◌≡◌, ◌≤◌, inr, ℕ, List, [], ◌++◌, Option, Some, None, IsSome, IfSome, Result, Ok, Err, refl, sym, ◌∙◌, ap, subst, arith}
+use Rattle.std.proofs.Common.{◌≡◌, ◌⊎◌, ◌≤◌, inr, ℕ, List, [], ◌++◌, Option, Some, None, IsSome, IfSome, Result, Ok, Err, length, refl, sym, ◌∙◌, ap, subst, arith}
 use Rattle.std.specs.Prelude.{IsErrOf}
 use Rattle.px_core.specs.Plan.{Site}
 use Rattle.px_crew.specs.Crew.{Ends}
 use Rattle.px_event.specs.declared.entry.Entry.{Entry}
-use Rattle.px_exec.proofs.Keeping.{told_of}
+use Rattle.px_value.proofs.General.{told_of}
 use Rattle.px_exec.specs.Executive.{Executive, plan_of, IsTextOf, TellsBytes}
+use Rattle.px_journal.specs.Crash.{LeavesOnly}
 use Rattle.px_journal.specs.Goes.{Goes}
 use Rattle.px_journal.specs.Layout.{Stands}
 use Rattle.px_journal.proofs.Going.{goes_told}
+use Rattle.px_journal.proofs.Moments.{grows_length, leaves_on, leaves_more}
 use Rattle.px_journal.proofs.Ready.{ready_stands, ready_synced}
 use Rattle.px_output.specs.Printing.{Prints}
 use Rattle.px_output.specs.View.{View}
 use Rattle.px_output.specs.declared.printer.PrintFault.{PrintFault}
 use Rattle.px_output.specs.declared.printer.PrintFault.TheVariants as faults
 use Rattle.px_ports.specs.declared.disk.Disk
+use Rattle.px_ports.specs.declared.moment.Moment.{Moment}
 use Rattle.px_script.specs.Follows.{Follows, AreStalled, IsNextPost}
 use Rattle.px_script.specs.declared.crew_end.CrewEnd.{CrewEnd}
 use Rattle.px_script.specs.declared.crew_end.CrewEnd.TheVariants as crew
@@ -23,7 +26,7 @@ use Rattle.px_script.specs.declared.todo.Todo.{Todo}
 use Rattle.px_sem.specs.Log.{Log, accepted}
 use Rattle.px_sem.specs.declared.stepper.Stepper
 use Rattle.px_session.specs.Posting.{Posts, WasDue}
-use Rattle.px_session.specs.Session.{Session}
+use Rattle.px_session.specs.Session.{Session, IsFront, LeavesFronts}
 use Rattle.px_session.specs.declared.posting.Posted.{Posted}
 use Rattle.px_run.specs.Course.{Due}
 use Rattle.px_run.specs.Ending.{Ending, stalled_ending}
@@ -47,6 +50,23 @@ opening_stands members exec text session same_text same_first tells ready image 
     subst (λ (t : List ℕ). Stands image t session.first) (sym same_text)
     (subst (λ (h : List Entry). Stands image text h) (sym same_first)
     (subst (λ (bytes : List ℕ). Stands bytes text exec.opening.history) (sym (ready_synced _ _ _ _ ready told.0 told.1 image left)) (ready_stands _ _ _ _ ready told.0 told.1)))
+
+-- a disk that came to a moment of the text and the history with such images, and of which each image since then is a front
+pub leaves_fronts : {D : Type 0} (members : Disk.Ghosts D) (IsEarly : List ℕ → Type 0) (session : Session) (old mid new : D)
+    → LeavesOnly members.images (λ image. members.images (members.moments old) image ⊎ (IsEarly image ⊎ IsFront session image)) (members.moments old) (members.moments mid)
+    → ((image : List ℕ) → members.images (members.moments mid) image → Stands image session.text session.first)
+    → LeavesOnly members.images (IsFront session) (members.moments mid) (members.moments new) → LeavesFronts members IsEarly session old new
+leaves_fronts members IsEarly session old mid new early stands since = record {
+  each = leaves_on members.images _ (members.moments old) (members.moments mid) (members.moments new) early
+      (leaves_more members.images (IsFront session) _ (members.moments mid) (members.moments new) (λ image front. inr (inr front)) since);
+  opened = (
+    length (members.moments mid),
+    grows_length (members.moments old) (members.moments mid) early.grows,
+    grows_length (members.moments mid) (members.moments new) since.grows,
+    λ image left. stands image (subst (λ (ms : List Moment). members.images ms image) since.grows left),
+    since.each,
+  );
+}
 
 -- the text that is printed of a log that goes on from a history, by the history and the log that are shown
 pub prints_session : (Text : List Entry → Log → List ℕ) (mid new : View) (shown history first : List Entry) (shown_log log : Log) (r : Result Unit PrintFault)

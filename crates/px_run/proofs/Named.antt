@@ -1,24 +1,18 @@
 -- The names that a session leaves, from what its posts leave of them since the opening.
-use Rattle.std.proofs.Common.{◌≡◌, ◌⊎◌, inl, inr, ⊎_elim, ℕ, List, [], ◌∷◌, ◌++◌, map, length, take, refl, sym, ◌∙◌, ap, subst}
-use Rattle.px_value.proofs.General.{begins_further}
+use Rattle.std.proofs.Common.{◌≡◌, ◌⊎◌, inl, inr, ⊎_elim, ℕ, List, [], ◌∷◌, map, length, take, refl, sym, ◌∙◌, ap, subst}
 use Rattle.px_event.specs.declared.entry.Entry.{Entry}
 use Rattle.px_event.specs.declared.named.NamedEntry.{NamedEntry}
 use Rattle.px_exec.specs.Executive.{StandsNamed}
 use Rattle.px_exec.specs.Opening.{GivesNames}
-use Rattle.px_journal.proofs.Moments.{left_before_or_after}
+use Rattle.px_journal.proofs.Moments.{leaves_on, leaves_more}
 use Rattle.px_journal.specs.Journal.{with_name, name_given}
 use Rattle.px_journal.specs.declared.journal.Journal.{Journal}
 use Rattle.px_journal.specs.declared.version.Version.{Version}
 use Rattle.px_ports.specs.Moment.{LeftSince}
 use Rattle.px_ports.specs.declared.disk.Disk
-use Rattle.px_sem.specs.Log.{accepted}
 use Rattle.px_session.specs.Posting.{LeavesNames as PostsLeaveNames}
-use Rattle.px_session.specs.Session.{Session, unsure}
-use Rattle.px_run.specs.Naming.{Naming, named_by, HasNames, LeavesNames}
-
--- what a session has posted, and the entry whose append failed
-abbrev pub others_of : Session → List Entry
-others_of session = accepted session.log ++ unsure session.failed
+use Rattle.px_session.specs.Session.{Session}
+use Rattle.px_run.specs.Naming.{Naming, named_by, others_of, HasNames, LeavesNames}
 
 -- a journal of the version that gives these names names entries as the naming does
 same_name : {D : Type 0} (journal : Journal D) (naming : Naming) → journal.version ≡ naming.version → GivesNames journal naming.names → (entry : Entry)
@@ -52,11 +46,8 @@ module _ {D : Type 0} (members : Disk.Ghosts D) (session : Session) (naming : Na
       → PostsLeaveNames members text naming.found (others_of session) opened new → LeavesNames members IsEarly session naming old new
   leaves_names IsEarly text old opened new same version gives grows early posts = record {
     read = λ told here. has_names opened text same version gives told (posts.read told here);
-    each = record {
-      grows = begins_further (members.moments old) (members.moments opened.disk) (members.moments new) grows posts.since.grows;
-      each = λ image left. ⊎_elim
-          (λ sooner. ⊎_elim (λ was. inl was) (λ is. inr (inl is)) (early image sooner))
-          (λ later. inr (inr (has_names opened text same version gives image (posts.since.each image later))))
-          (left_before_or_after members.images (members.moments opened.disk) (members.moments new) (length (members.moments old)) image posts.since.grows left);
-    };
+    each = leaves_on members.images _ (members.moments old) (members.moments opened.disk) (members.moments new)
+        (record { grows = grows; each = λ image sooner. ⊎_elim (λ was. inl was) (λ is. inr (inl is)) (early image sooner) })
+        (leaves_more members.images (StandsNamed opened.version text naming.found (map (with_name opened) (others_of session))) _ (members.moments opened.disk) (members.moments new)
+        (λ image stands. inr (inr (has_names opened text same version gives image stands))) posts.since);
   }

@@ -4,7 +4,7 @@ use Rattle.std.specs.Option.{option_and_then}
 use Rattle.px_core.specs.Plan.{Site, Tree, sites}
 use Rattle.px_event.specs.declared.entry.Entry.{Entry}
 use Rattle.px_exec.proofs.Images.{left_now}
-use Rattle.px_exec.proofs.Keeping.{told_of}
+use Rattle.px_value.proofs.General.{told_of}
 use Rattle.px_exec.specs.Executive.{TellsBytes}
 use Rattle.px_journal.proofs.Meaning.{one_meaning_history}
 use Rattle.px_journal.specs.Journal.{IsUnwritten}
@@ -25,14 +25,14 @@ use Rattle.px_sem.specs.Run.{started}
 use Rattle.px_sem.specs.World.{World}
 use Rattle.px_session.proofs.Closed.{ReadsAreLeft}
 use Rattle.px_session.specs.Creating.{LeavesNew}
-use Rattle.px_session.specs.Session.{Session, unsure, longest_of, IsFront, LeavesFronts}
+use Rattle.px_session.specs.Session.{Session, unsure, longest_of, IsFront, LeavesFronts, StandsFor}
 use Rattle.px_words.specs.Words.{Command, TraceStart, DryRun, Check, Format, Run, Resume, Trace, Names, Soak, script_operand, command}
 use Rattle.px_run.proofs.Excluding.{stands_something}
 use Rattle.px_run.specs.Course.{Course, Untouched, TakenUp, Due, EndsIn, AfterFile, Leaves}
 use Rattle.px_run.specs.Ending.{Ending}
 use Rattle.px_run.specs.Reading.{FileKind, Reads, with_text}
 use Rattle.px_run.specs.Headline.{CommandCallsFor, Headline}
-use Rattle.px_run.specs.Journaled.{IsSession, StandsFor, NewCalls, RunCalls, RunCallsBy, AfterJournal, ResumeCalls, TraceCalls, NamesCalls}
+use Rattle.px_run.specs.Journaled.{IsSession, NewCalls, RunCalls, RunCallsBy, AfterJournal, ResumeCalls, TraceCalls, NamesCalls}
 use Rattle.px_run.specs.Kinds.{plan_file, script_file}
 use Rattle.px_run.specs.Soak.{soak_lines, SoakCalls}
 use Rattle.px_run.specs.declared.finishing.Telling.{Telling}

@@ -1,8 +1,7 @@
 -- A journal whose names are read: what `names` has come to then.
 use Rattle.std.proofs.Common.{◌≡◌, ◌≢◌, inl, inr, List, [], ℕ, Some, Result, Ok, Err, refl, sym, ◌∙◌, ap, subst}
 use Rattle.std.specs.Prelude.{is_some}
-use Rattle.std.specs.Option.{ForSome}
-use Rattle.px_journal.specs.Layout.{entries, Stands}
+use Rattle.px_journal.specs.Layout.{entries}
 use Rattle.px_journal.specs.declared.fault.RecoverFault.{RecoverFault}
 use Rattle.px_journal.specs.declared.fault.RecoverWhy.{RecoverWhy}
 use Rattle.px_journal.specs.declared.fault.RecoverWhy.TheVariants as recovering
@@ -11,6 +10,7 @@ use Rattle.px_output.specs.Printing.{Prints}
 use Rattle.px_output.specs.View.{View}
 use Rattle.px_output.specs.declared.printer.PrintFault.{PrintFault}
 use Rattle.px_ports.specs.declared.disk.Disk
+use Rattle.px_session.specs.Session.{StandsFor}
 use Rattle.px_session.specs.Reading.{IsRead, IsReadWhy, IsNotRead}
 use Rattle.px_run.specs.Course.{Course, Synced, Unread, TakenUp}
 use Rattle.px_run.specs.Ending.{no_journal, journal_damaged, names_ending}
@@ -75,7 +75,7 @@ module _ {D : Type 0} (members : Disk.Ghosts D) (journal : List ℕ) (old : D) w
     due : NamesCalls members old disk course (Some (names_ending r.found))
     due = NamesCalls.named read.plan.items r.found (λ told is. (read.journal.version, r.stands told is))
 
-    stands : ForSome (members.content read.journal.disk) (λ told. Stands told read.plan.items (entries r.found))
+    stands : StandsFor members read.journal.disk read.plan.items (entries r.found)
     stands told is = record { version = read.journal.version; named = r.found; stands = r.ready.stands told is; entries_are = refl }
 
     names_read : (result : Result End Stop) → Performs before now (NamesCalls members old disk course) result

@@ -1,30 +1,26 @@
 -- A journal that is taken up: what a command has come to then.
-use Rattle.std.proofs.Common.{◌≡◌, ◌≢◌, ◌≤◌, inl, inr, ⊎_elim, ℕ, List, [], Some, None, Result, Ok, Err, length, refl, sym, ◌∙◌, ap, subst, arith, append-nil}
+use Rattle.std.proofs.Common.{◌≡◌, ◌≢◌, ◌≤◌, inl, inr, ℕ, List, [], Some, None, Result, Ok, Err, length, refl, sym, ◌∙◌, ap, subst, arith, append-nil}
 use Rattle.std.proofs.lemmas.List.{take_all}
 use Rattle.std.specs.Prelude.{is_some}
-use Rattle.std.specs.Option.{ForSome}
-use Rattle.px_value.proofs.General.{begins_further}
+use Rattle.px_value.proofs.General.{told_of}
 use Rattle.px_core.specs.Plan.{Site, Tree, tree_of, sites}
 use Rattle.px_event.specs.declared.entry.Entry.{Entry}
 use Rattle.px_exec.proofs.Images.{left_now}
-use Rattle.px_exec.proofs.Keeping.{told_of}
 use Rattle.px_exec.specs.Executive.{plan_of, IsTextOf, TellsBytes}
 use Rattle.px_exec.specs.Opening.{GivesNames}
 use Rattle.px_journal.specs.Crash.{LeavesOnly}
 use Rattle.px_journal.specs.Journal.{IsSynced, IsUntouched}
 use Rattle.px_journal.specs.Layout.{Stands}
-use Rattle.px_journal.proofs.Moments.{grows_length, left_before_or_after}
 use Rattle.px_journal.proofs.Ready.{ready_stands, ready_synced}
 use Rattle.px_output.specs.View.{View, OnlyReads}
 use Rattle.px_ports.specs.Moment.{Elapses, Stays}
 use Rattle.px_ports.specs.declared.disk.Disk
-use Rattle.px_ports.specs.declared.moment.Moment.{Moment}
 use Rattle.px_script.specs.Remainder.{rest}
 use Rattle.px_script.specs.declared.script.Script.{Script}
 use Rattle.px_script.specs.declared.todo.Todo.{Todo}
 use Rattle.px_sem.specs.declared.stepper.Stepper
 use Rattle.px_session.specs.Reopening.{Reopens, IsNotReopened, IsReopenWhy}
-use Rattle.px_session.specs.Session.{Session, unposted, IsFront, LeavesFronts}
+use Rattle.px_session.specs.Session.{Session, unposted, IsFront, LeavesFronts, StandsFor}
 use Rattle.px_session.specs.declared.fault.ReopenFault.{ReopenFault}
 use Rattle.px_session.specs.declared.fault.ReopenWhy.{ReopenWhy}
 use Rattle.px_session.specs.declared.fault.ReopenWhy.TheVariants as reopening
@@ -46,8 +42,8 @@ use Rattle.px_run.specs.declared.finishing.Carried.{Carried}
 use Rattle.px_run.specs.declared.finishing.Telling.TheVariants as tellings
 use Rattle.px_output.specs.Printing.{Prints}
 use Rattle.px_output.specs.declared.printer.PrintFault.{PrintFault}
-use Rattle.px_session.proofs.Sessions.{one_history}
-use Rattle.px_run.proofs.Finished.{due_behind_since, opening_stands}
+use Rattle.px_session.proofs.Sessions.{from_before, one_history}
+use Rattle.px_run.proofs.Finished.{due_behind_since, leaves_fronts, opening_stands}
 use Rattle.px_run.proofs.Named.{leaves_names}
 use Rattle.px_run.proofs.Performing.{performs_since, printed, broken_off}
 use Rattle.px_run.proofs.SeenFiles.{shows_later}
@@ -59,22 +55,13 @@ pub fronts_since : {D : Type 0} (members : Disk.Ghosts D) (session : Session) (o
     → ((image : List ℕ) → members.images (members.moments opened) image → Stands image session.text session.first)
     → LeavesOnly members.images (IsFront session) (members.moments opened) (members.moments new)
     → LeavesFronts members (λ image. ⊥) session old new
-fronts_since members session old opened new untouched stands since = record {
-  each = record {
-    grows = begins_further (members.moments old) (members.moments opened) (members.moments new) ((untouched.unwritten).elapses).grows since.grows;
-    each = λ image left. ⊎_elim
-        (λ early. let from = ((untouched.unwritten).elapses).each image early in inl (subst (members.images (members.moments old)) (sym (from.2)) (from.1)))
-        (λ late. inr (inr (since.each image late)))
-        (left_before_or_after members.images (members.moments opened) (members.moments new) (length (members.moments old)) image since.grows left);
-  };
-  opened = (
-    length (members.moments opened),
-    grows_length (members.moments old) (members.moments opened) ((untouched.unwritten).elapses).grows,
-    grows_length (members.moments opened) (members.moments new) since.grows,
-    λ image left. stands image (subst (λ (ms : List Moment). members.images ms image) since.grows left),
-    since.each,
-  );
-}
+fronts_since members session old opened new untouched stands since =
+    leaves_fronts members (λ image. ⊥) session old opened new
+    (record {
+      grows = ((untouched.unwritten).elapses).grows;
+      each = λ image early. inl (from_before members old opened untouched image early);
+    })
+    stands since
 
 -- bytes that stand for a text and a history are a front of it
 front_unposted : (text : List ℕ) (first : List Entry) (bytes : List ℕ) → Stands bytes text first → IsFront (unposted text first) bytes
@@ -87,7 +74,7 @@ front_unposted text first bytes stands = record {
 
 -- a journal of this text and history was read, and no more
 pub left_taken_up : {D : Type 0} (members : Disk.Ghosts D) (text : List ℕ) (first : List Entry) (old new : D) → IsUntouched members old new
-    → TellsBytes members old → IsSynced members new → ForSome (members.content new) (λ told. Stands told text first)
+    → TellsBytes members old → IsSynced members new → StandsFor members new text first
     → Leaves members old new (TakenUp text first)
 left_taken_up members text first old new untouched tells synced stands = (
   untouched,
@@ -136,7 +123,7 @@ module _ {D : Type 0} (members : Disk.Ghosts D) (journal : List ℕ) (Next : D �
 
       -- the journal was read, and its plan or its history can't be run
       not_run_as : (why : ReopenWhy) → fault.why ≡ why → why ≢ reopening.DiskFault → (text : List ℕ) (first : List Entry)
-          → ForSome (members.content old) (λ told. Stands told text first) → Performs view view (Calls fault.disk (TakenUp text first)) (Err (stop_of_reopen why))
+          → StandsFor members old text first → Performs view view (Calls fault.disk (TakenUp text first)) (Err (stop_of_reopen why))
           → Carries members journal Calls view view old (record { result = Err (stop_of_reopen fault.why); disk = fault.disk })
       not_run_as why is other text first stands performs = record {
         course = TakenUp text first;
@@ -235,7 +222,7 @@ module _ {S D : Type 0} (runs : Stepper.Ghosts S) (members : Disk.Ghosts D) (scr
               (opening_stands members reopened.exec r.text f.session (f.is_session).same_text (f.is_session).same_first told r.ready) l.since,
           leaves_names members f.session naming (λ image. ⊥) r.text old reopened.exec.opening.journal carried.disk (f.is_session).same_text refl
               (subst (GivesNames reopened.exec.opening.journal) left.names gives) elapses.grows
-              (λ image early. let from = elapses.each image early in inl (subst (members.images (members.moments old)) (sym (from.2)) (from.1)))
+              (λ image early. inl (from_before members old reopened.exec.opening.journal.disk r.untouched image early))
               (f.names told r.found r.named),
         );
     bound = inl (f.goes.stays.bound ∙ r.bound);

@@ -2,15 +2,14 @@
 use Rattle.std.proofs.Common.{◌≡◌, ◌⊎◌, inl, inr, ⊎_elim, ℕ, List, [], Some, None, IsSome, Err, length, take, refl, sym, ◌∙◌, ap, subst, arith, IsTrue}
 use Rattle.std.proofs.lemmas.List.{take_all}
 use Rattle.std.specs.Option.{ForSome}
-use Rattle.px_value.proofs.General.{begins_further}
+use Rattle.px_value.proofs.General.{told_of}
 use Rattle.px_core.specs.Plan.{Site}
 use Rattle.px_crew.proofs.Gathering.{follows_nothing}
 use Rattle.px_event.specs.declared.entry.Entry.{Entry}
 use Rattle.px_exec.proofs.Images.{left_now}
-use Rattle.px_exec.proofs.Keeping.{told_of}
 use Rattle.px_event.specs.declared.names.ThreadName.{ThreadName}
 use Rattle.px_exec.specs.Executive.{Executive, plan_of, TellsBytes, WasNamed}
-use Rattle.px_journal.proofs.Moments.{grows_length, left_before_or_after}
+use Rattle.px_journal.proofs.Moments.{leaves_more}
 use Rattle.px_journal.specs.Crash.{OldOrNew, LeavesOnly}
 use Rattle.px_journal.specs.Journal.{IsReadyAs}
 use Rattle.px_journal.specs.Layout.{is_nothing, Stands, StandsAs}
@@ -19,7 +18,6 @@ use Rattle.px_journal.specs.declared.fault.CreateWhy.TheVariants as creating
 use Rattle.px_output.specs.View.{View}
 use Rattle.px_ports.specs.Moment.{LeftSince}
 use Rattle.px_ports.specs.declared.disk.Disk
-use Rattle.px_ports.specs.declared.moment.Moment.{Moment}
 use Rattle.px_script.specs.Remainder.{rest}
 use Rattle.px_script.specs.declared.script.Script.{Script}
 use Rattle.px_script.specs.declared.todo.Todo.{Todo}
@@ -28,7 +26,7 @@ use Rattle.px_sem.specs.declared.stepper.Stepper
 use Rattle.px_session.proofs.Created.{none_named}
 use Rattle.px_session.specs.Creating.{LeavesNew, Creates, IsCreateWhy, IsNotCreated, version_for}
 use Rattle.px_session.specs.Session.{Session, unposted, longest_of, IsEnd, IsFront, HasOneHistory, LeavesFronts}
-use Rattle.px_run.specs.Course.{Untouched, HalfMade, Made, Due}
+use Rattle.px_run.specs.Course.{Untouched, HalfMade, IsUnnamed, Made, Due}
 use Rattle.px_run.specs.Finishing.{Carries, Finishes}
 use Rattle.px_run.specs.Journaled.{IsSession, DueBehind, NewCalls}
 use Rattle.px_run.specs.Naming.{Naming, new_naming, LeavesNames}
@@ -36,13 +34,9 @@ use Rattle.px_run.specs.Stops.{stop_of_create}
 use Rattle.px_run.specs.declared.ending.Stop.{Stop}
 use Rattle.px_run.specs.declared.finishing.Carried.{Carried}
 use Rattle.px_run.specs.declared.finishing.Telling.{Telling}
-use Rattle.px_run.proofs.Finished.{due_behind_since, opening_stands}
+use Rattle.px_run.proofs.Finished.{due_behind_since, leaves_fronts, opening_stands}
 use Rattle.px_run.proofs.Named.{leaves_names}
 use Rattle.px_run.proofs.Performing.{performs_more}
-
--- an image while a journal is made: nothing, or the text and no entry
-abbrev IsUnnamed : Session → List ℕ → Type 0
-IsUnnamed session image = IsTrue (is_nothing image) ⊎ Stands image session.text []
 
 -- ---- what a crash may leave
 
@@ -67,22 +61,10 @@ module _ {D : Type 0} (members : Disk.Ghosts D) where
       → ((image : List ℕ) → members.images (members.moments mid) image → Stands image session.text session.first)
       → ((image : List ℕ) → LeftSince members.images (members.moments new) (length (members.moments mid)) image → IsFront session image)
       → LeavesFronts members (λ image. IsTrue (is_nothing image)) session old new
-  fronts_behind session text old mid new same_text same_first tells making grows stands since = record {
-    each = record {
-      grows = begins_further (members.moments old) (members.moments mid) (members.moments new) making.grows grows;
-      each = λ image left. ⊎_elim
-          (λ early. of_making image (made.each image early))
-          (λ late. inr (inr (since image late)))
-          (left_before_or_after members.images (members.moments mid) (members.moments new) (length (members.moments old)) image grows left);
-    };
-    opened = (
-      length (members.moments mid),
-      grows_length (members.moments old) (members.moments mid) making.grows,
-      grows_length (members.moments mid) (members.moments new) grows,
-      λ image left. stands image (subst (λ (ms : List Moment). members.images ms image) grows left),
-      since,
-    );
-  }
+  fronts_behind session text old mid new same_text same_first tells making grows stands since =
+      leaves_fronts members (λ image. IsTrue (is_nothing image)) session old mid new
+      (leaves_more members.images (OldOrNew (members.images (members.moments old)) text) _ (members.moments old) (members.moments mid) of_making made)
+      stands (record { grows = grows; each = since })
     where
       told : (bytes : List ℕ) × (members.content old ≡ Some bytes)
       told = told_of (members.content old) tells

@@ -1,5 +1,5 @@
 -- Files that were read, seen from further off, and what stops the reading of one.
-use Rattle.std.proofs.Common.{◌≡◌, ℕ, ◌≤◌, List, Some, None, Result, IfErr, IsErrAnd, refl, ap, arith}
+use Rattle.std.proofs.Common.{◌≡◌, ℕ, ◌≤◌, List, Result, IfErr, IfSome, IsErrAnd, refl, ap, arith}
 use Rattle.px_value.proofs.General.{handed_on}
 use Rattle.px_compile.specs.Compiled.{IsRefused}
 use Rattle.px_core.specs.Plan.{Tree}
@@ -27,13 +27,19 @@ shows_since limit old mid new name (Content bytes) only (within, s) = (within, r
 shows_since limit old mid new name Longer only s = rw (← only.files) s
 shows_since limit old mid new name Unreadable only s = let rose = only.read_faults name in omega arith
 
+-- so is what is read of it, where what is seen is
+reads_by : (A : Type 0) (kind : FileKind A) (old new before now : View) (name : List ℕ) (part : A)
+    → ((seen : Seen) → Shows kind.limit old new name seen → Shows kind.limit before now name seen)
+    → Reads kind old new name part → Reads kind before now name part
+reads_by A kind old new before now name part shows (seen, shown, spells) = (seen, shows seen shown, spells)
+
 pub reads_later : (A : Type 0) (kind : FileKind A) (old mid new : View) (name : List ℕ) (part : A)
     → ((other : List ℕ) → mid.read_faults other ≤ new.read_faults other) → Reads kind old mid name part → Reads kind old new name part
-reads_later A kind old mid new name part later (seen, shows, spells) = (seen, shows_later kind.limit old mid new name seen later shows, spells)
+reads_later A kind old mid new name part later = reads_by A kind old mid old new name part (λ seen. shows_later kind.limit old mid new name seen later)
 
 pub reads_since : (A : Type 0) (kind : FileKind A) (old mid new : View) (name : List ℕ) (part : A) → OnlyReads old mid
     → Reads kind mid new name part → Reads kind old new name part
-reads_since A kind old mid new name part only (seen, shows, spells) = (seen, shows_since kind.limit old mid new name seen only shows, spells)
+reads_since A kind old mid new name part only = reads_by A kind mid new old new name part (λ seen. shows_since kind.limit old mid new name seen only)
 
 -- a plan of which the text was asked for too
 pub without_text : (old new : View) (name : List ℕ) (source : List ℕ × Tree) → Reads (with_text plan_file) old new name source
@@ -48,29 +54,32 @@ pub after_reading : (A : Type 0) (kind : FileKind A) (old new : View) (name : Li
     (course : Course) (due : Due) → Reads kind old new name part → Next part course due → AfterFile kind old new name so_far Next course due
 after_reading A kind old new name part so_far Next course due (seen, shows, spells) next = AfterFile.read seen part course due shows spells next
 
+after_by : (A : Type 0) (kind : FileKind A) (old new before now : View) (name : List ℕ) (so_far : Course) (Next More : A → Course → Due → Type 0)
+    (course : Course) (due : Due) → ((seen : Seen) → Shows kind.limit old new name seen → Shows kind.limit before now name seen)
+    → ((part : A) → Next part course due → More part course due) → AfterFile kind old new name so_far Next course due
+    → AfterFile kind before now name so_far More course due
+after_by A kind old new before now name so_far Next More _ _ shows widen AfterFile.no_memory = AfterFile.no_memory
+after_by A kind old new before now name so_far Next More _ _ shows widen (AfterFile.refused seen ending shown refuses) =
+    AfterFile.refused seen ending (shows seen shown) refuses
+after_by A kind old new before now name so_far Next More _ _ shows widen (AfterFile.read seen part course due shown spells next) =
+    AfterFile.read seen part course due (shows seen shown) spells (widen part next)
+
 pub after_since : (A : Type 0) (kind : FileKind A) (old mid new : View) (name : List ℕ) (so_far : Course) (Next More : A → Course → Due → Type 0)
     (course : Course) (due : Due) → OnlyReads old mid → ((part : A) → Next part course due → More part course due)
     → AfterFile kind mid new name so_far Next course due → AfterFile kind old new name so_far More course due
-after_since A kind old mid new name so_far Next More _ _ only widen AfterFile.no_memory = AfterFile.no_memory
-after_since A kind old mid new name so_far Next More _ _ only widen (AfterFile.refused seen ending shows refuses) =
-    AfterFile.refused seen ending (shows_since kind.limit old mid new name seen only shows) refuses
-after_since A kind old mid new name so_far Next More _ _ only widen (AfterFile.read seen part course due shows spells next) =
-    AfterFile.read seen part course due (shows_since kind.limit old mid new name seen only shows) spells (widen part next)
+after_since A kind old mid new name so_far Next More course due only =
+    after_by A kind mid new old new name so_far Next More course due (λ seen. shows_since kind.limit old mid new name seen only)
 
 pub after_later : (A : Type 0) (kind : FileKind A) (old mid new : View) (name : List ℕ) (so_far : Course) (Next More : A → Course → Due → Type 0)
     (course : Course) (due : Due) → ((other : List ℕ) → mid.read_faults other ≤ new.read_faults other)
     → ((part : A) → Next part course due → More part course due) → AfterFile kind old mid name so_far Next course due
     → AfterFile kind old new name so_far More course due
-after_later A kind old mid new name so_far Next More _ _ later widen AfterFile.no_memory = AfterFile.no_memory
-after_later A kind old mid new name so_far Next More _ _ later widen (AfterFile.refused seen ending shows refuses) =
-    AfterFile.refused seen ending (shows_later kind.limit old mid new name seen later shows) refuses
-after_later A kind old mid new name so_far Next More _ _ later widen (AfterFile.read seen part course due shows spells next) =
-    AfterFile.read seen part course due (shows_later kind.limit old mid new name seen later shows) spells (widen part next)
+after_later A kind old mid new name so_far Next More course due later =
+    after_by A kind old mid old new name so_far Next More course due (λ seen. shows_later kind.limit old mid new name seen later)
 
 -- what holds of the ending that is due, where one is
 abbrev pub WhereDue : (Ending → Type 0) → Due → Type 0
-WhereDue Holds None = Unit {0}
-WhereDue Holds (Some ending) = Holds ending
+WhereDue Holds due = IfSome due Holds
 
 -- ---- what was kept
 

@@ -1,15 +1,12 @@
 -- A soak, from its plan and its lines.
-use Rattle.std.proofs.Common.{◌≡◌, inr, ℕ, List, [], Some, None, Result, Err, IsErrAnd, IfErr, refl, sym, ◌∙◌, ap, subst}
+use Rattle.std.proofs.Common.{◌≡◌, inr, ℕ, List, [], Some, None, Result, Err, IsErrAnd, IfErr, refl, sym, ap, subst}
 use Rattle.px_value.proofs.General.{handed_on, is_some_at}
 use Rattle.px_compile.specs.Compiled.{IsCompiled}
 use Rattle.px_core.specs.Plan.{Site, Tree, sites}
 use Rattle.px_output.specs.View.{View}
 use Rattle.px_ports.specs.declared.disk.Disk
 use Rattle.px_script.specs.Fit.{IsFitScript}
-use Rattle.px_event.specs.declared.names.ThreadName.{ThreadName}
-use Rattle.px_script.specs.Soak.{soak_threads}
 use Rattle.px_script.specs.declared.script.Script.{Script}
-use Rattle.px_script.specs.declared.todo.Todo.{Todo}
 use Rattle.px_sem.proofs.Logs.{run_started}
 use Rattle.px_sem.specs.Run.{run, started}
 use Rattle.px_sem.specs.Stepper.{settled_state}
@@ -41,12 +38,6 @@ no_start tree steps.NoMemory compiled runaway = tt
 pub soak_not_started : {A : Type 0} (tree : Tree) (fault : StepFault) (r : Result A Stop) → IsErrAnd r (λ e. e ≡ stop_of_start fault)
     → IsCompiled soak_plan tree → (fault ≡ steps.Runaway → started (sites tree) ≡ None) → IfErr r IsSoakNotPrepared
 soak_not_started tree fault r is compiled runaway = handed_on IsSoakNotPrepared (stop_of_start fault) r is (no_start tree fault compiled runaway)
-
--- the script of these lines, in which no thread has a name
-pub of_soak : (script : Script) (count seed : ℕ) → script.threads ≡ soak_threads count seed → script.names ≡ [] → script ≡ soak_lines count seed
-of_soak script count seed threads names =
-    let of : List Todo → List ThreadName → Script = λ threads names. record { threads = threads; names = names } in
-    ap (λ threads. of threads script.names) threads ∙ ap (of (soak_threads count seed)) names
 
 -- a plan that has started
 pub soak_prepared : {S : Type 0} (runs : Stepper.Ghosts S) (count seed : ℕ) (tree : Tree) (ready : Prepared S) → ready.text.items ≡ soak_plan

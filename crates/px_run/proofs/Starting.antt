@@ -2,7 +2,7 @@
 use Rattle.std.proofs.Common.{◌≡◌, ℕ, List, [], ◌++◌, Option, Some, None, IsSome, Result, refl, ap, subst, sym, ◌∙◌}
 use Rattle.px_core.specs.Plan.{Site, Tree, sites}
 use Rattle.px_event.specs.declared.entry.Entry.{Entry}
-use Rattle.px_exec.proofs.Images.{told_of}
+use Rattle.px_value.proofs.General.{told_of}
 use Rattle.px_output.specs.Drafts.{Keeps, Holds}
 use Rattle.px_output.specs.Printing.{Prints}
 use Rattle.px_output.specs.View.{View}

@@ -16,6 +16,7 @@ use Rattle.px_script.specs.Follows.{AreStalled}
 use Rattle.px_script.specs.Remainder.{rest}
 use Rattle.px_script.specs.declared.stall.Stall.{Stall}
 use Rattle.px_script.specs.declared.script.Script.{Script}
+use Rattle.px_session.specs.Session.{IsNothing, StandsFor}
 use Rattle.px_words.specs.Words.{Command, Run, Resume, Names, Soak, plan_operand, script_operand, journal_operand, takes_up, runs_plan, command}
 use Rattle.px_run.specs.Ending.{Ending, nodes_ending, start_ending, stalled_ending}
 use Rattle.px_run.specs.Reading.{FileKind, Reads, IsRefusedAs, Holds, HoldsNone}
@@ -90,7 +91,7 @@ module _ {D : Type 0} (members : Disk.Ghosts D) where
   -- the command takes up its journal, and the disk stands for the text of a plan and for a history, which are such
   abbrev pub TakesUp : List (List ℕ) → D → (Tree → List Entry → Type 0) → Type 0
   TakesUp words disk IsSuch = TakesUpJournal words × HasJournal words × (text : List ℕ) × (first : List Entry) × (tree : Tree)
-      × ForSome (members.content disk) (λ told. Stands told text first) × IsCompiled text tree × IsSuch tree first
+      × StandsFor members disk text first × IsCompiled text tree × IsSuch tree first
 
   -- the disk is refused: a journal stands where one was to be made, or none that can be taken up where one was to be read
   abbrev pub JournalIsRefused : List (List ℕ) → View → View → D → Type 0
@@ -99,26 +100,22 @@ module _ {D : Type 0} (members : Disk.Ghosts D) where
       ⊎ (TakesUpJournal words × HasJournal words
       × (ending : Ending) × JournalRefuses members disk ending × (ending.status ≡ 5))
 
-  -- the disk is nothing
-  abbrev pub IsNothing : D → Type 0
-  IsNothing disk = ForSome (members.content disk) (λ told. IsTrue (is_nothing told))
-
   -- a legal log of what the command's script has left, behind the history that it begins with, stalls at some waits
   pub data StallsOver (words : List (List ℕ)) (before now : View) (old : D) : Type 0 where
     of_new :
         (plan script journal : List ℕ) (limit : ℕ) (tree : Tree) → command words ≡ Some (Run plan script journal limit)
-        → Reads plan_file before now plan tree → IsNothing old → StallsBehind before now script (sites tree) limit []
+        → Reads plan_file before now plan tree → IsNothing members old → StallsBehind before now script (sites tree) limit []
         → StallsOver words before now old
     of_taken_up :
         (script journal : List ℕ) (limit : ℕ) (text : List ℕ) (first : List Entry) (tree : Tree)
-        → command words ≡ Some (Resume script journal limit) → ForSome (members.content old) (λ told. Stands told text first)
+        → command words ≡ Some (Resume script journal limit) → StandsFor members old text first
         → IsCompiled text tree → StallsBehind before now script (sites tree) limit first
         → StallsOver words before now old
 
   -- THE TABLE OF STATUSES: each with its cause. What comes behind a plan, a script or a journal comes only where that was
   -- read.
   pub data Cause (words : List (List ℕ)) (before now : View) (old new : D) : ℕ → Type 0 where
-    done : Starts words before now (λ start. IsSome start) → (HasJournal words → IsNothing old) → Cause words before now old new 0
+    done : Starts words before now (λ start. IsSome start) → (HasJournal words → IsNothing members old) → Cause words before now old new 0
     taken_up :
         TakesUp words old (λ tree first. ReadsScript words before now tree × IsSome (run (sites tree) (events_of first)))
         → Cause words before now old new 0

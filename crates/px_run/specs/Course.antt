@@ -33,6 +33,10 @@ pub data Course : Type 0 where
   -- a journal was taken up, and a session ran over it
   GoneOn : Session → Naming → Course
 
+-- an image while a journal is made: nothing, or the text and no entry
+abbrev pub IsUnnamed : Session → List ℕ → Type 0
+IsUnnamed session image = IsTrue (is_nothing image) ⊎ Stands image session.text []
+
 module _ {D : Type 0} (members : Disk.Ghosts D) where
   -- WHAT EACH COURSE LEAVES OF THE DISK
   abbrev pub Leaves : D → D → Course → Type 0
@@ -43,7 +47,7 @@ module _ {D : Type 0} (members : Disk.Ghosts D) where
       LeavesNew members text old new × ForSome (members.content old) (λ told. IsFalse (is_nothing told) → IsUntouched members old new)
   Leaves old new (Made session naming) =
       HasOneHistory members session new × LeavesFronts members (λ image. IsTrue (is_nothing image)) session old new
-      × LeavesNames members (λ image. IsTrue (is_nothing image) ⊎ Stands image session.text []) session naming old new
+      × LeavesNames members (IsUnnamed session) session naming old new
   Leaves old new (TakenUp text history) =
       IsUntouched members old new × HasOneHistory members (unposted text history) new
       × LeavesFronts members (λ image. ⊥) (unposted text history) old new

@@ -1,5 +1,5 @@
 -- What the commands with a journal have come to, and how the session of one ends.
-use Rattle.std.specs.Prelude.{◌≡◌, ℕ, List, ◌++◌, IsErrOf, is_some}
+use Rattle.std.specs.Prelude.{◌≡◌, ℕ, List, IsErrOf, is_some}
 use Rattle.px_event.specs.declared.named.NamedEntry.{NamedEntry}
 use Rattle.px_exec.specs.Executive.{Executive, plan_of, TellsBytes, WasNamed}
 use Rattle.px_journal.specs.Goes.{Goes}
@@ -7,11 +7,11 @@ use Rattle.px_output.specs.View.{View}
 use Rattle.px_ports.specs.declared.disk.Disk
 use Rattle.px_script.specs.declared.todo.Todo.{Todo}
 use Rattle.px_sem.specs.declared.stepper.Stepper
-use Rattle.px_sem.specs.Log.{accepted}
 use Rattle.px_session.specs.Posting.{LeavesSession, LeavesNames as PostsLeaveNames}
-use Rattle.px_session.specs.Session.{Session, unsure, IsBoundAtMost}
+use Rattle.px_session.specs.Session.{Session, IsBoundAtMost}
 use Rattle.px_run.specs.Course.{Course, Due, Leaves}
 use Rattle.px_run.specs.Journaled.{IsSession, DueBehind}
+use Rattle.px_run.specs.Naming.{others_of}
 use Rattle.px_run.specs.Stops.{Performs}
 use Rattle.px_run.specs.declared.ending.Refusal.TheVariants as refusals
 use Rattle.px_run.specs.declared.ending.Stop.TheVariants as stops
@@ -44,5 +44,5 @@ module _ {D : Type 0} (members : Disk.Ghosts D) where
     pub performs : Performs before now (DueBehind members telling (plan_of runs exec) left session exec.opening.journal.disk carried.disk) carried.result
     pub leaves : TellsBytes members exec.opening.journal.disk → LeavesSession members session exec.opening.journal.disk carried.disk
     pub names : TellsBytes members exec.opening.journal.disk → (found : List NamedEntry) → WasNamed members exec text found
-        → PostsLeaveNames members text found (accepted session.log ++ unsure session.failed) exec.opening.journal carried.disk
+        → PostsLeaveNames members text found (others_of session) exec.opening.journal carried.disk
     pub goes : Goes members (IsDiskFault carried) exec.opening.journal.disk carried.disk

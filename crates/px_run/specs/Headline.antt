@@ -1,5 +1,6 @@
 -- THE HEADLINE: what a call of the program emits, which status it answers, and what it leaves of the disk.
 use Rattle.std.specs.Prelude.{◌≡◌, ◌⊎◌, ℕ, List, [], Option, Some, None}
+use Rattle.std.specs.Option.{option_and_then}
 use Rattle.px_core.specs.Plan.{Site, sites}
 use Rattle.px_exec.specs.Executive.{TellsBytes}
 use Rattle.px_output.specs.View.{View, Faulted, EmitsPart}
@@ -62,11 +63,7 @@ module _ {D : Type 0} (members : Disk.Ghosts D) where
 
   -- the disk is bound to the command's journal, or to none
   abbrev pub IsBoundFor : Option Command → D → Type 0
-  IsBoundFor asked disk = (members.bound_to disk ≡ None) ⊎ ((journal : List ℕ) × (asked_journal asked ≡ Some journal) × (members.bound_to disk ≡ Some journal))
-    where
-      asked_journal : Option Command → Option (List ℕ)
-      asked_journal None = None
-      asked_journal (Some asked) = journal_operand asked
+  IsBoundFor asked disk = (members.bound_to disk ≡ None) ⊎ ((journal : List ℕ) × (option_and_then journal_operand asked ≡ Some journal) × (members.bound_to disk ≡ Some journal))
 
 -- the whole text, under its own status; a front of it, where the sink failed or took nothing; or a front of it, for want of
 -- memory

@@ -1,12 +1,12 @@
 -- WHAT THE COMMANDS WITH A JOURNAL CALL FOR.
-use Rattle.std.specs.Prelude.{◌≡◌, ◌≢◌, ◌⊎◌, ℕ, List, [], Option, Some, None, IsSome, IfSome, IsTrue, IsFalse}
+use Rattle.std.specs.Prelude.{◌≡◌, ◌≢◌, ◌⊎◌, ℕ, List, [], Option, Some, None, IsSome, IfSome, IsFalse}
 use Rattle.std.specs.Option.{ForSome}
 use Rattle.px_compile.specs.Compiled.{IsCompiled, IsRefused}
 use Rattle.px_core.specs.Plan.{Site, Tree, sites}
 use Rattle.px_event.specs.declared.entry.Entry.{Entry}
 use Rattle.px_exec.specs.Opening.{RunsAwayAt}
 use Rattle.px_journal.specs.Damage.{Damaged}
-use Rattle.px_journal.specs.Layout.{is_nothing, entries, Stands, StandsAs}
+use Rattle.px_journal.specs.Layout.{is_nothing, entries, StandsAs}
 use Rattle.px_journal.specs.declared.version.Version.{Version}
 use Rattle.px_ports.specs.Host.{Rose}
 use Rattle.px_ports.specs.declared.disk.Disk
@@ -21,7 +21,7 @@ use Rattle.px_sem.specs.Log.{IsLegal, events_of}
 use Rattle.px_sem.specs.Run.{run, started}
 use Rattle.px_sem.specs.World.{World}
 use Rattle.px_session.specs.Posting.{WasDue}
-use Rattle.px_session.specs.Session.{Session, history_of}
+use Rattle.px_session.specs.Session.{Session, history_of, IsNothing, StandsFor}
 use Rattle.px_syntax.specs.declared.fault.PlanFault.{PlanFault}
 use Rattle.px_syntax.specs.declared.fault.PlanFault.TheVariants.{NoMemory as PlanOutOfMemory}
 use Rattle.px_output.specs.View.{View}
@@ -83,7 +83,7 @@ module _ {D : Type 0} (members : Disk.Ghosts D) where
     half_made :
         Rose (members.faults old) (members.faults new) → NewCalls telling plan text limit script old new (HalfMade text) (Some disk_fault)
     made :
-        (session : Session) (due : Due) → ForSome (members.content old) (λ told. IsTrue (is_nothing told))
+        (session : Session) (due : Due) → IsNothing members old
         → SessionCalls telling plan text [] limit (rest script.threads []) old new session due
         → NewCalls telling plan text limit script old new (Made session (new_naming script.names)) due
     no_memory : NewCalls telling plan text limit script old new Untouched None
@@ -106,14 +106,10 @@ module _ {D : Type 0} (members : Disk.Ghosts D) where
 
   -- why a disk has no journal
   pub data HasNoJournal (old : D) : Ending → Type 0 where
-    nothing : ForSome (members.content old) (λ told. IsTrue (is_nothing told)) → HasNoJournal old no_journal
+    nothing : IsNothing members old → HasNoJournal old no_journal
     damaged :
         (at : ℕ) → ForSome (members.content old) (λ told. IsFalse (is_nothing told) × Damaged told at)
         → HasNoJournal old (journal_damaged at)
-
-  -- the disk stands for the text and the history
-  abbrev pub StandsFor : D → List ℕ → List Entry → Type 0
-  StandsFor old text first = ForSome (members.content old) (λ told. Stands told text first)
 
   -- in one version or the other, it stands for the text and for entries with these names
   abbrev pub IsNamed : D → List ℕ → List NamedEntry → Type 0
@@ -122,7 +118,7 @@ module _ {D : Type 0} (members : Disk.Ghosts D) where
   -- why the journal of a disk is refused
   abbrev pub JournalRefuses : D → Ending → Type 0
   JournalRefuses old ending =
-      HasNoJournal old ending ⊎ ((text : List ℕ) × (first : List Entry) × StandsFor old text first × CannotRun text first ending)
+      HasNoJournal old ending ⊎ ((text : List ℕ) × (first : List Entry) × StandsFor members old text first × CannotRun text first ending)
 
   -- what is due where a journal is read first: it is refused, or its plan and its history go on; or the disk fails, or
   -- memory runs out, which it may do before the disk is called, and then that is as it was
@@ -132,10 +128,10 @@ module _ {D : Type 0} (members : Disk.Ghosts D) where
     disk_fails : Rose (members.faults old) (members.faults new) → AfterJournal old new Next Unread (Some disk_fault)
     no_journal_there : (ending : Ending) → HasNoJournal old ending → AfterJournal old new Next Synced (Some ending)
     not_run :
-        (text : List ℕ) (first : List Entry) (ending : Ending) → StandsFor old text first → CannotRun text first ending
+        (text : List ℕ) (first : List Entry) (ending : Ending) → StandsFor members old text first → CannotRun text first ending
         → AfterJournal old new Next (TakenUp text first) (Some ending)
     opened :
-        (text : List ℕ) (first : List Entry) (tree : Tree) (course : Course) (due : Due) → StandsFor old text first
+        (text : List ℕ) (first : List Entry) (tree : Tree) (course : Course) (due : Due) → StandsFor members old text first
         → IsCompiled text tree → IsSome (run (sites tree) (events_of first)) → Next text first tree course due
         → AfterJournal old new Next course due
 

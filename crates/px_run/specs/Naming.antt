@@ -28,11 +28,15 @@ new_naming names = record { version = version_for names; found = []; names = nam
 abbrev pub named_by : Naming → Entry → NamedEntry
 named_by naming entry = record { name = name_given naming.version naming.names entry.thread; entry = entry }
 
+-- what a session has posted, and the entry whose append failed
+abbrev pub others_of : Session → List Entry
+others_of session = accepted session.log ++ unsure session.failed
+
 -- The bytes are of the version, and stand for the entries found, each with the name that it had, and for a front of the new
 -- ones, each with its thread's name.
 abbrev pub HasNames : Session → Naming → List ℕ → Type 0
 HasNames session naming =
-    StandsNamed naming.version session.text naming.found (map (named_by naming) (accepted session.log ++ unsure session.failed))
+    StandsNamed naming.version session.text naming.found (map (named_by naming) (others_of session))
 
 module _ {D : Type 0} (members : Disk.Ghosts D) where
   -- THE NAMES THAT A SESSION LEAVES: what a read gives has them, and so has each image since the start of the call but one

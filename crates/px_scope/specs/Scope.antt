@@ -2,7 +2,7 @@
 use Rattle.std.specs.Prelude.{ℕ, Bool, List, [], ◌∷◌, fold, slice_get, unwrap_or, Option, Some, None, if◌then◌else◌}
 use Rattle.std.specs.List.{list_any}
 use Rattle.std.specs.Map.{lookup}
-use Rattle.std.specs.Option.{option_map, option_and_then}
+use Rattle.std.specs.Option.{option_map, option_and_then, option_or}
 use Rattle.indexmap.specs.IndexMap.{insert_entry}
 use Rattle.indexmap.specs.IndexSet.{insert_key}
 use Rattle.px_syntax.specs.declared.expr.NodeReference.{NodeReference}
@@ -45,11 +45,6 @@ here (frame ∷ outer) = frame.path
 
 -- ---- variables
 
--- a path, or else another
-abbrev pub or_else : Option (List ℕ) → Option (List ℕ) → Option (List ℕ)
-or_else None other = other
-or_else (Some path) other = Some path
-
 abbrev pub declares : List ℕ → Frame → Bool
 declares name frame = list_any (is_same name) frame.variables
 
@@ -59,7 +54,7 @@ declared_in name frame = if declares name frame then Some frame.path else None
 -- the first node from the innermost one out that declares a variable
 abbrev pub declared_from : List ℕ → Scope → Option (List ℕ)
 declared_from name [] = None
-declared_from name (frame ∷ outer) = or_else (declared_in name frame) (declared_from name outer)
+declared_from name (frame ∷ outer) = option_or (declared_in name frame) (declared_from name outer)
 
 -- in a tree without faults there is one
 abbrev pub owner_of : Scope → List ℕ → List ℕ
@@ -75,13 +70,12 @@ itself_named name frame = if is_same name frame.name then Some frame.path else N
 
 -- the node of a name among the children of one, and then itself
 abbrev pub named_in : List ℕ → Frame → Option (List ℕ)
-named_in name frame = or_else (child_named name frame) (itself_named name frame)
+named_in name frame = option_or (child_named name frame) (itself_named name frame)
 
 -- the first node of a name from the innermost one out
 abbrev pub named_from : List ℕ → Scope → Option (List ℕ)
 named_from name [] = None
-named_from name (frame ∷ outer) =
-    or_else (named_in name frame) (named_from name outer)
+named_from name (frame ∷ outer) = option_or (named_in name frame) (named_from name outer)
 
 -- the node that an expression belongs to, and the node of the text round that one
 abbrev pub self_of : Scope → Option Frame

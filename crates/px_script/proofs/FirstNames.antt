@@ -7,7 +7,7 @@ use Rattle.std.proofs.lemmas.List.{append-nil}
 use Rattle.std.proofs.lemmas.List.Elements.{filter-append, filter_map-append}
 use Rattle.std.proofs.lemmas.List.Folds.{list_any-append}
 use Rattle.std.proofs.lemmas.Bool.{and_parts, and_from, lt-ltb, le-ltb, eqb-true, eq-eqb, cases_Bool, not-false}
-use Rattle.px_value.proofs.General.{differs_turned}
+use Rattle.px_value.proofs.General.{differs_turned, list_all-filter}
 use Rattle.px_event.specs.Fit.{is_report_name}
 use Rattle.px_event.specs.Names.{name_of, are_names}
 use Rattle.px_event.specs.declared.names.ThreadName.{ThreadName}
@@ -18,7 +18,6 @@ use Rattle.px_script.specs.ThreadLine.{is_thread}
 use Rattle.px_script.specs.declared.parsed_line.ParsedLine.{ParsedLine}
 use Rattle.px_script.specs.declared.parsed_line.ParsedLine.TheVariants.{Nothing, Posts, Waits, Thread, Faulty}
 use Rattle.px_script.proofs.FitLines.{AllFit}
-use Rattle.px_script.proofs.Remainders.{list_all-filter}
 use Rattle.px_script.proofs.SaidLines.{AllBelow, AllFrom}
 
 abbrev is_of_another : ℕ → ThreadName → Bool

@@ -6,7 +6,7 @@ use Rattle.std.specs.Option.{option_map, option_and_then, option_or, unwrap_or}
 use Rattle.std.specs.Str.{is_utf8}
 use Rattle.std.specs.Str.Parse.{digits_value}
 use Rattle.std.proofs.lemmas.Bool.{le-leb, and_from, cases_Bool, cond_both}
-use Rattle.std.proofs.lemmas.Option.{MatchOption-at_some}
+use Rattle.std.proofs.lemmas.Option.{IfSome_then, MatchOption-at_some}
 use Rattle.px_value.specs.Path.{is_path}
 use Rattle.px_value.specs.declared.value.Value.{Value}
 use Rattle.px_value.specs.declared.value.Value.TheVariants as values
@@ -17,6 +17,7 @@ use Rattle.px_core.specs.declared.node.Kind.TheVariants as kinds
 use Rattle.px_core.specs.Plan.{Site, is_same}
 use Rattle.px_event.specs.Fit.{is_report_name, is_interface, is_fit_event}
 use Rattle.px_event.specs.Values.{is_plain, is_plain_or_unknown}
+use Rattle.px_event.proofs.ToldValues.{plain_known}
 use Rattle.px_event.specs.declared.cond.Cond.TheVariants.{State}
 use Rattle.px_event.specs.declared.event.Event.TheVariants as events
 use Rattle.px_script.specs.NodeLine.{kind_at, of_command, of_update, handle_of, handle_line, returned, return_line, is_one_word, abort_line, ack_line}
@@ -34,8 +35,7 @@ use Rattle.px_script.specs.declared.parsed_line.ParsedLine.TheVariants.{Nothing,
 -- ---- what is said of an option's value
 
 of_cond : {X : Type 0} (P : X → Type 0) (b : Bool) (o p : Option X) → IfSome o P → IfSome p P → IfSome (cond b o p) P
-of_cond P true o p left right = left
-of_cond P false o p left right = right
+of_cond P b o p left right = cond_both b o p (λ found. IfSome found P) (λ _. left) (λ _. right)
 
 of_or : {X : Type 0} (P : X → Type 0) (o p : Option X) → IfSome o P → IfSome p P → IfSome (option_or o p) P
 of_or P None p left right = right
@@ -61,19 +61,8 @@ argument_fit : (spelling : List ℕ) → IfSome (argument_of spelling) IsPlain
 argument_fit spelling =
     search (rules, of_or, of_cond, plain_fit, all_fit_text)
 
-plain_told : (value : Value) → IsPlain value → IsTold value
-plain_told values.Unknown is = refl
-plain_told (values.Boolean truth) is = is
-plain_told (values.Integer number) is = is
-plain_told (values.Text text) is = is
-plain_told (values.State state) is = is
-plain_told (values.Outcome outcome) is = is
-plain_told (values.Failure failure) is = is
-plain_told (values.Handle handle) is = is
-
 told_fit : (o : Option Value) → IfSome o IsPlain → IfSome o IsTold
-told_fit None is = tt
-told_fit (Some value) is = plain_told value is
+told_fit o is = IfSome_then o is (λ value plain. (plain_known value plain).0)
 
 value_fit : (spelling : List ℕ) → IfSome (value_of spelling) IsTold
 value_fit spelling =

@@ -1,16 +1,18 @@
 -- What is read is fit.
-use Rattle.std.proofs.Common.{rules, ◌≡◌, ℕ, ◌+◌, ◌^◌, ◌<◌, ◌≤◌, true, List, [], ◌∷◌, ◌++◌, length, map, refl, sym, ap, ◌∙◌, arith, Option, Some, None, Result, Ok, Err, IfOk, cond, inl, inr}
+use Rattle.std.proofs.Common.{rules, ◌≡◌, ℕ, ◌+◌, ◌^◌, ◌<◌, ◌≤◌, true, List, [], ◌∷◌, ◌++◌, length, map, refl, sym, ap, ◌∙◌, arith, Option, Some, None, Result, IfOk, cond, inl, inr}
 use Rattle.std.specs.Prelude.{◌==◌, nat_le, nat_lt, IfSome}
 use Rattle.std.specs.List.{list_all, filter, filter_map, cons_option, range_with_len}
 use Rattle.std.proofs.lemmas.List.{append_assoc, append-nil, length-map, length_push}
 use Rattle.std.proofs.lemmas.Bool.{lt-ltb, leb-false, ltb-true, and_from, eqb-true, cases_Bool}
+use Rattle.std.proofs.lemmas.Result.{IfOk-weaker}
+use Rattle.px_value.proofs.General.{list_all-filter}
 use Rattle.px_core.specs.Plan.{Site}
 use Rattle.px_event.specs.Fit.{is_report_name}
 use Rattle.px_script.specs.declared.fault.FaultKind.{FaultKind}
 use Rattle.px_script.specs.Fit.{rise_above, is_fit_line, are_fit_lines, IsFitScript}
 use Rattle.px_script.specs.ParsedLine.{parsed_line}
 use Rattle.px_script.specs.Remainder.{has_a_line}
-use Rattle.px_script.specs.Script.{Threads, Said, said_from, thread_behind, done_at, lines_of_thread, lines_before, fault_in, names_given, by_faults, threads_of, names_of, reading, script}
+use Rattle.px_script.specs.Script.{Threads, Said, said_from, thread_behind, done_at, lines_of_thread, lines_before, fault_in, names_given, by_faults, todo_of, threads_of, names_of, reading, script}
 use Rattle.px_script.specs.Text.{lines_of}
 use Rattle.px_script.specs.ThreadLine.{is_thread}
 use Rattle.px_script.specs.declared.line.Line.{Line}
@@ -21,7 +23,7 @@ use Rattle.px_script.specs.declared.parsed_line.ParsedLine.TheVariants.{Nothing,
 use Rattle.px_script.proofs.FitLines.{IsFitParsedLine, AllFit, all_fit}
 use Rattle.px_script.proofs.FirstNames.{given_all, first_all, first_are_names}
 use Rattle.px_script.proofs.Reading.{fault_after}
-use Rattle.px_script.proofs.Remainders.{rise-filter, list_all-filter, fit_from}
+use Rattle.px_script.proofs.Remainders.{rise-filter, fit_from}
 use Rattle.px_script.proofs.SaidLines.{say, done_number, AllBelow, below_said, said_later, count_is, lines_push}
 use Rattle.px_script.proofs.Texts.{few_lines}
 
@@ -140,9 +142,6 @@ sound_from all spelled is = by (filter_map (fault_in all) all) refl is
     by [] none is = record { none = none; threads = cc; names = cc }
     by (fault ∷ faults) none is = cc
 
-abbrev todo_of : List Said → ℕ → Todo
-todo_of all thread = record { thread = thread; lines = lines_of_thread thread all }
-
 todos_fit : (all : List Said) (threads : List ℕ) → ((of : ℕ) → 0 < length (lines_of_thread of all) → are_fit_lines (lines_of_thread of all) ≡ true)
     → list_all (λ todo. are_fit_lines todo.lines) (filter has_a_line (map (todo_of all) threads)) ≡ true
 todos_fit all [] each = refl
@@ -180,5 +179,4 @@ script_fit plan bytes spelled few is =
 -- and so is what is read
 pub read_fit : {E : Type 0} (plan : List Site) (bytes : List ℕ) (read : Result Script E) → length bytes ≤ 16777216
     → IfOk read (λ script_read. script plan bytes ≡ Threads script_read.threads script_read.names) → IfOk read (λ script_read. IsFitScript script_read)
-read_fit plan bytes (Ok spelled) few is = script_fit plan bytes spelled few is
-read_fit plan bytes (Err fault) few is = tt
+read_fit plan bytes read few is = IfOk-weaker read _ _ (λ spelled. script_fit plan bytes spelled few) is

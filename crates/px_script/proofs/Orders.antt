@@ -1,7 +1,7 @@
 -- What a fit script posts is fit.
 use Rattle.std.proofs.Common.{◌≡◌, ℕ, ◌^◌, ◌<◌, ◌≤◌, true, List, [], ◌∷◌, length, map, refl, ◌∙◌, arith}
 use Rattle.std.specs.Prelude.{nat_le, nat_lt, ◌&&◌}
-use Rattle.std.specs.List.{list_all, filter_map, cons_option}
+use Rattle.std.specs.List.{list_all, cons_option}
 use Rattle.std.specs.List.Sorted.{IsPermutation}
 use Rattle.std.proofs.lemmas.List.Folds.{list_all-append}
 use Rattle.std.proofs.lemmas.List.Sorted.{All-permutation}
@@ -10,7 +10,7 @@ use Rattle.std.proofs.lemmas.Bool.{le-leb, leb-true, ltb-true, and_parts}
 use Rattle.px_event.specs.Fit.{is_fit_event, is_fit_entry}
 use Rattle.px_event.specs.declared.entry.Entry.{Entry}
 use Rattle.px_script.specs.Fit.{rise_above, is_fit_line, are_fit_lines, IsFitScript}
-use Rattle.px_script.specs.Order.{entry_of, thread_entries, all_entries}
+use Rattle.px_script.specs.Order.{entry_of, posts_of, thread_entries, all_entries}
 use Rattle.px_script.specs.declared.line.Line.{Line}
 use Rattle.px_script.specs.declared.line.What.{What}
 use Rattle.px_script.specs.declared.line.What.TheVariants as whats
@@ -28,12 +28,12 @@ post_fit thread number (whats.Wait cond) entries above within numbered fit other
 
 -- what lines post
 lines_fit : (thread low : ℕ) (lines : List Line) → 0 < thread → thread ≤ 8 → rise_above low (map (λ line. line.number) lines) ≡ true
-    → list_all is_fit_line lines ≡ true → list_all is_fit_entry (filter_map (entry_of thread) lines) ≡ true
+    → list_all is_fit_line lines ≡ true → list_all is_fit_entry (posts_of thread lines) ≡ true
 lines_fit thread low [] above within rising fit = refl
 lines_fit thread low (line ∷ lines) above within rising fit =
     let rise = and_parts (nat_lt low line.number) (rise_above line.number (map (λ line. line.number) lines)) rising in
     let both = and_parts (is_fit_line line) (list_all is_fit_line lines) fit in
-    post_fit thread line.number line.what (filter_map (entry_of thread) lines) above within (omega (arith, ltb-true low line.number rise.0)) both.0
+    post_fit thread line.number line.what (posts_of thread lines) above within (omega (arith, ltb-true low line.number rise.0)) both.0
     (lines_fit thread line.number lines above within rise.1 both.1)
 
 -- what one thread posts

@@ -6,7 +6,9 @@ use Rattle.std.proofs.lemmas.List.{map-append}
 use Rattle.std.proofs.lemmas.List.Elements.{filter-append, filter_passes, All-nil, All-cons, All-map, All-filter, All-weaker}
 use Rattle.std.proofs.lemmas.List.Folds.{list_all-map}
 use Rattle.std.proofs.lemmas.List.Sums.{fold-append, length-filter, count_by-le-length}
+use Rattle.std.proofs.lemmas.Simd.{map-map}
 use Rattle.std.proofs.lemmas.Bool.{ltb-true, ltb-false, lt-ltb, le-ltb, leb-true, le-leb, eqb-false, and_parts, and_from, cases_Bool}
+use Rattle.px_value.proofs.General.{list_all-filter}
 use Rattle.px_event.specs.declared.entry.Entry.{Entry}
 use Rattle.px_script.specs.Fit.{rise_above, is_fit_line, are_fit_lines, IsFitScript}
 use Rattle.px_script.specs.Remainder.{entries_of, last_line, lines_above, left_of, has_a_line, rest, IsAhead}
@@ -130,16 +132,6 @@ rise-filter number p low (x ∷ xs) rising =
       | inr dropped ↦ rw dropped (rise_from low (number x) (map number (filter p xs)) (omega (arith, ltb-true low (number x) parts.0)) later)
     ]
 
-pub list_all-filter : {X : Type 0} (q p : X → Bool) (xs : List X) → list_all q xs ≡ true → list_all q (filter p xs) ≡ true
-list_all-filter q p [] all = refl
-list_all-filter q p (x ∷ xs) all =
-    let parts = and_parts (q x) (list_all q xs) all in
-    let later = list_all-filter q p xs parts.1 in
-    elim (cases_Bool (p x)) [
-      | inl kept ↦ rw kept (and_from (q x) (list_all q (filter p xs)) parts.0 later)
-      | inr dropped ↦ rw dropped later
-    ]
-
 -- the parts of `are_fit_lines`
 pub record AreFitLines (lines : List Line) : Type 0 where
   pub some : 1 ≤ length lines
@@ -186,16 +178,12 @@ threads_left_fit history (todo ∷ threads) fit =
       | inr none ↦ rw none later
     ]
 
-threads_kept : (history : List Entry) (threads : List Todo) → map (λ todo. todo.thread) (map (left_of history) threads) ≡ map (λ todo. todo.thread) threads
-threads_kept history [] = refl
-threads_kept history (todo ∷ threads) = ap (λ more. todo.thread ∷ more) (threads_kept history threads)
-
 pub rest_fit : (script : Script) (history : List Entry) (left : Script) → left.threads ≡ rest script.threads history → left.names ≡ script.names
     → IsFitScript script → IsFitScript left
 rest_fit script history left is same fit =
     let lefts : List Todo = map (left_of history) script.threads in
     record {
-      rising = rw is (rise-filter (λ todo. todo.thread) has_a_line 0 lefts (ap (rise_above 0) (threads_kept history script.threads) ∙ fit.rising));
+      rising = rw is (rise-filter (λ todo. todo.thread) has_a_line 0 lefts (ap (rise_above 0) (map-map (λ (todo : Todo). todo.thread) (left_of history) script.threads) ∙ fit.rising));
       within = rw is
           (list_all-filter (λ todo. nat_le todo.thread 8) has_a_line lefts
           (list_all-map (λ todo. nat_le todo.thread 8) (left_of history) script.threads ∙ fit.within));

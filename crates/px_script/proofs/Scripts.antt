@@ -1,18 +1,19 @@
 -- What a fit script has at each of its threads.
 use Rattle.std.proofs.Common.{◌≡◌, ◌≢◌, ℕ, zero, suc, ◌+◌, ◌^◌, ◌<◌, ◌≤◌, true, List, [], ◌∷◌, length, map, get_or, sym, subst, arith, inl, inr}
-use Rattle.std.specs.Prelude.{nat_lt, nat_le, ◌&&◌}
+use Rattle.std.specs.Prelude.{nat_lt, nat_le}
 use Rattle.std.specs.List.{list_all, sum_by}
 use Rattle.std.proofs.lemmas.Bool.{and_parts, leb-true, ltb-true, cases_lt}
 use Rattle.std.proofs.lemmas.List.{length-map, get_or-map}
-use Rattle.std.proofs.lemmas.List.Sums.{sum_by-le}
+use Rattle.std.proofs.lemmas.List.Sums.{sum_by-le, AllPass-from_list_all}
 use Rattle.std.proofs.lemmas.List.Sorted.{IsPermutation-refl}
 use Rattle.px_event.specs.Fit.{is_fit_entry}
-use Rattle.px_script.specs.Fit.{rise_above, is_fit_line, are_fit_lines, IsFitScript}
+use Rattle.px_script.specs.Fit.{rise_above, are_fit_lines, IsFitScript}
 use Rattle.px_flat.proofs.Known.{part_passes}
 use Rattle.px_script.specs.Order.{thread_entries, all_entries}
 use Rattle.px_script.specs.declared.script.Script.{Script}
 use Rattle.px_script.specs.declared.todo.Todo.{Todo}
 use Rattle.px_script.proofs.Orders.{entries_fit}
+use Rattle.px_script.proofs.Remainders.{fit_parts}
 
 -- ---- what each thread posts is fit
 
@@ -69,21 +70,10 @@ rise_within low (todo ∷ threads) rising within least =
 pub few_threads : (script : Script) → IsFitScript script → length script.threads ≤ 8
 few_threads script fit = omega (arith, rise_within 0 script.threads fit.rising fit.within (omega arith))
 
-lines_within : (threads : List Todo) (i : ℕ) (d : Todo) → i < length threads → list_all (λ todo. are_fit_lines todo.lines) threads ≡ true
-    → length (get_or threads i d).lines ≤ 100000
-lines_within [] i d within fit = absurd (omega arith)
-lines_within (todo ∷ threads) zero d within fit =
-    let one = and_parts (are_fit_lines todo.lines) (list_all (λ todo. are_fit_lines todo.lines) threads) fit in
-    let some = nat_le 1 (length todo.lines) in
-    let few = nat_le (length todo.lines) 100000 in
-    let rise = rise_above 0 (map (λ line. line.number) todo.lines) in
-    let counts = and_parts (some && few && rise) (list_all is_fit_line todo.lines) one.0 in
-    leb-true (length todo.lines) 100000 (and_parts some few (and_parts (some && few) rise counts.0).0).1
-lines_within (todo ∷ threads) (suc i) d within fit =
-    lines_within threads i d (omega arith) (and_parts (are_fit_lines todo.lines) (list_all (λ todo. are_fit_lines todo.lines) threads) fit).1
-
 pub few_lines : (script : Script) (i : ℕ) (d : Todo) → IsFitScript script → i < length script.threads → length (get_or script.threads i d).lines ≤ 100000
-few_lines script i d fit within = lines_within script.threads i d within fit.lines
+few_lines script i d fit within =
+    (fit_parts (get_or script.threads i d).lines
+    (AllPass-from_list_all (λ (todo : Todo). are_fit_lines todo.lines) script.threads fit.lines i d within)).few
 
 pub counts_fit : (script : Script) → IsFitScript script → sum_by (λ (todo : Todo). length todo.lines) script.threads < 2 ^ 64
 counts_fit script fit =

@@ -4,7 +4,7 @@ use Rattle.std.specs.Prelude.{◌==◌}
 use Rattle.std.specs.Option.{option_map}
 use Rattle.std.proofs.lemmas.Bool.{cases_Bool, eqb-true}
 use Rattle.std.specs.Borrow.{Bor}
-use Rattle.std.proofs.lemmas.List.{append_assoc, at_drop_more, length_push}
+use Rattle.std.proofs.lemmas.List.{append_assoc, at_drop_more, length_push, map-append}
 use Rattle.px_value.specs.declared.value.Value.{Value}
 use Rattle.px_script.specs.Place.{in_place, behind_place, behind_sign}
 use Rattle.px_script.specs.SetLine.{with_argument, arguments_from, arguments_in, all_values}
@@ -84,8 +84,7 @@ values_step places i d values value within is =
     values_at values value (get_or places i d) (drop (i + 1) places) is ∙ sym (at_drop_more (values_from values) places i d within)
 
 pub places_push : (items : List (Bor (List ℕ))) (arg : Bor (List ℕ)) → places_of (items ++ arg ∷ []) ≡ places_of items ++ arg.now ∷ []
-places_push [] arg = refl
-places_push (item ∷ items) arg = ap (λ list. item.now ∷ list) (places_push items arg)
+places_push items arg = map-append (λ (place : Bor (List ℕ)). place.now) items (arg ∷ [])
 
 pub comma_step : (args : List (List ℕ)) (n : ℕ) (text rest : List ℕ) → n < 8 → behind_sign 44 (behind_place text) ≡ Some rest
     → reading (args ++ in_place text ∷ []) (8 - (n + 1)) rest ≡ reading args (8 - n) text

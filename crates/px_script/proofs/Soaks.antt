@@ -4,6 +4,9 @@ use Rattle.std.specs.Prelude.{◌&&◌, nat_le, nat_lt}
 use Rattle.std.specs.List.{list_all, range_with_len, slice_get}
 use Rattle.std.proofs.lemmas.Bool.{le-leb, lt-ltb, and_from, and_parts}
 use Rattle.std.proofs.lemmas.List.FromFn.{length-map-range_with_len, map-range_with_len_more}
+use Rattle.std.proofs.lemmas.List.Sums.{AllPass-from_list_all}
+use Rattle.std.proofs.lemmas.Option.{get_or_from_slice_get, slice_get_within}
+use Rattle.px_value.proofs.General.{list_all-filter}
 use Rattle.px_core.specs.Plan.{Site}
 use Rattle.px_event.specs.declared.entry.Entry.{Entry}
 use Rattle.px_sem.specs.Log.{Log}
@@ -17,7 +20,6 @@ use Rattle.px_script.specs.declared.line.What.TheVariants as whats
 use Rattle.px_script.specs.declared.script.Script.{Script}
 use Rattle.px_script.specs.declared.stall.Stall.{Stall}
 use Rattle.px_script.specs.declared.todo.Todo.{Todo}
-use Rattle.px_script.proofs.Remainders.{list_all-filter}
 
 -- one line more
 pub lines_more : (seed n : ℕ) (lines : List Line) → lines ≡ map (soak_line seed) (range_with_len 1 n)
@@ -79,11 +81,9 @@ each_posts seed from zero = refl
 each_posts seed from (suc count) = each_posts seed (from + 1) count
 
 post_at : (lines : List Line) (k : ℕ) (line : Line) → list_all is_post lines ≡ true → slice_get lines k ≡ Some line → is_post line ≡ true
-post_at [] k line all is = absurd (cc)
-post_at (first ∷ lines) zero line all is =
-    let same : first ≡ line = cc in
-    subst (λ l. is_post l ≡ true) same (and_parts (is_post first) (list_all is_post lines) all).0
-post_at (first ∷ lines) (suc k) line all is = post_at lines k line (and_parts (is_post first) (list_all is_post lines) all).1 is
+post_at lines k line all is =
+    subst (λ l. is_post l ≡ true) (get_or_from_slice_get lines k line line is)
+    (AllPass-from_list_all is_post lines all k line (slice_get_within lines k line is))
 
 module _ (plan : List Site) (first : List Entry) (log : Log) where
   never_stands : (todo : Todo) (stall : Stall) → list_all is_post todo.lines ≡ true → StandsAt plan first log todo stall → ⊥

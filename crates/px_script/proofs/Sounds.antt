@@ -7,21 +7,20 @@ use Rattle.std.proofs.lemmas.List.Elements.{filter_map-append, All-nil, All-cons
 use Rattle.std.proofs.lemmas.List.Sums.{AllPass-from_list_all}
 use Rattle.std.proofs.lemmas.Option.{slice_get_within, get_or_from_slice_get}
 use Rattle.std.proofs.lemmas.Bool.{eqb-true, eq-eqb, cases_Bool}
-use Rattle.px_value.proofs.General.{All-unmap, All-front}
+use Rattle.px_value.proofs.General.{All-front, All-unmap, all_given}
 use Rattle.px_core.specs.Plan.{Site}
 use Rattle.px_event.specs.declared.entry.Entry.{Entry}
 use Rattle.px_script.specs.Fit.{rise_above, are_fit_lines, IsFitScript}
 use Rattle.px_script.specs.Follows.{HasOnly, GoesThrough, Follows, IsNextPost}
-use Rattle.px_script.specs.Order.{entry_of, thread_entries, all_entries}
+use Rattle.px_script.specs.Order.{entry_of, posts_of, thread_entries, all_entries}
 use Rattle.px_script.specs.Remainder.{entries_of, last_line, left_of, has_a_line, rest}
 use Rattle.px_script.specs.Sound.{IsSoundFor}
 use Rattle.px_script.specs.declared.line.Line.{Line}
 use Rattle.px_script.specs.declared.line.What.TheVariants as whats
 use Rattle.px_script.specs.declared.script.Script.{Script}
 use Rattle.px_script.specs.declared.todo.Todo.{Todo}
-use Rattle.px_script.proofs.OwnPosts.{posts_of}
 use Rattle.px_script.proofs.Remainders.{line_of, numbers_of, fit_parts}
-use Rattle.px_script.proofs.Thins.{All-unfilter, each_given, all_given, rise-front, rise-append, rise-take, lines_above_rise, posts_rise, numbers_of-append, accepted_rise}
+use Rattle.px_script.proofs.Thins.{All-unfilter, each_given, rise-front, rise-append, rise-take, lines_above_rise, posts_rise, numbers_of-append, accepted_rise}
 use Rattle.px_script.proofs.Walks.{line_at, posted_by}
 use Rattle.px_sem.specs.Log.{Log, is_accepted, posted_in, accepted}
 use Rattle.px_sem.specs.declared.log.LogEntry.{LogEntry}

@@ -1,19 +1,19 @@
 -- The kinds of nodes that are told one after another.
-use Rattle.std.proofs.Common.{◌≡◌, ℕ, zero, suc, ◌<◌, ◌++◌, Bool, true, false, List, [], ◌∷◌, length, get_or, refl, ap, sym, ◌∙◌, arith, append-nil, append_assoc, inl, inr, Option, Some, None, is_some, if◌then◌else◌}
+use Rattle.std.proofs.Common.{◌≡◌, ℕ, zero, suc, ◌<◌, ◌++◌, true, false, List, [], ◌∷◌, length, get_or, refl, ap, sym, ◌∙◌, arith, append-nil, append_assoc, inl, inr, Option, Some, None, is_some, if◌then◌else◌}
 use Rattle.std.specs.Cmp.Lexicographic.{same_text}
 use Rattle.std.specs.List.{list_all}
 use Rattle.std.specs.Map.{lookup}
 use Rattle.std.specs.Option.{option_or}
 use Rattle.std.proofs.lemmas.Bool.{and_parts, cases_Bool}
 use Rattle.std.proofs.lemmas.List.{map-append, nil_from_length}
-use Rattle.std.proofs.lemmas.List.Folds.{list_all-append, list_all-map}
+use Rattle.std.proofs.lemmas.List.Folds.{list_all-map}
+use Rattle.px_value.proofs.General.{list_all_parts, lookup-append}
 use Rattle.px_value.specs.Path.{below}
 use Rattle.px_core.proofs.Trees.{node_tree}
 use Rattle.px_core.specs.declared.node.CoreNode.{CoreNode}
 use Rattle.px_core.specs.declared.node.Kind.{Kind}
 use Rattle.px_core.specs.Fit.{has_short_path}
-use Rattle.px_core.specs.Plan.{Tree, NoNode, Branch, Site, sites_under, sites, tree_of_node, is_same, trees_of}
-use Rattle.px_flat.specs.Laying.{below_it}
+use Rattle.px_core.specs.Plan.{Tree, NoNode, Branch, Site, sites_under, sites, tree_of_node, is_same, trees_of, below_it}
 use Rattle.px_flat.proofs.Trees.{node_head, sites_of_one}
 use Rattle.px_script.specs.Telling.{TellKinds, all_kinds, kinds_under, has_short}
 
@@ -71,8 +71,7 @@ short_parts : (parent : List ℕ) (node : CoreNode) (nodes : List CoreNode) → 
 short_parts parent node nodes short =
     let parts = and_parts (has_short (own parent node)) (list_all has_short (inner parent node ++ kinds_under parent (trees_of nodes)))
     (sym (ap (λ tree. list_all has_short (kinds_under parent tree)) (node_tree node (trees_of nodes))) ∙ short) in
-    let rest = and_parts (list_all has_short (inner parent node)) (list_all has_short (kinds_under parent (trees_of nodes)))
-    (sym (list_all-append has_short (inner parent node) (kinds_under parent (trees_of nodes))) ∙ parts.1) in
+    let rest = list_all_parts has_short (inner parent node) (kinds_under parent (trees_of nodes)) parts.1 in
     (record { own = parts.0; inner = rest.0 }, rest.1)
 
 pub short_child : (parent : List ℕ) (nodes : List CoreNode) (i : ℕ) (d : CoreNode) → i < length nodes
@@ -84,23 +83,11 @@ short_child parent (node ∷ nodes) (suc i) d within short =
 
 -- ---- what entries tell
 
--- what is told of a path is told first, or behind that
-told_of_both : (path : List ℕ) (front behind : Told)
-    → lookup (is_same path) (front ++ behind) ≡ option_or (lookup (is_same path) front) (lookup (is_same path) behind)
-told_of_both path [] behind = refl
-told_of_both path (told ∷ front) behind = by (is_same path told.0) (told_of_both path front behind)
-  where
-    by : (here : Bool) → lookup (is_same path) (front ++ behind) ≡ option_or (lookup (is_same path) front) (lookup (is_same path) behind)
-        → (if here then Some told.1 else lookup (is_same path) (front ++ behind))
-        ≡ option_or (if here then Some told.1 else lookup (is_same path) front) (lookup (is_same path) behind)
-    by true rest = refl
-    by false rest = rest
-
 -- entries that tell the same tell the same with more behind them
 both_tell : (entries kinds behind : Told) → TellKinds entries kinds → TellKinds (entries ++ behind) (kinds ++ behind)
 both_tell entries kinds behind same path =
-    told_of_both path entries behind ∙ ap (λ told. option_or told (lookup (is_same path) behind)) (same path)
-    ∙ sym (told_of_both path kinds behind)
+    lookup-append (is_same path) entries behind ∙ ap (λ told. option_or told (lookup (is_same path) behind)) (same path)
+    ∙ sym (lookup-append (is_same path) kinds behind)
 
 -- a path of which something is told already
 pub told_already : (entries : Told) (path : List ℕ) (kind : Kind) → is_some (lookup (is_same path) entries) ≡ true
@@ -116,9 +103,9 @@ told_already entries path kind there other = by (lookup (is_same other) entries)
 
     by : (told : Option Kind) → lookup (is_same other) entries ≡ told
         → lookup (is_same other) entries ≡ lookup (is_same other) (entries ++ (path, kind) ∷ [])
-    by None is = is ∙ sym (told_of_both other entries ((path, kind) ∷ []) ∙ ap (λ told. option_or told (lookup (is_same other) ((path, kind) ∷ []))) is
+    by None is = is ∙ sym (lookup-append (is_same other) entries ((path, kind) ∷ []) ∙ ap (λ told. option_or told (lookup (is_same other) ((path, kind) ∷ []))) is
         ∙ ap (λ here. if here then Some kind else None) (none_else other is))
-    by (Some first) is = is ∙ sym (told_of_both other entries ((path, kind) ∷ []) ∙ ap (λ told. option_or told (lookup (is_same other) ((path, kind) ∷ []))) is)
+    by (Some first) is = is ∙ sym (lookup-append (is_same other) entries ((path, kind) ∷ []) ∙ ap (λ told. option_or told (lookup (is_same other) ((path, kind) ∷ []))) is)
 
 -- one child more is told, and what is below it
 pub told_next : (parent : List ℕ) (old before own_told now : Told) (done : List CoreNode) (node : CoreNode)

@@ -1,19 +1,18 @@
 -- Numbers that rise still do as some are left out, in a front of them, and with greater ones behind; what holds of all that
 -- stays of a list.
-use Rattle.std.proofs.Common.{rules, ◌≡◌, ℕ, zero, suc, Bool, true, false, List, [], ◌∷◌, ◌++◌, map, take, Option, Some, None, refl, ap, ◌∙◌, subst, arith, cond, eqb, inl, inr}
+use Rattle.std.proofs.Common.{rules, ◌≡◌, ℕ, Bool, true, false, List, [], ◌∷◌, ◌++◌, map, take, drop, Option, Some, None, refl, sym, ap, ◌∙◌, subst, arith, cond, eqb, inl, inr}
 use Rattle.std.specs.Prelude.{max, nat_lt, IfSome}
 use Rattle.std.specs.List.{filter, filter_map, cons_option, fold, All}
-use Rattle.std.proofs.lemmas.List.{map-append}
+use Rattle.std.proofs.lemmas.List.{map-append, take-append-drop}
 use Rattle.std.proofs.lemmas.List.Elements.{filter-append, All-nil, All-cons, All-head, All-tail}
 use Rattle.std.proofs.lemmas.Bool.{ltb-true, and_parts, and_from, cases_Bool}
 use Rattle.px_event.specs.declared.entry.Entry.{Entry}
 use Rattle.px_script.specs.Fit.{rise_above}
-use Rattle.px_script.specs.Order.{entry_of}
+use Rattle.px_script.specs.Order.{entry_of, posts_of}
 use Rattle.px_script.specs.Remainder.{entries_of, lines_above}
 use Rattle.px_script.specs.declared.line.Line.{Line}
 use Rattle.px_script.specs.declared.line.What.{What}
 use Rattle.px_script.specs.declared.line.What.TheVariants as whats
-use Rattle.px_script.proofs.OwnPosts.{posts_of}
 use Rattle.px_script.proofs.Remainders.{line_of, numbers_of, rise_from, rise-filter}
 use Rattle.px_script.proofs.Walks.{line_at}
 use Rattle.px_sem.specs.Log.{Log, is_accepted, posted_in, accepted}
@@ -36,20 +35,11 @@ first_given : {X : Type 0} (P : X → Type 0) (o : Option X) (xs : List X) → A
 first_given P None xs all = (tt, all)
 first_given P (Some x) xs all = (All-head P x xs all, All-tail P x xs all)
 
-given_first : {X : Type 0} (P : X → Type 0) (o : Option X) (xs : List X) → IfSome o P → All P xs → All P (cons_option o xs)
-given_first P None xs one all = all
-given_first P (Some x) xs one all = All-cons P x xs one all
-
 pub each_given : {X Y : Type 0} (P : Y → Type 0) (f : X → Option Y) (xs : List X) → All P (filter_map f xs) → All (λ x. IfSome (f x) P) xs
 each_given P f [] all = All-nil (λ x. IfSome (f x) P)
 each_given P f (x ∷ xs) all =
     let parts = first_given P (f x) (filter_map f xs) all in
     All-cons (λ x. IfSome (f x) P) x xs parts.0 (each_given P f xs parts.1)
-
-pub all_given : {X Y : Type 0} (P : Y → Type 0) (f : X → Option Y) (xs : List X) → All (λ x. IfSome (f x) P) xs → All P (filter_map f xs)
-all_given P f [] all = All-nil P
-all_given P f (x ∷ xs) all =
-    given_first P (f x) (filter_map f xs) (All-head (λ x. IfSome (f x) P) x xs all) (all_given P f xs (All-tail (λ x. IfSome (f x) P) x xs all))
 
 -- ---- numbers that rise
 
@@ -68,11 +58,9 @@ rise-append low (x ∷ xs) ys rising more =
     (rise-append x xs ys parts.1 (subst (λ (top : ℕ). rise_above (fold max top xs) ys ≡ true) greater more))
 
 pub rise-take : {X : Type 0} (number : X → ℕ) (low count : ℕ) (xs : List X) → rise_above low (map number xs) ≡ true → rise_above low (map number (take count xs)) ≡ true
-rise-take number low zero xs rising = refl
-rise-take number low (suc count) [] rising = refl
-rise-take number low (suc count) (x ∷ xs) rising =
-    let parts = and_parts (nat_lt low (number x)) (rise_above (number x) (map number xs)) rising in
-    and_from (nat_lt low (number x)) (rise_above (number x) (map number (take count xs))) parts.0 (rise-take number (number x) count xs parts.1)
+rise-take number low count xs rising =
+    rise-front low (map number (take count xs)) (map number (drop count xs))
+    (ap (rise_above low) (sym (map-append number (take count xs) (drop count xs)) ∙ ap (map number) (take-append-drop count xs)) ∙ rising)
 
 -- the lines above a number rise above it
 pub lines_above_rise : (high low : ℕ) (lines : List Line) → rise_above low (map (λ line. line.number) lines) ≡ true

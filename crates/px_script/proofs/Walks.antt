@@ -1,7 +1,7 @@
 -- How a thread's walk through a log goes on as the log grows, and as it passes one line more.
 use Rattle.std.proofs.Common.{◌≡◌, ℕ, ◌≤◌, List, [], ◌∷◌, ◌++◌, length, Some, refl, sym, ap, ◌∙◌, subst, arith}
 use Rattle.std.specs.List.{slice_get}
-use Rattle.std.proofs.lemmas.List.{map-append, append_assoc, length-append, length-map, length_push, take_all, take-append-le, get_or_append_left, get_or_push}
+use Rattle.std.proofs.lemmas.List.{map-append, append-nil, append_assoc, length-append, length-map, length_push, take_all, take-append-le, get_or_append_left, get_or_push}
 use Rattle.std.proofs.lemmas.Option.{slice_get_within, slice_get-get_or, get_or_from_slice_get}
 use Rattle.px_core.specs.Plan.{Site}
 use Rattle.px_event.specs.declared.entry.Entry.{Entry}
@@ -52,34 +52,6 @@ module _ (plan : List Site) (first : List Entry) where
   same_behind log more at (whats.Post event) = refl
   same_behind log more at (whats.Wait cond) = refl
 
-  -- lines that walk through a log, and a line behind them that is passed at a place in what came since, walk through both
-  pub walks_then : (log more : Log) (thread from : ℕ) (lines : List Line) (line : Line) (at : ℕ) → Walks plan first log thread from lines
-      → length log ≤ at → place_behind plan first (log ++ more) at line.what ≤ length (log ++ more)
-      → PassesAt plan first (log ++ more) thread at line → Walks plan first (log ++ more) thread from (lines ++ line ∷ [])
-  walks_then log more thread from [] line at walk later within passes = (at, omega (arith, walk), passes, within)
-  walks_then log more thread from (next ∷ lines) line at walk later within passes =
-      let behind = place_behind plan first log walk.0 next.what in (
-        walk.0,
-        walk.1,
-        passes_longer log more thread walk.0 next.number next.what (walks_within log thread behind lines walk.3) walk.2,
-        subst (λ (from : ℕ). Walks plan first (log ++ more) thread from (lines ++ line ∷ [])) (same_behind log more walk.0 next.what)
-            (walks_then log more thread behind lines line at walk.3 later within passes),
-      )
-
-  -- and the lines alone walk through both
-  pub walks_longer : (log more : Log) (thread from : ℕ) (lines : List Line) → Walks plan first log thread from lines
-      → Walks plan first (log ++ more) thread from lines
-  walks_longer log more thread from [] walk = omega (arith, walk, length-append log more)
-  walks_longer log more thread from (line ∷ lines) walk =
-      let behind = place_behind plan first log walk.0 line.what in (
-        walk.0,
-        walk.1,
-        passes_longer log more thread walk.0 line.number line.what (walks_within log thread behind lines walk.3) walk.2,
-        subst (λ (from : ℕ). Walks plan first (log ++ more) thread from lines) (same_behind log more walk.0 line.what)
-            (walks_longer log more thread behind lines walk.3),
-      )
-
-module _ (plan : List Site) (first : List Entry) where
   -- a walk from a place is one from a place before it
   walks_sooner : (log : Log) (thread from sooner : ℕ) (lines : List Line) → sooner ≤ from → Walks plan first log thread from lines
       → Walks plan first log thread sooner lines
@@ -94,10 +66,24 @@ module _ (plan : List Site) (first : List Entry) where
       let behind = place_behind plan first log walk.0 line.what in (
         walk.0,
         walk.1,
-        passes_longer plan first log more thread walk.0 line.number line.what (walks_within plan first log thread behind lines walk.3) walk.2,
-        subst (λ (from : ℕ). Walks plan first (log ++ more) thread from (lines ++ others)) (same_behind plan first log more walk.0 line.what)
+        passes_longer log more thread walk.0 line.number line.what (walks_within log thread behind lines walk.3) walk.2,
+        subst (λ (from : ℕ). Walks plan first (log ++ more) thread from (lines ++ others)) (same_behind log more walk.0 line.what)
             (walks_joined log more thread behind lines others walk.3 next),
       )
+
+  -- and a line behind them that is passed at a place in what came since
+  pub walks_then : (log more : Log) (thread from : ℕ) (lines : List Line) (line : Line) (at : ℕ) → Walks plan first log thread from lines
+      → length log ≤ at → place_behind plan first (log ++ more) at line.what ≤ length (log ++ more)
+      → PassesAt plan first (log ++ more) thread at line → Walks plan first (log ++ more) thread from (lines ++ line ∷ [])
+  walks_then log more thread from lines line at walk later within passes =
+      walks_joined log more thread from lines (line ∷ []) walk (at, later, passes, within)
+
+  -- and the lines alone walk through both
+  pub walks_longer : (log more : Log) (thread from : ℕ) (lines : List Line) → Walks plan first log thread from lines
+      → Walks plan first (log ++ more) thread from lines
+  walks_longer log more thread from lines walk =
+      subst (λ (lines : List Line). Walks plan first (log ++ more) thread from lines) (append-nil lines)
+      (walks_joined log more thread from lines [] walk (omega (arith, length-append log more)))
 
 -- what was pushed is the last
 slice_get-push : {X : Type 0} (xs : List X) (x : X) → slice_get (xs ++ x ∷ []) (length xs) ≡ Some x

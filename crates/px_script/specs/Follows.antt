@@ -3,6 +3,7 @@
 use Rattle.std.specs.Prelude.{◌≡◌, ◌≢◌, ◌≤◌, ◌+◌, ℕ, List, [], ◌∷◌, ◌++◌, length, take, All, Some}
 use Rattle.std.specs.List.{slice_get, Contains}
 use Rattle.px_core.specs.Plan.{Site}
+use Rattle.px_event.specs.Fit.{entry_of as posted_by}
 use Rattle.px_event.specs.declared.entry.Entry.{Entry}
 use Rattle.px_script.specs.Order.{thread_entries}
 use Rattle.px_script.specs.Remainder.{entries_of}
@@ -31,7 +32,7 @@ module _ (plan : List Site) (first : List Entry) (log : Log) where
     where
       by : What → Type 0
       by (whats.Post event) =
-          slice_get (posted_in log) at ≡ Some (record { thread = thread; line = line.number; event = event })
+          slice_get (posted_in log) at ≡ Some (posted_by thread line.number event)
       by (whats.Wait cond) = IsMetBehind plan (first ++ accepted (take at log)) cond
 
   -- the place behind a line that was passed at this one

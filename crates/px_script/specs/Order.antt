@@ -2,6 +2,7 @@
 use Rattle.std.specs.Prelude.{ℕ, List, Option, Some, None}
 use Rattle.std.specs.List.{filter_map, flat_map}
 use Rattle.std.specs.List.Sorted.{IsPermutation, IsNonDecreasingBy}
+use Rattle.px_event.specs.Fit.{entry_of as posted_by}
 use Rattle.px_event.specs.declared.entry.Entry.{Entry}
 use Rattle.px_script.specs.declared.line.Line.{Line}
 use Rattle.px_script.specs.declared.line.What.{What}
@@ -13,12 +14,16 @@ abbrev pub entry_of : ℕ → Line → Option Entry
 entry_of thread line = entry_of_what line.what
   where
     entry_of_what : What → Option Entry
-    entry_of_what (whats.Post event) = Some (record { thread = thread; line = line.number; event = event })
+    entry_of_what (whats.Post event) = Some (posted_by thread line.number event)
     entry_of_what (whats.Wait cond) = None
 
--- what a thread posts, in order
+-- what lines post on a thread, in order
+abbrev pub posts_of : ℕ → List Line → List Entry
+posts_of thread lines = filter_map (entry_of thread) lines
+
+-- what a thread posts
 abbrev pub thread_entries : Todo → List Entry
-thread_entries todo = filter_map (entry_of todo.thread) todo.lines
+thread_entries todo = posts_of todo.thread todo.lines
 
 -- what all threads post, one thread after another
 abbrev pub all_entries : List Todo → List Entry

@@ -110,10 +110,13 @@ fault_in lines said = by said.says
     by (Thread number (Some name)) = if is_named_otherwise lines said number name then Some (said.number, OtherName) else None
     by (Faulty kind) = Some (said.number, kind)
 
--- the threads from 1 to 8 that have a line, each with its lines
+-- what a thread does
+abbrev pub todo_of : List Said → ℕ → Todo
+todo_of lines thread = record { thread = thread; lines = lines_of_thread thread lines }
+
+-- the threads from 1 to 8 that have a line
 abbrev pub threads_of : List Said → List Todo
-threads_of lines =
-    filter has_a_line (map (λ thread. record { thread = thread; lines = lines_of_thread thread lines }) (range_with_len 1 8))
+threads_of lines = filter has_a_line (map (todo_of lines) (range_with_len 1 8))
 
 -- each thread's first name, in the order in which the threads are first named
 abbrev pub first_names : List ThreadName → List ThreadName

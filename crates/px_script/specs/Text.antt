@@ -1,6 +1,7 @@
 -- Lines, and parts of lines.
-use Rattle.std.specs.Prelude.{ℕ, ◌-◌, Bool, true, false, ◌||◌, ◌==◌, List, [], ◌∷◌, length, take, drop, Option, Some, None}
+use Rattle.std.specs.Prelude.{ℕ, ◌-◌, Bool, true, false, ◌||◌, ◌==◌, List, [], ◌∷◌, length, take, drop, Option}
 use Rattle.std.specs.List.{prefix_len, suffix_len, position_or_len, slice_split, before_first}
+use Rattle.std.specs.Option.{option_map_or}
 use Rattle.std.specs.Str.Lines.{strip_carriage_return}
 
 -- a blank or a tab
@@ -13,8 +14,7 @@ lines_of bytes = slice_split (λ c. c == 10) bytes
 
 -- the lines of what is left of a text, if anything is
 abbrev pub lines_left : Option (List ℕ) → List (List ℕ)
-lines_left None = []
-lines_left (Some text) = lines_of text
+lines_left text = option_map_or lines_of text []
 
 -- a text without the blanks at its front, and without those at its end
 abbrev pub trim_start : List ℕ → List ℕ

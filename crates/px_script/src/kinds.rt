@@ -3,8 +3,7 @@ ghost use Rattle.std.specs.Prelude.{◌≡◌, ◌++◌, [], ◌∷◌, IsTrue, 
 ghost use Rattle.std.specs.List.{find, list_all};
 ghost use Rattle.std.specs.Option.{option_map};
 ghost use Rattle.px_core.specs.Fit.{IsFit};
-ghost use Rattle.px_core.specs.Plan.{tree_of, sites, is_same};
-ghost use Rattle.px_flat.specs.Laying.{below_it};
+ghost use Rattle.px_core.specs.Plan.{tree_of, sites, is_same, below_it};
 ghost use Rattle.px_script.specs.Telling.{TellKinds, all_kinds, kinds_under, has_short};
 
 use indexmap::IndexMap;

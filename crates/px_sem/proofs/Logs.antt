@@ -1,9 +1,11 @@
 -- How a legal log grows by one post.
-use Rattle.std.proofs.Common.{◌≡◌, ℕ, nat_le, Bool, true, false, List, [], ◌∷◌, ◌++◌, length, map, filter, Option, Some, None, IsSome, refl, ap, sym, subst, ◌∙◌, arith, ◌+◌, ◌≤◌, length-append, append_assoc, append-nil, if◌then◌else◌}
+use Rattle.std.proofs.Common.{◌≡◌, ℕ, nat_le, Bool, true, false, List, [], ◌∷◌, ◌++◌, length, filter, Option, Some, None, IsSome, refl, ap, sym, subst, ◌∙◌, arith, ◌+◌, ◌≤◌, length-append, append_assoc, append-nil}
 use Rattle.std.specs.List.{list_all}
-use Rattle.std.proofs.lemmas.Bool.{and_parts}
 use Rattle.std.proofs.lemmas.Bool.Decides.{nat_tests}
 use Rattle.std.proofs.lemmas.List.{map-append, length-map}
+use Rattle.std.proofs.lemmas.List.Elements.{filter-append}
+use Rattle.std.proofs.lemmas.List.Folds.{list_all-map}
+use Rattle.px_value.proofs.General.{list_all-filter}
 use Rattle.px_core.specs.Plan.{Site}
 use Rattle.px_event.specs.declared.entry.Entry.{Entry}
 use Rattle.px_event.specs.declared.event.Event.{Event}
@@ -15,7 +17,7 @@ use Rattle.px_sem.specs.declared.standing.Standing.{Standing}
 use Rattle.px_sem.specs.declared.standing.Standing.TheVariants.{Running, Finished}
 use Rattle.px_sem.specs.World.{World, standing_of}
 use Rattle.px_sem.specs.Run.{posted, started, settled_world, run_on, run}
-use Rattle.px_sem.specs.Log.{Log, logged_as, events_of, is_accepted, accepted, answer_by, answer, world_after, AnswersEach, PostsPart, IsLegal}
+use Rattle.px_sem.specs.Log.{Log, logged_as, events_of, is_accepted, accepted, posted_in, answer_by, answer, world_after, AnswersEach, PostsPart, IsLegal}
 use Rattle.px_sem.specs.Stepper.{State, settled_state}
 
 pub run_on_none : (plan : List Site) (now : Option World) → run_on plan now [] ≡ now
@@ -51,32 +53,19 @@ pub run_more : (plan : List Site) (history : List Event) (event : Event) (world 
     → run plan (history ++ event ∷ []) ≡ settled_world (posted plan world event)
 run_more plan history event world is = run_on_more plan (settled_world (started plan)) history event world is
 
--- the accepted entries of one post, and of those behind it
-accepted_first : (logged : LogEntry) (log : Log) → accepted (logged ∷ log) ≡ accepted (logged ∷ []) ++ accepted log
-accepted_first logged log = by (is_accepted logged.reply)
-  where
-    by : (b : Bool) → map (λ l. l.entry) (if b then logged ∷ filter (λ l. is_accepted l.reply) log else filter (λ l. is_accepted l.reply) log)
-        ≡ map (λ l. l.entry) (if b then logged ∷ [] else []) ++ accepted log
-    by true = refl
-    by false = refl
+-- the accepted entries of two logs, one behind the other
+pub accepted-append : (front back : Log) → accepted (front ++ back) ≡ accepted front ++ accepted back
+accepted-append front back =
+    let passes : LogEntry → Bool = λ logged. is_accepted logged.reply in
+    ap posted_in (filter-append passes front back)
+    ∙ map-append (λ (logged : LogEntry). logged.entry) (filter passes front) (filter passes back)
 
 -- the events of a log's history
 abbrev pub history_of : Log → List Event
 history_of log = events_of (accepted log)
 
-history_first : (logged : LogEntry) (log : Log) → history_of (logged ∷ log) ≡ history_of (logged ∷ []) ++ history_of log
-history_first logged log = ap events_of (accepted_first logged log) ∙ map-append (λ e. e.event) (accepted (logged ∷ [])) (accepted log)
-
-pub accepted_more : (log : Log) (logged : LogEntry) → accepted (log ++ logged ∷ []) ≡ accepted log ++ accepted (logged ∷ [])
-accepted_more [] logged = refl
-accepted_more (first ∷ log) logged =
-    accepted_first first (log ++ logged ∷ [])
-    ∙ ap (λ entries. accepted (first ∷ []) ++ entries) (accepted_more log logged)
-    ∙ sym (append_assoc (accepted (first ∷ [])) (accepted log) (accepted (logged ∷ [])))
-    ∙ ap (λ entries. entries ++ accepted (logged ∷ [])) (sym (accepted_first first log))
-
-history_more : (log : Log) (logged : LogEntry) → history_of (log ++ logged ∷ []) ≡ history_of log ++ history_of (logged ∷ [])
-history_more log logged = ap events_of (accepted_more log logged) ∙ map-append (λ e. e.event) (accepted log) (accepted (logged ∷ []))
+history-append : (front back : Log) → history_of (front ++ back) ≡ history_of front ++ history_of back
+history-append front back = ap events_of (accepted-append front back) ∙ map-append (λ e. e.event) (accepted front) (accepted back)
 
 -- one post more, answered over the history of its moment
 pub answers_more : (plan : List Site) (limit : ℕ) (history : List Event) (log : Log) (logged : LogEntry) (world : World)
@@ -89,7 +78,7 @@ answers_more plan limit history [] logged world each runs is = (
 )
 answers_more plan limit history (first ∷ log) logged world each runs is =
     let behind : history ++ history_of (first ∷ log) ≡ (history ++ history_of (first ∷ [])) ++ history_of log =
-    ap (λ events. history ++ events) (history_first first log)
+    ap (λ events. history ++ events) (history-append (first ∷ []) log)
     ∙ sym (append_assoc history (history_of (first ∷ [])) (history_of log)) in (
       each.0,
       answers_more plan limit (history ++ history_of (first ∷ [])) log logged world each.1
@@ -100,7 +89,7 @@ answers_more plan limit history (first ∷ log) logged world each runs is =
 
 -- so far, these entries were posted, with this log and this history
 pub record IsPosting (plan : List Site) (limit : ℕ) (entries : List Entry) (log : Log) (history : List Entry) (now : State) (count : ℕ) : Type 0 where
-  pub each : map (λ logged. logged.entry) log ≡ entries
+  pub each : posted_in log ≡ entries
   pub answers : AnswersEach plan limit [] log
   pub accepts : history ≡ accepted log
   pub runs : run plan (history_of log) ≡ Some now.world
@@ -198,7 +187,7 @@ legal_run plan limit before (logged ∷ log) some answers =
     let step : Follows plan before now.0 logged.entry logged.reply = follows plan limit before now.0 logged.entry logged.reply now.1 now.2 in
     let next : IsSome (run plan (before ++ history_of (logged ∷ []))) = rw step.runs refl in
     subst (λ events. IsSome (run plan events))
-    (append_assoc before (history_of (logged ∷ [])) (history_of log) ∙ ap (λ more. before ++ more) (sym (history_first logged log)))
+    (append_assoc before (history_of (logged ∷ [])) (history_of log) ∙ ap (λ more. before ++ more) (sym (history-append (logged ∷ []) log)))
     (legal_run plan limit (before ++ history_of (logged ∷ [])) log next answers.1)
 
 pub legal_log_runs : (plan : List Site) (history : List Entry) (limit : ℕ) (log : Log) → IsLegal plan history limit log
@@ -208,16 +197,11 @@ legal_log_runs plan history limit log legal =
     (legal_run plan limit (events_of history) log legal.runs legal.answers)
 
 -- what was accepted is as fit as what was posted
-pub fit_accepted : (log : Log) → list_all is_fit_entry (map (λ logged. logged.entry) log) ≡ true → list_all is_fit_entry (accepted log) ≡ true
-fit_accepted [] fit = refl
-fit_accepted (logged ∷ log) fit =
-    let both = and_parts (is_fit_entry logged.entry) (list_all is_fit_entry (map (λ l. l.entry) log)) fit in
-    fit_first logged log (is_accepted logged.reply) both.0 (fit_accepted log both.1)
-  where
-    fit_first : (logged : LogEntry) (log : Log) (b : Bool) → is_fit_entry logged.entry ≡ true → list_all is_fit_entry (accepted log) ≡ true
-        → list_all is_fit_entry (map (λ l. l.entry) (if b then logged ∷ filter (λ l. is_accepted l.reply) log else filter (λ l. is_accepted l.reply) log)) ≡ true
-    fit_first logged log true first others = rw first others
-    fit_first logged log false first others = others
+pub fit_accepted : (log : Log) → list_all is_fit_entry (posted_in log) ≡ true → list_all is_fit_entry (accepted log) ≡ true
+fit_accepted log fit =
+    list_all-map is_fit_entry (λ (logged : LogEntry). logged.entry) (filter (λ logged. is_accepted logged.reply) log)
+    ∙ list_all-filter (λ (logged : LogEntry). is_fit_entry logged.entry) (λ logged. is_accepted logged.reply) log
+    (sym (list_all-map is_fit_entry (λ (logged : LogEntry). logged.entry) log) ∙ fit)
 
 pub posting_more : (plan : List Site) (limit : ℕ) (entries : List Entry) (log : Log) (history : List Entry) (now next : State) (count : ℕ) (entry : Entry) (reply : Reply)
     → IsPosting plan limit entries log history now count
@@ -227,10 +211,10 @@ pub posting_more : (plan : List Site) (limit : ℕ) (entries : List Entry) (log 
 posting_more plan limit entries log history now next count entry reply so_far is moved = record {
   each = map-append (λ l. l.entry) log (logged ∷ []) ∙ ap (λ es. es ++ entry ∷ []) so_far.each;
   answers = answers_more plan limit [] log logged now.world so_far.answers so_far.runs reply_is;
-  accepts = history_grows history entry reply ∙ ap (λ h. h ++ accepted (logged ∷ [])) so_far.accepts ∙ sym (accepted_more log logged);
-  runs = ap (run plan) (history_more log logged) ∙ after.runs ∙ ap Some (sym world_is);
+  accepts = history_grows history entry reply ∙ ap (λ h. h ++ accepted (logged ∷ [])) so_far.accepts ∙ sym (accepted-append log (logged ∷ []));
+  runs = ap (run plan) (history-append log (logged ∷ [])) ∙ after.runs ∙ ap Some (sym world_is);
   rest = moved ∙ ap (λ nodes. settled_state nodes (world_after now.nodes now.world entry.event reply)) nodes_is ∙ ap (settled_state plan) (sym (ap (λ (s : State). s.world) moved));
-  counted = ap (λ n. counted_after n reply) so_far.counted ∙ after.counted ∙ ap length (sym (history_more log logged));
+  counted = ap (λ n. counted_after n reply) so_far.counted ∙ after.counted ∙ ap length (sym (history-append log (logged ∷ [])));
   within = within_after now.nodes limit count now.world entry.event reply so_far.within is;
 }
   where

@@ -4,14 +4,14 @@ use Rattle.std.specs.List.{find, range_with_len}
 use Rattle.std.specs.Option.{option_map, unwrap_or}
 use Rattle.std.proofs.lemmas.Bool.{cases_lt}
 use Rattle.std.proofs.lemmas.List.FromFn.{get_or-range_with_len, length-range_with_len}
-use Rattle.px_value.proofs.General.{none_found}
+use Rattle.px_value.proofs.General.{none_found, option_map_some}
 use Rattle.px_sem.specs.declared.moves.Move.{Move}
 use Rattle.px_core.specs.Plan.{Site}
 use Rattle.px_sem.specs.World.{World}
 use Rattle.px_sem.specs.Conflicts.{is_quiet}
 use Rattle.px_sem.specs.Step.{micro, moves}
 use Rattle.px_sem.specs.Stepper.{State, Steps}
-use Rattle.px_sem.specs.Run.{step_limit, after_steps, least, IsLeast, settling_count, settled}
+use Rattle.px_sem.specs.Run.{step_limit, after_steps, is_quiet_after, least, IsLeast, settling_count, steps_until_quiet, settled}
 
 -- after so many micro steps, none of which began in a quiet world
 pub record IsUnderway (from now : State) (count : ℕ) : Type 0 where
@@ -135,7 +135,7 @@ underway_after_step from now next count made true u a s =
     busy : (j : ℕ) → j < count + 1 → is_quiet from.nodes (after_steps from.nodes from.world j) ≡ false
     busy j h = elim (cases_lt j count) [
       | inl below ↦ u.busy j below
-      | inr at ↦ let is : j ≡ count = omega arith in ap (λ k. is_quiet from.nodes (after_steps from.nodes from.world k)) is ∙ not_quiet
+      | inr at ↦ let is : j ≡ count = omega arith in ap (is_quiet_after from.nodes from.world) is ∙ not_quiet
     ]
 
 -- the moves of a step on the way
@@ -158,7 +158,7 @@ settles_at from now next count made true u within a s = cc
 settles_at from now next count made false u within a s =
     let quiet : is_quiet from.nodes (after_steps from.nodes from.world count) ≡ true =
     sym (ap (λ plan. is_quiet plan now.world) u.nodes ∙ ap (is_quiet from.nodes) u.reached) ∙ s.0 in
-    let at = least_at (λ k. is_quiet from.nodes (after_steps from.nodes from.world k)) step_limit count within quiet u.busy in
+    let at = least_at (is_quiet_after from.nodes from.world) step_limit count within quiet u.busy in
     let is : next.world ≡ after_steps from.nodes from.world count = ap (λ (x : State). x.world) s.1 ∙ u.reached in
     rw is (ap (option_map (λ k. (after_steps from.nodes from.world k, k))) at)
 
@@ -168,47 +168,32 @@ runs_away from now count u beyond =
     ap (option_map (λ k. (after_steps from.nodes from.world k, k)))
     (least_none _ step_limit (λ j h. u.busy j (omega arith)))
 
--- how many micro steps a world takes until it is quiet, where it settles
-abbrev pub steps_until_quiet : List Site → World → ℕ
-steps_until_quiet plan from = unwrap_or (settling_count plan from) 0
-
 -- the number of the micro steps of a world that settles
 pub settled_count : (plan : List Site) (from to : World) (count : ℕ) → settled plan from ≡ Some (to, count)
     → settling_count plan from ≡ Some count
-settled_count plan from to count is = at (settling_count plan from) is
-  where
-    at : (o : Option ℕ) → ◌≡◌ {A = Option (World × ℕ)} (option_map (λ k. (after_steps plan from k, k)) o) (Some (to, count))
-        → o ≡ Some count
-    at None e = cc
-    at (Some k) e = let pair : ◌≡◌ {A = World × ℕ} (after_steps plan from k, k) (to, count) = cc in ap (λ p. Some p.1) pair
+settled_count plan from to count is =
+    let found = option_map_some {Y = World × ℕ} (λ (k : ℕ). (after_steps plan from k, k)) (settling_count plan from) (to, count) is in
+    found.1 ∙ ap (λ (p : World × ℕ). Some p.1) found.2
 
 pub underway_within : (from now : State) (count : ℕ)
     → IsUnderway from now count → IsSome (settled from.nodes from.world)
     → (count ≤ steps_until_quiet from.nodes from.world) × (steps_until_quiet from.nodes from.world ≤ step_limit)
 underway_within from now count u s = at (settling_count from.nodes from.world) refl s
   where
-    test : ℕ → Bool
-    test k = is_quiet from.nodes (after_steps from.nodes from.world k)
-
-    until : (k : ℕ) → test k ≡ true → count ≤ k
+    until : (k : ℕ) → is_quiet_after from.nodes from.world k ≡ true → count ≤ k
     until k quiet = elim (cases_lt k count) [
-      | inl below ↦ let busy : test k ≡ false = u.busy k below in cc
+      | inl below ↦ let busy : is_quiet_after from.nodes from.world k ≡ false = u.busy k below in cc
       | inr beyond ↦ beyond
     ]
 
     at : (o : Option ℕ) → settling_count from.nodes from.world ≡ o
         → IsSome {T = World × ℕ} (option_map (λ k. (after_steps from.nodes from.world k, k)) o) → (count ≤ unwrap_or o 0) × (unwrap_or o 0 ≤ step_limit)
     at None e some = cc
-    at (Some k) e some = let found = least_found test step_limit k e in (until k found.passes, found.within)
+    at (Some k) e some = let found = least_found (is_quiet_after from.nodes from.world) step_limit k e in (until k found.passes, found.within)
 
 -- the world that a world settles into is quiet
 pub settled_quiet : (plan : List Site) (from to : World) (k : ℕ) → settled plan from ≡ Some (to, k) → is_quiet plan to ≡ true
-settled_quiet plan from to k is = at (settling_count plan from) refl is
-  where
-    at : (o : Option ℕ) → settling_count plan from ≡ o
-        → ◌≡◌ {A = Option (World × ℕ)} (option_map (λ j. (after_steps plan from j, j)) o) (Some (to, k)) → is_quiet plan to ≡ true
-    at None e is = cc
-    at (Some j) e is =
-        let pair : ◌≡◌ {A = World × ℕ} (after_steps plan from j, j) (to, k) = cc in
-        let found = least_found (λ j. is_quiet plan (after_steps plan from j)) step_limit j e in
-        subst (λ world. is_quiet plan world ≡ true) (ap (λ p. p.0) pair) found.passes
+settled_quiet plan from to k is =
+    let found = option_map_some {Y = World × ℕ} (λ (j : ℕ). (after_steps plan from j, j)) (settling_count plan from) (to, k) is in
+    subst (λ world. is_quiet plan world ≡ true) (ap (λ (p : World × ℕ). p.0) found.2)
+    (least_found (is_quiet_after plan from) step_limit found.0 found.1).passes

@@ -54,11 +54,15 @@ goes_before plan a b =
     nat_lt a.head.priority b.head.priority
     || (nat_eq a.head.priority b.head.priority && is_earlier plan a b)
 
--- another writer of the variable keeps a writer from starting: it holds it, or would start too and goes before
+-- another writer takes the variable: it holds it, or would start too and goes before
+abbrev pub takes : List Site → World → Site → Site → Bool
+takes plan world site other =
+    holds_variable world other || (would_start plan world other && goes_before plan other site)
+
+-- and keeps a writer from starting
 abbrev pub keeps_back : List Site → World → TargetData → Site → Site → Bool
 keeps_back plan world variable site other =
-    writes variable other && not (is_same other.path site.path)
-    && (holds_variable world other || (would_start plan world other && goes_before plan other site))
+    writes variable other && not (is_same other.path site.path) && takes plan world site other
 
 abbrev pub is_loser : List Site → World → Site → Bool
 is_loser plan world site = over (target_of site.head.body)

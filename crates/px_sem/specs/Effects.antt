@@ -1,6 +1,6 @@
 -- What a move does beside the change of state.
 use Rattle.std.specs.Prelude.{ℕ, ◌-◌, Bool, true, false, ◌&&◌, List, [], ◌∷◌, ◌++◌, length, map, replicate, set, get_or, Option, Some, None, if◌then◌else◌}
-use Rattle.std.specs.Option.{option_map, option_and_then}
+use Rattle.std.specs.Option.{option_map, option_map_or, option_and_then}
 use Rattle.px_value.specs.declared.enums.NodeState.{NodeState}
 use Rattle.px_value.specs.declared.enums.NodeState.TheVariants as states
 use Rattle.px_value.specs.declared.value.Value.{Value}
@@ -15,7 +15,7 @@ use Rattle.px_sem.specs.declared.guards.Arrival.{Arrival}
 use Rattle.px_sem.specs.declared.moves.Effect.{Effect}
 use Rattle.px_sem.specs.declared.moves.Effect.TheVariants as effects
 use Rattle.px_sem.specs.Expressions.{value}
-use Rattle.px_sem.specs.World.{World, NodeRecord, Action, NoAction, Assigned, Commanded, Updated, NoAbort, AbortSent, Place, Whole, Element, Overwritten, record_at, cells_at, variable_at}
+use Rattle.px_sem.specs.World.{World, NodeRecord, Action, NoAction, Assigned, Commanded, Updated, NoAbort, AbortSent, Place, Whole, Element, record_at, cells_at, variable_at}
 
 -- ---- which move it is
 
@@ -61,11 +61,8 @@ as_kind kind value = values.Unknown
 
 -- a value as the variable of a target takes it
 abbrev pub taken_as : List Site → TargetData → Value → Value
-taken_as plan target given = by (variable_at plan target.owner target.name)
-  where
-    by : Option VariableData → Value
-    by None = values.Unknown
-    by (Some variable) = as_kind variable.kind given
+taken_as plan target given =
+    option_map_or (λ variable. as_kind variable.kind given) (variable_at plan target.owner target.name) values.Unknown
 
 -- the write of a value at a place of a target's variable
 abbrev pub write_at : List Site → TargetData → Value → Place → Write
@@ -114,18 +111,16 @@ silent action = record { write = None; action = action; told = None }
 abbrev pub writing : Action → Write → Effects
 writing action write = record { write = Some write; action = action; told = Some (told_write write) }
 
--- an assignment writes its right side and keeps the old value (PLEXIL reference manual, "Assignment Nodes"); it writes
--- nothing where it has no place
-abbrev pub assigns : List Site → World → TargetData → Term → Effects
-assigns plan world target right = at (place_of plan world target)
-  where
-    kept : Place → Overwritten
-    kept place = record { place = place; old = value_at (cells_at plan world target.owner target.name) place }
+-- an assignment writes its right side at this place and keeps the old value (PLEXIL reference manual, "Assignment Nodes");
+-- it writes nothing where it has no place
+abbrev pub assigns_at : List Site → World → TargetData → Term → Option Place → Effects
+assigns_at plan world target right None = record { write = None; action = Assigned None; told = Some effects.NoWrite }
+assigns_at plan world target right (Some place) =
+    writing (Assigned (Some (record { place = place; old = value_at (cells_at plan world target.owner target.name) place })))
+    (write_at plan target (value plan world right) place)
 
-    at : Option Place → Effects
-    at None = record { write = None; action = Assigned None; told = Some effects.NoWrite }
-    at (Some place) =
-        writing (Assigned (Some (kept place))) (write_at plan target (value plan world right) place)
+abbrev pub assigns : List Site → World → TargetData → Term → Effects
+assigns plan world target right = assigns_at plan world target right (place_of plan world target)
 
 -- a command is sent with its arguments, and the index of its result is taken (PLEXIL reference manual, "Commands")
 abbrev pub sends : List Site → World → List ℕ → List Term → Option TargetData → Effects

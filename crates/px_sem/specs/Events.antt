@@ -50,20 +50,21 @@ with_record world path r = record world { nodes = with_entry path r world.nodes 
 abbrev pub with_action : World → List ℕ → Action → World
 with_action world path action = with_record world path (record (record_at world path) { action = action })
 
+-- what a variable holds, with what it held before, where there is this write
+abbrev pub written_by : Write → VariableData × List Value → List Value
+written_by write variable = if is_same variable.0.name write.name then written variable.1 (Some write) else variable.1
+
 -- the world with one variable written, where there is a write
 abbrev pub with_write : List Site → World → Option Write → World
 with_write plan world None = world
 with_write plan world (Some write) =
-    with_record world write.owner (record r { variables = map one (zip variables r.variables) })
+    with_record world write.owner (record r { variables = map (written_by write) (zip variables r.variables) })
   where
     r : NodeRecord
     r = record_at world write.owner
 
     variables : List VariableData
     variables = (site_at plan write.owner).head.variables
-
-    one : VariableData × List Value → List Value
-    one variable = if is_same variable.0.name write.name then written variable.1 (Some write) else variable.1
 
 -- what is said of a command
 abbrev pub with_handle : Handle → Action → Action

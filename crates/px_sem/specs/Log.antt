@@ -37,7 +37,7 @@ is_accepted replies.Runaway = false
 
 -- the entries that were accepted
 abbrev pub accepted : Log → List Entry
-accepted log = map (λ logged. logged.entry) (filter (λ logged. is_accepted logged.reply) log)
+accepted log = posted_in (filter (λ logged. is_accepted logged.reply) log)
 
 -- The answer to an event with so many behind it, by how the plan stands, whether its history is full, and what the event
 -- settles into. The first that holds decides: the plan has finished, the history is full, the event does not settle.
@@ -74,7 +74,7 @@ AnswersEach plan limit history (logged ∷ log) =
 -- accepted ones
 abbrev pub PostsPart : List Site → ℕ → List Entry → World → Type 0
 PostsPart plan limit entries world =
-    (log : Log) × (rest : List Entry) × (entries ≡ map (λ logged. logged.entry) log ++ rest)
+    (log : Log) × (rest : List Entry) × (entries ≡ posted_in log ++ rest)
     × AnswersEach plan limit [] log × (run plan (events_of (accepted log)) ≡ Some world)
 
 -- a log that goes on from a history, which may grow up to the limit

@@ -1,7 +1,7 @@
 -- Runs: micro steps until the world is quiet.
 use Rattle.std.specs.Prelude.{◌≡◌, ℕ, zero, suc, ◌+◌, ◌<◌, ◌≤◌, Bool, true, false, List, [], ◌∷◌, Option, Some, None}
 use Rattle.std.specs.List.{find, range_with_len}
-use Rattle.std.specs.Option.{option_map}
+use Rattle.std.specs.Option.{option_map, unwrap_or}
 use Rattle.px_core.specs.Plan.{Site}
 use Rattle.px_sem.specs.World.{World, initial_world}
 use Rattle.px_event.specs.declared.event.Event.{Event}
@@ -35,6 +35,10 @@ pub record IsLeast (test : ℕ → Bool) (bound k : ℕ) : Type 0 where
 -- how many micro steps a world takes until it is quiet, within the limit; none where it runs away
 abbrev pub settling_count : List Site → World → Option ℕ
 settling_count plan world = least (is_quiet_after plan world) step_limit
+
+-- the same, where it settles
+abbrev pub steps_until_quiet : List Site → World → ℕ
+steps_until_quiet plan world = unwrap_or (settling_count plan world) 0
 
 -- the quiet world that a world settles into, and the number of its micro steps: the quiescence relation of the small-step
 -- semantics

@@ -1,6 +1,7 @@
 -- The transition table in this project's own profile, after the transition diagrams of the PLEXIL reference manual: for each
 -- state the rows in order, of which the first whose guard holds decides.
 use Rattle.std.specs.Prelude.{Bool, true, false, not, ◌&&◌, ◌++◌, List, [], ◌∷◌, Option, Some, None, if◌then◌else◌}
+use Rattle.std.specs.Map.{lookup}
 use Rattle.px_value.specs.declared.enums.NodeState.{NodeState}
 use Rattle.px_value.specs.declared.enums.NodeState.TheVariants.{Inactive, Waiting, Executing, Finishing, IterationEnded, Failing, Finished}
 use Rattle.px_value.specs.declared.enums.Outcome.{Outcome}
@@ -17,8 +18,7 @@ abbrev pub Row : Type 0
 Row = Bool × Arrival
 
 abbrev pub first_row : List Row → Option Arrival
-first_row [] = None
-first_row (row ∷ rows) = if row.0 then Some row.1 else first_row rows
+first_row rows = lookup (λ (holds : Bool). holds) rows
 
 -- where rows lead
 abbrev pub to : NodeState → Arrival

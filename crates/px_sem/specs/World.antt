@@ -108,9 +108,13 @@ parent_state world site = of_first site.above
     of_first [] = states.Executing
     of_first (parent ∷ above) = state_at world parent
 
+-- the first of variables that has this name
+abbrev pub variable_among : List VariableData → List ℕ → Option VariableData
+variable_among variables name = find (λ variable. is_same variable.name name) variables
+
 -- the variable of this name that a node declares
 abbrev pub variable_at : List Site → List ℕ → List ℕ → Option VariableData
-variable_at plan owner name = find (λ variable. is_same variable.name name) (site_at plan owner).head.variables
+variable_at plan owner name = variable_among (site_at plan owner).head.variables name
 
 -- what belongs to the variable of this name, among the variables and as many things in their order
 abbrev pub of_variable : {A : Type 0} → List ℕ → List VariableData → List A → Option A

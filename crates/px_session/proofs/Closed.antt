@@ -1,7 +1,8 @@
 -- What the posts of a session have come to, by what the executive keeps.
-use Rattle.std.proofs.Common.{◌≡◌, inl, inr, ⊎_elim, ℕ, List, [], ◌∷◌, ◌++◌, Option, Some, None, IsSome, length, refl, sym, ◌∙◌, ap, subst, arith, append-nil, IsTrue}
+use Rattle.std.proofs.Common.{◌≡◌, inl, inr, ⊎_elim, ℕ, List, [], ◌∷◌, ◌++◌, Option, Some, None, IsSome, is_some, length, refl, sym, ◌∙◌, ap, subst, arith, append-nil, IsTrue}
 use Rattle.std.specs.List.{list_all}
 use Rattle.std.specs.Option.{option_map, ForSome}
+use Rattle.px_value.proofs.General.{is_some_mapped}
 use Rattle.px_crew.specs.Crew.{failed_entry, Ends}
 use Rattle.px_crew.proofs.Gathering.{unfailed as failed_none}
 use Rattle.px_event.specs.Fit.{is_fit_entry}
@@ -25,6 +26,7 @@ use Rattle.px_sem.specs.declared.stepper.Stepper
 use Rattle.px_session.specs.Posting.{WasDue, HasNames, LeavesNames, LeavesSession, Posts}
 use Rattle.px_session.specs.Session.{Session, longest_of, unsure, IsEnd}
 use Rattle.px_session.specs.declared.posting.Posted.{Posted}
+use Rattle.px_session.proofs.Sessions.{synced_end}
 
 -- the session of an executive, over a text
 abbrev pub session_of : {S D : Type 0} → List ℕ → Executive S D → Session
@@ -49,13 +51,9 @@ module _ {S D : Type 0} (runs : Stepper.Ghosts S) (members : Disk.Ghosts D) (exe
         → LeavesSession members (session_of text exec) exec.opening.journal.disk exec.journal.disk
     leaves_open tells text is =
         let ready = (open_of runs members exec keeps unfailed).stands text is in
-        let stands : (told : List ℕ) → members.content exec.journal.disk ≡ Some told → IsEnd (session_of text exec) told =
-        λ told here. inl (subst (Stands told text) keeps.grown (ready_stands _ _ _ _ ready told here)) in
         record {
-          now = record {
-            read = stands;
-            left = λ told here image left. subst (IsEnd (session_of text exec)) (sym (ready_synced _ _ _ _ ready told here image left)) (stands told here);
-          };
+          now = synced_end members (session_of text exec) exec.journal.disk (ready_synced _ _ _ _ ready)
+              (λ told here. inl (subst (Stands told text) keeps.grown (ready_stands _ _ _ _ ready told here)));
           since = subst (λ (h : List Entry). LeavesOnly members.images (StandsWithin text exec.opening.history h) (members.moments exec.opening.journal.disk) (members.moments exec.journal.disk))
               (whole text) ((open_of runs members exec keeps unfailed).since tells text is);
         }
@@ -109,15 +107,10 @@ module _ {S D : Type 0} (runs : Stepper.Ghosts S) (members : Disk.Ghosts D) (exe
 
   -- the disk since the opening, by the entry of a failed append
   pub goes_since : Goes members (IsSome (failed_entry exec)) exec.opening.journal.disk exec.journal.disk
-  goes_since = goes_told members keeps.goes (to exec.failed) (from exec.failed)
+  goes_since = goes_told members keeps.goes (λ (some : IsSome exec.failed). sym same ∙ some) (λ (some : IsSome (failed_entry exec)). same ∙ some)
     where
-      to : (f : Option Failed) → IsSome f → IsSome (option_map (λ (f : Failed). f.entry) f)
-      to None some = some
-      to (Some failed) some = refl
-
-      from : (f : Option Failed) → IsSome (option_map (λ (f : Failed). f.entry) f) → IsSome f
-      from None some = some
-      from (Some failed) some = refl
+      same : is_some exec.failed ≡ is_some (failed_entry exec)
+      same = is_some_mapped (λ (f : Failed). f.entry) exec.failed
 
   -- the entry of a failed append was to be accepted
   pub due_where : WasDue (plan_of runs exec) exec.opening.limit exec.history (failed_entry exec)

@@ -1,8 +1,9 @@
 -- A new session, from the calls that make it.
-use Rattle.std.proofs.Common.{◌≡◌, inl, inr, ℕ, List, [], ◌∷◌, Some, refl, sym, ◌∙◌, ap, subst, arith, IsTrue, IsFalse}
+use Rattle.std.proofs.Common.{◌≡◌, inl, inr, ℕ, List, [], Some, refl, sym, ◌∙◌, ap, subst, arith, IsFalse}
 use Rattle.std.specs.Prelude.{is_some}
 use Rattle.std.specs.Option.{ForSome}
 use Rattle.std.proofs.lemmas.Bool.{both_ways}
+use Rattle.std.proofs.lemmas.List.{nil_from_length}
 use Rattle.px_event.specs.declared.entry.Entry.{Entry}
 use Rattle.px_event.specs.declared.named.NamedEntry.{NamedEntry}
 use Rattle.px_event.specs.declared.names.ThreadName.{ThreadName}
@@ -23,14 +24,14 @@ use Rattle.px_sem.specs.declared.stepper.Stepper
 use Rattle.px_session.specs.Attaching.{IsAttached, IsNotAttached}
 use Rattle.px_session.specs.Creating.{LeavesNew, Creates, IsCreateWhy, IsNotCreated, version_for}
 use Rattle.px_journal.proofs.Going.{rises_told}
+use Rattle.px_journal.proofs.Histories.{entries_count}
 use Rattle.px_journal.proofs.Ready.{ready_stands, ready_synced}
-use Rattle.px_session.specs.Session.{unposted, HasOneHistory}
+use Rattle.px_session.specs.Session.{unposted, HasOneHistory, IsNothing}
 use Rattle.px_session.proofs.Sessions.{untouched_at_once, untouched_on, new_read, new_on, one_history}
 
 -- where no entry is named, there is none
 pub none_named : (named : List NamedEntry) → entries named ≡ [] → named ≡ []
-none_named [] none = refl
-none_named (first ∷ later) none = absurd (cc)
+none_named named none = nil_from_length named (entries_count named [] none)
 
 -- a new journal stands for the text and no entry in its version
 new_stands : {D : Type 0} (members : Disk.Ghosts D) (journal : Journal D) (text : List ℕ) (version : Version) → IsReady members journal text [] → journal.version ≡ version
@@ -89,7 +90,7 @@ module _ {D : Type 0} (members : Disk.Ghosts D) (name text : List ℕ) (names : 
     -- one was made, and an executive opened over it
     pub created : {S : Type 0} (runs : Stepper.Ghosts S) (stepper : S) (limit : ℕ) (journal : Journal D) (history : List Entry) (exec : Executive S D) → ¬ Failed → journal.disk ≡ new
         → IsReady members journal text [] → journal.version ≡ version_for names → GivesNames journal names
-        → ForSome (members.content mid) (λ told. IsTrue (is_nothing told)) → history ≡ []
+        → IsNothing members mid → history ≡ []
         → Opens runs (record { stepper = stepper; journal = journal; history = history; limit = limit }) exec → Creates members name text stepper limit names old exec
     created {S} runs stepper limit journal history exec right disk_is ready version gives nothing none opens = record {
       runs = ap (λ (o : Opening S D). o.stepper) opens.opening;
@@ -130,7 +131,7 @@ module _ {D : Type 0} (members : Disk.Ghosts D) (name text : List ℕ) (names : 
 
     -- the journal was made, and memory ran out behind it
     pub made_in_vain : (journal : Journal D) → ¬ Failed → journal.disk ≡ new → IsReady members journal text [] → journal.version ≡ version_for names
-        → ForSome (members.content mid) (λ told. IsTrue (is_nothing told)) → IsNotCreated members name text names old (record { disk = new; why = whys.NoMemory })
+        → IsNothing members mid → IsNotCreated members name text names old (record { disk = new; why = whys.NoMemory })
     made_in_vain journal right here ready version nothing = record {
       why = inr (
         λ told is. nothing told ((was.untouched).content ∙ is),

@@ -1,16 +1,16 @@
 -- From what the calls of a journal leave of a disk to what a session leaves.
-use Rattle.std.proofs.Common.{◌≡◌, inl, inr, ⊎_elim, ℕ, List, [], ◌++◌, Some, length, take, refl, sym, ◌∙◌, subst, append-nil}
+use Rattle.std.proofs.Common.{◌≡◌, inl, inr, ⊎_elim, ℕ, List, length, refl, sym, ◌∙◌, subst, append-nil}
 use Rattle.std.specs.Option.{ForSome}
 use Rattle.px_value.proofs.General.{begins_further}
 use Rattle.px_event.specs.declared.entry.Entry.{Entry}
 use Rattle.px_journal.specs.Crash.{OldOrNew}
 use Rattle.px_journal.specs.Journal.{IsSynced, IsUnwritten, IsUntouched}
 use Rattle.px_journal.specs.Layout.{Stands}
-use Rattle.px_journal.proofs.Moments.{grows_length, told_since, left_before_or_after, elapses_none, elapses_on}
+use Rattle.px_journal.proofs.Moments.{grows_length, told_since, leaves_more, leaves_on, elapses_none, elapses_on}
 use Rattle.px_ports.specs.Moment.{LeftSince, Stays}
 use Rattle.px_ports.specs.declared.disk.Disk
 use Rattle.px_session.specs.Creating.{LeavesNew}
-use Rattle.px_session.specs.Session.{unposted, HasOneHistory}
+use Rattle.px_session.specs.Session.{Session, unposted, IsEnd, HasOneHistory, StandsFor}
 
 module _ {D : Type 0} (members : Disk.Ghosts D) where
   pub untouched_at_once : (disk : D) → IsUntouched members disk disk
@@ -32,7 +32,7 @@ module _ {D : Type 0} (members : Disk.Ghosts D) where
   }
 
   -- what a crash at a moment of a reading call may leave is an image from before
-  from_before : (old new : D) → IsUntouched members old new → (image : List ℕ) → LeftSince members.images (members.moments new) (length (members.moments old)) image
+  pub from_before : (old new : D) → IsUntouched members old new → (image : List ℕ) → LeftSince members.images (members.moments new) (length (members.moments old)) image
       → members.images (members.moments old) image
   from_before old new untouched image since =
       let from = ((untouched.unwritten).elapses).each image since in
@@ -50,31 +50,28 @@ module _ {D : Type 0} (members : Disk.Ghosts D) where
   -- a call that writes nothing, and then one that makes a journal
   pub new_on : (text : List ℕ) (old mid new : D) → IsUntouched members old mid → LeavesNew members text mid new → LeavesNew members text old new
   new_on text old mid new untouched leaves = record {
-    grows = all;
-    each = λ told is. record {
-      grows = all;
-      each = λ image since. ⊎_elim
-          (λ early. inl (from_before old mid untouched image early))
-          (λ late. older image ((leaves.each told (untouched.content ∙ is)).each image late))
-          (left_before_or_after members.images (members.moments mid) (members.moments new) (length (members.moments old)) image leaves.grows since);
-    };
+    grows = begins_further (members.moments old) (members.moments mid) (members.moments new) ((untouched.unwritten).elapses).grows leaves.grows;
+    each = λ told is. leaves_on members.images (OldOrNew (members.images (members.moments old)) text) (members.moments old) (members.moments mid) (members.moments new)
+        ((new_read text old mid untouched).each told is)
+        (leaves_more members.images (OldOrNew (members.images (members.moments mid)) text) (OldOrNew (members.images (members.moments old)) text)
+        (members.moments mid) (members.moments new) older (leaves.each told (untouched.content ∙ is)));
   }
     where
-      all : take (length (members.moments old)) (members.moments new) ≡ members.moments old
-      all = begins_further (members.moments old) (members.moments mid) (members.moments new) ((untouched.unwritten).elapses).grows leaves.grows
-
       older : (image : List ℕ) → OldOrNew (members.images (members.moments mid)) text image → OldOrNew (members.images (members.moments old)) text image
       older image = ⊎_elim
           (λ was. inl (from_before old mid untouched image (told_since members.images (members.moments mid) image (length (members.moments old)) (grows_length (members.moments old) (members.moments mid) ((untouched.unwritten).elapses).grows) was)))
           (λ new. inr new)
 
+  -- a disk that is synced, and what a read gives is an end of the session
+  pub synced_end : (session : Session) (disk : D) → IsSynced members disk → ForSome (members.content disk) (IsEnd session)
+      → HasOneHistory members session disk
+  synced_end session disk synced read = record {
+    read = read;
+    left = λ told is image left. subst (IsEnd session) (sym (synced told is image left)) (read told is);
+  }
+
   -- a disk that is synced, and stands for a text and a history
   pub one_history : (disk : D) (text : List ℕ) (history : List Entry) → IsSynced members disk
-      → ForSome (members.content disk) (λ told. Stands told text history) → HasOneHistory members (unposted text history) disk
-  one_history disk text history synced stands = record {
-    read = λ told is. inl (all told is);
-    left = λ told is image left. inl (subst (λ (b : List ℕ). Stands b text (history ++ [])) (sym (synced told is image left)) (all told is));
-  }
-    where
-      all : (told : List ℕ) → members.content disk ≡ Some told → Stands told text (history ++ [])
-      all told is = subst (Stands told text) (sym (append-nil history)) (stands told is)
+      → StandsFor members disk text history → HasOneHistory members (unposted text history) disk
+  one_history disk text history synced stands =
+      synced_end (unposted text history) disk synced (λ told is. inl (subst (Stands told text) (sym (append-nil history)) (stands told is)))

@@ -1,5 +1,5 @@
 -- A journal that is read, and a session that goes on, from the calls that take its journal up.
-use Rattle.std.proofs.Common.{◌≡◌, inl, ℕ, List, IsSome, Result, Ok, Err, IfOk, IfErr, refl, sym, ◌∙◌, ap, subst, arith, IsTrue, IsFalse}
+use Rattle.std.proofs.Common.{◌≡◌, inl, ℕ, List, IsSome, Result, Ok, Err, IfOk, IfErr, refl, sym, ◌∙◌, ap, subst, arith, IsFalse}
 use Rattle.std.specs.Prelude.{is_some}
 use Rattle.std.specs.Option.{ForSome}
 use Rattle.px_compile.specs.Compiled.{IsCompiled}
@@ -27,7 +27,7 @@ use Rattle.px_journal.specs.declared.journal.Recovered.{Recovered}
 use Rattle.px_session.specs.Attaching.{IsAttached, IsNotAttached}
 use Rattle.px_session.specs.Reading.{IsRead, IsReadWhy, IsNotRead}
 use Rattle.px_session.specs.Reopening.{IsRunWhy, IsReopenWhy, IsNotReopened, Reopens}
-use Rattle.px_session.specs.Session.{IsOpening}
+use Rattle.px_session.specs.Session.{IsNothing, IsOpening, StandsFor}
 use Rattle.px_session.specs.declared.reopening.Reopened.{Reopened}
 use Rattle.px_journal.proofs.Going.{rises_none, rises_told}
 use Rattle.px_session.proofs.Sessions.{untouched_on, unwritten_on}
@@ -72,7 +72,7 @@ module _ {D : Type 0} (members : Disk.Ghosts D) (name : List ℕ) (old mid : D) 
 
     -- it was not read
     pub not_read : (r : Result (Recovered D) (RecoverFault D))
-        → (IsNotRecovered r recovering.NoJournal → ForSome (members.content mid) (λ told. IsTrue (is_nothing told)))
+        → (IsNotRecovered r recovering.NoJournal → IsNothing members mid)
         → ((at : ℕ) → IsNotRecovered r (recovering.Damaged at) → ForSome (members.content mid) (λ told. IsFalse (is_nothing told) × Damaged told at))
         → (¬ IsNotRecovered r recovering.DiskFault → members.content (disk_recovered r) ≡ members.content mid)
         → (¬ IsNotRecovered r recovering.DiskFault → IsSynced members (disk_recovered r))
@@ -125,7 +125,7 @@ module _ {D : Type 0} (members : Disk.Ghosts D) (name : List ℕ) (old : D) wher
     pub read_ready : IsReady members read.journal read.plan.items read.history.items
     read_ready = record { named = was.found; ready = was.ready; entries_are = was.history }
 
-    before : ForSome (members.content old) (λ told. Stands told read.plan.items read.history.items)
+    before : StandsFor members old read.plan.items read.history.items
     before told here = record { version = read.journal.version; named = was.found; stands = was.stands told here; entries_are = was.history }
 
     -- it was read, and can't be run

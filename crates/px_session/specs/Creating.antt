@@ -1,5 +1,5 @@
 -- What makes a session over a new journal, and why there is none.
-use Rattle.std.specs.Prelude.{◌≡◌, ◌⊎◌, ℕ, List, [], ◌∷◌, length, take, Some, IsTrue, IsFalse, is_some}
+use Rattle.std.specs.Prelude.{◌≡◌, ◌⊎◌, ℕ, List, [], ◌∷◌, length, take, Some, IsFalse, is_some}
 use Rattle.std.specs.Option.{ForSome}
 use Rattle.px_event.specs.declared.names.ThreadName.{ThreadName}
 use Rattle.px_exec.specs.Executive.{Executive, IsTextOf}
@@ -15,7 +15,7 @@ use Rattle.px_journal.specs.declared.version.Version.{Version}
 use Rattle.px_journal.specs.declared.version.Version.TheVariants as versions
 use Rattle.px_ports.specs.Host.{Rose}
 use Rattle.px_ports.specs.declared.disk.Disk
-use Rattle.px_session.specs.Session.{unposted, HasOneHistory, IsBoundAtMost, IsOpening}
+use Rattle.px_session.specs.Session.{unposted, HasOneHistory, IsBoundAtMost, IsNothing, IsOpening}
 
 -- the version of a new journal: the second exactly where a thread has a name
 abbrev pub version_for : List ThreadName → Version
@@ -37,7 +37,7 @@ module _ {D : Type 0} (members : Disk.Ghosts D) where
     pub stands : IsTextOf members exec text
     pub version : exec.opening.journal.version ≡ version_for names
     pub gives : GivesNames exec.opening.journal names
-    pub was_nothing : ForSome (members.content old) (λ told. IsTrue (is_nothing told))
+    pub was_nothing : IsNothing members old
     pub leaves : LeavesNew text old exec.opening.journal.disk
     pub tells : is_some (members.content exec.opening.journal.disk) ≡ is_some (members.content old)
     pub bound : members.bound_to exec.opening.journal.disk ≡ Some name
@@ -49,7 +49,7 @@ module _ {D : Type 0} (members : Disk.Ghosts D) where
   IsCreateWhy text names old new creating.Exists = ForSome (members.content old) (λ told. IsFalse (is_nothing told))
   IsCreateWhy text names old new creating.DiskFault = Rose (members.faults old) (members.faults new)
   IsCreateWhy text names old new creating.NoMemory = IsUntouched members old new
-      ⊎ (ForSome (members.content old) (λ told. IsTrue (is_nothing told))
+      ⊎ (IsNothing members old
       × HasOneHistory members (unposted text []) new
       × ForSome (members.content new) (λ told. StandsAs (version_for names) told text []))
 

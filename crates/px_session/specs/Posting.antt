@@ -1,7 +1,7 @@
 -- What the posts of a session have come to.
-use Rattle.std.specs.Prelude.{◌≡◌, ◌<◌, ◌^◌, ℕ, List, ◌++◌, length, map, Option, Some, None, IsTrue, IsSome}
+use Rattle.std.specs.Prelude.{◌≡◌, ◌<◌, ◌^◌, ℕ, List, ◌++◌, length, map, Option, None, IsTrue, IsSome}
 use Rattle.std.specs.List.{list_all}
-use Rattle.std.specs.Option.{ForSome}
+use Rattle.std.specs.Option.{ForSome, IfSome}
 use Rattle.px_core.specs.Plan.{Site}
 use Rattle.px_crew.specs.Crew.{Ends}
 use Rattle.px_event.specs.Fit.{is_fit_entry}
@@ -21,8 +21,7 @@ use Rattle.px_session.specs.declared.posting.Posted.{Posted}
 
 -- the entry whose append failed was to be accepted over this history, so the history with it is a legal one too
 abbrev pub WasDue : List Site → ℕ → List Entry → Option Entry → Type 0
-WasDue plan limit history None = Unit {0}
-WasDue plan limit history (Some entry) = WouldBeAccepted plan limit history entry
+WasDue plan limit history failed = IfSome failed (WouldBeAccepted plan limit history)
 
 module _ {D : Type 0} (members : Disk.Ghosts D) where
   -- what a session leaves of the disk since its opening

@@ -1,5 +1,5 @@
 -- A journal that is read on a disk, and why there is none.
-use Rattle.std.specs.Prelude.{◌≡◌, ◌≢◌, ℕ, List, Some, IsTrue, IsFalse, is_some}
+use Rattle.std.specs.Prelude.{◌≡◌, ◌≢◌, ℕ, List, Some, IsFalse, is_some}
 use Rattle.std.specs.Option.{ForSome}
 use Rattle.px_event.specs.declared.named.NamedEntry.{NamedEntry}
 use Rattle.px_journal.specs.Damage.{Damaged}
@@ -12,7 +12,7 @@ use Rattle.px_journal.specs.declared.fault.RecoverWhy.TheVariants as recovering
 use Rattle.px_journal.specs.declared.journal.Recovered.{Recovered}
 use Rattle.px_ports.specs.Host.{Rose}
 use Rattle.px_ports.specs.declared.disk.Disk
-use Rattle.px_session.specs.Session.{IsBoundAtMost}
+use Rattle.px_session.specs.Session.{IsBoundAtMost, IsNothing}
 
 module _ {D : Type 0} (members : Disk.Ghosts D) where
   -- A JOURNAL THAT IS READ: the disk stands for its text, and for its history with its names. Nothing was written.
@@ -28,7 +28,7 @@ module _ {D : Type 0} (members : Disk.Ghosts D) where
 
   -- why none is read: none stands there, it is damaged, a call of the disk failed, or memory ran out
   abbrev pub IsReadWhy : D → D → RecoverWhy → Type 0
-  IsReadWhy old new recovering.NoJournal = ForSome (members.content old) (λ told. IsTrue (is_nothing told))
+  IsReadWhy old new recovering.NoJournal = IsNothing members old
   IsReadWhy old new (recovering.Damaged at) =
       ForSome (members.content old) (λ told. IsFalse (is_nothing told) × Damaged told at)
   IsReadWhy old new recovering.DiskFault = Rose (members.faults old) (members.faults new)

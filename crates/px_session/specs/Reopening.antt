@@ -1,5 +1,5 @@
 -- What takes a session up over a journal that stands, and why there is none.
-use Rattle.std.specs.Prelude.{◌≡◌, ◌≢◌, ℕ, List, None, Some, IsSome, IsTrue, IsFalse, is_some}
+use Rattle.std.specs.Prelude.{◌≡◌, ◌≢◌, ℕ, List, None, Some, IsSome, IsFalse, is_some}
 use Rattle.std.specs.Option.{ForSome}
 use Rattle.px_compile.specs.Compiled.{IsCompiled, IsRefused}
 use Rattle.px_core.specs.Fit.{IsFit}
@@ -11,7 +11,7 @@ use Rattle.px_exec.specs.Opening.{RunsAwayAt}
 use Rattle.px_journal.specs.Damage.{Damaged}
 use Rattle.px_journal.specs.Goes.{RisesWhere}
 use Rattle.px_journal.specs.Journal.{IsSynced, IsUnwritten, IsUntouched}
-use Rattle.px_journal.specs.Layout.{is_nothing, Stands, StandsAs}
+use Rattle.px_journal.specs.Layout.{is_nothing, StandsAs}
 use Rattle.px_ports.specs.Host.{Rose}
 use Rattle.px_ports.specs.declared.disk.Disk
 use Rattle.px_sem.specs.Log.{events_of}
@@ -23,7 +23,7 @@ use Rattle.px_session.specs.declared.fault.ReopenWhy.TheVariants as reopening
 use Rattle.px_session.specs.declared.reopening.Reopened.{Reopened}
 use Rattle.px_syntax.specs.declared.fault.PlanFault.{PlanFault}
 use Rattle.px_syntax.specs.declared.fault.PlanFault.TheVariants.{NoMemory as PlanOutOfMemory}
-use Rattle.px_session.specs.Session.{IsBoundAtMost, IsOpening}
+use Rattle.px_session.specs.Session.{IsBoundAtMost, IsNothing, IsOpening, StandsFor}
 
 -- why a journal's text and history can't be run: the text is no plan, its start runs away, or this event is the first that
 -- does
@@ -40,7 +40,7 @@ module _ {D : Type 0} (members : Disk.Ghosts D) where
   pub record Reopens {S : Type 0} (runs : Stepper.Ghosts S) (name : List ℕ) (limit : ℕ) (old : D) (reopened : Reopened S D) : Type 0 where
     pub text : List ℕ
     pub ready : IsTextOf members reopened.exec text
-    pub stands : ForSome (members.content old) (λ told. Stands told text reopened.exec.opening.history)
+    pub stands : StandsFor members old text reopened.exec.opening.history
     -- the journal is of the version that the disk has, with the entries found under the names that they have there
     pub found : List NamedEntry
     pub named : WasNamed members reopened.exec text found
@@ -57,13 +57,13 @@ module _ {D : Type 0} (members : Disk.Ghosts D) where
 
   -- why no session goes on
   abbrev pub IsReopenWhy : D → D → ReopenWhy → Type 0
-  IsReopenWhy old new reopening.NoJournal = ForSome (members.content old) (λ told. IsTrue (is_nothing told))
+  IsReopenWhy old new reopening.NoJournal = IsNothing members old
   IsReopenWhy old new (reopening.Damaged at) =
       ForSome (members.content old) (λ told. IsFalse (is_nothing told) × Damaged told at)
   IsReopenWhy old new reopening.DiskFault = Rose (members.faults old) (members.faults new)
   IsReopenWhy old new reopening.NoMemory = Unit {0}
   IsReopenWhy old new why = (text : List ℕ) × (history : List Entry)
-      × ForSome (members.content old) (λ told. Stands told text history) × IsRunWhy text history why
+      × StandsFor members old text history × IsRunWhy text history why
 
   pub record IsNotReopened (name : List ℕ) (old : D) (fault : ReopenFault D) : Type 0 where
     pub why : IsReopenWhy old fault.disk fault.why

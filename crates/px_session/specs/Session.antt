@@ -1,9 +1,9 @@
 -- A session over a journal, and what it leaves of the disk.
-use Rattle.std.specs.Prelude.{◌≡◌, ◌≤◌, ◌⊎◌, ℕ, List, [], ◌++◌, length, take, Option, Some, None}
+use Rattle.std.specs.Prelude.{◌≡◌, ◌≤◌, ◌⊎◌, ℕ, List, [], ◌++◌, length, take, Option, Some, None, IsTrue}
 use Rattle.std.specs.Option.{option_to_list, ForSome}
 use Rattle.px_event.specs.declared.entry.Entry.{Entry}
 use Rattle.px_journal.specs.Crash.{LeavesOnly}
-use Rattle.px_journal.specs.Layout.{Stands}
+use Rattle.px_journal.specs.Layout.{is_nothing, Stands}
 use Rattle.px_journal.specs.declared.journal.Journal.{Journal}
 use Rattle.px_ports.specs.Moment.{LeftSince}
 use Rattle.px_ports.specs.declared.disk.Disk
@@ -53,6 +53,14 @@ pub record IsOpening {S D : Type 0} (journal : Journal D) (history : List Entry)
   pub failed : exec.failed ≡ None
 
 module _ {D : Type 0} (members : Disk.Ghosts D) where
+  -- the disk is nothing
+  abbrev pub IsNothing : D → Type 0
+  IsNothing disk = ForSome (members.content disk) (λ told. IsTrue (is_nothing told))
+
+  -- the disk stands for the text and the history
+  abbrev pub StandsFor : D → List ℕ → List Entry → Type 0
+  StandsFor disk text history = ForSome (members.content disk) (λ told. Stands told text history)
+
   -- ONE HISTORY: what a read gives, and each image that a crash now may leave, stands for it
   pub record HasOneHistory (session : Session) (disk : D) : Type 0 where
     pub read : ForSome (members.content disk) (IsEnd session)

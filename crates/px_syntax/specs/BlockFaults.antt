@@ -27,10 +27,13 @@ repeated same kind before [] = []
 repeated same kind before ((part, token) ∷ parts) =
     fault_where (list_any (same part) before) kind token ++ repeated same kind (part ∷ before) parts
 
+-- names and their tokens
+abbrev pub spots : List Identifier → List (List ℕ × ℕ)
+spots = map (λ identifier. (identifier.name, identifier.token))
+
 -- of identifiers, each that has a name of one before it
 abbrev pub redeclared : List Identifier → List Fault
-redeclared identifiers =
-    repeated bytes_eq Redeclared [] (map (λ identifier. (identifier.name, identifier.token)) identifiers)
+redeclared identifiers = repeated bytes_eq Redeclared [] (spots identifiers)
 
 -- ---- variables
 

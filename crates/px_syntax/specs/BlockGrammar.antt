@@ -13,7 +13,7 @@ use Rattle.px_syntax.specs.declared.word.Condition.{Condition}
 use Rattle.px_syntax.specs.declared.word.Condition.TheVariants as conditions
 use Rattle.px_syntax.specs.declared.word.TypeName.{TypeName}
 use Rattle.px_syntax.specs.declared.word.TypeName.TheVariants as types
-use Rattle.px_syntax.specs.ExprGrammar.{literal_kind, arguments, expression}
+use Rattle.px_syntax.specs.ExprGrammar.{literal_kind, arguments, expression, indexed}
 use Rattle.px_syntax.specs.Form.{Form, one, sign, keyword, number, numbered, identifier, nothing, ◌then◌, either, optional, maybe, each, with_commas}
 use Rattle.px_syntax.specs.Block.{InitialData, Value, Listed, VariableData, ItemData, Variables, Conditions, Priority, TargetData, CallData, PairData, BlockTree, Braces, Actions, NoActions, More, ActionTree, Labelled, BranchTree, Branch, GuardedTree, Guarded, ElseIfs, NoElseIfs, ElseIf, ElseTree, NoElse, Else, BodyTree, Inner, Assign, CallInto, Call, Update, If, While, For}
 
@@ -60,11 +60,11 @@ initial (Listed values token) =
 abbrev pub size_of : ℕ → Form
 size_of size = sign signs.OpenBracket then number size then sign signs.CloseBracket
 
+abbrev pub first_value : Option InitialData → Form
+first_value = maybe (λ value. sign signs.Assign then initial value)
+
 abbrev pub variable : VariableData → Form
-variable parts =
-    identifier parts.name
-    then maybe size_of parts.size
-    then maybe (λ value. sign signs.Assign then initial value) parts.initial
+variable parts = identifier parts.name then maybe size_of parts.size then first_value parts.initial
 
 abbrev pub item : ItemData → Form
 item (Variables of_type variables) =
@@ -83,9 +83,7 @@ label = maybe (λ name. identifier name then sign signs.Colon)
 
 abbrev pub target : TargetData → Form
 target parts =
-    identifier parts.name
-    then maybe (λ index. sign signs.OpenBracket then expression index then sign signs.CloseBracket)
-    parts.index
+    identifier parts.name then maybe indexed parts.index
 
 abbrev pub call : CallData → Form
 call parts =

@@ -6,6 +6,7 @@ use Rattle.px_lex.specs.Keyword.{keyword_of}
 use Rattle.px_lex.specs.declared.keyword.Keyword.{Keyword}
 use Rattle.px_lex.specs.declared.keyword.Keyword.TheVariants as words
 use Rattle.px_lex.specs.declared.sign.Sign.TheVariants as signs
+use Rattle.px_lex.specs.declared.token.Token.{Token}
 use Rattle.px_lex.specs.declared.token.TokenKind.{TokenKind}
 use Rattle.px_lex.specs.declared.token.TokenKind.TheVariants as kinds
 use Rattle.px_value.specs.Enums.{state_word, outcome_word, failure_word, handle_word}
@@ -72,14 +73,20 @@ abbrev pub binary_keyword : BinaryFunction → Keyword
 binary_keyword binary_functions.Min = words.Min
 binary_keyword binary_functions.Max = words.Max
 
+-- the operator between two operands that a token is
+abbrev pub binary_at : List Token → ℕ → Option BinaryOperator
+binary_at tokens place = option_and_then binary_of (kind_at tokens place)
+
+-- the operator before one operand that a token is
+abbrev pub unary_at : List Token → ℕ → Option UnaryOperator
+unary_at tokens place = option_and_then unary_of (kind_at tokens place)
+
 -- a token that the table of operators has for an operator between two operands, or before one
 abbrev pub binary_operator : BinaryOperator → Form
-binary_operator operator tokens from to =
-    (option_and_then binary_of (kind_at tokens from) ≡ Some operator) × (to ≡ from + 1)
+binary_operator operator tokens from to = (binary_at tokens from ≡ Some operator) × (to ≡ from + 1)
 
 abbrev pub unary_operator : UnaryOperator → Form
-unary_operator operator tokens from to =
-    (option_and_then unary_of (kind_at tokens from) ≡ Some operator) × (to ≡ from + 1)
+unary_operator operator tokens from to = (unary_at tokens from ≡ Some operator) × (to ≡ from + 1)
 
 -- ---- expressions
 
@@ -172,3 +179,7 @@ operand floor term = at_least floor term (bare term)
 
 abbrev pub expression : Term → Form
 expression = operand 0
+
+-- an index in brackets
+abbrev pub indexed : Term → Form
+indexed index = sign signs.OpenBracket then expression index then sign signs.CloseBracket

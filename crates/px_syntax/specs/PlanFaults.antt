@@ -26,11 +26,11 @@ pub record Cells : Type 0 where
   pub token : ℕ
   pub count : ℕ
 
+abbrev pub variable_cells : VariableData → Cells
+variable_cells variable = record { token = variable.name.token; count = unwrap_or variable.size 1 }
+
 abbrev pub item_cells : ItemData → List Cells
-item_cells (Variables of_type variables) = map of_variable variables
-  where
-    of_variable : VariableData → Cells
-    of_variable variable = record { token = variable.name.token; count = unwrap_or variable.size 1 }
+item_cells (Variables of_type variables) = map variable_cells variables
 item_cells item = []
 
 -- the declared variables of a block, in the order of the text; that of a `for` is one of them

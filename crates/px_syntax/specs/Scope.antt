@@ -57,11 +57,14 @@ inside scope node variables = record {
 
 -- ---- declarations
 
+abbrev pub parameter_types : List Parameter → List ValueType
+parameter_types = map (λ parameter. named_type parameter.of_type)
+
 abbrev pub global : Option TypeName → Identifier → List Parameter → Global
 global answer name parameters = record {
   name = name;
   answer = option_map named_type answer;
-  parameters = map (λ parameter. named_type parameter.of_type) parameters;
+  parameters = parameter_types parameters;
 }
 
 -- commands and lookups are two sorts of names

@@ -1,16 +1,15 @@
 -- First rows.
-use Rattle.std.proofs.Common.{◌≡◌, ℕ, zero, suc, ◌<◌, true, false, List, [], ◌∷◌, ◌++◌, length, Some, None, refl, ap, arith}
+use Rattle.std.proofs.Common.{◌≡◌, ℕ, zero, suc, ◌<◌, Bool, true, false, List, [], ◌∷◌, ◌++◌, length, Some, None, refl, ap, arith}
 use Rattle.std.specs.List.{list_any}
 use Rattle.std.specs.Option.{option_or}
+use Rattle.px_value.proofs.General.{lookup-append}
 use Rattle.px_sem.specs.declared.guards.Arrival.{Arrival}
 use Rattle.px_sem.specs.Table.{Row, first_row}
 use Rattle.px_tables.specs.Deciding.{row_at, Decides}
 
 -- the first row of a front, where there is one, and else that of what is behind it
 pub first_row-append : (front back : List Row) → first_row (front ++ back) ≡ option_or (first_row front) (first_row back)
-first_row-append [] back = refl
-first_row-append ((true, a) ∷ front) back = refl
-first_row-append ((false, a) ∷ front) back = first_row-append front back
+first_row-append front back = lookup-append (λ (holds : Bool). holds) front back
 
 -- ---- the row that decides
 

@@ -6,7 +6,7 @@ use Rattle.std.proofs.lemmas.Bool.Decides.{eqb_tells}
 use Rattle.std.proofs.lemmas.List.{get_or-set_same, get_or-set_other, get_or-replicate, length-set, length-replicate}
 use Rattle.std.proofs.lemmas.List.Sums.{count_by-le-length, sum_by-cons, sum_by-set}
 use Rattle.std.proofs.lemmas.Slice.Zip.{get_or-zip, length-zip}
-use Rattle.px_value.proofs.General.{one_if}
+use Rattle.px_value.proofs.General.{one_if, replicate-same}
 use Rattle.px_tally.specs.Keeping.{AreTotals}
 use Rattle.px_tally.specs.Tally.{is_group, total_in}
 
@@ -33,24 +33,6 @@ total-own : (group old new : ℕ) (counts : Bool) (of : Option ℕ) → is_group
     → new + one_if (not counts) ≡ old + one_if counts
 total-own group old new true of own is = rw own at is
 total-own group old new false of own is = rw own at is
-
--- nobody counts yet
-total-nobody : (groups : List (Option ℕ)) (group : ℕ) → total_in groups (replicate (length groups) false) group ≡ 0
-total-nobody [] group = refl
-total-nobody (first ∷ groups) group =
-    sum_by-cons (λ member. one_if (counts_for group member)) (first, false) (zip groups (replicate (length groups) false))
-    ∙ omega (arith, total-nobody groups group)
-
-pub totals-nobody : (many : ℕ) (groups : List (Option ℕ)) → length groups < 2 ^ 32
-    → All (λ group. IfSome group (λ group. group < many)) groups
-    → AreTotals (replicate many 0) groups (replicate (length groups) false)
-totals-nobody many groups few within = record {
-  sized = length-replicate (length groups) false;
-  few = few;
-  within = rw (length-replicate {A = ℕ} many 0) within;
-  right = λ group below. get_or-replicate many group 0 0 (omega (arith, below, length-replicate {A = ℕ} many 0))
-      ∙ sym (total-nobody groups group);
-}
 
 module _ (group : ℕ) where
   total-cons : (first : Option ℕ) (groups : List (Option ℕ)) (counts : Bool) (counting : List Bool)
@@ -90,6 +72,22 @@ module _ (group : ℕ) where
         | inl same ↦ absurd (cc (none (ap Some same.1)))
         | inr apart ↦ ap one_if apart.0
       ]
+
+-- nobody counts yet
+pub total-nobody : (groups : List (Option ℕ)) (group : ℕ) → total_in groups (replicate (length groups) false) group ≡ 0
+total-nobody groups group =
+    count-none group groups (replicate (length groups) false) (λ member of. replicate-same (length groups) member false)
+
+pub totals-nobody : (many : ℕ) (groups : List (Option ℕ)) → length groups < 2 ^ 32
+    → All (λ group. IfSome group (λ group. group < many)) groups
+    → AreTotals (replicate many 0) groups (replicate (length groups) false)
+totals-nobody many groups few within = record {
+  sized = length-replicate (length groups) false;
+  few = few;
+  within = rw (length-replicate {A = ℕ} many 0) within;
+  right = λ group below. get_or-replicate many group 0 0 (omega (arith, below, length-replicate {A = ℕ} many 0))
+      ∙ sym (total-nobody groups group);
+}
 
 module _ (groups : List (Option ℕ)) (counting : List Bool) (sized : length counting ≡ length groups) where
   pairs : length (zip groups counting) ≡ length groups

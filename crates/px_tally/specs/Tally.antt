@@ -22,6 +22,10 @@ total_in group_of counting group =
 abbrev pub total : TallyData → ℕ → ℕ
 total tally group = total_in tally.group_of tally.counting group
 
+-- none does
+abbrev pub is_nobody : TallyData → ℕ → Bool
+is_nobody tally group = nat_eq (total tally group) 0
+
 -- whether the member counts
 abbrev pub is_counted : TallyData → ℕ → Bool
 is_counted tally member = slice_index_or tally.counting member false

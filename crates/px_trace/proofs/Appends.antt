@@ -1,6 +1,7 @@
 -- What a failure leaves of a text that was appended to.
-use Rattle.std.proofs.Common.{◌≡◌, ℕ, List, ◌++◌, Result, Ok, Err, OnOk, OnErr}
+use Rattle.std.proofs.Common.{◌≡◌, ℕ, List, ◌++◌, Result, OnOk, OnErr}
 use Rattle.std.proofs.Math.Seq.{take-append_seam}
+use Rattle.std.proofs.lemmas.Result.{IfOk-equal, on_err_weaker}
 use Rattle.px_value.proofs.General.{begins_further}
 use Rattle.px_trace.specs.Appending.{Keeps}
 
@@ -11,13 +12,11 @@ keeps_on old more new e = rw e (take-append_seam old more)
 -- where a call has failed
 pub err_further : {T E : Type 0} (r : Result T E) (old mid new : List ℕ) → Keeps old mid → OnErr r (Keeps mid new)
     → OnErr r (Keeps old new)
-err_further (Ok _) old mid new h k = tt
-err_further (Err _) old mid new h k = begins_further old mid new h k
+err_further r old mid new h k = on_err_weaker r (begins_further old mid new h) k
 
 pub err_unchanged : {T E : Type 0} (r : Result T E) (old mid new : List ℕ) → Keeps old mid → OnErr r (new ≡ mid)
     → OnErr r (Keeps old new)
-err_unchanged (Ok _) old mid new h e = tt
-err_unchanged (Err _) old mid new h e = rw e h
+err_unchanged r old mid new h e = on_err_weaker r (λ (same : new ≡ mid). rw same h) e
 
 pub ok_along : {T E : Type 0} (r : Result T E) (x a b : List ℕ) → a ≡ b → OnOk r (x ≡ a) → OnOk r (x ≡ b)
-ok_along r x a b e h = rw (← e) h
+ok_along r x a b e h = IfOk-equal r x a b h e

@@ -1,12 +1,11 @@
 -- The lines of the names: the interface that each event of a journal came through.
-use Rattle.std.specs.Prelude.{ℕ, ◌+◌, List, [], ◌∷◌, ◌++◌, Option, Some, None, codes, decimal}
+use Rattle.std.specs.Prelude.{ℕ, ◌+◌, List, [], ◌∷◌, ◌++◌, Option, unwrap_or, codes, decimal}
 use Rattle.px_event.specs.declared.named.NamedEntry.{NamedEntry}
 use Rattle.px_sem.specs.Text.{line, source_text}
 
 -- a name, or `-` where there is none
 abbrev pub name_text : Option (List ℕ) → List ℕ
-name_text None = codes "-"
-name_text (Some name) = name
+name_text name = unwrap_or name (codes "-")
 
 -- the line of an event at its position in the history, from 1
 abbrev pub name_line : ℕ → NamedEntry → List ℕ

@@ -20,7 +20,7 @@ low_bound : (ticket served held : ℕ) → 1 ≤ held → (ticket < served → h
 low_bound ticket served held some_held below =
     ⊎_elim (λ is_below. let none_held = below is_below in absurd (omega arith)) (λ low. low) (cases_lt ticket served)
 
-high_bound : (ticket next held : ℕ) → 1 ≤ held → (next ≤ ticket → held ≡ 0) → ticket < next
+pub high_bound : (ticket next held : ℕ) → 1 ≤ held → (next ≤ ticket → held ≡ 0) → ticket < next
 high_bound ticket next held some_held above =
     ⊎_elim (λ high. high) (λ is_above. let none_held = above is_above in absurd (omega arith)) (cases_lt ticket next)
 

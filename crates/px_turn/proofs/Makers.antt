@@ -1,7 +1,7 @@
 -- Who made which position.
-use Rattle.std.proofs.Common.{rules, ◌≡◌, ℕ, zero, suc, ◌+◌, ◌<◌, ◌≤◌, Bool, true, false, if◌then◌else◌, List, [], ◌∷◌, ◌++◌, map, length, Option, Some, None, refl, ap, ◌∙◌, arith, length-append, All}
+use Rattle.std.proofs.Common.{rules, ◌≡◌, ◌≢◌, ℕ, zero, suc, ◌+◌, ◌<◌, ◌≤◌, Bool, true, false, if◌then◌else◌, List, [], ◌∷◌, ◌++◌, map, length, get_or, Option, Some, None, refl, ap, ◌∙◌, arith, length-append, All}
 use Rattle.std.specs.Cmp.{nat_eq_equiv}
-use Rattle.std.proofs.lemmas.List.{length-map}
+use Rattle.std.proofs.lemmas.List.{get_or_past, length-map}
 use Rattle.std.proofs.lemmas.List.Elements.{All-head, All-tail}
 use Rattle.px_turn.specs.declared.view.Record.{Record}
 use Rattle.px_turn.specs.declared.view.Stamped.{Stamped}
@@ -26,24 +26,23 @@ one_makes number (r ∷ list) =
     let rest = one_makes number list in
     omega arith
 
+-- a place more or less changes nothing of how often another place is among them
+elsewhere : (at position : ℕ) → at ≢ position → (b : Bool) (places : List ℕ)
+    → times position (if b then at ∷ places else places) ≡ times position places
+elsewhere at position apart true places = let none_here = one_if_other at position apart in omega arith
+elsewhere at position apart false places = refl
+
 module _ {I : Type 0} where
   -- who made the entry at a position
   abbrev maker_at : List (Stamped I) → ℕ → Option ℕ
-  maker_at [] position = None
-  maker_at (e ∷ history) zero = e.maker
-  maker_at (e ∷ history) (suc position) = maker_at history position
+  maker_at history position = get_or (map (λ e. e.maker) history) position None
 
   none_before : (number at position : ℕ) (history : List (Stamped I)) → position < at
       → times position (positions_from number at history) ≡ 0
   none_before number at position [] low = refl
   none_before number at position (e ∷ history) low =
-      let rest = none_before number (at + 1) position history (omega arith) in
-      here (is_number e.maker number) (positions_from number (at + 1) history) rest
-    where
-      here : (b : Bool) (places : List ℕ) → times position places ≡ 0
-          → times position (if b then at ∷ places else places) ≡ 0
-      here true places none_there = let apart = one_if_other at position (λ same. absurd (omega arith)) in omega arith
-      here false places none_there = none_there
+      elsewhere at position (λ same. absurd (omega arith)) (is_number e.maker number) (positions_from number (at + 1) history)
+      ∙ none_before number (at + 1) position history (omega arith)
 
   -- a position is one of a number's where the entry there carries it
   times-positions : (number at k : ℕ) (history : List (Stamped I))
@@ -52,14 +51,9 @@ module _ {I : Type 0} where
   times-positions number at zero (e ∷ history) =
       search (rules, none_before, one_if_same)
   times-positions number at (suc k) (e ∷ history) =
-      here (is_number e.maker number) (positions_from number (at + 1) history)
+      elsewhere at (at + suc k) (λ same. absurd (omega arith)) (is_number e.maker number) (positions_from number (at + 1) history)
       ∙ (ap (λ n. times n (positions_from number (at + 1) history)) (omega arith)
       ∙ times-positions number (at + 1) k history)
-    where
-      here : (b : Bool) (places : List ℕ)
-          → times (at + suc k) (if b then at ∷ places else places) ≡ times (at + suc k) places
-      here true places = let apart = one_if_other at (at + suc k) (λ same. absurd (omega arith)) in omega arith
-      here false places = refl
 
   -- so many records have a position: as many as have its maker's number
   makers_are : (history : List (Stamped I)) (list : List Record) (k : ℕ) → All (HasPositions history) list
@@ -92,9 +86,8 @@ module _ {I : Type 0} where
       maker_later list later below k made (omega arith) (omega arith)
 
   maker_behind : (history : List (Stamped I)) (k : ℕ) → length history ≤ k → maker_at history k ≡ None
-  maker_behind [] k high = refl
-  maker_behind (e ∷ history) zero high = absurd (omega arith)
-  maker_behind (e ∷ history) (suc k) high = maker_behind history k (omega arith)
+  maker_behind history k high =
+      get_or_past (map (λ (e : Stamped I). e.maker) history) k None (omega (arith, length-map history (λ (e : Stamped I). e.maker), high))
 
 module _ {T I : Type 0} (list : T → List I) (goes_on : T → T → Type 0) where
   pub made_once : (v : View T I) (value opening : T) → IsWhole list goes_on v value → v.opening ≡ Some opening

@@ -1,10 +1,9 @@
 -- A seat that has the turn counts one entry more.
-use Rattle.std.proofs.Common.{rules, ◌≡◌, ◌≢◌, ℕ, ◌+◌, ◌%◌, ◌^◌, ◌<◌, ◌≤◌, true, nat_eq, List, [], ◌∷◌, ◌++◌, map, length, set, get_or, Option, Some, refl, sym, ap, ◌∙◌, subst, append_assoc, ⊎_elim, arith, length-set, length-append, All}
+use Rattle.std.proofs.Common.{◌≡◌, ◌≢◌, ℕ, ◌+◌, ◌%◌, ◌^◌, ◌<◌, ◌≤◌, true, nat_eq, List, [], ◌∷◌, ◌++◌, map, length, set, get_or, Option, Some, refl, sym, ap, ◌∙◌, subst, append_assoc, arith, length-set, length-append, All}
 use mathlib.Core.Option.{some, none}
 use lib.ListN.{get_elem?}
-use Rattle.std.proofs.lemmas.Bool.{cases_lt}
 use Rattle.std.proofs.lemmas.List.{length-map}
-use Rattle.px_turn.proofs.Looking.{not_both}
+use Rattle.px_turn.proofs.Looking.{high_bound, at_most_one, not_both}
 use Rattle.atomic_table.specs.Table.{State, step, stepped, keeps, Allows}
 use Rattle.atomic_table.proofs.Lists.{set_here}
 use Rattle.px_turn.specs.declared.view.Record.{Record}
@@ -36,7 +35,8 @@ records_kept number history item (r ∷ list) none_has all =
     (records_kept number history item list rest (All-tail (HasPositions history) r list all))
 
 at_most_once : (number below borne : ℕ) → (number < below → borne ≡ 1) → (below ≤ number → borne ≡ 0) → borne ≤ 1
-at_most_once number below borne once no_other = search (rules, cases_lt)
+at_most_once number below borne once no_other =
+    at_most_one number 0 below borne (λ low. absurd (omega arith)) (λ _. once) no_other
 
 module _ {T I : Type 0} where
   -- a seat's number is one of those that the seats have, and no other record has it
@@ -46,8 +46,7 @@ module _ {T I : Type 0} where
   number_below views id v are at live =
       let own = bears_own v v.number live refl in
       let borne = one_of (λ (u : View T I). times v.number (numbers u)) views id v at in
-      ⊎_elim (λ low. low) (λ high. let none_has = are.no_other v.number high in absurd (omega arith))
-      (cases_lt v.number (length views))
+      high_bound v.number (length views) (bearers v.number views) (omega arith) (are.no_other v.number)
 
   none_joined : (views : List (View T I)) (id : ℕ) (v : View T I) → AreNumbered views → get_elem? views id ≡ some v
       → v.live ≡ true

@@ -1,6 +1,8 @@
 -- Where a number stands in a history.
-use Rattle.std.proofs.Common.{◌≡◌, ◌≢◌, ℕ, ◌+◌, ◌≤◌, Bool, true, false, if◌then◌else◌, List, [], ◌∷◌, ◌++◌, length, Some, refl, ap, ◌∙◌, arith, append-nil, eq-eqb, ne_eqb}
+use Rattle.std.proofs.Common.{◌≡◌, ◌≢◌, ℕ, ◌+◌, ◌≤◌, Bool, true, false, if◌then◌else◌, List, [], ◌∷◌, ◌++◌, length, Some, None, refl, ap, ◌∙◌, arith, append-nil, eq-eqb, ne_eqb}
 use Rattle.std.proofs.lemmas.List.Elements.{All-head, All-tail}
+use Rattle.std.proofs.lemmas.List.Folds.{map_fixed}
+use Rattle.std.proofs.lemmas.Simd.{map-map}
 use Rattle.px_turn.specs.declared.view.Stamped.{Stamped}
 use Rattle.px_turn.specs.Histories.{stamped, items, opened, is_number, positions_from, positions, IsMade, AreMade}
 
@@ -63,5 +65,5 @@ module _ {I : Type 0} where
   positions_none number below (x ∷ list) at later high made = positions_none number below list (at + 1) later high made
 
   pub items_opened : (list : List I) → items (opened list) ≡ list
-  items_opened [] = refl
-  items_opened (x ∷ list) = ap (λ rest. x ∷ rest) (items_opened list)
+  items_opened list =
+      map-map (λ (e : Stamped I). e.item) (stamped None) list ∙ map_fixed (λ item. item) list (λ k d within. refl)

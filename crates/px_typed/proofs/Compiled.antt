@@ -1,7 +1,8 @@
 -- WHAT THE VARIABLES OF A PLAN HOLD THAT BYTES SPELL IS OF THEIR TYPES, in each world that a run leads to.
-use Rattle.std.proofs.Common.{◌≡◌, ℕ, ◌≤◌, true, List, [], ◌++◌, Option, Some, None, IsSome, refl, sym, subst, arith}
+use Rattle.std.proofs.Common.{◌≡◌, ℕ, ◌≤◌, true, List, [], ◌++◌, Option, sym, subst, arith}
 use Rattle.std.specs.List.{All}
 use Rattle.std.specs.Option.{ForSome, IsSomeAnd}
+use Rattle.px_value.proofs.General.{told_of}
 use Rattle.px_core.specs.Fit.{IsFit, AreDistinct}
 use Rattle.px_core.specs.Plan.{Tree, sites}
 use Rattle.px_core.proofs.SitePaths.{paths_differ}
@@ -52,9 +53,6 @@ module _ (bytes : List ℕ) (plan : Tree) (compiled : IsCompiled bytes plan) whe
       (limit : ℕ) (front rest : Log) → IsLegal (sites plan) [] limit (front ++ rest)
       → IsSomeAnd (run (sites plan) (events_of (accepted front))) (IsTyped (sites plan))
   front_typed limit front rest legal =
-      by (run (sites plan) (events_of (accepted front))) (front_runs (sites plan) limit front rest legal)
-      (typed (events_of (accepted front)))
-    where
-      by : (now : Option World) → IsSome now → ForSome now (IsTyped (sites plan)) → IsSomeAnd now (IsTyped (sites plan))
-      by None some typed = absurd (cc)
-      by (Some world) some typed = typed world refl
+      let history : List Event = events_of (accepted front) in
+      let now = told_of (run (sites plan) history) (front_runs (sites plan) limit front rest legal) in
+      subst (λ (now : Option World). IsSomeAnd now (IsTyped (sites plan))) (sym now.1) (typed history now.0 now.1)

@@ -4,7 +4,7 @@ use Rattle.std.specs.List.{All}
 use Rattle.std.proofs.Math.ListN.{get_or-eq_default}
 use Rattle.std.proofs.lemmas.Bool.{cases_lt}
 use Rattle.std.proofs.lemmas.List.Elements.{All-get_or}
-use Rattle.std.specs.Option.{ForSome}
+use Rattle.std.specs.Option.{ForSome, option_map_or}
 use Rattle.px_value.specs.declared.value.Value.{Value}
 use Rattle.px_value.specs.declared.value.Value.TheVariants as values
 use Rattle.px_core.specs.declared.variable.VarKind.{VarKind}
@@ -12,11 +12,10 @@ use Rattle.px_core.specs.declared.variable.VarKind.TheVariants as kinds
 use Rattle.px_core.specs.Expr.{Term}
 use Rattle.px_core.specs.Plan.{Site, VariableData, TargetData, BodyData, Nothing, Assign, Command, Update}
 use Rattle.px_sem.specs.declared.guards.Arrival.{Arrival}
-use Rattle.px_sem.specs.declared.moves.Effect.TheVariants as effects
 use Rattle.px_sem.specs.Expressions.{value}
 use Rattle.px_value.specs.declared.enums.Handle.{Handle}
 use Rattle.px_sem.specs.World.{World, NodeRecord, Abort, Action, NoAction, Assigned, Commanded, Updated, Place, record_at, variable_at, cells_at}
-use Rattle.px_sem.specs.Effects.{MoveKind, Initializes, Resets, Starts, Fails, Other, move_kind, as_kind, Write, write_at, value_at, cell_of, place_of, Effects, silent, writing, writes_back, row_of, effects_of}
+use Rattle.px_sem.specs.Effects.{assigns_at, MoveKind, Initializes, Resets, Starts, Fails, Other, move_kind, as_kind, Write, write_at, cell_of, place_of, Effects, silent, writes_back, row_of, effects_of}
 use Rattle.px_typed.specs.Typing.{suits, Suits, CellsSuit, KeptSuits}
 
 -- a write is of its variable's type, or UNKNOWN
@@ -29,14 +28,6 @@ as_kind_suits kinds.Integer (values.Integer number) = refl
 as_kind_suits kinds.Text (values.Text text) = refl
 as_kind_suits kind value = refl
 
--- ---- the table of effects, row by row
-
-abbrev assigned_at : List Site → World → TargetData → Term → Option Place → Effects
-assigned_at plan world target right None = record { write = None; action = Assigned None; told = Some effects.NoWrite }
-assigned_at plan world target right (Some place) =
-    writing (Assigned (Some (record { place = place; old = value_at (cells_at plan world target.owner target.name) place })))
-    (write_at plan target (value plan world right) place)
-
 -- ---- writes
 
 abbrev WritesSuit : List Site → Effects → Type 0
@@ -45,13 +36,8 @@ WritesSuit plan made = (write : Write) → made.write ≡ Some write → WriteSu
 silent_suits : (plan : List Site) (under_way : Action) → WritesSuit plan (silent under_way)
 silent_suits plan under_way = λ write is. absurd (cc)
 
--- a value as a variable takes it
-abbrev taken_by : Value → Option VariableData → Value
-taken_by given None = values.Unknown
-taken_by given (Some variable) = as_kind variable.kind given
-
 taken_suits : (given : Value) (declared : Option VariableData)
-    → ForSome declared (λ variable. Suits variable.kind (taken_by given declared))
+    → ForSome declared (λ variable. Suits variable.kind (option_map_or (λ declared. as_kind declared.kind given) declared values.Unknown))
 taken_suits given None variable is = absurd (cc)
 taken_suits given (Some declared) variable is =
     let same : declared ≡ variable = cc in
@@ -62,7 +48,7 @@ pub write_at_suits : (plan : List Site) (target : TargetData) (given : Value) (p
 write_at_suits plan target given place = taken_suits given (variable_at plan target.owner target.name)
 
 assigned_suits : (plan : List Site) (world : World) (target : TargetData) (right : Term) (place : Option Place)
-    → WritesSuit plan (assigned_at plan world target right place)
+    → WritesSuit plan (assigns_at plan world target right place)
 assigned_suits plan world target right None = λ write is. absurd (cc)
 assigned_suits plan world target right (Some place) = λ write is.
     let same : write_at plan target (value plan world right) place ≡ write = cc in
@@ -118,7 +104,7 @@ read_anywhere P xs i d all none = by (cases_lt i (length xs))
 
 assigned_kept : (plan : List Site) (world : World) (target : TargetData) (right : Term) (place : Option Place)
     → CellsSuit plan world target.owner target.name
-    → KeptSuits plan (Assign target right) (assigned_at plan world target right place).action
+    → KeptSuits plan (Assign target right) (assigns_at plan world target right place).action
 assigned_kept plan world target right None cells = tt
 assigned_kept plan world target right (Some place) cells = λ variable is.
     read_anywhere (Suits variable.kind) (cells_at plan world target.owner target.name) (cell_of place) values.Unknown

@@ -1,17 +1,18 @@
 -- An event keeps the cells of variables, and the types of cells and of kept values.
 use Rattle.std.proofs.Common.{◌≡◌, ℕ, Bool, true, false, List, map, Option, Some, None, refl, ap, sym, ◌∙◌, subst, if◌then◌else◌}
 use Rattle.std.specs.List.{zip}
-use Rattle.std.specs.Option.{ForSome, option_map}
+use Rattle.std.specs.Option.{ForSome}
 use Rattle.std.specs.Cmp.Lexicographic.{bytes_decides}
 use Rattle.px_value.specs.declared.enums.Handle.{Handle}
 use Rattle.px_value.specs.declared.value.Value.{Value}
+use Rattle.px_value.proofs.General.{option_map_some}
 use Rattle.px_core.specs.Plan.{Site, VariableData, TargetData, BodyData, is_same, site_at}
 use Rattle.px_event.specs.declared.event.Event.{Event}
 use Rattle.px_event.specs.declared.event.Event.TheVariants as events
-use Rattle.px_sem.specs.World.{World, NodeRecord, Action, NoAction, Assigned, Commanded, Updated, AbortDone, Place, record_at, variable_at}
+use Rattle.px_sem.specs.World.{World, NodeRecord, Action, NoAction, Assigned, Commanded, Updated, AbortDone, record_at, variable_at}
 use Rattle.px_sem.specs.Conflicts.{target_of}
 use Rattle.px_sem.specs.Effects.{Write, write_at, written}
-use Rattle.px_sem.specs.Events.{with_record, with_action, with_write, with_handle, with_abort_done, result_place, returned, body_at, action_at, counts, changed, take}
+use Rattle.px_sem.specs.Events.{with_record, with_action, with_write, with_handle, with_abort_done, result_place, returned, body_at, action_at, counts, changed, take, written_by}
 use Rattle.px_typed.specs.Typing.{Suits, HasCells, KeptSuits, IsTyped}
 use Rattle.px_typed.proofs.Effects.{WriteSuits, write_at_suits, command_kept, update_kept}
 use Rattle.px_typed.proofs.Records.{found_named, with_record_holds}
@@ -59,11 +60,8 @@ abort_done plan body (Updated acknowledged) kept = kept
 
 -- ---- a write
 
-abbrev one : Write → VariableData × List Value → List Value
-one write variable = if is_same variable.0.name write.name then written variable.1 (Some write) else variable.1
-
 one_keeps : (plan : List Site) (write : Write) → WriteSuits plan write → (name : List ℕ)
-    → ForSome (variable_at plan write.owner name) (Keeps (one write))
+    → ForSome (variable_at plan write.owner name) (Keeps (written_by write))
 one_keeps plan write suits name variable is cells suit = by (is_same variable.name write.name) refl
   where
     by : (b : Bool) → is_same variable.name write.name ≡ b
@@ -84,10 +82,10 @@ with_write_typed plan world typed None suits = typed
 with_write_typed plan world typed (Some write) suits =
     with_record_typed plan world typed write.owner
     (record (record_at world write.owner) {
-      variables = map (one write) (zip (site_at plan write.owner).head.variables (record_at world write.owner).variables);
+      variables = map (written_by write) (zip (site_at plan write.owner).head.variables (record_at world write.owner).variables);
     })
     (record {
-      cells = λ name. changed_suit (one write) (site_at plan write.owner).head.variables
+      cells = λ name. changed_suit (written_by write) (site_at plan write.owner).head.variables
           (record_at world write.owner).variables name (typed.cells write.owner name)
           (one_keeps plan write (suits write refl) name);
       kept = typed.kept write.owner;
@@ -96,13 +94,9 @@ with_write_typed plan world typed (Some write) suits =
 returned_suits : (plan : List Site) (target : Option TargetData) (under_way : Action) (given : Value)
     → ForSome (returned plan target under_way given) (WriteSuits plan)
 returned_suits plan None under_way given write is = absurd (cc)
-returned_suits plan (Some target) under_way given write is = by (result_place target under_way) is
-  where
-    by : (place : Option Place) → option_map (write_at plan target given) place ≡ Some write → WriteSuits plan write
-    by None is = absurd (cc)
-    by (Some place) is =
-        let it : write_at plan target given place ≡ write = cc in
-        subst (WriteSuits plan) it (write_at_suits plan target given place)
+returned_suits plan (Some target) under_way given write is =
+    let place = option_map_some (write_at plan target given) (result_place target under_way) write is in
+    subst (WriteSuits plan) place.2 (write_at_suits plan target given place.0)
 
 -- ---- events
 

@@ -25,6 +25,6 @@ pub names_at : (text : List ℕ) (tokens : List Token) → Splits text tokens �
 names_at text tokens splits = record {
   at =
       λ number name has.
-      let there : IsSpelled (kinds.Identifier name) = spelled_in text tokens splits (kinds.Identifier name) number has in
+      let there : IsSpelled text (kinds.Identifier name) = spelled_in text tokens splits (kinds.Identifier name) number has in
       is_a_name name there.spelling there.rest there.token;
 }

@@ -1,8 +1,6 @@
 -- The nodes of the core plan of a tree that tokens spell have names.
-use Rattle.std.proofs.Common.{◌≡◌, ℕ, suc, ◌+◌, ◌<◌, ◌≤◌, ◌^◌, true, List, [], ◌∷◌, length, Option, Some, None, refl, ◌∙◌, arith}
+use Rattle.std.proofs.Common.{◌≡◌, ℕ, suc, ◌+◌, ◌<◌, ◌≤◌, ◌^◌, true, List, [], length, Option, Some, None, refl, arith}
 use Rattle.std.specs.List.{list_all}
-use Rattle.std.proofs.lemmas.Bool.{and_from}
-use Rattle.std.proofs.lemmas.List.Folds.{list_all-append}
 use Rattle.px_value.specs.Name.{is_name, generated_name}
 use Rattle.px_value.specs.Path.{below}
 use Rattle.px_value.proofs.Names.{generated_is_name}
@@ -14,8 +12,7 @@ use Rattle.px_syntax.specs.BlockGrammar.{label, block, each_action, branch, guar
 use Rattle.px_syntax.specs.Plan.{PlanTree}
 use Rattle.px_syntax.specs.PlanGrammar.{Spells}
 use Rattle.px_core.specs.Fit.{has_name}
-use Rattle.px_core.specs.Plan as plan
-use Rattle.px_core.specs.Plan.{Tree, NoNode, path_under, sites_under}
+use Rattle.px_core.specs.Plan.{Tree, sites_under}
 use Rattle.px_forms.specs.Adding.{Added}
 use Rattle.px_expand.specs.Core.{Otherwise, name_of, branch_name, follows, shaped, block_scope, if_scope, while_scope, for_scope, block_core, actions_core, body_core, if_core, chain_core, else_core, branch_core, root_place, core}
 use Rattle.px_forms.specs.Forms.{where_found, where_not_found, loop_path}
@@ -26,20 +23,16 @@ use Rattle.px_forms.specs.Nodes.{Place, child, alone}
 use Rattle.px_scope.specs.Scope.{Scope}
 use Rattle.px_expand.specs.Size.{block_nodes, actions_nodes, body_nodes, guarded_nodes, else_if_nodes, else_nodes, branch_nodes}
 use Rattle.px_expand.proofs.Sizes.{length_of, actions_some, actions_few}
+use Rattle.px_expand.proofs.Sound.{EachNode}
+use Rattle.px_expand.proofs.SoundSites.{each_passes}
 use Rattle.px_typed.proofs.Names.{AreNames}
 
 -- nodes side by side have names, and so have those below them
 abbrev pub HaveNames : Tree → Type 0
-HaveNames NoNode = Unit {0}
-HaveNames (plan.Branch head children rest) = (is_name head.name ≡ true) × HaveNames children × HaveNames rest
+HaveNames = EachNode (λ head children. is_name head.name ≡ true)
 
 pub sites_named : (above : List (List ℕ)) (tree : Tree) → HaveNames tree → list_all has_name (sites_under above tree) ≡ true
-sites_named above NoNode named = refl
-sites_named above (plan.Branch head children rest) named =
-    let path = path_under above head.name in
-    and_from _ _ named.0
-    (list_all-append has_name (sites_under (path ∷ above) children) (sites_under above rest)
-    ∙ and_from _ _ (sites_named (path ∷ above) children named.1) (sites_named above rest named.2))
+sites_named = each_passes (λ head children. is_name head.name ≡ true) (λ head. is_name head.name) (λ head children is. is)
 
 shaped_named :
     (place : Place) (shape : Shape) (scope : Scope) (form : BlockForm) (items : List ItemData) (paths : List (List ℕ))

@@ -11,8 +11,7 @@ use Rattle.px_core.specs.Plan.{Site, no_site, is_same}
 use Rattle.px_core.proofs.Paths.{found_itself}
 use Rattle.px_sem.specs.World.{World, NodeRecord, no_record, record_at, initial_world, initial_record}
 use Rattle.px_sem.specs.Events.{with_entry}
-use Rattle.px_sem.specs.Step.{micro, record_after}
-use Rattle.px_sem.specs.Conflicts.{transition}
+use Rattle.px_sem.specs.Step.{micro, next_record}
 
 -- the first node at a path
 abbrev pub found : List Site → List ℕ → Option Site
@@ -46,9 +45,9 @@ record_of f site = unwrap_or (option_map f site) no_record
 -- the record after a step, and before the start
 pub record_of_step : (plan : List Site) (world : World) (path : List ℕ)
     → record_at (micro plan world) path
-    ≡ record_of (λ site. record_after plan world site (transition plan world site)) (found plan path)
+    ≡ record_of (next_record plan world) (found plan path)
 record_of_step plan world path =
-    ap (λ r. unwrap_or r no_record) (looked_up (λ site. record_after plan world site (transition plan world site)) plan path)
+    ap (λ r. unwrap_or r no_record) (looked_up (next_record plan world) plan path)
 
 pub record_of_start : (plan : List Site) (path : List ℕ)
     → record_at (initial_world plan) path ≡ record_of (λ site. initial_record site.head) (found plan path)

@@ -1,6 +1,6 @@
 -- What the variables of a node hold after a step and after a write: as many cells as they declare, each of its type.
 use Rattle.std.proofs.Common.{◌≡◌, ℕ, zero, ◌-◌, Bool, true, false, List, [], ◌∷◌, length, map, replicate, slice_index_or, Option, Some, None, refl, ◌∙◌, subst, arith, if◌then◌else◌}
-use Rattle.std.specs.List.{All, find, zip}
+use Rattle.std.specs.List.{All, zip}
 use Rattle.std.specs.Option.{ForSome, unwrap_or}
 use Rattle.std.proofs.lemmas.List.{length-append, length-replicate, length-set}
 use Rattle.std.proofs.lemmas.List.Elements.{All-set, All-replicate, All-append, All-tail}
@@ -9,14 +9,10 @@ use Rattle.px_value.specs.declared.value.Value.TheVariants as values
 use Rattle.px_core.specs.declared.variable.VarKind.{VarKind}
 use Rattle.px_core.specs.Fit.{cells_of}
 use Rattle.px_core.specs.Plan.{VariableData, is_same}
-use Rattle.px_sem.specs.World.{of_variable}
+use Rattle.px_sem.specs.World.{of_variable, variable_among}
 use Rattle.px_sem.specs.Effects.{Write, initial_values, written, cell_of}
 use Rattle.px_typed.specs.Typing.{Suits, HasCells, HasInitials}
 use Rattle.px_typed.proofs.Effects.{unknown_suits}
-
--- the first variable of a name
-abbrev pub named : List VariableData → List ℕ → Option VariableData
-named variables name = find (λ variable. is_same variable.name name) variables
 
 -- what the variable of a name holds, among these
 abbrev pub held_by : List VariableData → List ℕ → List (List Value) → List Value
@@ -25,7 +21,7 @@ held_by variables name held = unwrap_or (of_variable name variables held) []
 -- the variable of a name has its cells
 abbrev pub HoldsSuiting : List VariableData → List ℕ → List (List Value) → Type 0
 HoldsSuiting variables name held =
-    ForSome (named variables name) (λ variable. HasCells variable (held_by variables name held))
+    ForSome (variable_among variables name) (λ variable. HasCells variable (held_by variables name held))
 
 -- ---- values given anew
 
@@ -37,7 +33,7 @@ given_suit give (first ∷ variables) name suit variable is =
     by (is_same first.name name) is
     (given_suit give variables name (All-tail (λ v. HasCells v (give v)) first variables suit))
   where
-    by : (b : Bool) → (if b then Some first else named variables name) ≡ Some variable
+    by : (b : Bool) → (if b then Some first else variable_among variables name) ≡ Some variable
         → HoldsSuiting variables name (map give variables)
         → HasCells variable
         (unwrap_or (if b then Some (give first) else of_variable name variables (map give variables)) [])
@@ -81,17 +77,17 @@ Keeps change variable =
 
 pub changed_suit : (change : VariableData × List Value → List Value) (variables : List VariableData)
     (held : List (List Value)) (name : List ℕ) → HoldsSuiting variables name held
-    → ForSome (named variables name) (Keeps change) → HoldsSuiting variables name (map change (zip variables held))
+    → ForSome (variable_among variables name) (Keeps change) → HoldsSuiting variables name (map change (zip variables held))
 changed_suit change [] held name before keeps variable is = absurd (cc)
 changed_suit change (first ∷ variables) [] name before keeps variable is = before variable is
 changed_suit change (first ∷ variables) (cells ∷ held) name before keeps variable is =
     by (is_same first.name name) is before keeps (changed_suit change variables held name)
   where
-    by : (b : Bool) → (if b then Some first else named variables name) ≡ Some variable
-        → ForSome (if b then Some first else named variables name)
+    by : (b : Bool) → (if b then Some first else variable_among variables name) ≡ Some variable
+        → ForSome (if b then Some first else variable_among variables name)
         (λ v. HasCells v (unwrap_or (if b then Some cells else of_variable name variables held) []))
-        → ForSome (if b then Some first else named variables name) (Keeps change)
-        → (HoldsSuiting variables name held → ForSome (named variables name) (Keeps change)
+        → ForSome (if b then Some first else variable_among variables name) (Keeps change)
+        → (HoldsSuiting variables name held → ForSome (variable_among variables name) (Keeps change)
         → HoldsSuiting variables name (map change (zip variables held)))
         → HasCells variable
         (unwrap_or (if b then Some (change (first, cells)) else of_variable name variables (map change (zip variables held))) [])

@@ -1,21 +1,29 @@
 -- Bytes that are all digits are those of a decimal numeral, and a decimal numeral is all digits.
 use Rattle.std.proofs.Common.{◌≡◌, ℕ, ◌+◌, ◌<◌, ◌%◌, ◌^◌, ◌≤◌, true, List, [], ◌∷◌, arith}
-use Rattle.std.specs.Prelude.{◌&&◌, nat_le, decimal, length}
+use Rattle.std.specs.Prelude.{◌&&◌, nat_le, nat_lt, decimal, length}
+use Rattle.std.specs.Char.{digit_value}
 use Rattle.std.specs.List.{list_all}
 use Rattle.std.specs.Str.Parse.{AllDigits, IsNumeral, without_leading_plus}
-use Rattle.std.proofs.lemmas.Bool.{and_parts, leb-true}
+use Rattle.std.proofs.lemmas.Bool.{and_parts, leb-true, ltb-true}
 use Rattle.std.proofs.lemmas.Bool.Decides.{nat_tests}
 use Rattle.std.proofs.lemmas.Fmt.{decimal_by_steps}
 use Rattle.std.proofs.lemmas.List.Folds.{list_all-append}
-use Rattle.std.proofs.lemmas.Str.Parse.{tells_digits, without_leading_plus_none}
+use Rattle.std.proofs.lemmas.Str.Parse.{without_leading_plus_none}
 use Rattle.px_value.specs.Name.{is_digit, is_digits}
+use Rattle.px_value.proofs.Ascii.{list_all-weaker}
+
+-- bytes that are each a digit of a base, and those of base 10
+pub all_digits_of : (base : ℕ) (ds : List ℕ) → list_all (λ c. nat_lt (digit_value c) base) ds ≡ true → AllDigits base ds
+all_digits_of base [] h = tt
+all_digits_of base (c ∷ cs) h =
+    let parts : (nat_lt (digit_value c) base ≡ true) × (list_all (λ c. nat_lt (digit_value c) base) cs ≡ true) = and_parts (nat_lt (digit_value c) base) (list_all (λ c. nat_lt (digit_value c) base) cs) h in
+    (ltb-true (digit_value c) base parts.0, all_digits_of base cs parts.1)
+
+pub of_ten : (c : ℕ) → is_digit c ≡ true → nat_lt (digit_value c) 10 ≡ true
+of_ten c h = grind (arith, nat_tests)
 
 pub all_digits : (digits : List ℕ) → list_all is_digit digits ≡ true → AllDigits 10 digits
-all_digits [] pass = tells_digits.empty
-all_digits (c ∷ cs) pass =
-    let parts = and_parts (is_digit c) (list_all is_digit cs) pass in
-    let range = and_parts (nat_le 48 c) (nat_le c 57) parts.0 in
-    tells_digits.more c cs (leb-true 48 c range.0, leb-true c 57 range.1) (all_digits cs parts.1)
+all_digits digits pass = all_digits_of 10 digits (list_all-weaker is_digit (λ c. nat_lt (digit_value c) 10) of_ten digits pass)
 
 -- digits are a numeral, which begins with no sign
 pub record ArePlain (ds : List ℕ) : Type 0 where

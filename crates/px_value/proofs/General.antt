@@ -1,21 +1,23 @@
 -- What holds of options, Booleans, lists, results and texts in general, and several crates need.
-use Rattle.std.proofs.Common.{◌≡◌, ℕ, zero, suc, ◌+◌, ◌-◌, ◌<◌, ◌≤◌, ◌==◌, Bool, true, false, cond, List, [], ◌∷◌, ◌++◌, All, AllPairs, find, filter, map, take, drop, length, replicate, get_or, Option, Some, None, is_none, is_some, IsSome, IfSome, option_map, Result, Ok, Err, IsErrAnd, IfErr, refl, sym, ap, ◌∙◌, subst, arith, append_assoc, inl, inr}
-use Rattle.std.specs.List.{list_all, prefix_len, range_with_len, AllByRecursion as Each}
+use Rattle.std.proofs.Common.{◌≡◌, ℕ, zero, suc, ◌+◌, ◌-◌, ◌<◌, ◌≤◌, ◌==◌, Bool, true, false, cond, nat_lt, List, [], ◌∷◌, ◌++◌, All, AllPairs, find, filter, map, take, drop, length, replicate, get_or, Option, Some, None, is_none, is_some, IsSome, IfSome, option_map, Result, Ok, Err, IsErrAnd, IfErr, refl, sym, ap, ◌∙◌, subst, arith, append_assoc, inl, inr, ◌≢◌}
+use Rattle.std.specs.List.{cons_option, filter_map, list_all, list_any, position, position_or_len, prefix_len, range_with_len, AllByRecursion as Each}
 use Rattle.std.specs.Map.{lookup}
-use Rattle.std.specs.Option.{option_and_then}
+use Rattle.std.specs.Option.{option_and_then, option_or}
 use Rattle.std.specs.Result.{OnErr, OnOk}
 use Rattle.std.specs.Str.{is_utf8, IsUtf8}
-use Rattle.std.proofs.lemmas.Bool.{and_parts, cases_lt, cond-false, false_from_ne_true}
+use Rattle.std.proofs.lemmas.Bool.{and_from, and_parts, cases_Bool, cases_lt, cond-false, false_from_ne_true, ltb-false, or_cases, or_left, or_right, false≢true}
 use Rattle.std.proofs.lemmas.Bool.Decides.{nat_tests}
 use Rattle.std.proofs.lemmas.List.{drop_more, get_or-map, get_or-replicate, get_or_past, length-map, length-replicate, length-take, take-take, take_rest}
 use Rattle.std.proofs.lemmas.Grind.{common_steps}
-use Rattle.std.proofs.lemmas.List.Elements.{All-append, All-cons, All-head, All-nil, All-tail, All-take}
-use Rattle.std.proofs.lemmas.List.Folds.{map_fixed}
+use Rattle.std.proofs.lemmas.List.Elements.{All-append, All-cons, All-drop, All-head, All-nil, All-tail, All-take}
+use Rattle.std.proofs.lemmas.List.Folds.{list_all-append, list_any_at, map_fixed}
 use Rattle.std.proofs.lemmas.List.FromFn.{map-range_with_len_more}
 use Rattle.std.proofs.lemmas.List.Kept.{AllPairs-cons}
+use Rattle.std.proofs.lemmas.List.Quantifiers.{all_pairs_push}
+use Rattle.std.proofs.lemmas.List.Sums.{fails_before_first}
 use Rattle.std.proofs.lemmas.Option.{none-some, same_Some}
 use Rattle.std.proofs.lemmas.Str.{IsUtf8-from_is_utf8}
-use Rattle.std.proofs.Math.Seq.{take-append_seam}
+use Rattle.std.proofs.Math.Seq.{drop-append_seam, take-append_seam}
 
 -- there is none where each would be absurd
 pub none_from : {X : Type 0} (found : Option X) → ((x : X) → found ≡ Some x → ⊥) → found ≡ None
@@ -40,10 +42,25 @@ pub none_or_some : {X : Type 0} (found : Option X) → found ≡ None → IsSome
 none_or_some None is some = cc
 none_or_some (Some x) is some = cc
 
+-- an image is there where what it is the image of is
+pub is_some_mapped : {X Y : Type 0} (f : X → Y) (found : Option X) → is_some found ≡ is_some (option_map f found)
+is_some_mapped f None = refl
+is_some_mapped f (Some x) = refl
+
 -- an image that is there is that of what is there
 pub option_map_some : {X Y : Type 0} (f : X → Y) (found : Option X) (y : Y) → option_map f found ≡ Some y → (x : X) × (found ≡ Some x) × (f x ≡ y)
 option_map_some f None y is = absurd (none-some y is)
 option_map_some f (Some x) y is = (x, refl, same_Some (f x) y is)
+
+-- an image that is not there is that of nothing
+pub option_map_none : {X Y : Type 0} (f : X → Y) (found : Option X) → option_map f found ≡ None → found ≡ None
+option_map_none f None is = refl
+option_map_none f (Some x) is = absurd (none-some (f x) (sym is))
+
+-- what is held by an option that holds something
+pub told_of : {X : Type 0} (found : Option X) → IsSome found → (told : X) × (found ≡ Some told)
+told_of None some = absurd (cc)
+told_of (Some told) some = (told, refl)
 
 -- what holds of an image or of what follows holds of it where there is one
 pub IfSome-map : {X Y : Type 0} (P : Y → Type 0) (f : X → Y) (found : Option X) → ((x : X) → found ≡ Some x → P (f x)) → IfSome (option_map f found) P
@@ -80,11 +97,14 @@ replicate-same count at x = elim (cases_lt at count) [
   | inr past ↦ get_or_past (replicate count x) at x (omega (arith, past, length-replicate count x))
 ]
 
+-- what begins with another list is no shorter
+pub begins_shorter : {X : Type 0} (old new : List X) → take (length old) new ≡ old → length old ≤ length new
+begins_shorter old new begins = omega (arith, ap length begins, length-take (length old) new)
+
 -- what begins with a list that begins with another begins with that one
 pub begins_further : {X : Type 0} (old mid new : List X) → take (length old) mid ≡ old → take (length mid) new ≡ mid → take (length old) new ≡ old
 begins_further old mid new first second =
-    let fewer : length old ≤ length mid = omega (arith, ap length first, length-take (length old) mid) in
-    sym (take-take (length old) (length mid) new fewer) ∙ ap (take (length old)) second ∙ first
+    sym (take-take (length old) (length mid) new (begins_shorter old mid first)) ∙ ap (take (length old)) second ∙ first
 
 -- a range and the number behind it
 pub range_more : (from count : ℕ) → range_with_len from (count + 1) ≡ range_with_len from count ++ (from + count) ∷ []
@@ -101,6 +121,10 @@ neither (x ∷ xs) ys none = absurd (cc)
 -- what holds of each of two lists together holds of each of the first
 pub All-front : {X : Type 0} (P : X → Type 0) (xs ys : List X) → All P (xs ++ ys) → All P xs
 All-front P xs ys all = subst (All P) (take-append_seam xs ys) (All-take P (length xs) (xs ++ ys) all)
+
+-- and of each of the second
+pub All-back : {X : Type 0} (P : X → Type 0) (xs ys : List X) → All P (xs ++ ys) → All P ys
+All-back P xs ys all = subst (All P) (drop-append_seam xs ys) (All-drop P (length xs) (xs ++ ys) all)
 
 -- what holds of each, by recursion on the list, holds of each of two lists together and of each of one of them
 pub each-append : {X : Type 0} (P : X → Type 0) (xs ys : List X) → Each P xs → Each P ys → Each P (xs ++ ys)
@@ -123,6 +147,64 @@ each_map P Q (x ∷ xs) f each = (f x each.0, each_map P Q xs f each.1)
 -- what holds of each element's image holds of each element
 pub All-unmap : {X Y : Type 0} (P : Y → Type 0) (f : X → Y) (xs : List X) → All P (map f xs) → All (λ x. P (f x)) xs
 All-unmap P f xs all k d within = subst P (get_or-map f xs k d (f d) within) (all k (f d) (omega (arith, length-map xs f)))
+
+-- what holds of all that each element gives holds of all that is given
+given_first : {X : Type 0} (P : X → Type 0) (o : Option X) (xs : List X) → IfSome o P → All P xs → All P (cons_option o xs)
+given_first P None xs one all = all
+given_first P (Some x) xs one all = All-cons P x xs one all
+
+pub all_given : {X Y : Type 0} (P : Y → Type 0) (f : X → Option Y) (xs : List X) → All (λ x. IfSome (f x) P) xs → All P (filter_map f xs)
+all_given P f [] all = All-nil P
+all_given P f (x ∷ xs) all =
+    given_first P (f x) (filter_map f xs) (All-head (λ x. IfSome (f x) P) x xs all) (all_given P f xs (All-tail (λ x. IfSome (f x) P) x xs all))
+
+-- what all of two lists together pass all of each of them do
+pub list_all_parts : {X : Type 0} (p : X → Bool) (xs ys : List X) → list_all p (xs ++ ys) ≡ true
+    → (list_all p xs ≡ true) × (list_all p ys ≡ true)
+list_all_parts p xs ys all = and_parts (list_all p xs) (list_all p ys) (sym (list_all-append p xs ys) ∙ all)
+
+-- what each element passes each passes that a filter keeps
+pub list_all-filter : {X : Type 0} (q p : X → Bool) (xs : List X) → list_all q xs ≡ true → list_all q (filter p xs) ≡ true
+list_all-filter q p [] all = refl
+list_all-filter q p (x ∷ xs) all =
+    let parts = and_parts (q x) (list_all q xs) all in
+    let later = list_all-filter q p xs parts.1 in
+    elim (cases_Bool (p x)) [
+      | inl kept ↦ rw kept (and_from (q x) (list_all q (filter p xs)) parts.0 later)
+      | inr dropped ↦ rw dropped later
+    ]
+
+-- where one passes a test one passes a weaker one
+pub list_any-weaker : {X : Type 0} (strong weak : X → Bool) → ((x : X) → strong x ≡ true → weak x ≡ true) → (xs : List X)
+    → list_any strong xs ≡ true → list_any weak xs ≡ true
+list_any-weaker strong weak each [] any = any
+list_any-weaker strong weak each (x ∷ xs) any = elim (or_cases (strong x) (list_any strong xs) any) [
+  | inl here ↦ or_left (weak x) (list_any weak xs) (each x here)
+  | inr later ↦ or_right (weak x) (list_any weak xs) (list_any-weaker strong weak each xs later)
+]
+
+-- what passes a test that fails beyond the end stands within
+pub passes_within : {X : Type 0} (p : X → Bool) (xs : List X) (k : ℕ) (d : X) → p d ≡ false → p (get_or xs k d) ≡ true → k < length xs
+passes_within p xs k d fails passes = elim (cases_lt k (length xs)) [
+  | inl within ↦ within
+  | inr past ↦ absurd (false≢true (sym fails ∙ ap p (sym (get_or_past xs k d past)) ∙ passes))
+]
+
+-- what passes stands no earlier than the first that does
+pub not_behind : {X : Type 0} (p : X → Bool) (xs : List X) (k : ℕ) (d : X) → p (get_or xs k d) ≡ true → position_or_len p xs ≤ k
+not_behind p xs k d is = elim (cases_lt k (position_or_len p xs)) [
+  | inl below ↦ absurd (false≢true (sym (fails_before_first p xs k d below) ∙ is))
+  | inr from ↦ from
+]
+
+-- what stands nowhere fails everywhere
+pub nowhere : {X : Type 0} (p : X → Bool) (xs : List X) (k : ℕ) (d : X) → position p xs ≡ None → k < length xs → p (get_or xs k d) ≡ false
+nowhere p xs k d none within = by (nat_lt (position_or_len p xs) (length xs)) refl none
+  where
+    by : (few : Bool) → nat_lt (position_or_len p xs) (length xs) ≡ few → cond few (Some (position_or_len p xs)) None ≡ None
+        → p (get_or xs k d) ≡ false
+    by true is none = absurd (cc none)
+    by false is none = fails_before_first p xs k d (omega (arith, within, ltb-false (position_or_len p xs) (length xs) is))
 
 -- none of a range passes
 pub no_filtered : (p : ℕ → Bool) (from count : ℕ) → ((k : ℕ) → k < count → p (from + k) ≡ false) → filter p (range_with_len from count) ≡ []
@@ -167,6 +249,16 @@ find-map p f (x ∷ xs) = by (p (f x)) (find-map p f xs)
     by true rest = refl
     by false rest = rest
 
+-- a look-up in two lists together, in the first and else in the second
+pub lookup-append : {K V : Type 0} (p : K → Bool) (xs ys : List (K × V)) → lookup p (xs ++ ys) ≡ option_or (lookup p xs) (lookup p ys)
+lookup-append p [] ys = refl
+lookup-append p (x ∷ xs) ys = by (p x.0) (lookup-append p xs ys)
+  where
+    by : (passes : Bool) → lookup p (xs ++ ys) ≡ option_or (lookup p xs) (lookup p ys)
+        → cond passes (Some x.1) (lookup p (xs ++ ys)) ≡ option_or (cond passes (Some x.1) (lookup p xs)) (lookup p ys)
+    by true rest = refl
+    by false rest = rest
+
 -- what is looked up by the keys of items is the value of the item that is found by its key
 pub lookup-map : {X K V : Type 0} (p : K → Bool) (key : X → K) (value : X → V) (xs : List X)
     → lookup p (map (λ x. (key x, value x)) xs) ≡ option_map value (find (λ x. p (key x)) xs)
@@ -187,6 +279,12 @@ pairs_append R (x ∷ xs) ys front back cross = AllPairs-cons R x (xs ++ ys)
     (All-append (R x) xs ys (λ k d below. front 0 (suc k) d (omega arith) (omega (arith, below))) (λ k d below. cross 0 k d (omega arith) below))
     (pairs_append R xs ys (λ i j d before below. front (suc i) (suc j) d (omega (arith, before)) (omega (arith, below))) back
     (λ i j d near far. cross (suc i) j d (omega (arith, near)) far))
+
+-- where no item stands twice, none does with one more that isn't there yet
+pub once_push : {X : Type 0} (test : X → X → Bool) → ((x : X) → test x x ≡ true) → (xs : List X) (y : X)
+    → list_any (test y) xs ≡ false → AllPairs (λ a b. a ≢ b) xs → AllPairs (λ a b. a ≢ b) (xs ++ y ∷ [])
+once_push test itself xs y new once = all_pairs_push (λ a b. a ≢ b) xs y once (λ k d within same.
+    absurd (false≢true (sym new ∙ list_any_at (test y) xs k d within (ap (test y) same ∙ itself y))))
 
 -- what holds in any case holds where there is an answer, and where there is an error
 pub on_ok : {T E P : Type 0} (r : Result T E) → P → OnOk r P

@@ -7,12 +7,13 @@ use Rattle.std.specs.Str.{bytes_eq}
 use Rattle.std.proofs.lemmas.Bool.{cases_Bool}
 use Rattle.std.proofs.lemmas.Slice.Eq.{bytes_eq-Decides}
 use Rattle.std.proofs.lemmas.Str.{IsUtf8-string_bytes}
+use Rattle.px_value.proofs.General.{is_some-None}
 use Rattle.px_core.specs.Plan.{is_same}
 use Rattle.clap.specs.Walk.{Held, Row, Text, Waiting, is_empty, first_of, has_row, idle, option, positional, with_values, without}
 use Rattle.clap.specs.declared.builder.value_parser.Reading.TheVariants.{AsWritten}
 use Rattle.clap.specs.declared.parser.matches.ValueSource.TheVariants.{CommandLine}
 use Rattle.px_words.specs.Limited.{Limited, with_limit, with_operand, with_front, count_of, limited_by, limited_by_next, behind_option, limited}
-use Rattle.px_words.specs.Line.{operands_in, limit_in, line_in}
+use Rattle.px_words.specs.Line.{operands_in, limit_of, line_in}
 use Rattle.px_words.specs.Operands.{operands}
 use Rattle.px_words.proofs.Rows.{row_at, other_row, has_row_is, none_goes, operand_added, number_added}
 use Rattle.px_words.proofs.Spelling.{IsLong, Kind, plain, dashes, short, long, kind_of}
@@ -54,9 +55,6 @@ awaits held number words skip (short s) = inl (short_stops true (behind_name hel
 awaits held number words skip (long l) = inl (long_stops true (behind_name held) (option (codes "events")) number words l refl, l.count)
 
 -- ---- what is read so far, and what more operands make of it
-
-abbrev pub limit_of : List Row → Option ℕ
-limit_of rows = limit_in (first_of (codes "events") rows)
 
 -- operands, with more of them behind
 abbrev pub put : List Text → Option ℕ → List Text → Option Limited
@@ -179,11 +177,9 @@ numbered held rows number words s none texts =
 
 -- where the option has not stood, it sets no limit
 no_number : (rows : List Row) → has_row (codes "events") rows ≡ false → first_of (codes "events") rows ≡ None
-no_number rows none = of (row_at (codes "events") rows) (sym (has_row_is (codes "events") rows) ∙ none)
-  where
-    of : (found : Option Row) → is_some found ≡ false → option_and_then (λ (r : Row). slice_get r.values 0) found ≡ None
-    of None e = refl
-    of (Some r) e = absurd (cc)
+no_number rows none =
+    ap (option_and_then (λ (r : Row). slice_get r.values 0))
+    (is_some-None (row_at (codes "events") rows) (sym (has_row_is (codes "events") rows) ∙ none))
 
 replaced : (rows : List Row) (number : Text) (settled : List Row) → settled ≡ rows → has_row (codes "events") rows ≡ false
     → with_values (codes "events") AsWritten CommandLine (number ∷ []) (without (codes "events") settled) ≡ number_row number rows

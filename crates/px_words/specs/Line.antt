@@ -1,7 +1,7 @@
 -- What the words behind a command's name are to the reader of command lines: a command with arguments, and what it finds.
 use Rattle.std.specs.Prelude.{ℕ, true, List, [], Option, Some, None, codes, if◌then◌else◌}
 use Rattle.std.specs.Prelude.{unwrap_or}
-use Rattle.std.specs.Option.{option_map}
+use Rattle.std.specs.Option.{option_map, option_map_or}
 use Rattle.clap.specs.Words.{App, Row, Rule, Text, all_of, first_of, fault_of, matches_of, new_app, new_rule, with_rule}
 use Rattle.clap.specs.Walk.{is_empty}
 use Rattle.clap.specs.Simple.{on_top}
@@ -31,8 +31,10 @@ operands_in rows = unwrap_or (all_of (codes "operands") rows) []
 
 -- the limit: that of the option, or where it doesn't stand the greatest
 abbrev pub limit_in : Option Text → Option ℕ
-limit_in None = Some event_limit
-limit_in (Some number) = count_of number
+limit_in number = option_map_or count_of number (Some event_limit)
+
+abbrev pub limit_of : List Row → Option ℕ
+limit_of rows = limit_in (first_of (codes "events") rows)
 
 abbrev pub line_in : List Row → Option Limited
-line_in rows = option_map (λ limit. with_limit limit (operands_in rows)) (limit_in (first_of (codes "events") rows))
+line_in rows = option_map (λ limit. with_limit limit (operands_in rows)) (limit_of rows)

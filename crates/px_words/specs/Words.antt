@@ -1,6 +1,6 @@
 -- The command words: what they ask for.
 use Rattle.std.specs.Prelude.{ℕ, Bool, true, false, List, [], ◌∷◌, Option, Some, None, codes, if◌then◌else◌}
-use Rattle.std.specs.Option.{option_and_then}
+use Rattle.std.specs.Option.{option_and_then, option_flatten}
 use Rattle.px_core.specs.Plan.{is_same}
 use Rattle.px_words.specs.Limited.{Limited, IsLimit, count_of, limited}
 use Rattle.px_words.specs.Operands.{operands, of_one, of_two, of_three}
@@ -102,8 +102,7 @@ soak_by (Some count) None journal = None
 soak_by None seed journal = None
 
 abbrev pub soak_of : List (List ℕ) → Option Command
-soak_of words =
-    option_and_then (λ found. found) (of_three (λ count seed journal. soak_by (count_of count) (seed_of seed) journal) words)
+soak_of words = option_flatten (of_three (λ count seed journal. soak_by (count_of count) (seed_of seed) journal) words)
 
 -- the command of the words, or none
 abbrev pub command : List (List ℕ) → Option Command

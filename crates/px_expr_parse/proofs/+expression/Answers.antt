@@ -8,17 +8,16 @@ use Rattle.px_lex.specs.declared.token.TokenKind.TheVariants as kinds
 use Rattle.px_syntax.specs.Expr.{term_of}
 use Rattle.px_syntax.specs.Form.{identifier}
 use Rattle.px_syntax.specs.ExprGrammar.{expression, look_end}
-use Rattle.px_syntax.specs.declared.word.LookWord.{LookWord}
 use Rattle.px_syntax.proofs.Levels.{binary_level}
 use Rattle.px_expr_parse.specs.Tail.{closed, closed_arguments, look_rest, second_argument}
 use Rattle.px_expr_parse.specs.declared.opening.Opening.TheVariants as openings
 use Rattle.px_expr_parse.proofs.Arguments.{found_none, last_argument, missing_last, no_arguments, one_more_argument, refuse_argument}
 use Rattle.px_expr_parse.proofs.Chains.{level}
 use Rattle.px_expr_parse.proofs.Closed.{closer_ends, closes}
-use Rattle.px_expr_parse.proofs.Completions.{Shortest, short_behind, short_both, short_closed, short_expression, short_look_end, short_look_rest, short_name, short_token}
+use Rattle.px_expr_parse.proofs.Completions.{Shortest, short_behind, short_closed, short_expression, short_look_end, short_look_rest, short_name, short_token}
 use Rattle.px_expr_parse.proofs.Lookups.{ends_given, ends_left_out}
 use Rattle.px_expr_parse.proofs.Loops.{loop_begins, loop_ends, loop_goes_on, loop_refused, loop_stops}
-use Rattle.px_expr_parse.proofs.Parts.{IsClosing, alone, both, ends_before, ends_behind, ends_both, ends_closed, found_alone, found_ending, missing_alone, missing_closed, missing_ending, missing_first, missing_kind, three, two}
+use Rattle.px_expr_parse.proofs.Parts.{IsClosing, alone, both, ends_before, ends_behind, ends_both, ends_closed, found_alone, found_ending, missing_alone, missing_closed, missing_ending, missing_first, missing_kind, short_pair, three, two}
 use Rattle.px_expr_parse.proofs.Primaries.{begins_with, opens_binary_call, opens_look, opens_paren, opens_unary_call, produces_element, produces_named, read_enumerated, read_prefix, read_variable, refuse_end, refuse_name, refuse_nothing, refuse_prefix}
 use Rattle.px_expr_parse.proofs.Productions.{read_opened, read_produced, refuse_opened, refuse_produced}
 use Rattle.px_expr_parse.proofs.Spans.{local_closed_arguments, local_identifier}
@@ -32,14 +31,6 @@ second_closes tokens part from end o = closer_ends tokens from signs.Comma refl 
 -- the shortest of what stands behind a word
 short_second : Shortest second_argument
 short_second = short_behind (kinds.Sign signs.Comma) (short_closed signs.CloseParen)
-
-short_two : Shortest (both expression second_argument)
-short_two =
-    short_both short_expression short_second (λ others from middle end first second o r. ((first, second), (middle, o, r)))
-
-short_look : (word : LookWord) → Shortest (both identifier (look_rest word))
-short_look word =
-    short_both short_name (short_look_rest word) (λ others from middle end name args o r. ((name, args), (middle, o, r)))
 
 pub argument::arguments-returns-then-is_sign-clause-ok : goal.argument::arguments-returns-then-is_sign-clause-ok
 argument::arguments-returns-then-is_sign-clause-ok t c =
@@ -209,7 +200,7 @@ primary::binary_call-returns-in_err-expect-clause-fault t c =
     handed_on _ _ _ c.from_residual.ensures.1
     (refuse_opened (opens_binary_call c.args.from c.args.function) c.requires.begins c.in_err-expect.field-0.0
     (missing_kind (kinds.Sign signs.OpenParen) c.args.tokens.now (c.args.from + 1) (both expression second_argument) c.in_err-expect.field-0.0
-    (omega (arith, c.requires.place)) short_two c.in_err-expect.ensures.fault))
+    (omega (arith, c.requires.place)) (short_pair short_expression short_second) c.in_err-expect.ensures.fault))
 
 pub primary::binary_call-returns-in_err-first-clause-fault : goal.primary::binary_call-returns-in_err-first-clause-fault
 primary::binary_call-returns-in_err-first-clause-fault t c =
@@ -253,7 +244,7 @@ primary::look-returns-in_err-expect-clause-fault t c =
     handed_on _ _ _ c.from_residual.ensures.1
     (refuse_opened (opens_look c.args.from c.args.word) c.requires.begins c.in_err-expect.field-0.0
     (missing_kind (kinds.Sign signs.OpenParen) c.args.tokens.now (c.args.from + 1) (both identifier (look_rest c.args.word)) c.in_err-expect.field-0.0
-    (omega (arith, c.requires.place)) (short_look c.args.word) c.in_err-expect.ensures.fault))
+    (omega (arith, c.requires.place)) (short_pair short_name (short_look_rest c.args.word)) c.in_err-expect.ensures.fault))
 
 pub primary::look-returns-in_err-name-clause-fault : goal.primary::look-returns-in_err-name-clause-fault
 primary::look-returns-in_err-name-clause-fault t c =

@@ -1,13 +1,9 @@
-use Rattle.std.proofs.Common.{ℕ, ◌+◌, ◌*◌, ◌-◌, List, length, map}
-use Rattle.px_lex.specs.declared.token.Token.{Token}
+use Rattle.std.proofs.Common.{◌-◌, length, map}
 use Rattle.px_syntax.specs.Expr.{term_of}
 use Rattle.px_expr_parse.proofs.Arguments.{HasArguments}
 use Rattle.px_expr_parse.proofs.Loops.{HasSpine}
+use Rattle.px_expr_parse.proofs.Parts.{left}
 use Rattle.px_expr_parse.proofs.+expression.Given as goal
-
--- the tokens that are left, and how far one reader may hand on to another at one place
-abbrev left : List Token → ℕ → ℕ → ℕ
-left tokens from rank = 8 * (length tokens - from) + rank
 
 abbrev pub decreases-operation::operation : goal.decreases-operation::operation
 decreases-operation::operation l = left l.tokens.now l.from 4

@@ -1,17 +1,13 @@
-use Rattle.std.proofs.Common.{ℕ, ◌+◌, ◌*◌, ◌-◌, List, length, map}
+use Rattle.std.proofs.Common.{◌-◌, length, map}
 use Rattle.px_lex.specs.declared.sign.Sign.TheVariants as signs
-use Rattle.px_lex.specs.declared.token.Token.{Token}
 use Rattle.px_syntax.specs.Block.{action_of, guarded_of}
 use Rattle.px_syntax.specs.BlockGrammar.{action}
+use Rattle.px_expr_parse.proofs.Parts.{left}
 use Rattle.px_plan_parse.specs.Start.{NoElseIf}
 use Rattle.px_plan_parse.specs.Tail.{Only}
 use Rattle.px_plan_parse.proofs.Bodies.{one_else_if}
 use Rattle.px_plan_parse.proofs.Parts.{IsFront}
 use Rattle.px_plan_parse.proofs.+block.Given as goal
-
--- the tokens that are left, and how far one reader may hand on to another at one place
-abbrev left : List Token → ℕ → ℕ → ℕ
-left tokens from rank = 8 * (length tokens - from) + rank
 
 abbrev pub decreases-block::block : goal.decreases-block::block
 decreases-block::block l = left l.tokens.now l.from 1

@@ -1,12 +1,12 @@
 use Rattle.std.proofs.Common.{◌≡◌, ◌+◌, ◌<◌, ◌++◌, List, length, map, sum, take, ap, sym, ◌∙◌, arith}
 use Rattle.std.proofs.lemmas.List.{take_all}
-use Rattle.px_core.specs.Fit.{cells_of, cells_of_site}
-use Rattle.px_core.specs.Plan.{Site, Head, no_site, variable_data}
+use Rattle.px_core.specs.Fit.{cells_of}
+use Rattle.px_core.specs.Plan.{Site, Head, variable_data}
 use Rattle.px_flat.specs.Flat.{plan_of}
 use Rattle.px_flat.specs.Layout.{first_cell}
 use Rattle.px_flat.specs.Row.{site_in}
-use Rattle.px_flat.proofs.Sums.{sum_more, sum_front}
 use Rattle.px_flat.proofs.Tables.{flat_sound}
+use Rattle.px_flat.proofs.Variables.{cells_within}
 use Rattle.px_cached.specs.Firsts.{firsts_from, firsts_of}
 use Rattle.px_cached.proofs.FirstCells.{length-firsts_of, more_nodes}
 use Rattle.px_cached.proofs.firsts.first_cells.Goals as goal
@@ -33,8 +33,7 @@ push_variables-requires c =
       arith,
       long at,
       ap (λ variables. sum (map cells_of variables)) (variables at),
-      sum_more cells_of_site plan c.loop-node.node no_site (here at),
-      sum_front cells_of_site plan (c.loop-node.node + 1),
+      cells_within plan c.loop-node.node (here at),
       (flat_sound c.args.flat.now).cells,
     )
 

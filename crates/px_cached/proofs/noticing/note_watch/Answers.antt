@@ -3,9 +3,10 @@ use Rattle.std.proofs.lemmas.List.Elements.{All-append, All-map}
 use Rattle.std.proofs.lemmas.List.Sums.{sum_by-append}
 use Rattle.px_links.specs.Links.{is_absent}
 use Rattle.px_cached.specs.Still.{IsStill}
+use Rattle.px_cached.specs.Watching.{part_of}
 use Rattle.px_cached.proofs.Marking.{noted_later}
 use Rattle.px_cached.proofs.Turning.{recalls_more}
-use Rattle.px_cached.proofs.Watched.{part_of, sum_by_parts}
+use Rattle.px_cached.proofs.Watched.{sum_by_parts}
 use Rattle.px_cached.proofs.noticing.note_watch.Goals as goal
 
 pub note_crossed-requires-clause-recalls : goal.note_crossed-requires-clause-recalls

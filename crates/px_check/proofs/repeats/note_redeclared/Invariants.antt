@@ -1,8 +1,7 @@
 use Rattle.std.proofs.Common.{◌≡◌, [], map, drop, bytes_eq}
-use Rattle.px_syntax.specs.BlockFaults.{repeated}
+use Rattle.px_syntax.specs.BlockFaults.{repeated, spots}
 use Rattle.px_syntax.specs.declared.fault.FaultKind.TheVariants.{Redeclared}
 use Rattle.px_check.specs.Found.{noted}
-use Rattle.px_check.specs.Repeats.{spots}
 use Rattle.px_check.proofs.repeats.note_redeclared.Given as goal
 
 abbrev pub invariant-loop-identifier : goal.invariant-loop-identifier

@@ -1,6 +1,6 @@
 use Rattle.std.proofs.Common.{◌≡◌, ◌+◌, ◌<◌, ℕ, drop, get_or, length}
 use Rattle.std.specs.List.{position_or_len}
-use Rattle.px_claims.proofs.Places.{is_node}
+use Rattle.px_claims.specs.Keeping.{is_node}
 use Rattle.px_claims.proofs.firsts.ranks.Given as goal
 
 -- each node has its place among the writers from this one on

@@ -19,11 +19,9 @@ pub returns-in-Wait-clause-held : goal.returns-in-Wait-clause-held
 returns-in-Wait-clause-held g c isnt waiting =
     let exec = c.args.exec.now in
     let there = c.in-Some.ensures.lookup.3 in
-    let line = wait_line c.args.todo.now c.as_slice.result.now c.args.at c.in-Some.line.now c.in-Wait.cond c.as_slice.ensures there.0 (there.1 c.in-Some.line.now) c.in-Wait.is in
     inr (
-      line.0,
       c.in-Wait.cond,
-      line.1,
+      wait_line c.args.todo.now c.as_slice.result.now c.args.at c.in-Some.line.now c.in-Wait.cond c.as_slice.ensures there.0 (there.1 c.in-Some.line.now) c.in-Wait.is,
       subst (λ (history : List Entry). IsUnmetBehind (plan_of g.S.Stepper exec) history c.in-Wait.cond) c.keeps.ensures.grown
           (world_of g.S.Stepper exec, c.keeps.ensures.runs_to, c.holds.ensures.missed isnt),
     )

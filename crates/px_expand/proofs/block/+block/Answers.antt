@@ -8,7 +8,6 @@ use Rattle.std.proofs.lemmas.Result.{IfOk-weaker, on_ok_weaker}
 use Rattle.px_value.proofs.General.{on_ok}
 use Rattle.px_syntax.specs.declared.block.Action.{out-Action}
 use Rattle.px_syntax.specs.declared.block.Block.{out-Block}
-use Rattle.px_syntax.specs.declared.block.Guarded.{out-Guarded}
 use Rattle.px_syntax.specs.Block as text
 use Rattle.px_syntax.specs.Block.{action_of, block_of, body_of, branch_of, else_ifs_in_turn, else_of, guarded_of, item_data}
 use Rattle.px_syntax.specs.Expr.{term_of as text_of}
@@ -29,7 +28,7 @@ use Rattle.px_expand.specs.Size.{actions_nodes, actions_reach, block_nodes, bloc
 use Rattle.px_expand.proofs.Actions.{fewer_left, length_seen, nodes_done, nodes_more, nodes_none, room, stands_at}
 use Rattle.px_expand.proofs.Blocks.{block_here, block_inside, block_made, child_room, list_count, list_reach, list_seen}
 use Rattle.px_expand.proofs.Chains.{chain_more, chain_opened, count_else, else_room, guarded_made, is_opened, room_before, room_for_set}
-use Rattle.px_expand.proofs.Loops.{branch_count, branch_made, branch_room, for_made, guarded_branch, guarded_count, guarded_room, while_made}
+use Rattle.px_expand.proofs.Loops.{branch_count, branch_made, branch_room, for_made, guarded_count, guarded_room, while_made}
 use Rattle.px_expand.proofs.block.+block.Goals as goal
 
 pub actions-bounds-paths-number : goal.actions-bounds-paths-number
@@ -250,9 +249,8 @@ while_loop-returns-clause-node t c =
     let inner = c.into_while.new.scope in
     let own = child place.path (branch_name body_name (branch_in (guarded_of guarded))) (where_found place.path) in
     let branch : tree_in c.in_ok-node.node ≡ alone (branch_core inner own (branch_in (guarded_of guarded))) =
-    branch_made inner (place_terms made.branch) own (out-Guarded guarded).branch (tree_in c.in_ok-node.node)
-    c.in_ok-node.ensures.node c.in_ok-test.ensures.branch
-    ∙ ap (λ branch. alone (branch_core inner own branch)) (guarded_branch guarded) in
+    guarded_made guarded inner (place_terms made.branch) own c.in_ok-node.node.value c.in_ok-node.ensures.node
+    c.in_ok-test.ensures.branch in
     subst (λ tree. IfOk c.repeated.result (λ node. tree_in node ≡ tree))
     (ap (λ nodes. alone (repeated place (term_in made.test) made.paths.items (trees_of nodes))) c.in_ok-nodes.ensures
     ∙ while_made c.args.scope.now inner place (guarded_of guarded) (term_in made.test) made.paths.items (tree_in c.in_ok-node.node)

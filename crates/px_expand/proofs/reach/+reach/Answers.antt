@@ -6,7 +6,8 @@ use Rattle.px_syntax.proofs.block.Guarded.TheLaws.{the_size}
 use Rattle.px_syntax.specs.Block.{action_of, actions_in_turn, body_of, branch_of, else_ifs_in_turn, else_of, guarded_of}
 use Rattle.px_syntax.proofs.Trees.{if_chain}
 use Rattle.px_expand.specs.Size.{actions_reach, body_reach, else_if_reach, else_reach}
-use Rattle.px_expand.proofs.Reaching.{action_counted, action_reached, one_of_else_ifs, far_is_far}
+use Rattle.px_expand.proofs.Actions.{action_counted}
+use Rattle.px_expand.proofs.Reaching.{action_reached, one_of_else_ifs, far_is_far}
 use Rattle.px_expand.proofs.Sizes.{body_some}
 use Rattle.px_expand.proofs.reach.+reach.Goals as goal
 

@@ -1,8 +1,8 @@
 use Rattle.std.proofs.Common.{◌≡◌, ℕ, ◌+◌, ◌<◌, ◌≤◌, ◌++◌, ◌∷◌, [], List, length, set, take, ap, sym, ◌∙◌, subst, arith, rules, length-append, append_assoc}
 use Rattle.std.proofs.lemmas.List.{take_all, take_more, set_at}
 use Rattle.px_core.specs.declared.node.CoreNode.TheViews.{out-CoreNode}
-use Rattle.px_core.specs.Plan.{count_of, trees_of}
-use Rattle.px_flat.specs.Laying.{below_it, ends_from}
+use Rattle.px_core.specs.Plan.{count_of, trees_of, below_it}
+use Rattle.px_flat.specs.Laying.{ends_from}
 use Rattle.px_flat.proofs.Trees.{child_smaller, count_next, count_of_one, ends_of_more, ends_of_one, length-ends_from}
 use Rattle.px_flat.proofs.ends.+push_ends.Goals as goal
 
@@ -13,9 +13,8 @@ push_ends-requires t c =
     let child = c.child-item.result in
     let old = c.args.ends.now.items in
     let smaller : count_of (below_it child) < count_of (below_it c.args.node.now) =
-    subst (λ nodes. count_of (below_it child) < count_of (trees_of nodes)) c.deref-child-items.ensures.value
-    (subst (λ node. count_of (below_it node) < count_of (trees_of children)) (sym c.child-item.is)
-    (child_smaller children i child c.loop-child-test.true)) in
+    child_smaller c.args.node.now children i child c.deref-child-items.ensures.value c.loop-child-test.true
+    c.child-item.is in
     let next : count_of (trees_of (take i children)) + (1 + count_of (below_it child)) ≤ count_of (trees_of children) =
     subst (λ node. count_of (trees_of (take i children)) + (1 + count_of (below_it node)) ≤ count_of (trees_of children))
     (sym c.child-item.is) (count_next children i child c.loop-child-test.true) in

@@ -1,6 +1,6 @@
 use Rattle.std.proofs.Common.{◌≡◌, ◌+◌, ◌++◌, ◌∷◌, length, take}
-use Rattle.px_core.specs.Plan.{count_of, trees_of}
-use Rattle.px_flat.specs.Laying.{below_it, ends_from}
+use Rattle.px_core.specs.Plan.{count_of, trees_of, below_it}
+use Rattle.px_flat.specs.Laying.{ends_from}
 use Rattle.px_flat.proofs.ends.+push_ends.Given as goal
 
 abbrev pub decreases-push_ends : goal.decreases-push_ends

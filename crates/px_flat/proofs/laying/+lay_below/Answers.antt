@@ -1,11 +1,11 @@
 use Rattle.std.proofs.Common.{◌≡◌, sym, ap, ◌∙◌, subst, length, take, ◌∷◌, ◌++◌, [], Some, true, rules, arith, ◌+◌, ◌<◌, ◌≤◌}
 use Rattle.std.specs.List.{list_all}
 use Rattle.std.proofs.lemmas.List.{take_all}
-use Rattle.px_core.specs.Plan.{count_of}
+use Rattle.px_core.specs.Plan.{count_of, below_it}
 use Rattle.px_core.specs.Plan.{sites_under, trees_of}
 use Rattle.px_flat.specs.Rows.{sites_of, above_in}
 use Rattle.px_core.specs.Fit.{has_short_path}
-use Rattle.px_flat.specs.Laying.{below_it, IsRowUnder}
+use Rattle.px_flat.specs.Laying.{IsRowUnder}
 use Rattle.px_flat.specs.Rows.{IsLinked}
 use Rattle.px_flat.proofs.Trees.{LaidSoFar, NextIsShort, IsPut, long_enough, next_is_short, next_room, laid_count, count_next}
 use Rattle.px_flat.proofs.Trees.{put_next, laid_next, laid_more, laid_none, child_smaller}
@@ -37,9 +37,8 @@ lay_below-requires t c =
     let above = above_in (sites_of c.args.rows.now.items) (Some c.args.number) in
     let children = c.deref-child-items.result.now in
     let smaller : count_of (below_it c.child-item.result) < count_of (below_it c.args.node.now) =
-    subst (λ nodes. count_of (below_it c.child-item.result) < count_of (trees_of nodes)) c.deref-child-items.ensures.value
-    (subst (λ node. count_of (below_it node) < count_of (trees_of children)) (sym c.child-item.is)
-    (child_smaller children c.loop-child.child-index c.child-item.result c.loop-child-test.true)) in
+    child_smaller c.args.node.now children c.loop-child.child-index c.child-item.result c.deref-child-items.ensures.value c.loop-child-test.true
+    c.child-item.is in
     let is_short : NextIsShort above c.child-item.result = subst (NextIsShort above) (sym c.child-item.is)
     (next_is_short above children c.loop-child.child-index c.child-item.result c.loop-child-test.true
     (rw c.deref-child-items.ensures.value c.requires.short)) in

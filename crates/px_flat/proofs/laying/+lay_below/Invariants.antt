@@ -1,6 +1,5 @@
 use Rattle.std.proofs.Common.{take}
-use Rattle.px_core.specs.Plan.{count_of}
-use Rattle.px_flat.specs.Laying.{below_it}
+use Rattle.px_core.specs.Plan.{count_of, below_it}
 use Rattle.px_flat.proofs.Trees.{LaidSoFar}
 use Rattle.px_flat.proofs.laying.+lay_below.Given as goal
 

@@ -1,8 +1,7 @@
 use Rattle.std.proofs.Common.{◌≡◌, [], ◌∷◌, sym, subst, arith, true}
 use Rattle.std.specs.List.{list_all}
 use Rattle.px_core.specs.Fit.{has_short_path}
-use Rattle.px_core.specs.Plan.{tree_of, sites_under}
-use Rattle.px_flat.specs.Laying.{below_it}
+use Rattle.px_core.specs.Plan.{tree_of, sites_under, below_it}
 use Rattle.px_flat.proofs.Trees.{IsRooted, rooted, above_root, next_is_short, all_laid, laid, count_of_one}
 use Rattle.px_flat.proofs.laying.lay.Goals as goal
 

@@ -1,11 +1,11 @@
-use Rattle.std.proofs.Common.{◌≡◌, ap, sym, ◌∙◌, arith, List}
+use Rattle.std.proofs.Common.{ap, ◌∙◌, arith, List}
 use Rattle.std.proofs.lemmas.List.{take_all, length-map}
 use Rattle.indexmap.specs.IndexSet.{insert_key}
-use Rattle.px_core.specs.Plan.{Site, is_same, no_site}
-use Rattle.px_flat.specs.Row.{site_in, paths_of}
-use Rattle.px_flat.specs.Rows.{sites_of, site_of}
-use Rattle.px_flat.proofs.Numbers.{distinct_sites, paths_more}
-use Rattle.px_flat.proofs.Sites.{length-sites_of, site_at_number}
+use Rattle.px_core.specs.Plan.{Site, is_same}
+use Rattle.px_flat.specs.Row.{paths_of}
+use Rattle.px_flat.specs.Rows.{sites_of}
+use Rattle.px_flat.proofs.Numbers.{distinct_sites, paths_more, row_is}
+use Rattle.px_flat.proofs.Sites.{length-sites_of}
 use Rattle.px_flat.proofs.names.paths_of.Goals as goal
 
 pub loop-row-preserved : goal.loop-row-preserved
@@ -14,13 +14,11 @@ loop-row-preserved c =
     let plan : List Site = sites_of rows in
     let i = c.loop-row.row-index in
     let row = c.row-item.result in
-    let site : site_in plan i ≡ site_of plan row =
-    site_at_number rows c.requires i no_site row c.loop-row-test.true ∙ ap (site_of plan) (sym c.row-item.is) in
     c.in_ok-insert.ensures.keys
     ∙ ap (λ keys. insert_key is_same keys c.in_ok-copy.field-0) c.loop-row.invariant
     ∙ paths_more plan i c.in_ok-copy.field-0 (distinct_sites rows c.requires)
     (omega (arith, length-sites_of rows, c.loop-row-test.true))
-    (c.in_ok-copy.ensures ∙ ap (λ site. site.path) (sym site))
+    (c.in_ok-copy.ensures ∙ (row_is rows c.requires i row c.loop-row-test.true c.row-item.is).path)
 
 pub returns : goal.returns
 returns c =

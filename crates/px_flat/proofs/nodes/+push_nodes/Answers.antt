@@ -1,10 +1,10 @@
-use Rattle.std.proofs.Common.{◌≡◌, ◌<◌, ◌++◌, ◌∷◌, [], List, take, ap, sym, ◌∙◌, subst, rules, append_assoc}
+use Rattle.std.proofs.Common.{◌≡◌, ◌<◌, ◌++◌, ◌∷◌, [], List, take, ap, sym, ◌∙◌, rules, append_assoc}
 use Rattle.std.specs.Borrow.{Bor}
 use Rattle.std.proofs.lemmas.List.{map-append, take_all, take_more}
 use Rattle.px_core.specs.declared.node.CoreNode.{CoreNode}
 use Rattle.px_core.specs.declared.node.CoreNode.TheViews.{out-CoreNode}
-use Rattle.px_core.specs.Plan.{Head, count_of, trees_of}
-use Rattle.px_flat.specs.Laying.{below_it, heads_in, heads_of}
+use Rattle.px_core.specs.Plan.{Head, count_of, trees_of, below_it}
+use Rattle.px_flat.specs.Laying.{heads_in, heads_of}
 use Rattle.px_flat.proofs.Heads.{heads_of_more, heads_of_one}
 use Rattle.px_flat.proofs.Trees.{child_smaller, node_head}
 use Rattle.px_flat.proofs.nodes.+push_nodes.Goals as goal
@@ -14,9 +14,8 @@ push_nodes-requires t c =
     let children = c.deref-child-items.result.now in
     let child = c.child-item.result in
     let smaller : count_of (below_it child) < count_of (below_it c.args.node.now) =
-    subst (λ nodes. count_of (below_it child) < count_of (trees_of nodes)) c.deref-child-items.ensures.value
-    (subst (λ node. count_of (below_it node) < count_of (trees_of children)) (sym c.child-item.is)
-    (child_smaller children c.loop-child.child-index child c.loop-child-test.true)) in
+    child_smaller c.args.node.now children c.loop-child.child-index child c.deref-child-items.ensures.value c.loop-child-test.true
+    c.child-item.is in
     search rules
 
 pub loop-child-init : goal.loop-child-init

@@ -1,6 +1,6 @@
 use Rattle.std.proofs.Common.{◌≡◌, ◌++◌, ◌∷◌, take}
-use Rattle.px_core.specs.Plan.{count_of, trees_of}
-use Rattle.px_flat.specs.Laying.{below_it, heads_in, heads_of}
+use Rattle.px_core.specs.Plan.{count_of, trees_of, below_it}
+use Rattle.px_flat.specs.Laying.{heads_in, heads_of}
 use Rattle.px_flat.proofs.Trees.{node_head}
 use Rattle.px_flat.proofs.nodes.+push_nodes.Given as goal
 

@@ -1,8 +1,7 @@
 use Rattle.std.proofs.Common.{is_none, ap, ◌∙◌, subst, arith, inl, inr}
 use Rattle.std.proofs.lemmas.Bool.{cases_eq, ne_eqb}
-use Rattle.px_cached.proofs.OneList.{elsewhere}
+use Rattle.px_cached.proofs.OneList.{elsewhere, pushed_here}
 use Rattle.px_machine.specs.Queue.{IsBehind}
-use Rattle.px_machine.proofs.Waiting.{pushed_here}
 use Rattle.px_machine.proofs.queue.all_behind.Goals as goal
 
 pub loop-node-preserved : goal.loop-node-preserved

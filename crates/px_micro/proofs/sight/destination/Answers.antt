@@ -6,7 +6,7 @@ use Rattle.px_flat.specs.Row.{site_in}
 use Rattle.px_parts.specs.Parts.{plan_in, record_of}
 use Rattle.px_tables.proofs.Readings.{dest_read}
 use Rattle.px_micro.specs.Guarded.{guards_at}
-use Rattle.px_micro.proofs.Seeing.{record_is}
+use Rattle.px_parts.proofs.Found.{record_is}
 use Rattle.px_micro.proofs.sight.destination.Goals as goal
 
 pub returns-clause-destination : goal.returns-clause-destination

@@ -1,6 +1,6 @@
 use Rattle.std.proofs.Common.{ap, sym, ◌∙◌}
 use Rattle.px_sem.specs.World.{NodeRecord}
-use Rattle.px_micro.proofs.Seeing.{record_is}
+use Rattle.px_parts.proofs.Found.{record_is}
 use Rattle.px_micro.proofs.turns.told_move.Goals as goal
 
 pub returns : goal.returns

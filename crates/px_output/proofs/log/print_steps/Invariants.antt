@@ -1,5 +1,5 @@
 use Rattle.std.proofs.Common.{◌-◌}
-use Rattle.px_sem.proofs.Settles.{steps_until_quiet}
+use Rattle.px_sem.specs.Run.{steps_until_quiet}
 use Rattle.px_output.specs.View.{view}
 use Rattle.px_output.proofs.Tracing.{IsTracing}
 use Rattle.px_output.proofs.log.print_steps.Given as goal

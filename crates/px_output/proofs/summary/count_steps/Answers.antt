@@ -4,8 +4,8 @@ use Rattle.px_event.specs.declared.entry.Entry.{Entry}
 use Rattle.px_sem.specs.Log.{events_of}
 use Rattle.px_sem.specs.Run.{settled}
 use Rattle.px_sem.specs.Stepper.{State}
-use Rattle.px_output.proofs.Counting.{IsCounted, counted_at_start, next_counts, counted_more, counted_to_end}
-use Rattle.px_output.proofs.Telling.{IsNext, run_starts}
+use Rattle.px_output.proofs.Counting.{IsCounted, counted_at_start, counted_more, counted_to_end}
+use Rattle.px_output.proofs.Telling.{IsNext, run_starts, left_settles}
 use Rattle.px_output.proofs.summary.count_steps.Goals as goal
 
 pub settle-requires-clause-settles : goal.settle-requires-clause-settles
@@ -35,7 +35,7 @@ settle-requires-in-loop-entry-clause-settles g c =
       rest = c.loop-entry.invariant.rest;
       begins = c.in_ok-begin.ensures.ok;
     } in
-    next_counts plan history index now begun entry c.loop-entry.steps c.loop-entry.invariant next
+    left_settles plan history index now begun entry next c.loop-entry.invariant.runs
 
 pub loop-entry-preserved : goal.loop-entry-preserved
 loop-entry-preserved g c =

@@ -1,5 +1,6 @@
 use Rattle.std.proofs.Common.{◌-◌}
-use Rattle.px_sem.proofs.Settles.{IsUnderway, steps_until_quiet}
+use Rattle.px_sem.specs.Run.{steps_until_quiet}
+use Rattle.px_sem.proofs.Settles.{IsUnderway}
 use Rattle.px_output.proofs.summary.settle.Given as goal
 
 abbrev pub invariant-loop-count : goal.invariant-loop-count

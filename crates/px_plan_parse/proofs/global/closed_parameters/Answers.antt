@@ -1,7 +1,6 @@
 use Rattle.std.proofs.Common.{refl}
 use Rattle.px_value.proofs.General.{handed_on}
 use Rattle.std.proofs.lemmas.Bool.{false≢true}
-use Rattle.px_lex.specs.declared.sign.Sign.TheVariants as signs
 use Rattle.px_plan_parse.proofs.Commas.{commas_end, commas_lack, commas_lack_close, commas_lack_first, commas_more}
 use Rattle.px_plan_parse.proofs.Globals.{makes_parameters, no_parameters, parameters_separate}
 use Rattle.px_plan_parse.proofs.Parts.{lack_made, part_made}

@@ -2,7 +2,6 @@ use Rattle.std.proofs.Common.{refl}
 use Rattle.std.proofs.lemmas.List.{map_push}
 use Rattle.px_value.proofs.General.{handed_on}
 use Rattle.std.proofs.lemmas.Bool.{false≢true}
-use Rattle.px_lex.specs.declared.sign.Sign.TheVariants as signs
 use Rattle.px_syntax.specs.Block.{pair_data}
 use Rattle.px_plan_parse.proofs.Commas.{commas_end, commas_lack, commas_lack_close, commas_lack_first, commas_more}
 use Rattle.px_plan_parse.proofs.Names.{pairs_separate}

@@ -1,8 +1,7 @@
 use Rattle.std.proofs.Common.{◌≡◌, ◌<◌, ◌++◌, ◌∷◌, [], true, ap, sym, ◌∙◌, subst, take, rules}
 use Rattle.std.specs.List.{list_all}
 use Rattle.std.proofs.lemmas.List.{take_all, take_more}
-use Rattle.px_core.specs.Plan.{count_of, trees_of}
-use Rattle.px_flat.specs.Laying.{below_it}
+use Rattle.px_core.specs.Plan.{count_of, trees_of, below_it}
 use Rattle.px_flat.proofs.Trees.{child_smaller, node_head, short_room}
 use Rattle.px_script.specs.Telling.{TellKinds, kinds_under, has_short}
 use Rattle.px_script.proofs.TellingKinds.{IsShortChild, short_child, told_next}
@@ -22,9 +21,8 @@ tell_below-requires t c =
     let child = c.child-item.result in
     let children = c.deref-child-items.result.now in
     let smaller : count_of (below_it child) < count_of (below_it c.args.node.now) =
-    subst (λ nodes. count_of (below_it child) < count_of (trees_of nodes)) c.deref-child-items.ensures.value
-    (subst (λ node. count_of (below_it node) < count_of (trees_of children)) (sym c.child-item.is)
-    (child_smaller children c.loop-child.child-index child c.loop-child-test.true)) in
+    child_smaller c.args.node.now children c.loop-child.child-index child c.deref-child-items.ensures.value c.loop-child-test.true
+    c.child-item.is in
     let short : IsShortChild parent child = subst (IsShortChild parent) (sym c.child-item.is)
     (short_child parent children c.loop-child.child-index child c.loop-child-test.true (rw c.deref-child-items.ensures.value c.requires)) in
     (search rules, subst (λ path. list_all has_short (kinds_under path (below_it child)) ≡ true) (sym c.in_ok-path.ensures) short.inner)

@@ -1,6 +1,5 @@
 use Rattle.std.proofs.Common.{◌++◌, take}
-use Rattle.px_core.specs.Plan.{count_of, trees_of}
-use Rattle.px_flat.specs.Laying.{below_it}
+use Rattle.px_core.specs.Plan.{count_of, trees_of, below_it}
 use Rattle.px_script.specs.Telling.{TellKinds, kinds_under}
 use Rattle.px_script.proofs.kinds.+tell_below.Given as goal
 

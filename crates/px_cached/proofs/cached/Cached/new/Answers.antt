@@ -1,16 +1,15 @@
-use Rattle.std.proofs.Common.{ℕ, ◌<◌, ◌≤◌, ◌^◌, List, [], length, sum_by, ap, sym, ◌∙◌, subst}
+use Rattle.std.proofs.Common.{ℕ, ◌<◌, ◌≤◌, ◌^◌, List, [], length, ap, sym, ◌∙◌, subst}
 use Rattle.std.proofs.lemmas.List.{length-replicate}
 use Rattle.px_cells.specs.Cells.{CellsData}
 use Rattle.px_flat.specs.declared.flat.Flat.{Flat}
 use Rattle.px_flat.specs.Flat.{plan_of}
 use Rattle.px_flat.specs.Layout.{all_cells}
 use Rattle.px_links.specs.Links.{LinksData}
-use Rattle.px_listen.specs.Listening.{dependents_of}
 use Rattle.px_cached.specs.declared.part.Part.{Part}
 use Rattle.px_cached.specs.Cached.{present_in}
 use Rattle.px_cached.specs.Climbs.{climb}
 use Rattle.px_cached.specs.Conditions.{all_sources}
-use Rattle.px_cached.specs.Costs.{cost}
+use Rattle.px_cached.specs.Costs.{cost, source_cost}
 use Rattle.px_cached.specs.Firsts.{firsts_of}
 use Rattle.px_cached.specs.Laying.{IsRead}
 use Rattle.px_cached.specs.Looking.{IsSound}
@@ -52,7 +51,7 @@ invariant_of-result c =
           (subst (λ parts. AreWatching (plan_of c.args.flat.now) parts c.in_ok-listeners.listeners c.in_ok-watches.watches.items)
           c.deref-2.ensures.value c.in_ok-watches.ensures);
       costs = subst (λ (flat : Flat). (source : ℕ)
-          → sum_by (climb kept.network.above.items) (dependents_of c.in_ok-listeners.listeners source) ≤ cost (plan_of flat) source)
+          → source_cost c.in_ok-listeners.listeners (climb kept.network.above.items) source ≤ cost (plan_of flat) source)
           flat_is
           (dependents_cost (plan_of c.args.flat.now) kept.network.parts.items kept.network.above.items kept.network.roots.items
           (c.in_ok-kept.ensures.sound seen).laid c.in_ok-listeners.listeners

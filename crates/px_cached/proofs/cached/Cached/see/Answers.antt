@@ -1,14 +1,13 @@
-use Rattle.std.proofs.Common.{◌≡◌, length, sum_by, ap, sym, ◌∙◌, subst, arith}
+use Rattle.std.proofs.Common.{◌≡◌, length, ap, sym, ◌∙◌, subst, arith}
 use Rattle.std.proofs.lemmas.List.Sums.{sum_by-le-sum_by}
 use Rattle.px_cells.specs.Cells.{CellsData}
 use Rattle.px_flat.specs.Flat.{plan_of}
 use Rattle.px_flat.specs.Layout.{all_cells}
 use Rattle.px_links.specs.Lists.{nth}
-use Rattle.px_listen.specs.Listening.{dependents_of}
 use Rattle.px_cached.specs.declared.looking.Kept.{Kept}
 use Rattle.px_cached.specs.Cached.{CachedData, IsSeenBut, due, plan_in, present_in}
 use Rattle.px_cached.specs.Climbs.{climb}
-use Rattle.px_cached.specs.Costs.{cost}
+use Rattle.px_cached.specs.Costs.{cost, source_cost}
 use Rattle.px_cached.specs.Looking.{IsRight, IsSound}
 use Rattle.px_cached.specs.Network.{part_at, truth_at}
 use Rattle.px_cached.proofs.Seeing.{right_present}
@@ -70,7 +69,7 @@ returns-clause-owed c =
     omega (
       arith,
       c.notice.ensures.owed climbs,
-      sum_by-le-sum_by (λ source. sum_by climbs (dependents_of t.listeners source)) (cost (plan_of t.flat.value))
+      sum_by-le-sum_by (source_cost t.listeners climbs) (cost (plan_of t.flat.value))
           (nth t.touched.lists 0) c.self.invariant.costs,
       ap due c.self.view_is,
     )

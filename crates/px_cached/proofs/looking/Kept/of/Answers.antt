@@ -1,8 +1,8 @@
 use Rattle.std.proofs.Common.{rules, ◌≡◌, length, ap, arith}
 use Rattle.px_flat.specs.Flat.{plan_of}
 use Rattle.px_cached.specs.Climbs.{climb}
+use Rattle.px_cached.specs.Costs.{up_to}
 use Rattle.px_cached.proofs.Costing.{parts_cost}
-use Rattle.px_cached.proofs.Distinct.{up_to}
 use Rattle.px_cached.proofs.looking.Kept.of.Goals as goal
 
 pub returns-clause-owed : goal.returns-clause-owed

@@ -5,8 +5,8 @@ use Rattle.std.proofs.lemmas.List.Elements.{All-push}
 use Rattle.std.proofs.lemmas.List.Sorted.{All-permutation, answers_always}
 use Rattle.px_cached.specs.declared.watching.Watcher.{Watcher}
 use Rattle.px_cached.specs.Network.{part_at}
-use Rattle.px_cached.specs.Watching.{Answers, IsWatcher}
-use Rattle.px_cached.proofs.Watched.{in_order, next_in, part_of, with_other, with_watcher}
+use Rattle.px_cached.specs.Watching.{Answers, IsWatcher, part_of}
+use Rattle.px_cached.proofs.Watched.{in_order, next_in, with_other, with_watcher}
 use Rattle.px_cached.proofs.watching.Watch.of.Goals as goal
 
 pub loop-part-preserved-in-Continue-1 : goal.loop-part-preserved-in-Continue-1

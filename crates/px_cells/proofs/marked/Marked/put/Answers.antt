@@ -1,8 +1,10 @@
-use Rattle.std.proofs.Common.{◌≡◌, ◌<◌, ◌∷◌, ◌++◌, [], length, get_or, set, Some, None, is_some, true, false, not, arith, rules, sym, ap, ◌∙◌}
+use Rattle.std.proofs.Common.{◌≡◌, ◌<◌, nat_eq, ◌∷◌, ◌++◌, [], length, get_or, set, Some, None, is_some, true, false, not, arith, rules, sym, ap, ◌∙◌}
+use Rattle.std.specs.Cmp.{nat_eq_equiv}
 use Rattle.std.proofs.lemmas.List.{length-set, get_or_read}
+use Rattle.px_value.proofs.General.{once_push}
 use Rattle.px_cells.specs.Marked.{Contents, MarkedData, written}
 use Rattle.px_cells.proofs.Kept.{kept_write}
-use Rattle.px_cells.proofs.Noting.{noted_first, once_first}
+use Rattle.px_cells.proofs.Noting.{noted_first}
 use Rattle.px_cells.proofs.Writing.{held, first_write, later_write, free_write}
 use Rattle.px_cells.proofs.marked.Marked.put.Goals as goal
 use Rattle.px_cells.proofs.marked.Marked.put.Goals.{else-self-via-then-self+else-is_none, else-self-via-else-self}
@@ -21,7 +23,8 @@ invariant_of-self g c =
       sized = length-set olds c.args.at (Some c.replace-old.result) ∙ free.sized;
       small = free.small;
       noted = rw pushed (noted_first olds changed c.args.at c.replace-old.result c.self.invariant.noted within);
-      once = rw pushed (once_first olds changed c.args.at c.self.invariant.noted none c.self.invariant.once);
+      once = rw pushed (once_push nat_eq nat_eq_equiv.refl changed c.args.at (sym (c.self.invariant.noted c.args.at) ∙ none)
+          c.self.invariant.once);
       unmarked = λ free. absurd (cc (sym free ∙ c.if-self.true));
       counted = free.counted;
       as_seen = free.as_seen;

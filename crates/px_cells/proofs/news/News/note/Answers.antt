@@ -1,8 +1,10 @@
 use Rattle.std.proofs.Common.{◌≡◌, ◌<◌, nat_eq, false, true, length, sym, ap, ◌∙◌, arith}
+use Rattle.std.specs.Cmp.{nat_eq_equiv}
 use Rattle.std.specs.List.{list_any}
 use Rattle.std.proofs.lemmas.List.{get_or_read, length-set}
+use Rattle.px_value.proofs.General.{once_push}
 use Rattle.px_cells.specs.News.{NewsData}
-use Rattle.px_cells.proofs.Flagging.{flagged-push, once-push, room-push}
+use Rattle.px_cells.proofs.Flagging.{flagged-push, room-push}
 use Rattle.px_cells.proofs.news.News.note.Goals as goal
 use Rattle.px_cells.proofs.news.News.note.Goals.{After-index_mut}
 
@@ -29,7 +31,7 @@ invariant_of-self c =
     record {
       flags = rw (c.push_reserved.ensures.items) (flagged-push n.is_noted.items n.numbers.items c.self.invariant.flags
           c.args.at (below at));
-      once = rw (c.push_reserved.ensures.items) (once-push n.is_noted.items n.numbers.items c.self.invariant.flags c.args.at
-          (new at) c.self.invariant.once);
+      once = rw (c.push_reserved.ensures.items) (once_push nat_eq nat_eq_equiv.refl n.numbers.items c.args.at (new at)
+          c.self.invariant.once);
       room = omega (arith, c.self.invariant.room, c.push_reserved.ensures.capacity, length-set n.is_noted.items c.args.at true);
     }

@@ -1,6 +1,7 @@
 use Rattle.std.proofs.Common.{◌≡◌, map, drop}
 use Rattle.px_syntax.specs.Block.{variable_data}
-use Rattle.px_check.specs.Cells.{counted, variable_cells}
+use Rattle.px_syntax.specs.PlanFaults.{variable_cells}
+use Rattle.px_check.specs.Cells.{counted}
 use Rattle.px_check.proofs.cells.CellCount.variables.Given as goal
 
 abbrev pub invariant-loop-variable : goal.invariant-loop-variable

@@ -1,10 +1,11 @@
 use Rattle.std.proofs.Common.{◌≡◌, length, ap, sym, ◌∙◌, refl, rules, option_map, [], ◌∷◌, if◌then◌else◌}
 use Rattle.px_syntax.specs.Expr.{Term, term_of}
 use Rattle.px_syntax.specs.ExprFaults.{expr_faults, look_faults, type_of, answer_type}
+use Rattle.px_syntax.specs.Scope.{parameter_types}
 use Rattle.px_syntax.specs.ValueType.{Signature, UnarySignature}
 use Rattle.px_syntax.specs.declared.value_type.ValueType.TheVariants.{Integer, Any}
 use Rattle.px_check.specs.Found.{noted}
-use Rattle.px_check.specs.Globals.{callable_data, parameter_types}
+use Rattle.px_check.specs.Globals.{callable_data}
 use Rattle.px_check.proofs.Judging.{part_noted, type_noted, alike_noted, argument_noted, arguments_done, call_noted, look_type}
 use Rattle.px_check.proofs.Noting.{noted_then, noted_none}
 use Rattle.px_check.proofs.Terms as terms

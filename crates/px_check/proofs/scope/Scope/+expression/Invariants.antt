@@ -1,7 +1,7 @@
 use Rattle.std.proofs.Common.{◌≡◌, map, drop}
 use Rattle.px_syntax.specs.Expr.{term_of, in_turn}
 use Rattle.px_syntax.specs.ExprFaults.{argument_faults}
-use Rattle.px_check.specs.Globals.{parameter_types}
+use Rattle.px_syntax.specs.Scope.{parameter_types}
 use Rattle.px_check.specs.Found.{noted}
 use Rattle.px_check.proofs.scope.Scope.+expression.Given as goal
 

@@ -1,8 +1,7 @@
 use Rattle.std.proofs.Common.{◌≡◌, get_or, Some, None, ap, sym, ◌∙◌, subst}
 use Rattle.px_links.specs.Links.{HoldsOthersAsBefore}
 use Rattle.px_tally.specs.Tally.{TallyData}
-use Rattle.px_claims.specs.Keeping.{IsKept, is_contested}
-use Rattle.px_claims.proofs.Contested.{holder_for}
+use Rattle.px_claims.specs.Keeping.{IsKept, holder_for, is_contested}
 use Rattle.px_claims.proofs.Table.{held_tallies, held_then, held_alone}
 use Rattle.px_claims.proofs.claims.Claims.hold.Goals as goal
 

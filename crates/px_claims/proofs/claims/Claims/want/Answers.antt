@@ -3,9 +3,8 @@ use Rattle.std.proofs.lemmas.List.{get_or_default, length-set}
 use Rattle.px_links.specs.Links.{HoldsOthersAsBefore}
 use Rattle.px_tally.specs.Tally.{TallyData, is_counted, marked}
 use Rattle.px_claims.specs.declared.firsts.Firsts.{Firsts}
-use Rattle.px_claims.specs.Keeping.{HoldsFirsts, IsKept, is_contested}
+use Rattle.px_claims.specs.Keeping.{HoldsFirsts, IsKept, holder_for, is_contested}
 use Rattle.px_claims.specs.Ordering.{but_for, place_wanting}
-use Rattle.px_claims.proofs.Contested.{holder_for}
 use Rattle.px_claims.proofs.Places.{but_it, firsts_alone, firsts_then}
 use Rattle.px_claims.proofs.Table.{wanted_tallies, wanted_then, wanted_alone}
 use Rattle.px_claims.proofs.claims.Claims.want.Goals as goal

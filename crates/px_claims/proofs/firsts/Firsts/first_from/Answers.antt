@@ -2,10 +2,11 @@ use Rattle.std.proofs.Common.{◌≡◌, ◌<◌, length, get_or, ap, sym, ◌�
 use Rattle.std.specs.Prelude.{nat_eq}
 use Rattle.std.proofs.lemmas.Bool.{and_from, and_left, and_right, eq-eqb, ne_eqb}
 use Rattle.std.proofs.lemmas.List.{get_or_read}
+use Rattle.px_value.proofs.General.{not_behind}
 use Rattle.px_tally.specs.Tally.{is_counted}
 use Rattle.px_claims.specs.declared.order.Writer.{Writer}
 use Rattle.px_claims.specs.Ordering.{is_wanting}
-use Rattle.px_claims.proofs.Places.{behind, nobody_first, not_behind, someone, up_to_end}
+use Rattle.px_claims.proofs.Places.{behind, nobody_first, someone, up_to_end}
 use Rattle.px_claims.proofs.firsts.Firsts.first_from.Goals as goal
 use Rattle.px_claims.proofs.firsts.Firsts.first_from.Goals.{After-index-writer, else-writer-variable-via-then-writer-variable+else-counts, else-writer-variable-via-else-writer-variable}
 

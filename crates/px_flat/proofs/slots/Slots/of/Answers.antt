@@ -5,8 +5,8 @@ use Rattle.px_core.proofs.Cells.{cells_are}
 use Rattle.px_core.specs.Fit.{cells_of}
 use Rattle.px_core.specs.Plan.{VariableData, variable_data, is_same}
 use Rattle.px_flat.specs.declared.slots.Slot.{Slot}
-use Rattle.px_flat.specs.Slots.{slots_from}
-use Rattle.px_flat.proofs.Slotted.{slots_more, slot_at, length-slots_from, next}
+use Rattle.px_flat.specs.Slots.{slot_at, slots_from}
+use Rattle.px_flat.proofs.Slotted.{slots_more, length-slots_from, next}
 use Rattle.px_flat.proofs.Sums.{sum_front}
 use Rattle.px_flat.proofs.slots.Slots.of.Goals as goal
 

@@ -2,10 +2,11 @@ use Rattle.std.proofs.Common.{◌≡◌, ℕ, replicate, [], None, ap, ◌∙◌
 use Rattle.std.specs.List.{position}
 use Rattle.px_links.specs.Links.{LinksData, holder_of}
 use Rattle.px_links.specs.Lists.{has}
+use Rattle.px_links.specs.Keeping.{absent_cell, no_ends}
 use Rattle.std.proofs.lemmas.List.{length-replicate}
-use Rattle.px_links.proofs.Tables.{no_ends, lists-walked, walked-table}
+use Rattle.px_links.proofs.Tables.{lists-walked, walked-table}
 use Rattle.px_links.proofs.Reading.{holder-read}
-use Rattle.px_links.proofs.Empty.{absent_cell, table-empty}
+use Rattle.px_links.proofs.Empty.{table-empty}
 use Rattle.px_links.proofs.links.Links.new.Goals as goal
 
 pub invariant_of-result : goal.invariant_of-result

@@ -6,7 +6,7 @@ use Rattle.px_core.specs.Plan.{VariableData, variable_data}
 use Rattle.px_flat.specs.Layout.{first_cell}
 use Rattle.px_flat.specs.Row.{site_in, number_at}
 use Rattle.px_flat.proofs.Tables.{flat_sound}
-use Rattle.px_command.proofs.Writes.{cells_within}
+use Rattle.px_flat.proofs.Variables.{cells_within}
 use Rattle.px_parts.specs.Parts.{plan_in}
 use Rattle.px_parts.specs.Readings.{integer_in}
 use Rattle.px_parts.proofs.Integers.{IsSought, no_owner, sought_in, sought_read, sought_within}

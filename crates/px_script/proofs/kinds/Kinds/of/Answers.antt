@@ -1,7 +1,6 @@
 use Rattle.std.proofs.Common.{◌≡◌, [], ◌∷◌, true, sym, subst, arith}
 use Rattle.std.specs.List.{list_all}
-use Rattle.px_core.specs.Plan.{tree_of, sites}
-use Rattle.px_flat.specs.Laying.{below_it}
+use Rattle.px_core.specs.Plan.{tree_of, sites, below_it}
 use Rattle.px_flat.proofs.Trees.{node_head, next_is_short}
 use Rattle.px_script.specs.Telling.{TellKinds, all_kinds, kinds_under, has_short}
 use Rattle.px_script.proofs.TellingKinds.{short_kinds, root_told}
