@@ -8,14 +8,13 @@ use Rattle.std.specs.Cmp.Lexicographic.{same_text}
 use Rattle.std.proofs.lemmas.Bool.{and_parts, and_from, or_cases, or_left, or_right, eqb-true, eq-eqb, false≢true}
 use Rattle.std.proofs.lemmas.List.{get_or_default}
 use Rattle.std.proofs.lemmas.List.Folds.{Any-from_list_any, list_any_at}
-use Rattle.std.proofs.lemmas.List.Sums.{position_or_len_is}
 use Rattle.px_value.proofs.General.{same_bool}
 use Rattle.px_value.specs.declared.enums.NodeState.{NodeState}
 use Rattle.px_value.specs.declared.enums.NodeState.TheVariants as states
 use Rattle.px_core.specs.Fit.{AreDistinct}
 use Rattle.px_core.specs.Plan.{Site, BodyData, Nothing, Assign, Command, Update, TargetData, no_site, is_same}
-use Rattle.px_core.proofs.Paths.{same-self, same-other}
-use Rattle.px_sem.specs.Conflicts.{target_of, is_same_variable, would_start, holds_variable, count_before, takes, keeps_back}
+use Rattle.px_core.proofs.Paths.{same-self, same-other, place_is}
+use Rattle.px_sem.specs.Conflicts.{target_of, is_same_variable, would_start, holds_variable, takes, keeps_back}
 use Rattle.px_sem.specs.Conflicts as semantics
 use Rattle.px_sem.specs.Guards.{is_active, is_waiting}
 use Rattle.px_sem.specs.World.{World, state_at}
@@ -43,22 +42,12 @@ filter_alike p q (n ∷ ns) same =
 
 -- ---- places
 
-count_is : (plan : List Site) (node : ℕ) → AreDistinct plan → node < length plan
-    → count_before plan (site_in plan node) ≡ node
-count_is plan node distinct within =
-    let own : List ℕ = (site_in plan node).path in
-    position_or_len_is (λ (other : Site). is_same other.path own) plan node no_site (omega (arith, within))
-    (λ k before.
-    let there : k < length plan = omega (arith, before, within) in
-    same-other (site_in plan k).path own (λ same. absurd (omega (arith, before, distinct k node there within same))))
-    (λ inside. same-self own)
-
 goes_alike : (plan : List Site) (a b : ℕ) → AreDistinct plan → a < length plan → b < length plan
     → goes_before plan a b ≡ semantics.goes_before plan (site_in plan a) (site_in plan b)
 goes_alike plan a b distinct within_a within_b = λ i.
     nat_lt (site_in plan a).head.priority (site_in plan b).head.priority
     || (nat_eq (site_in plan a).head.priority (site_in plan b).head.priority
-    && nat_lt (sym (count_is plan a distinct within_a) i) (sym (count_is plan b distinct within_b) i))
+    && nat_lt (sym (place_is plan a distinct within_a) i) (sym (place_is plan b distinct within_b) i))
 
 -- ---- variables
 

@@ -1,5 +1,5 @@
 -- Which numbers are noted, by a flag beside each.
-use Rattle.std.proofs.Common.{◌≡◌, ◌≢◌, ℕ, zero, suc, ◌+◌, ◌<◌, ◌≤◌, Bool, true, false, ◌||◌, nat_eq, List, [], ◌∷◌, ◌++◌, length, set, get_or, slice_get, drop, refl, ap, sym, ◌∙◌, arith, inl, inr, length-append, Option, Contains, All, AllPairs, if◌then◌else◌}
+use Rattle.std.proofs.Common.{◌≡◌, ◌≢◌, ℕ, ◌<◌, ◌≤◌, Bool, true, false, ◌||◌, nat_eq, List, [], ◌∷◌, ◌++◌, length, set, get_or, drop, refl, ap, sym, ◌∙◌, arith, inl, inr, length-append, Option, Contains, All, AllPairs, if◌then◌else◌}
 use Rattle.std.specs.Cmp.{nat_eq_equiv}
 use Rattle.std.specs.List.{list_any}
 use Rattle.std.proofs.lemmas.Bool.{eqb-true, eq-eqb, false_from_ne_true}
@@ -9,6 +9,7 @@ use Rattle.std.proofs.lemmas.List.Folds.{list_any-append, list_any_at}
 use Rattle.std.proofs.lemmas.Map.Made.{IsDistinct-from_AllPairs}
 use Rattle.std.proofs.lemmas.Map.Steps.{length-le_from_distinct_below}
 use Rattle.std.proofs.lemmas.Map.Views.{Contains-from_any}
+use Rattle.std.proofs.lemmas.Option.{gets}
 use Rattle.px_value.proofs.General.{once_push, passes_within}
 use Rattle.px_cells.specs.Marks.{at_mark, AreFlagged, AreNoted, IsAsSeen}
 use Rattle.px_cells.specs.News.{with_number, with_numbers}
@@ -106,21 +107,12 @@ not_noted numbers at other =
     false_from_ne_true (list_any (nat_eq at) numbers) (λ is. other (Contains-from_any eqb-true at numbers is))
 
 module _ {T : Type 0} where
-  slice_get-set_other : (values : List T) (at other : ℕ) (value : T) → other ≢ at
-      → slice_get (set values at value) other ≡ slice_get values other
-  slice_get-set_other [] at other value apart = refl
-  slice_get-set_other (first ∷ values) zero zero value apart = absurd (apart refl)
-  slice_get-set_other (first ∷ values) zero (suc other) value apart = refl
-  slice_get-set_other (first ∷ values) (suc at) zero value apart = refl
-  slice_get-set_other (first ∷ values) (suc at) (suc other) value apart =
-      slice_get-set_other values at other value (λ same. apart (ap suc same))
-
   -- a value that is written is news
   pub seen-write : (values seen : List T) (news : List ℕ) (at : ℕ) (value : T) → IsAsSeen values seen news
       → IsAsSeen (set values at value) seen (with_number news at)
   seen-write values seen news at value same other none =
       let apart = has-with news at other none in
-      slice_get-set_other values at other value apart.1 ∙ same other apart.0
+      grind (arith, gets, get_or-set_other, length-set, same other apart.0, apart.1)
 
   -- and so is each that goes back
   pub seen-back : (olds : List (Option T)) (values seen : List T) (changed news : List ℕ) → length olds ≡ length values

@@ -2,6 +2,7 @@
 use Rattle.std.proofs.Common.{◌≡◌, ℕ, ◌||◌, ◌&&◌, ◌==◌, nat_lt, Bool, true, false, List, [], ◌∷◌, fold, slice_get}
 use Rattle.std.proofs.Common.{Option, Some, None, if◌then◌else◌, refl, ap, sym, ◌∙◌, arith}
 use Rattle.std.specs.List.{filter}
+use Rattle.std.proofs.lemmas.List.Folds.{fold_along}
 use Rattle.px_syntax.specs.Fault.{Fault, number_of, is_before, placed, in_order}
 use Rattle.px_check.specs.Found.{Sought, is_behind, behind, first_with, earlier, noted}
 
@@ -104,9 +105,10 @@ first_placed (other ∷ others) fault = by (is_before fault other) (is_before ot
     by false false = refl
 
 first_of : (faults before : List Fault) → slice_get (fold placed before faults) 0 ≡ fold first_with (slice_get before 0) faults
-first_of [] before = refl
-first_of (fault ∷ faults) before =
-    first_of faults (placed before fault) ∙ ap (λ found. fold first_with found faults) (first_placed before fault)
+first_of faults before =
+    fold_along placed first_with (λ (kept : List Fault) (found : Option Fault). slice_get kept 0 ≡ found)
+    (λ kept found fault same. first_placed kept fault ∙ ap (λ found. first_with found fault) same)
+    before (slice_get before 0) faults refl
 
 pub first_in_order : (floor : Option Fault) (faults : List Fault)
     → slice_get (behind floor (in_order faults)) 0 ≡ (noted (record { floor = floor; first = None }) faults).first

@@ -1,9 +1,9 @@
 -- How entries that know which they shadow answer what a name means.
-use Rattle.std.proofs.Common.{◌≡◌, ℕ, suc, ◌-◌, ◌<◌, Bool, true, false, cond, List, [], ◌∷◌, ◌++◌, reverse, length, get_or, drop}
+use Rattle.std.proofs.Common.{◌≡◌, ℕ, ◌+◌, ◌-◌, ◌<◌, Bool, true, false, cond, List, [], ◌∷◌, ◌++◌, reverse, length, get_or, drop}
 use Rattle.std.proofs.Common.{Some, None, IsSome, refl, sym, ap, ◌∙◌, subst, arith}
 use Rattle.std.specs.Str.{bytes_eq}
 use Rattle.std.specs.Cmp.Lexicographic.{bytes_decides, nat_list_eq_equiv}
-use Rattle.std.proofs.lemmas.List.{reverse-append, length-reverse, get_or_append_left}
+use Rattle.std.proofs.lemmas.List.{drop-drop, reverse-append, length-drop, length-reverse, get_or_append_left}
 use Rattle.std.proofs.Math.Seq.{get_or-append_seam}
 use Rattle.indexmap.specs.IndexMap.{IndexMap, get}
 use Rattle.px_check.specs.Scoped.{meanings, meaning_of, nearest_of, IsLinked, IsIndex}
@@ -12,10 +12,9 @@ use Rattle.px_check.specs.declared.scoped.Shadowing.{Shadowing}
 -- one nearest name less is one step on the way down to so many
 pub dropped_one : {X : Type 0} (xs : List X) (n : ℕ) → n < length xs
     → drop (length (drop 1 xs) - n) (drop 1 xs) ≡ drop (length xs - n) xs
-dropped_one [] n h = absurd (omega arith)
-dropped_one (x ∷ xs) n h =
-    let more : length (x ∷ xs) - n ≡ suc (length xs - n) = omega arith in
-    sym (ap (λ k. drop k (x ∷ xs)) more)
+dropped_one xs n h =
+    let more : 1 + (length (drop 1 xs) - n) ≡ length xs - n = omega (arith, h, length-drop 1 xs) in
+    drop-drop (length (drop 1 xs) - n) 1 xs ∙ ap (λ k. drop k xs) more
 
 module _ {T : Type 0} where
   pub nearest_within : (name : List ℕ) (es : List (Shadowing T)) (i : ℕ) → nearest_of name es ≡ Some i → i < length es

@@ -1,9 +1,8 @@
 -- The variables that nodes write are variables of the plan.
-use Rattle.std.proofs.Common.{◌≡◌, ℕ, ◌<◌, List, length, get_or, Option, Some, None, IfSome, All, false, refl, sym, ◌∙◌, subst, arith, inl, inr}
-use Rattle.std.proofs.lemmas.Bool.{cases_lt}
-use Rattle.std.proofs.lemmas.List.{get_or_past, length-replicate}
+use Rattle.std.proofs.Common.{◌≡◌, ℕ, ◌<◌, List, length, get_or, Option, Some, None, IfSome, All, false, refl, sym, ◌∙◌, subst, arith}
+use Rattle.std.proofs.lemmas.List.{length-replicate}
 use Rattle.std.proofs.lemmas.List.FromFn.{get_or-map-range_with_len, length-map-range_with_len}
-use Rattle.std.proofs.lemmas.Option.{none-some}
+use Rattle.px_value.proofs.General.{read_anywhere}
 use Rattle.px_core.specs.Plan.{Site}
 use Rattle.px_flat.specs.declared.flat.Flat.{Flat}
 use Rattle.px_flat.specs.Flat.{plan_of}
@@ -46,10 +45,9 @@ variables_within flat node d inside =
 -- a node's variable is one of the plan
 pub written_there : (flat : Flat) (node variable : ℕ) → get_or (variables_of (plan_of flat)) node None ≡ Some variable
     → variable < variable_cells (plan_of flat)
-written_there flat node variable is = elim (cases_lt node (length (variables_of (plan_of flat)))) [
-  | inl inside ↦ subst (IsVariable (plan_of flat)) is (variables_within flat node None inside)
-  | inr past ↦ absurd (none-some variable (sym (get_or_past (variables_of (plan_of flat)) node None past) ∙ is))
-]
+written_there flat node variable is =
+    subst (IsVariable (plan_of flat)) is
+    (read_anywhere (IsVariable (plan_of flat)) (variables_of (plan_of flat)) node None (variables_within flat) tt)
 
 -- ---- tallies of nodes
 

@@ -10,7 +10,7 @@ use Rattle.std.proofs.lemmas.List.FromFn.{get_or-map-range_with_len, get_or-rang
 use Rattle.std.proofs.lemmas.List.Kept.{AllPairs-cons}
 use Rattle.std.proofs.lemmas.List.Quantifiers.{position-Some}
 use Rattle.std.proofs.lemmas.List.Sums.{position_or_len_is}
-use Rattle.std.proofs.lemmas.Option.{same_Some}
+use Rattle.std.proofs.lemmas.Option.{cond_some, same_Some}
 use Rattle.px_value.specs.General.{is_number}
 use Rattle.px_value.proofs.General.{passes_within, same_bool}
 use Rattle.px_core.specs.Plan.{Site}
@@ -216,12 +216,8 @@ module _ (plan : List Site) (writers : List Writer) (are : AreInOrder plan write
 
   -- a variable is in the list just where it is contested
   in_list : (variable : ℕ) → has (nth links.lists 0) variable ≡ true → is_contested wanting holding variable ≡ true
-  in_list variable here = by (is_contested wanting holding variable)
-      (sym (kept variable) ∙ first_holds links.lists variable some here)
-    where
-      by : (contested : Bool) → holder_for contested ≡ Some 0 → contested ≡ true
-      by true is = refl
-      by false is = absurd (cc)
+  in_list variable here =
+      (cond_some (is_contested wanting holding variable) 0 0 (sym (kept variable) ∙ first_holds links.lists variable some here)).0
 
   listed : (variable : ℕ) → is_contested wanting holding variable ≡ true → has (nth links.lists 0) variable ≡ true
   listed variable contested = held_first links.lists variable (kept variable ∙ ap holder_for contested)

@@ -1,18 +1,18 @@
 -- A write of a cell of a variable is a write of the variable in the world that the parts stand for. (This could as well stand
 -- in px_flat.)
-use Rattle.std.proofs.Common.{◌≡◌, ◌≢◌, ℕ, ◌+◌, ◌-◌, ◌<◌, ◌≤◌, Bool, true, false, not, List, [], ◌∷◌, length, map, set, take, drop, refl, ap, sym, ◌∙◌, subst, arith, inl, inr, Some, if◌then◌else◌}
+use Rattle.std.proofs.Common.{◌≡◌, ◌≢◌, ℕ, ◌+◌, ◌-◌, ◌<◌, ◌≤◌, Bool, true, false, not, List, [], ◌∷◌, length, map, set, take, drop, refl, ap, sym, ◌∙◌, subst, arith, Some, if◌then◌else◌}
 use Rattle.std.specs.List.{list_any, zip}
 use Rattle.std.specs.Cmp.Lexicographic.{same_text}
-use Rattle.std.proofs.lemmas.Bool.{and_parts, not-true, or_parts, cases_lt}
+use Rattle.std.proofs.lemmas.Bool.{and_parts, not-true, or_parts}
 use Rattle.std.proofs.lemmas.Cmp.{nat_list_eq_equiv}
 use Rattle.std.proofs.Math.Seq.{take-set-lt}
-use Rattle.std.proofs.lemmas.List.{take-set-le, drop-set-lt, drop-set-add, get_or-set_other}
+use Rattle.std.proofs.lemmas.List.{take-set-le, drop-set-lt, drop-set-add, get_or-set_other, length-set}
 use Rattle.px_value.specs.declared.value.Value.{Value}
 use Rattle.px_value.specs.declared.value.Value.TheVariants as values
 use Rattle.px_core.specs.Fit.{all_differ, cells_of, cells_of_site, variables_differ}
 use Rattle.px_core.specs.Plan.{Site, VariableData, is_same}
-use Rattle.px_sem.specs.Effects.{cell_of}
-use Rattle.px_sem.specs.Events.{with_record, with_write}
+use Rattle.px_sem.specs.Effects.{Write, cell_of, written}
+use Rattle.px_sem.specs.Events.{with_record, with_write, written_by}
 use Rattle.px_sem.specs.World as world
 use Rattle.px_sem.specs.World.{NodeRecord, LookState, Report, record_at}
 use Rattle.px_flat.specs.declared.act.Act.{Act}
@@ -20,43 +20,38 @@ use Rattle.px_flat.specs.Layout.{Place, place_from, first_cell, node_cell, state
 use Rattle.px_flat.specs.Numbered.{held}
 use Rattle.px_flat.specs.Parts.{values_in, record_in, world_of, action_in, act_of, state_in, outcome_in, failure_in}
 use Rattle.px_flat.specs.Row.{site_in}
-use Rattle.px_flat.proofs.Changes.{values_in-behind, world_of-changed}
+use Rattle.px_flat.proofs.Changes.{values_in-same, world_of-changed}
 use Rattle.px_flat.proofs.Known.{IsSound}
 use Rattle.px_flat.proofs.Sites.{found_site}
 use Rattle.px_flat.proofs.Worlds.{record_at-world_of}
-use Rattle.px_flat.proofs.Variables.{IsDeclared, place_behind, cells_apart, cells_within}
+use Rattle.px_flat.proofs.Variables.{IsDeclared, place_behind, cells_within, nodes_apart}
 
 -- ---- the variables of one node
 
--- one variable after a write to that of a name
-abbrev after_write : List ℕ → world.Place → Value → VariableData × List Value → List Value
-after_write name place value variable =
-    if is_same variable.0.name name then set variable.1 (cell_of place) value else variable.1
-
 -- none of them has the name
-untouched : (name : List ℕ) (place : world.Place) (value : Value) (variables : List VariableData) (cells : List Value)
-    → list_any (is_same name) (map (λ variable. variable.name) variables) ≡ false
-    → values_in variables cells ≡ map (after_write name place value) (zip variables (values_in variables cells))
-untouched name place value [] cells none = refl
-untouched name place value (variable ∷ variables) cells none =
-    let parts = or_parts (is_same name variable.name) (list_any (is_same name) (map (λ variable. variable.name) variables)) none in
+untouched : (write : Write) (variables : List VariableData) (cells : List Value)
+    → list_any (is_same write.name) (map (λ variable. variable.name) variables) ≡ false
+    → values_in variables cells ≡ map (written_by write) (zip variables (values_in variables cells))
+untouched write [] cells none = refl
+untouched write (variable ∷ variables) cells none =
+    let parts = or_parts (is_same write.name variable.name) (list_any (is_same write.name) (map (λ variable. variable.name) variables)) none in
     let own : List Value = take (cells_of variable) cells in
     let rest : List Value = drop (cells_of variable) cells in
-    ap (λ b. (if b then set own (cell_of place) value else own) ∷ values_in variables rest)
-    (sym (nat_list_eq_equiv.symm variable.name name ∙ parts.0))
-    ∙ ap (λ rest. (if is_same variable.name name then set own (cell_of place) value else own) ∷ rest)
-    (untouched name place value variables rest parts.1)
+    ap (λ b. (if b then written own (Some write) else own) ∷ values_in variables rest)
+    (sym (nat_list_eq_equiv.symm variable.name write.name ∙ parts.0))
+    ∙ ap (λ rest. written_by write (variable, own) ∷ rest)
+    (untouched write variables rest parts.1)
 
 -- one of them has it
-values_in-write : (name : List ℕ) (place : world.Place) (value : Value) (variables : List VariableData) (cells : List Value)
-    (from k : ℕ) (slot : Place) → place_from from variables name ≡ Some slot
+values_in-write : (write : Write) (variables : List VariableData) (cells : List Value) (from k : ℕ)
+    (slot : Place) → place_from from variables write.name ≡ Some slot
     → all_differ (map (λ variable. variable.name) variables) ≡ true
-    → cell_of place < slot.size → from + k ≡ slot.first + cell_of place
-    → values_in variables (set cells k value) ≡ map (after_write name place value) (zip variables (values_in variables cells))
-values_in-write name place value [] cells from k slot at differ within there = absurd (cc)
-values_in-write name place value (variable ∷ variables) cells from k slot at differ within there =
-    by (is_same variable.name name) refl at
-    (λ at behind. values_in-write name place value variables (drop size cells) (from + size) (k - size) slot at parts.1 within
+    → cell_of write.place < slot.size → from + k ≡ slot.first + cell_of write.place
+    → values_in variables (set cells k write.value) ≡ map (written_by write) (zip variables (values_in variables cells))
+values_in-write write [] cells from k slot at differ within there = absurd (cc)
+values_in-write write (variable ∷ variables) cells from k slot at differ within there =
+    by (is_same variable.name write.name) refl at
+    (λ at behind. values_in-write write variables (drop size cells) (from + size) (k - size) slot at parts.1 within
     (omega (arith, behind, there)))
   where
     size : ℕ
@@ -67,39 +62,39 @@ values_in-write name place value (variable ∷ variables) cells from k slot at d
     parts = and_parts (not (list_any (is_same variable.name) (map (λ variable. variable.name) variables)))
         (all_differ (map (λ variable. variable.name) variables)) differ
 
-    by : (same : Bool) → is_same variable.name name ≡ same
+    by : (same : Bool) → is_same variable.name write.name ≡ same
         → (if same then Some (record { first = from; size = cells_of variable })
-        else place_from (from + cells_of variable) variables name) ≡ Some slot
-        → (place_from (from + size) variables name ≡ Some slot → from + size ≤ slot.first
-        → values_in variables (set (drop size cells) (k - size) value)
-        ≡ map (after_write name place value) (zip variables (values_in variables (drop size cells))))
-        → values_in (variable ∷ variables) (set cells k value)
-        ≡ map (after_write name place value) (zip (variable ∷ variables) (values_in (variable ∷ variables) cells))
+        else place_from (from + cells_of variable) variables write.name) ≡ Some slot
+        → (place_from (from + size) variables write.name ≡ Some slot → from + size ≤ slot.first
+        → values_in variables (set (drop size cells) (k - size) write.value)
+        ≡ map (written_by write) (zip variables (values_in variables (drop size cells))))
+        → values_in (variable ∷ variables) (set cells k write.value)
+        ≡ map (written_by write) (zip (variable ∷ variables) (values_in (variable ∷ variables) cells))
     by true is at rest =
         let own : Place = record { first = from; size = size } in
         let here : own ≡ slot = (cc) in
-        let k_is : k ≡ cell_of place = omega (arith, there, ap (λ (slot : Place). slot.first) here) in
+        let k_is : k ≡ cell_of write.place = omega (arith, there, ap (λ (slot : Place). slot.first) here) in
         let inside : k < size = omega (arith, within, k_is, ap (λ (slot : Place). slot.size) here) in
-        let named : variable.name ≡ name = same_text variable.name name (sym is) in
-        let others : list_any (is_same name) (map (λ variable. variable.name) variables) ≡ false =
+        let named : variable.name ≡ write.name = same_text variable.name write.name (sym is) in
+        let others : list_any (is_same write.name) (map (λ variable. variable.name) variables) ≡ false =
         subst (λ name. list_any (is_same name) (map (λ variable. variable.name) variables) ≡ false) named (not-true _ parts.0) in
-        ap (λ front. front ∷ values_in variables (drop size (set cells k value))) (take-set-lt size cells k value inside)
-        ∙ ap (λ behind. set (take size cells) k value ∷ values_in variables behind) (drop-set-lt size cells k value inside)
-        ∙ ap (λ n. set (take size cells) n value ∷ values_in variables (drop size cells)) k_is
-        ∙ ap (λ b. (if b then set (take size cells) (cell_of place) value else take size cells) ∷ values_in variables (drop size cells))
+        ap (λ front. front ∷ values_in variables (drop size (set cells k write.value))) (take-set-lt size cells k write.value inside)
+        ∙ ap (λ behind. set (take size cells) k write.value ∷ values_in variables behind) (drop-set-lt size cells k write.value inside)
+        ∙ ap (λ n. set (take size cells) n write.value ∷ values_in variables (drop size cells)) k_is
+        ∙ ap (λ b. (if b then written (take size cells) (Some write) else take size cells) ∷ values_in variables (drop size cells))
         (sym is)
-        ∙ ap (λ rest. (if is_same variable.name name then set (take size cells) (cell_of place) value else take size cells) ∷ rest)
-        (untouched name place value variables (drop size cells) others)
+        ∙ ap (λ rest. written_by write (variable, take size cells) ∷ rest)
+        (untouched write variables (drop size cells) others)
     by false is at rest =
-        let behind : from + size ≤ slot.first = place_behind (from + size) variables name slot at in
+        let behind : from + size ≤ slot.first = place_behind (from + size) variables write.name slot at in
         let far : k ≡ size + (k - size) = omega (arith, behind, there) in
-        ap (λ front. front ∷ values_in variables (drop size (set cells k value)))
-        (take-set-le size cells k value (omega (arith, behind, there)))
-        ∙ ap (λ n. take size cells ∷ values_in variables (drop size (set cells n value))) far
-        ∙ ap (λ behind. take size cells ∷ values_in variables behind) (drop-set-add size cells (k - size) value)
+        ap (λ front. front ∷ values_in variables (drop size (set cells k write.value)))
+        (take-set-le size cells k write.value (omega (arith, behind, there)))
+        ∙ ap (λ n. take size cells ∷ values_in variables (drop size (set cells n write.value))) far
+        ∙ ap (λ behind. take size cells ∷ values_in variables behind) (drop-set-add size cells (k - size) write.value)
         ∙ ap (λ values. take size cells ∷ values) (rest at behind)
-        ∙ ap (λ b. (if b then set (take size cells) (cell_of place) value else take size cells)
-        ∷ map (after_write name place value) (zip variables (values_in variables (drop size cells)))) (sym is)
+        ∙ ap (λ b. (if b then written (take size cells) (Some write) else take size cells)
+        ∷ map (written_by write) (zip variables (values_in variables (drop size cells)))) (sym is)
 
 -- ---- the records of all nodes
 
@@ -130,20 +125,11 @@ others_stay plan cells acts node cell value within from to other there apart = �
 
     same : values_in own (drop (first_cell plan other) (set cells cell value))
         ≡ values_in own (drop (first_cell plan other) cells)
-    same = elim (cases_lt other node) [
-      | inl earlier ↦
-          let first : ℕ = first_cell plan other in
-          let room : first + cells_of_site (site_in plan other) ≤ cell =
-          omega (arith, from, cells_apart plan other node earlier (omega (arith, within))) in
-          let far : cell ≡ first + (cell - first) = omega (arith, room) in
-          ap (λ n. values_in own (drop first (set cells n value))) far
-          ∙ ap (values_in own) (drop-set-add first cells (cell - first) value)
-          ∙ values_in-behind own (drop first cells) (cell - first) value (omega (arith, room))
-      | inr not_earlier ↦
-          let later : node < other = omega (arith, not_earlier, apart) in
-          ap (values_in own) (drop-set-lt (first_cell plan other) cells cell value
-          (omega (arith, to, cells_apart plan node other later (omega (arith, there)))))
-    ]
+    same =
+        values_in-same own (first_cell plan other) (set cells cell value) cells (length-set cells cell value) (λ i few.
+        get_or-set_other cells cell (first_cell plan other + i) value values.Unknown (λ is.
+        nodes_apart plan other node i (cell - first_cell plan node) there within apart few (omega (arith, from, to))
+        (omega (arith, from, is))))
 
 -- a cell of a variable that a node declares
 pub record IsCellOf (plan : List Site) (owner name : List ℕ) (place : world.Place) (cell : ℕ) : Type 0 where
@@ -184,17 +170,20 @@ variable_written plan cells reports acts owner name place cell value sound of =
     far : cell ≡ first + (cell - first)
     far = omega (arith, behind)
 
+    write : Write
+    write = record { owner = own.path; name = name; place = place; value = value }
+
     variables_are : values_in own.head.variables (drop first (set cells cell value))
-        ≡ map (after_write name place value) (zip own.head.variables (values_in own.head.variables (drop first cells)))
+        ≡ map (written_by write) (zip own.head.variables (values_in own.head.variables (drop first cells)))
     variables_are =
         ap (λ n. values_in own.head.variables (drop first (set cells n value))) far
         ∙ ap (values_in own.head.variables) (drop-set-add first cells (cell - first) value)
-        ∙ values_in-write name place value own.head.variables (drop first cells) first (cell - first) of.declared.has.place
+        ∙ values_in-write write own.head.variables (drop first cells) first (cell - first) of.declared.has.place
         of.declared.has.is of.differ of.inside (omega (arith, far, of.is))
 
     record_is : record_in plan (set cells cell value) acts node
         ≡ record (record_in plan cells acts node)
-        { variables = map (after_write name place value) (zip own.head.variables (record_in plan cells acts node).variables) }
+        { variables = map (written_by write) (zip own.head.variables (record_in plan cells acts node).variables) }
     record_is = λ i. record {
       state = state_in (kept plan cells cell (state_cell plan node) value variable (omega arith) i);
       outcome = outcome_in (kept plan cells cell (node_cell plan node + 1) value variable (omega arith) i);
@@ -205,18 +194,17 @@ variable_written plan cells reports acts owner name place cell value sound of =
     }
 
     at_own : world_of plan (set cells cell value) reports acts
-        ≡ with_write plan (world_of plan cells reports acts)
-        (Some (record { owner = own.path; name = name; place = place; value = value }))
+        ≡ with_write plan (world_of plan cells reports acts) (Some write)
     at_own =
         world_of-changed plan cells (set cells cell value) reports acts acts node sound.distinct of.declared.within
         (others_stay plan cells acts node cell value of.declared.within behind before)
         ∙ ap (with_record (world_of plan cells reports acts) own.path)
         (record_is
         ∙ ap (λ (r : NodeRecord). record r
-        { variables = map (after_write name place value) (zip own.head.variables r.variables) })
+        { variables = map (written_by write) (zip own.head.variables r.variables) })
         (sym (record_at-world_of plan cells reports acts node sound.distinct of.declared.within))
         ∙ ap (λ (site : Site). record (record_at (world_of plan cells reports acts) own.path) {
-          variables = map (after_write name place value)
+          variables = map (written_by write)
               (zip site.head.variables (record_at (world_of plan cells reports acts) own.path).variables);
         })
         (sym (found_site plan node sound.distinct of.declared.within)))

@@ -17,13 +17,12 @@ use Rattle.px_syntax.specs.declared.fault.ParseFault.{ParseFault}
 use Rattle.px_syntax.specs.declared.fault.ParseFault.TheVariants as parse_faults
 use Rattle.px_syntax.specs.declared.fault.PlanFault.{PlanFault}
 use Rattle.px_syntax.specs.declared.fault.PlanFault.TheVariants as answers
-use Rattle.px_syntax.specs.Depth.{too_deep}
 use Rattle.px_syntax.specs.Fault.{Fault, number_of}
 use Rattle.px_syntax.specs.Plan.{PlanTree}
 use Rattle.px_syntax.specs.PlanFaults.{faults}
 use Rattle.px_core.specs.Plan.{Tree}
 use Rattle.px_plan_parse.specs.Verdict as parsing
-use Rattle.px_plan_parse.proofs.Plans.{one_place}
+use Rattle.px_plan_parse.proofs.Plans.{one_place, only_memory}
 use Rattle.px_check.specs.Checked.{IsFirst}
 use Rattle.px_expand.specs.Bound.{is_too_large}
 use Rattle.px_expand.specs.Core.{core}
@@ -50,23 +49,13 @@ no_split :
     → IsSplit bytes tokens → ⊥
 no_split bytes fault tokens some first split = no_fault bytes tokens fault split.split some first
 
-no_plan :
-    (tokens : List Token) (fault : ParseFault) (tree : PlanTree) → fault ≢ parse_faults.NoMemory
-    → parsing.IsRefused tokens fault → too_deep tokens ≡ [] → parsing.IsPlan tokens tree → ⊥
-no_plan tokens (parse_faults.Deep token) tree some refused shallow plan =
-    let both : token ∷ refused.0 ≡ [] = sym refused.1 ∙ shallow in cc
-no_plan tokens (parse_faults.SyntaxFault token) tree some refused shallow plan =
-    refused.1.none tokens (λ place within. refl) tree plan.spelled
-no_plan tokens parse_faults.NoMemory tree some refused shallow plan = absurd (some refl)
-
 no_tree :
     (bytes : List ℕ) (tokens : List Token) (fault : ParseFault) (tree : PlanTree) → fault ≢ parse_faults.NoMemory
     → IsSplit bytes tokens → parsing.IsRefused tokens fault → IsSpelled bytes tree → ⊥
 no_tree bytes tokens fault tree some split refused spelled =
     let same = one_split bytes tokens spelled.tokens split spelled.split in
-    no_plan spelled.tokens fault tree some
-    (subst (λ (other : List Token). parsing.IsRefused other fault) same refused)
-    spelled.shallow spelled.spelled
+    some (only_memory spelled.tokens tree spelled.spelled.spelled spelled.shallow fault
+    (subst (λ (other : List Token). parsing.IsRefused other fault) same refused))
 
 no_first :
     (found : List Fault) (fault : CheckFault) → fault ≢ check_faults.NoMemory → IsFirst found fault → found ≡ [] → ⊥

@@ -2,13 +2,14 @@
 use Rattle.std.proofs.Common.{◌≡◌, ◌≢◌, ℕ, zero, suc, Bool, true, false, not, ◌&&◌, ◌||◌, ◌==◌, List, [], ◌∷◌}
 use Rattle.std.proofs.Common.{◌++◌, length, refl, ap, sym, ◌∙◌, subst, arith, ◌⊎◌, inl, inr, append_assoc}
 use Rattle.std.proofs.Common.{append-nil, length-append}
-use Rattle.std.proofs.lemmas.Bool.{and_parts}
+use Rattle.std.proofs.lemmas.Bool.{and_parts, not_from_false, not-true, or_parts}
 use Rattle.std.specs.List.{list_all, list_any, AllByRecursion as Each}
 use Rattle.std.proofs.lemmas.List.{append_cancel_left}
 use Rattle.std.proofs.lemmas.List.Elements.{All-from_recursion, recursion_from_All}
 use Rattle.std.proofs.lemmas.List.Sums.{AllPass-from_list_all}
+use Rattle.std.proofs.Permutation.{every_append as each-append}
 use Rattle.px_value.specs.Name.{is_name}
-use Rattle.px_value.proofs.General.{each-append, each_front, each_back, each_map}
+use Rattle.px_value.proofs.General.{each_front, each_back, each_map}
 use Rattle.px_value.proofs.Paths.{is_dotless, name_dotless}
 use Rattle.px_core.specs.Plan.{Tree, NoNode, Branch, Site, no_site, is_same, path_under, sites_under, sites}
 use Rattle.px_core.specs.Fit.{names_of, siblings_differ, has_name, AreDistinct}
@@ -80,8 +81,7 @@ abbrev Named : Site → Type 0
 Named site = has_name site ≡ true
 
 not_or : (a b : Bool) → not (a || b) ≡ true → not b ≡ true
-not_or true b h = absurd (cc)
-not_or false b h = h
+not_or a b h = not_from_false b (or_parts a b (not-true (a || b) h)).1
 
 -- one of the names
 abbrev Among : List ℕ → List (List ℕ) → Type 0

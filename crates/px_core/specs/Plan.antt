@@ -1,5 +1,5 @@
 -- A plan as a tree with lists in place of vectors, and as the list of its nodes in preorder, each with its path.
-use Rattle.std.specs.Prelude.{ℕ, ◌+◌, Bool, false, List, [], ◌∷◌, ◌++◌, map, Option}
+use Rattle.std.specs.Prelude.{ℕ, ◌+◌, Bool, false, List, [], ◌∷◌, ◌++◌, get_or, map, Option}
 use Rattle.std.specs.List.{find}
 use Rattle.std.specs.Option.{option_map, unwrap_or}
 use Rattle.std.specs.Str.{bytes_eq}
@@ -215,8 +215,7 @@ no_site =
 
 -- the first node of a plan
 abbrev pub root_of : List Site → Site
-root_of [] = no_site
-root_of (root ∷ others) = root
+root_of plan = get_or plan 0 no_site
 
 -- the node at a path
 abbrev pub site_at : List Site → List ℕ → Site

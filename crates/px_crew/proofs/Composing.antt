@@ -3,8 +3,9 @@
 use Rattle.std.proofs.Common.{◌≡◌, ◌≢◌, ℕ, ◌<◌, ◌≤◌, List, [], ◌∷◌, ◌++◌, map, length, get_or, take, drop, Some, None, refl, sym, ap, ◌∙◌, subst, arith}
 use Rattle.std.specs.List.{All, Contains}
 use Rattle.std.specs.Prelude.{◌==◌}
-use Rattle.std.proofs.lemmas.List.{map-append, length-map, get_or-map}
+use Rattle.std.proofs.lemmas.List.{map-append, length-map}
 use Rattle.std.proofs.lemmas.List.Elements.{All-append, filter-append, filter_map-append}
+use Rattle.px_value.proofs.General.{All-unmap}
 use Rattle.px_core.specs.Plan.{Site}
 use Rattle.px_event.specs.declared.entry.Entry.{Entry}
 use Rattle.px_exec.specs.declared.closing.Failed.{Failed}
@@ -109,9 +110,7 @@ module _ {S : Type 0} (start : Start) (fits : S → Type 0) (seating : S → Sea
 
   -- what holds of each seat
   of_seat : (P : Seating → Type 0) → All P (map (λ worker. seating worker.seat) news) → (i : ℕ) (e : Worker S) → i < length threads → P (seating (get_or news i e).seat)
-  of_seat P all i e within =
-      subst P (get_or-map (λ (worker : Worker S). seating worker.seat) news i e (seating e.seat) (omega (arith, new_same)))
-      (all i (seating e.seat) (omega (arith, new_same, length-map news (λ (worker : Worker S). seating worker.seat))))
+  of_seat P all i e within = All-unmap P (λ (worker : Worker S). seating worker.seat) news all i e (omega (arith, new_same))
 
   -- what one of them shows
   module _ (i : ℕ) (d : Todo) (e : Worker S) (within : i < length threads) where

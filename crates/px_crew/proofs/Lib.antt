@@ -1,7 +1,6 @@
 pub mod Closing
 pub mod Composing
 pub mod Engaged
-pub mod Fits
 pub mod Further
 pub mod Gathering
 pub mod Listings

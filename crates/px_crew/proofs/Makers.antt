@@ -1,9 +1,10 @@
 -- A list whose entries were each made by one of so many seats: the entries that carry a seat's number are those of the
 -- seat's thread.
-use Rattle.std.proofs.Common.{◌≡◌, ◌≢◌, ℕ, ◌<◌, Bool, true, false, List, [], ◌∷◌, length, get_or, Option, Some, inl, inr, refl, sym, ap, ◌∙◌, subst, eq-eqb, ne_eqb}
+use Rattle.std.proofs.Common.{◌≡◌, ◌≢◌, ℕ, ◌<◌, Bool, true, false, List, [], ◌∷◌, filter, length, get_or, Option, Some, inl, inr, refl, sym, ap, ◌∙◌, eq-eqb, ne_eqb}
 use Rattle.std.specs.List.{All, Contains}
 use Rattle.std.proofs.lemmas.Bool.{cases_eq}
 use Rattle.std.proofs.lemmas.List.Elements.{All-nil, All-cons, All-head, All-tail, Contains-get_or}
+use Rattle.px_value.proofs.General.{All-unmap}
 use Rattle.px_event.specs.declared.entry.Entry.{Entry}
 use Rattle.px_exec.specs.declared.closing.Failed.{Failed}
 use Rattle.px_script.specs.Follows.{HasOnly}
@@ -17,6 +18,7 @@ use Rattle.px_desk.specs.Listing.{log_in, failed_in}
 use Rattle.px_desk.specs.declared.listing.Listing.{Listing}
 use Rattle.px_desk.specs.declared.listing.Listing.TheVariants as listings
 use Rattle.px_crew.specs.Seat.{own}
+use Rattle.px_script.proofs.Thins.{All-unfilter}
 use Rattle.px_crew.proofs.Listings.{own_yes, own_no}
 
 -- where it was answered
@@ -24,34 +26,21 @@ abbrev pub OfAnswered : (Entry → Type 0) → Listing → Type 0
 OfAnswered P (listings.Answered logged) = P logged.entry
 OfAnswered P (listings.Failed entry faults) = Unit {0}
 
--- what holds of the answered entries of a seat holds of each of them
+-- what holds of the answered entries of a list holds of each of them
+each_answered : (P : Entry → Type 0) (list : List Listing) → All P (posted_in (log_in list)) → All (OfAnswered P) list
+each_answered P [] all = All-nil (OfAnswered P)
+each_answered P (listings.Answered logged ∷ list) all =
+    All-cons (OfAnswered P) (listings.Answered logged) list (All-head P logged.entry (posted_in (log_in list)) all)
+    (each_answered P list (All-tail P logged.entry (posted_in (log_in list)) all))
+each_answered P (listings.Failed entry faults ∷ list) all = All-cons (OfAnswered P) (listings.Failed entry faults) list tt (each_answered P list all)
+
+-- of a seat's too
 own_each : (P : Entry → Type 0) (number : ℕ) (list : List (Stamped Listing)) → All P (posted_in (log_in (own number list)))
     → All (λ e. is_number e.maker number ≡ true → OfAnswered P e.item) list
-own_each P number [] all = All-nil (λ (e : Stamped Listing). is_number e.maker number ≡ true → OfAnswered P e.item)
-own_each P number (e ∷ list) all = by e.item (is_number e.maker number) refl all (λ all. own_each P number list all)
-  where
-    Each : Stamped Listing → Type 0
-    Each e = is_number e.maker number ≡ true → OfAnswered P e.item
-
-    by : (item : Listing) (b : Bool) → is_number e.maker number ≡ b → All P (posted_in (log_in (own number (record { maker = e.maker; item = item } ∷ list))))
-        → (All P (posted_in (log_in (own number list))) → All (λ e. is_number e.maker number ≡ true → OfAnswered P e.item) list)
-        → All (λ e. is_number e.maker number ≡ true → OfAnswered P e.item) (record { maker = e.maker; item = item } ∷ list)
-    by item true is all others =
-        let mine = subst (λ (l : List Listing). All P (posted_in (log_in l))) (own_yes number (record { maker = e.maker; item = item }) list is) all in
-        All-cons (λ (e : Stamped Listing). is_number e.maker number ≡ true → OfAnswered P e.item) (record { maker = e.maker; item = item }) list
-        (λ is. here item mine) (others (rest item mine))
-      where
-        here : (item : Listing) → All P (posted_in (log_in (item ∷ own number list))) → OfAnswered P item
-        here (listings.Answered logged) mine = All-head P logged.entry (posted_in (log_in (own number list))) mine
-        here (listings.Failed entry faults) mine = tt
-
-        rest : (item : Listing) → All P (posted_in (log_in (item ∷ own number list))) → All P (posted_in (log_in (own number list)))
-        rest (listings.Answered logged) mine = All-tail P logged.entry (posted_in (log_in (own number list))) mine
-        rest (listings.Failed entry faults) mine = mine
-    by item false is all others =
-        All-cons (λ (e : Stamped Listing). is_number e.maker number ≡ true → OfAnswered P e.item) (record { maker = e.maker; item = item }) list
-        (λ isnt. absurd (cc))
-        (others (subst (λ (l : List Listing). All P (posted_in (log_in l))) (own_no number (record { maker = e.maker; item = item }) list is) all))
+own_each P number list all =
+    let mine = λ (e : Stamped Listing). is_number e.maker number in
+    All-unfilter (λ (e : Stamped Listing). OfAnswered P e.item) mine list
+    (All-unmap (OfAnswered P) (λ (e : Stamped Listing). e.item) (filter mine list) (each_answered P (own number list) all))
 
 module _ (threads : List Todo) where
   -- an entry was made by one of the seats, and where it was answered, on that seat's thread

@@ -1,12 +1,13 @@
 -- How a thread's lines are passed.
 use Rattle.std.specs.Prelude.{◌≡◌, ◌≤◌, ◌⊎◌, ℕ, ◌++◌, length, take, drop, Some, None, Result, Ok, Err, IsTrue}
 use Rattle.std.specs.List.{slice_get}
+use Rattle.std.specs.Option.{IfSome}
 use Rattle.px_event.specs.Fit.{is_fit_entry}
 use Rattle.px_event.specs.declared.cond.Cond.{Cond}
 use Rattle.px_event.specs.declared.event.Event.{Event}
 use Rattle.px_exec.specs.Answers.{entry_of}
 use Rattle.px_script.specs.Follows.{Walks}
-use Rattle.px_script.specs.Order.{thread_entries}
+use Rattle.px_script.specs.Order.{entry_of as posted_by, thread_entries}
 use Rattle.px_script.specs.declared.line.Line.{Line}
 use Rattle.px_script.specs.declared.line.What.{What}
 use Rattle.px_script.specs.declared.line.What.TheVariants as whats
@@ -19,11 +20,7 @@ use Rattle.px_crew.specs.declared.walking.Reach.{Reach}
 
 -- what the line posts, if it posts, is fit
 abbrev pub IsFitLine : ℕ → Line → Type 0
-IsFitLine thread line = by line.what
-  where
-    by : What → Type 0
-    by (whats.Post event) = IsTrue (is_fit_entry (entry_of thread line.number event))
-    by (whats.Wait cond) = Unit {0}
+IsFitLine thread line = IfSome (posted_by thread line) (λ entry. IsTrue (is_fit_entry entry))
 
 -- the line is passed: its event is answered, or its condition holds behind all that is shown
 abbrev pub PassesLine : ℕ → Line → Board → Board → Type 0

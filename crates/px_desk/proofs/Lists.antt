@@ -4,11 +4,12 @@ use Rattle.std.proofs.lemmas.List.{map-append}
 use Rattle.px_event.specs.declared.entry.Entry.{Entry}
 use Rattle.px_event.specs.declared.reply.Reply.{Reply}
 use Rattle.px_exec.specs.Answers.{logged, Posts, Replies}
-use Rattle.px_exec.specs.Executive.{Executive, Opening, Keeps, KeepsDisk, IsClosed, plan_of, world_of}
+use Rattle.px_exec.specs.Executive.{Executive, Opening, Keeps, plan_of, world_of}
 use Rattle.px_exec.specs.declared.closing.Failed.{Failed}
 use Rattle.px_exec.specs.declared.fault.PostFault.{PostFault}
 use Rattle.px_exec.specs.declared.fault.PostFault.TheVariants as faults
 use Rattle.px_exec.specs.declared.receipt.Receipt.{Receipt}
+use Rattle.px_exec.proofs.Keeping.{closed_of}
 use Rattle.px_ports.specs.declared.disk.Disk
 use Rattle.px_sem.specs.Log.{Log, IsLegal, WouldBeAccepted, accepted, events_of}
 use Rattle.px_sem.specs.Run.{run}
@@ -57,11 +58,6 @@ module _ {S D : Type 0} (runs : Stepper.Ghosts S) (members : Disk.Ghosts D) (exe
   history_of_listing =
       ap (λ (log : Log). exec.opening.history ++ accepted log) (log_of_listing exec.log exec.failed) ∙ sym keeps.grown
 
-  was_due : (failed : Failed) → exec.failed ≡ Some failed
-      → WouldBeAccepted (plan_of runs exec) exec.opening.limit exec.history failed.entry
-  was_due failed is =
-      let closed : IsClosed runs members exec failed = subst (KeepsDisk runs members exec) is keeps.disk in closed.due
-
   pub legal_listing : IsLegalList (start_of runs exec.opening) (listing exec)
   legal_listing = record {
     parts = sym (same_listing (log_in (listing exec)) exec.log (failed_in (listing exec)) exec.failed
@@ -71,7 +67,7 @@ module _ {S D : Type 0} (runs : Stepper.Ghosts S) (members : Disk.Ghosts D) (exe
     due = λ failed is.
         subst (λ (history : List Entry). WouldBeAccepted (plan_of runs exec) exec.opening.limit history failed.entry)
         (sym history_of_listing)
-        (was_due failed (sym (failed_of_listing exec.log exec.failed) ∙ is));
+        (closed_of runs members exec keeps failed (sym (failed_of_listing exec.log exec.failed) ∙ is)).due;
   }
 
   pub stands_so : (standing : Standing) → standing ≡ standing_of (plan_of runs exec) (world_of runs exec)

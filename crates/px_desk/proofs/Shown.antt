@@ -1,6 +1,6 @@
 -- What becomes of a seat that takes the turn and leaves, with an entry more or without.
 use Rattle.std.proofs.Common.{◌≡◌, ℕ, List, [], ◌∷◌, ◌++◌, length, Some, Result, true, refl, sym, ap, ◌∙◌, subst}
-use Rattle.std.proofs.lemmas.List.{append_cancel_left, map-append}
+use Rattle.std.proofs.lemmas.List.{map-append, same_from_push}
 use Rattle.px_event.specs.declared.entry.Entry.{Entry}
 use Rattle.px_exec.specs.Executive.{Executive}
 use Rattle.px_exec.specs.declared.fault.PostFault.{PostFault}
@@ -27,13 +27,6 @@ looked_number looked = ap (λ (s : Seating). s.number) looked.same
 
 pub added_number : {old new : Seating} {item : Listing} → Adds old new item → new.number ≡ old.number
 added_number adds = ap (λ (s : Seating). s.number) adds.same
-
--- a list is longer by one entry only
-pub same_item : (list after seen : List Listing) (item other : Listing) → list ≡ seen → after ≡ list ++ item ∷ [] → after ≡ seen ++ other ∷ [] → item ≡ other
-same_item list after seen item other same one two =
-    let ends : item ∷ [] ≡ other ∷ [] = append_cancel_left seen (item ∷ []) (other ∷ [])
-    (ap (λ (l : List Listing). l ++ item ∷ []) (sym same) ∙ sym one ∙ two) in
-    cc
 
 module _ {S D : Type 0} where
   -- the start of the executive that was found is that of the desk
@@ -77,7 +70,7 @@ module _ {S D : Type 0} where
           (answers_told start entry (λ more. listing value ≡ listing found ++ more ∷ []) (Adds (seating_of old) (seating_of new))
           (listing value ≡ listing found) (IsLooked (seating_of old) (seating_of new)) (listing value) (items new.seen) answer
           (λ other listed more. subst (λ i. Adds (seating_of old) (seating_of new) i)
-          (sym (same_item (listing found) (listing value) (items mid.seen) other item shown.stands more stands)) adds_it)
+          (sym (same_from_push (listing found) (items mid.seen) other item (sym more ∙ stands)).1) adds_it)
           (λ isnt. absurd (cc)) (stands ∙ sym seen_added) told)
 
 -- what is legal, of an equal list behind an equal start

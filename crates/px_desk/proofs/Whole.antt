@@ -18,7 +18,7 @@ use Rattle.px_desk.specs.declared.event_desk.EventDesk.{EventDesk}
 use Rattle.px_desk.specs.Listing.{listing}
 use Rattle.px_desk.specs.Seating.{Seating, newcomer, AreAll, IsOneHistory}
 use Rattle.px_desk.specs.Seats.{split_times, split_from, views_of, HasTaken}
-use Rattle.px_value.proofs.General.{All-unmap}
+use Rattle.px_value.proofs.General.{cut_at, All-unmap}
 use Rattle.px_desk.proofs.Shown.{goes_on}
 
 -- ---- lists
@@ -38,8 +38,7 @@ map_range f (suc count) least =
 
 -- a list in two, its first element and the rest
 pub in_two : {X : Type 0} (xs rest : List X) (x : X) → 0 < length xs → x ≡ get_or xs 0 x → rest ≡ remove xs 0 → xs ≡ x ∷ rest
-in_two [] rest x long first others = absurd (omega arith)
-in_two (y ∷ xs) rest x long first others = λ i. sym first i ∷ sym others i
+in_two xs rest x long first others = cut_at xs 0 x long first ∙ ap (λ l. x ∷ l) (sym others)
 
 pub some_seat : {X : Type 0} (number : X → ℕ) (count : ℕ) (seats : List X) → AreAll count (map number seats) → 0 < length seats
 some_seat number count [] all = absurd all

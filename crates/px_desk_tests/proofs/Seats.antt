@@ -2,6 +2,7 @@
 use Rattle.std.proofs.Common.{◌≡◌, ◌≢◌, ℕ, zero, suc, List, [], ◌∷◌, map, length, Result, Ok, Err, refl, ap, ◌∙◌, arith}
 use Rattle.std.specs.Prelude.{slice_index_or, slice_set}
 use Rattle.std.specs.List.{All, range_with_len}
+use Rattle.std.proofs.lemmas.List.Elements.{All-cons, All-nil}
 use Rattle.px_event.specs.declared.entry.Entry.{Entry}
 use Rattle.px_exec.specs.declared.fault.PostFault.{PostFault}
 use Rattle.px_exec.specs.declared.fault.PostFault.TheVariants as faults
@@ -39,8 +40,8 @@ numbered seating first x y seats seated = (
 )
 
 others : (number : ℕ) → number ≡ 1 → All (λ n. n ≢ 0) (number ∷ [])
-others number is zero d within = λ zero_is. absurd (omega (arith, is, zero_is))
-others number is (suc k) d within = absurd (omega arith)
+others number is =
+    All-cons (λ (n : ℕ). n ≢ 0) number [] (λ zero_is. absurd (omega (arith, is, zero_is))) (All-nil (λ (n : ℕ). n ≢ 0))
 
 pub all : {S : Type 0} (seating : S → Seating) (first : List Listing) (seats : List S)
     → map seating seats ≡ map (newcomer first) (range_with_len 0 2) → (a b d e : S)

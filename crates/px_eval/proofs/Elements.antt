@@ -1,23 +1,14 @@
 -- The element of an array that stands in cells.
-use Rattle.std.proofs.Common.{◌≡◌, ℕ, ◌+◌, ◌≤◌, ◌<◌, pos, negsuc, nat_lt, List, length, take, drop, get_or, refl, ap, ◌∙◌, arith, Some, None, if◌then◌else◌, length-drop}
+use Rattle.std.proofs.Common.{◌≡◌, ℕ, ◌+◌, ◌≤◌, ◌<◌, List, length, take, drop, get_or, ap, ◌∙◌, arith, Some, length-drop}
 use Rattle.std.proofs.lemmas.List.{get_or-take, get_or-drop, length-take}
 use Rattle.px_value.specs.declared.value.Value.{Value}
 use Rattle.px_value.specs.declared.value.Value.TheVariants as values
-use Rattle.px_value.specs.Value.{value_index}
+use Rattle.px_value.specs.Value.{place_in, value_index}
 use Rattle.px_sem.specs.Expressions.{element}
-use Rattle.px_eval.specs.Arrays.{place_in}
 
 -- only the number of the elements counts for an index
 pub index_is : (cells : List Value) (size : ℕ) (at : Value) → length cells ≡ size → value_index cells at ≡ place_in size at
-index_is cells size (values.Integer (pos place)) long = ap (λ n. if nat_lt place n then Some place else None) long
-index_is cells size (values.Integer (negsuc place)) long = refl
-index_is cells size values.Unknown long = refl
-index_is cells size (values.Boolean truth) long = refl
-index_is cells size (values.Text text) long = refl
-index_is cells size (values.State state) long = refl
-index_is cells size (values.Outcome outcome) long = refl
-index_is cells size (values.Failure failure) long = refl
-index_is cells size (values.Handle handle) long = refl
+index_is cells size at long = ap (λ n. place_in n at) long
 
 array_long : (cells : List Value) (first size : ℕ) → first + size ≤ length cells → length (take size (drop first cells)) ≡ size
 array_long cells first size within = omega (arith, length-take size (drop first cells), length-drop first cells)

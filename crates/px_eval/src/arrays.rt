@@ -1,8 +1,8 @@
 // The element of an array at an index.
 ghost use Rattle.std.specs.Prelude.{◌≡◌, ◌+◌, ◌≤◌, ◌<◌, ◌^◌, drop, length, take, IfSome};
 ghost use Rattle.std.specs.Cow.{cow_value};
+ghost use Rattle.px_value.specs.Value.{place_in};
 ghost use Rattle.px_sem.specs.Expressions.{element};
-ghost use Rattle.px_eval.specs.Arrays.{place_in};
 
 use crate::lent::read;
 use px_cells::Cells;

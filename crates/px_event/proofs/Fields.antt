@@ -5,6 +5,7 @@ use Rattle.std.proofs.lemmas.Bool.{cases_lt, ltb-false, le-ltb}
 use Rattle.std.proofs.lemmas.List.{take_at, drop_at, take-append-drop, length-append, length-take, get_or-drop, get_or-take, get_or_past}
 use Rattle.std.proofs.lemmas.Nat.{be_bytes_2, be_bytes_4}
 use Rattle.std.proofs.lemmas.Option.{cond_some, same_Some}
+use Rattle.std.proofs.NetLemmas.Options.{cond_none}
 use Rattle.byteorder.specs.Endian.{big_bytes, big_number}
 use Rattle.byteorder.specs.Numbers.{big_from-take, big_from-lt, big_number-reads_back, length-bytes_high_first}
 use Rattle.px_event.specs.Bytes.{text_bytes}
@@ -36,8 +37,7 @@ abbrev found : {X : Type 0} → X → Option X
 found x = Some x
 
 guard_some : {X : Type 0} (b : Bool) (x y : X) → cond b None (Some x) ≡ Some y → (b ≡ false) × (x ≡ y)
-guard_some true x y e = absurd cc
-guard_some false x y e = (refl, cc)
+guard_some b x y e = let parts = cond_none b (Some x) y e in (parts.0, same_Some x y parts.1)
 
 pub only_some : {X : Type 0} (test : X → Bool) (read other : X × List ℕ) → only test read ≡ Some other → (test read.0 ≡ true) × (read ≡ other)
 only_some test read other e = cond_some (test read.0) read other e

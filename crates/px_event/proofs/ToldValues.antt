@@ -1,21 +1,21 @@
 -- A value that is read is the value that was spelled, and one that was spelled is read again.
-use Rattle.std.proofs.Common.{◌≡◌, ℕ, zero, suc, ◌*◌, ◌^◌, ◌<◌, ◌≤◌, ◌-◌, Bool, true, false, List, [], ◌∷◌, ◌++◌, length, Some, refl, sym, ap, subst, ◌∙◌, append_assoc, arith}
-use Rattle.std.specs.Prelude.{ℤ, pos, negsuc, ◌&&◌, nat_lt}
+use Rattle.std.proofs.Common.{◌≡◌, ℕ, zero, suc, ◌*◌, ◌^◌, ◌<◌, ◌≤◌, Bool, true, false, List, [], ◌∷◌, ◌++◌, length, Some, refl, sym, ap, subst, ◌∙◌, append_assoc, arith}
+use Rattle.std.specs.Prelude.{ℤ, ◌&&◌}
 use Rattle.std.specs.List.{list_all, flat_map}
 use Rattle.std.specs.Int.{w32, cast_signed, cast_unsigned}
 use Rattle.std.specs.Str.{is_utf8}
-use Rattle.std.proofs.lemmas.Bool.{and_parts, and_from, leb-true, lt-ltb, ltb-true, ltb-false}
-use Rattle.std.proofs.lemmas.Int.{ints, to_z-of_z, of_z-to_z}
+use Rattle.std.proofs.lemmas.Bool.{and_parts, and_from, leb-true}
+use Rattle.std.proofs.lemmas.Int.{to_z-of_z, of_z-to_z}
 use Rattle.std.proofs.lemmas.List.{length-append}
 use Rattle.std.proofs.lemmas.Option.{same_Some}
-use mir.Val.{sel}
+use mir.ValLaws.{of_z_fits, to_z-Fits}
 use Rattle.byteorder.specs.Endian.{big_bytes}
 use Rattle.px_value.specs.Arithmetic.{fits_32_bits}
 use Rattle.px_value.specs.Text.{is_short_text}
 use Rattle.px_value.specs.Value.{is_known}
 use Rattle.px_value.specs.declared.value.Value.{Value}
 use Rattle.px_value.specs.declared.value.Value.TheVariants as values
-use Rattle.px_value.proofs.Integers.{fits_of}
+use Rattle.px_value.proofs.Integers.{fits_from, fits_of}
 use Rattle.px_event.specs.Values.{is_plain, is_plain_or_unknown}
 use Rattle.px_event.specs.Bytes.{text_bytes, integer_bytes, value_bytes}
 use Rattle.px_event.specs.Reading.{Read, ◌>>=◌, only, byte_at, number_at, text_at, value_behind, value_at, argument_at, arguments_at}
@@ -24,18 +24,11 @@ use Rattle.px_event.proofs.Fields.{tagged, IsBytes, bind_some, after, only_some,
 
 -- ---- integers
 
-chosen_fits : (low : Bool) (n m : ℕ) → (low ≡ true → nat_lt n (2 ^ 31) ≡ true) → (low ≡ false → nat_lt m (2 ^ 31) ≡ true) → fits_32_bits (sel low (pos n) (negsuc m)) ≡ true
-chosen_fits true n m when_low when_high = when_low refl
-chosen_fits false n m when_low when_high = when_high refl
-
 signed_fits : (n : ℕ) → n < 2 ^ 32 → fits_32_bits (cast_signed w32 n) ≡ true
-signed_fits n lt =
-    chosen_fits (nat_lt n (2 ^ 31)) n (2 ^ 32 - suc n) (λ low. low)
-    (λ high. let above : 2 ^ 31 ≤ n = ltb-false n (2 ^ 31) high in lt-ltb (2 ^ 32 - suc n) (2 ^ 31) (omega arith))
+signed_fits n lt = fits_from (cast_signed w32 n) (to_z-Fits w32 n (record { fits = lt }))
 
 unsigned_below : (z : ℤ) → fits_32_bits z ≡ true → cast_unsigned w32 z < 2 ^ 32
-unsigned_below (pos n) fits = let low : n < 2 ^ 31 = ltb-true n (2 ^ 31) fits in omega (arith, ints)
-unsigned_below (negsuc n) fits = let low : n < 2 ^ 31 = ltb-true n (2 ^ 31) fits in omega (arith, ints)
+unsigned_below z fits = (of_z_fits w32 z (fits_of z fits)).fits
 
 -- a text that is shown as bytes of UTF-8
 pub shown_plain : (value : Value) (text shown : List ℕ) → value ≡ values.Text text → shown ≡ text → is_utf8 shown ≡ true → is_short_text shown ≡ is_plain value

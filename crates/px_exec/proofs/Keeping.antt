@@ -20,7 +20,7 @@ use Rattle.px_sem.specs.declared.stepper.Stepper
 use Rattle.px_exec.specs.declared.closing.Failed.{Failed}
 use Rattle.px_exec.specs.Answers.{answer_now, logged}
 use Rattle.px_exec.specs.Crash.{AddsAtMost}
-use Rattle.px_exec.specs.Executive.{Opening, Executive, Keeps, KeepsDisk, IsOpen, KeepsNaming, KeepsSinceOpening, TellsBytes, failed_entries, plan_of, world_of}
+use Rattle.px_exec.specs.Executive.{Opening, Executive, Keeps, KeepsDisk, IsOpen, IsClosed, KeepsNaming, KeepsSinceOpening, TellsBytes, failed_entries, plan_of, world_of}
 use Rattle.px_sem.proofs.Logs.{accepted_by, accepted-append, answers_more}
 use Rattle.px_exec.proofs.Growing.{run_after}
 use Rattle.px_exec.proofs.Images.{ready_leaves, within_at_once, within_more}
@@ -42,6 +42,9 @@ opening_of {S} {D} {stepper} {first} {kept} {journal} {front} {history} limit s 
 module _ {S D : Type 0} (runs : Stepper.Ghosts S) (members : Disk.Ghosts D) where
   pub open_of : (exec : Executive S D) → Keeps runs members exec → exec.failed ≡ None → IsOpen members exec
   open_of exec keeps unfailed = subst (KeepsDisk runs members exec) unfailed keeps.disk
+
+  pub closed_of : (exec : Executive S D) → Keeps runs members exec → (failed : Failed) → exec.failed ≡ Some failed → IsClosed runs members exec failed
+  closed_of exec keeps failed is = subst (KeepsDisk runs members exec) is keeps.disk
 
   -- ---- the journal after a reply
 

@@ -2,7 +2,7 @@
 use Rattle.std.proofs.Common.{◌≡◌, ℕ, zero, suc, ◌+◌, ◌<◌, ◌≤◌, max, List, [], ◌∷◌, ◌++◌, length, map, drop, get_or, Option, Some, None}
 use Rattle.std.proofs.Common.{refl, ap, sym, ◌∙◌, arith, add-one, append_assoc}
 use Rattle.std.proofs.Math.ListN.{drop_of_length-le}
-use Rattle.indexmap.specs.IndexMap.{insert_entry}
+use Rattle.indexmap.specs.IndexMap.{insert_all, insert_entry}
 use Rattle.px_value.specs.Path.{below}
 use Rattle.px_value.proofs.General.{cut_at}
 use Rattle.px_syntax.specs.declared.block.Action.{Action, out-Action}
@@ -16,7 +16,7 @@ use Rattle.px_forms.specs.Adding.{Added}
 use Rattle.px_expand.specs.Core.{actions_core, actions_seen, action_core, body_core, name_of, follows}
 use Rattle.px_forms.specs.Nodes.{Place, alone, before, child}
 use Rattle.px_expand.specs.Children.{names_of, paths_of, seen}
-use Rattle.px_scope.specs.Scope.{Scope, Table, inserted, table}
+use Rattle.px_scope.specs.Scope.{Scope, Table, table}
 use Rattle.px_expand.specs.Size.{through, action_nodes, action_reach, actions_nodes, actions_reach, body_nodes, body_reach}
 use Rattle.px_forms.proofs.Trees.{known_before}
 
@@ -105,7 +105,7 @@ listed_more of_each known more first rest is =
 
 pub record SeenLeft (path : List ℕ) (actions : List Action) (place : ℕ) (entries : Table) (named listed : List (List ℕ)) : Type 0 where
   pub room : length path + actions_reach (place + 1) (in_turn (drop place actions)) ≤ 5000
-  pub by_name : inserted entries (actions_seen path (place + 1) (in_turn (drop place actions)))
+  pub by_name : insert_all is_same entries (actions_seen path (place + 1) (in_turn (drop place actions)))
       ≡ table (actions_seen path 1 (in_turn actions))
   pub names : named ++ names_of (actions_seen path (place + 1) (in_turn (drop place actions)))
       ≡ names_of (actions_seen path 1 (in_turn actions))
@@ -131,9 +131,9 @@ seen_more path actions place action entries more names known paths longer name w
     record {
       room = (room path actions place action within is left.room).rest;
       by_name =
-          ap (λ known. inserted known (actions_seen path (place + 1 + 1) rest))
+          ap (λ known. insert_all is_same known (actions_seen path (place + 1 + 1) rest))
           (more_is ∙ ap (λ n. insert_entry is_same entries n (below path n)) named)
-          ∙ ap (inserted entries) (sym seen)
+          ∙ ap (insert_all is_same entries) (sym seen)
           ∙ left.by_name;
       names =
           listed_more (λ child. child.0) names known (own, below path own) (actions_seen path (place + 1 + 1) rest)

@@ -38,10 +38,10 @@ use Rattle.px_scope.specs.Scope.{Scope}
 use Rattle.px_expand.proofs.Inside.{leaf_fits, shaped_fits, block_seen, actions_there, children_there}
 use Rattle.px_expand.proofs.Declaring.{each_item_none}
 use Rattle.px_expand.proofs.Fitting.{at, LabelIs, label_is, AllFit, node_is, node_fits, nothing_said, nothing_added, assignment_fits, not_found_speaks, before_fits, KeepsTest, where_found_speaks, where_not_found_speaks, tested_keeps, tested_fits, entered_seen, MayBe, follows_speaks}
-use Rattle.px_expand.proofs.Frames.{LabelNamed, NamedHeads, view, block_command}
+use Rattle.px_expand.proofs.Frames.{LabelNamed, NamedHeads, block_command}
 use Rattle.px_expand.proofs.Mentions.{scalar_is, judged_there}
 use Rattle.px_expand.proofs.Seen.{HasHead, HasVariable, IsSeen, seen_further}
-use Rattle.px_expand.proofs.Sound.{both_labels, own_labels, block_named, body_named, branch_named, if_named}
+use Rattle.px_expand.proofs.Sound.{view, both_labels, own_labels, block_named, body_named, branch_named, if_named}
 use Rattle.px_expand.proofs.Speaking.{both_speak, done_speaks, finished_speaks, are_nodes, none_speaks, GivenSpeaks, AddedSpeaks}
 use Rattle.px_expand.proofs.Within.{IsWithin, own_within, children_within, others_within, alone_within, within_itself}
 

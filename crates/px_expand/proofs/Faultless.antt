@@ -1,6 +1,7 @@
 -- What a tree without faults has none of.
 use Rattle.std.proofs.Common.{◌≡◌, ℕ, Bool, true, false, List, [], ◌∷◌, ◌++◌, cond, refl}
 use Rattle.std.specs.List.{fold, flat_map}
+use Rattle.std.proofs.lemmas.List.Folds.{fold_along}
 use Rattle.px_value.proofs.General.{neither}
 use Rattle.px_syntax.specs.declared.fault.FaultKind.{FaultKind}
 use Rattle.px_syntax.specs.BlockFaults.{block_faults}
@@ -32,9 +33,9 @@ placed_some (other ∷ others) fault none =
     none
 
 order_some : (faults known : List Fault) → (known ≡ [] → ⊥) → fold placed known faults ≡ [] → ⊥
-order_some [] known some none = some none
-order_some (fault ∷ faults) known some none =
-    order_some faults (placed known fault) (placed_some known fault) none
+order_some faults known some =
+    fold_along placed (λ (same : Unit {0}) (fault : Fault). same) (λ (known : List Fault) (same : Unit {0}). known ≡ [] → ⊥)
+    (λ known same fault some. placed_some known fault) known tt faults some
 
 pub in_order_none : (faults : List Fault) → in_order faults ≡ [] → faults ≡ []
 in_order_none [] none = refl

@@ -10,10 +10,9 @@ use Rattle.std.proofs.lemmas.Slice.Eq.{bytes_eq-Decides}
 use Rattle.px_value.specs.Name.{is_identifier}
 use Rattle.px_value.specs.Path.{below}
 use Rattle.px_syntax.specs.declared.word.BlockForm.{BlockForm}
-use Rattle.px_syntax.specs.declared.word.BlockForm.TheVariants as forms
 use Rattle.px_syntax.specs.Block.{ItemData, BlockTree, Braces, Actions, NoActions, More, Labelled, BodyTree, Inner, Assign, CallInto, Call, Update, If, While, For}
 use Rattle.px_syntax.specs.BlockFaults.{action_labels}
-use Rattle.px_syntax.specs.Scope.{Head, is_named, is_simple, is_call, own_action, is_command_block, is_command_body, children_of}
+use Rattle.px_syntax.specs.Scope.{Head, is_named, is_call, own_action, is_command_block, is_command_body, children_of}
 use Rattle.px_core.specs.Fit.{has_site, is_command}
 use Rattle.px_core.specs.Plan.{Site, Tree, is_same, sites_under}
 use Rattle.px_expand.specs.Core.{name_of, follows, shaped, block_scope, block_core, actions_core, body_core}
@@ -24,34 +23,10 @@ use Rattle.px_forms.specs.Nodes.{Place, child}
 use Rattle.px_scope.specs.Scope.{Scope}
 use Rattle.px_expand.proofs.Naming.{hash_differs, names_from}
 use Rattle.px_expand.proofs.Seen.{HasHead, AgreesOn}
-use Rattle.px_expand.proofs.Sound.{body_named}
+use Rattle.px_expand.proofs.Sound.{View, view, body_named}
 use Rattle.px_expand.proofs.Within.{IsWithin, own_within, others_within}
 
--- ---- what a block is one node with
-
-abbrev pub View : Shape → Option BodyTree → Actions → Type 0
-View Rest own inner = (own ≡ None) × (inner ≡ NoActions)
-View (OneAction body) own inner =
-    (own ≡ Some body) × (inner ≡ More (Labelled None body) NoActions) × (is_simple body ≡ true)
-View Children own inner = own ≡ None
-
-pub view : (form : BlockForm) (items : List ItemData) (actions : Actions)
-    → View (shape_of (Braces form items actions)) (own_action (Braces form items actions)) actions
-view forms.Plain items NoActions = (refl, refl)
-view forms.Plain items (More (Labelled None body) NoActions) = of_test (is_simple body) refl
-  where
-    of_test : (test : Bool) → is_simple body ≡ test
-        → View (cond test (OneAction body) Children) (cond test (Some body) None) (More (Labelled None body) NoActions)
-    of_test true simple = (refl, refl, simple)
-    of_test false simple = refl
-view forms.Plain items (More (Labelled (Some label) body) NoActions) = refl
-view forms.Plain items (More (Labelled None body) (More second rest)) = refl
-view forms.Plain items (More (Labelled (Some label) body) (More second rest)) = refl
-view forms.NodeList _ _ = refl
-view forms.Sequence _ _ = refl
-view forms.UncheckedSequence _ _ = refl
-view forms.Concurrence _ _ = refl
-view forms.Try _ _ = refl
+-- ---- a block that is one node with a command
 
 call_kind : (body : BodyTree) → is_call body ≡ true → is_command (kind_of body) ≡ true
 call_kind (Inner block) call = cc

@@ -32,10 +32,10 @@ use Rattle.px_expand.specs.Labels.{are_identifiers}
 use Rattle.px_scope.specs.Scope.{Scope, table, each_once}
 use Rattle.px_expand.proofs.Declaring.{names_of_variables}
 use Rattle.px_expand.proofs.Fitting.{at, LabelIs, AllFit, node_is, node_fits, nothing_said, entered_seen}
-use Rattle.px_expand.proofs.Frames.{View, view, NamedHeads, actions_heads, block_command}
+use Rattle.px_expand.proofs.Frames.{NamedHeads, actions_heads, block_command}
 use Rattle.px_expand.proofs.Mentions.{items_there, assign_there, call_into_there, call_alone_there, update_there}
 use Rattle.px_expand.proofs.Seen.{SameShown, shown-append, HasVariable, IsSeen}
-use Rattle.px_expand.proofs.Sound.{block_named, body_named}
+use Rattle.px_expand.proofs.Sound.{View, view, block_named, body_named}
 use Rattle.px_expand.proofs.Speaking.{are_nodes, finished_speaks, sequence_speaks, try_speaks, GivenSpeaks, AddedSpeaks}
 use Rattle.px_expand.proofs.Tables.{names_in, children_named_so}
 use Rattle.px_expand.proofs.Within.{IsWithin, own_within, children_within, others_within}

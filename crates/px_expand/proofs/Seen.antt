@@ -7,6 +7,7 @@ use Rattle.std.specs.Str.{bytes_eq}
 use Rattle.std.proofs.lemmas.Bool.{and_from, or_left, or_right, or_from}
 use Rattle.std.proofs.lemmas.List.Folds.{find-append}
 use Rattle.std.proofs.lemmas.Slice.Eq.{bytes_eq-Decides}
+use Rattle.std.proofs.option.Match.{the_same}
 use Rattle.px_value.specs.Name.{is_identifier}
 use Rattle.px_syntax.specs.declared.expr.NodeReference.{NodeReference}
 use Rattle.px_syntax.specs.declared.expr.NodeReference.TheVariants as nodes
@@ -147,10 +148,6 @@ module _ (whole : List Site) where
       let node = subst (λ seen. AgreesOn name seen found) is agrees in
       subst (λ found. HasHead (unwrap_or found other) head) (sym node.is) node.has
 
-  same_head : (path : List ℕ) (head other : Head) → HasHead path head → Some head ≡ Some other → HasHead path other
-  same_head path head other has is =
-      subst (λ known. HasHead path (unwrap_or known head)) is has
-
   -- the node at a place of those seen from the innermost one out, and a child of it
   node_there : (nodes : List seen.Node) (scope : Scope) (at : ℕ) (other : List ℕ) (head : Head) → SeenNodes nodes scope
       → option_map (λ node. node.head) (slice_get nodes at) ≡ Some head
@@ -158,7 +155,7 @@ module _ (whole : List Site) where
   node_there [] [] at other head seen is = cc
   node_there [] (frame ∷ scope) at other head seen is = absurd seen
   node_there (node ∷ nodes) [] at other head seen is = absurd seen
-  node_there (node ∷ nodes) (frame ∷ scope) zero other head seen is = same_head frame.path node.head head seen.0.own is
+  node_there (node ∷ nodes) (frame ∷ scope) zero other head seen is = the_same (HasHead frame.path) seen.0.own head is
   node_there (node ∷ nodes) (frame ∷ scope) (suc at) other head seen is = node_there nodes scope at other head seen.1 is
 
   child_there : (name : List ℕ) (nodes : List seen.Node) (scope : Scope) (at : ℕ) (other : List ℕ) (head : Head)

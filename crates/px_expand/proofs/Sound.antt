@@ -1,10 +1,10 @@
 -- THE NODES OF A CORE PLAN ARE SOUND EACH BY ITSELF: what a node has is of its kind, its children differ in name, and so do its
 -- variables, which have right sizes and values of their types.
-use Rattle.std.proofs.Common.{◌≡◌, ℕ, suc, ◌≤◌, Bool, true, false, not, List, [], ◌∷◌, ◌++◌, Option, Some, None, refl, ap, ◌∙◌, arith}
+use Rattle.std.proofs.Common.{◌≡◌, ℕ, suc, ◌≤◌, Bool, true, false, cond, not, List, [], ◌∷◌, ◌++◌, Option, Some, None, refl, ap, ◌∙◌, arith}
 use Rattle.std.specs.List.{list_any}
 use Rattle.std.specs.Option.{option_to_list, is_some}
 use Rattle.std.proofs.lemmas.Cmp.{nat_list_eq_equiv}
-use Rattle.std.proofs.lemmas.Bool.{and_from, and_parts, cond_both, or_from, or_parts, not-true, not_from_false}
+use Rattle.std.proofs.lemmas.Bool.{and_from, and_parts, or_from, or_parts, not-true, not_from_false}
 use Rattle.std.proofs.lemmas.List.Folds.{list_all-append}
 use Rattle.px_value.proofs.General.{list_all_parts, neither}
 use Rattle.px_syntax.specs.declared.expr.Identifier.{Identifier}
@@ -95,22 +95,30 @@ both_labels front back all = list_all_parts (λ (label : Identifier). is_identif
 
 -- ---- the shape of a block
 
-abbrev OneIsSimple : Shape → Type 0
-OneIsSimple Rest = Unit {0}
-OneIsSimple (OneAction body) = is_simple body ≡ true
-OneIsSimple Children = Unit {0}
+-- what a block of a shape is one node with, and its actions
+abbrev pub View : Shape → Option BodyTree → Actions → Type 0
+View Rest own inner = (own ≡ None) × (inner ≡ NoActions)
+View (OneAction body) own inner =
+    (own ≡ Some body) × (inner ≡ More (Labelled None body) NoActions) × (is_simple body ≡ true)
+View Children own inner = own ≡ None
 
-one_simple : (form : BlockForm) (items : List ItemData) (actions : Actions) → OneIsSimple (shape_of (Braces form items actions))
-one_simple forms.Plain items NoActions = tt
-one_simple forms.Plain items (More (Labelled None body) NoActions) =
-    cond_both (is_simple body) (OneAction body) Children OneIsSimple (λ simple. simple) (λ other. tt)
-one_simple forms.Plain items (More (Labelled (Some label) body) NoActions) = tt
-one_simple forms.Plain items (More first (More second rest)) = tt
-one_simple forms.NodeList _ _ = tt
-one_simple forms.Sequence _ _ = tt
-one_simple forms.UncheckedSequence _ _ = tt
-one_simple forms.Concurrence _ _ = tt
-one_simple forms.Try _ _ = tt
+pub view : (form : BlockForm) (items : List ItemData) (actions : Actions)
+    → View (shape_of (Braces form items actions)) (own_action (Braces form items actions)) actions
+view forms.Plain items NoActions = (refl, refl)
+view forms.Plain items (More (Labelled None body) NoActions) = of_test (is_simple body) refl
+  where
+    of_test : (test : Bool) → is_simple body ≡ test
+        → View (cond test (OneAction body) Children) (cond test (Some body) None) (More (Labelled None body) NoActions)
+    of_test true simple = (refl, refl, simple)
+    of_test false simple = refl
+view forms.Plain items (More (Labelled (Some label) body) NoActions) = refl
+view forms.Plain items (More (Labelled None body) (More second rest)) = refl
+view forms.Plain items (More (Labelled (Some label) body) (More second rest)) = refl
+view forms.NodeList _ _ = refl
+view forms.Sequence _ _ = refl
+view forms.UncheckedSequence _ _ = refl
+view forms.Concurrence _ _ = refl
+view forms.Try _ _ = refl
 
 simple_body : (scope : Scope) (body : BodyTree) → is_simple body ≡ true → is_body_of (kind_of body) (body_of scope body) ≡ true
 simple_body scope (Inner block) simple = cc
@@ -123,15 +131,15 @@ simple_body scope (While guarded) simple = cc
 simple_body scope (For variable first test step branch) simple = cc
 
 shaped_sound :
-    (place : Place) (shape : Shape) (scope : Scope) (form : BlockForm) (items : List ItemData) (paths : List (List ℕ))
-    (children : Tree) → OneIsSimple shape → IsDeclared (variables_of items)
+    (place : Place) (shape : Shape) (own : Option BodyTree) (scope : Scope) (form : BlockForm) (items : List ItemData)
+    (paths : List (List ℕ)) (children : Tree) (inner : Actions) → View shape own inner → IsDeclared (variables_of items)
     → all_differ (names_of children) ≡ true → AreSound children
     → AreSound (alone (shaped place shape scope form items paths children))
-shaped_sound place Rest scope form items paths children simple declared differ sound =
+shaped_sound place Rest own scope form items paths children inner viewed declared differ sound =
     leaf_sound refl declared
-shaped_sound place (OneAction body) scope form items paths children simple declared differ sound =
-    leaf_sound (simple_body scope body simple) declared
-shaped_sound place Children scope form items paths children simple declared differ sound =
+shaped_sound place (OneAction body) own scope form items paths children inner viewed declared differ sound =
+    leaf_sound (simple_body scope body viewed.2) declared
+shaped_sound place Children own scope form items paths children inner viewed declared differ sound =
     list_sound refl refl declared differ sound
 
 -- ---- names
@@ -257,8 +265,8 @@ mutual
       let few = actions_few form items actions in
       let long = actions_some actions in
       let bound = good.few in
-      shaped_sound place (shape_of block) inner form items _ (actions_core inner place.path form None 1 actions)
-      (one_simple form items actions) (items_declared entered items front.0)
+      shaped_sound place (shape_of block) (own_action block) inner form items _ (actions_core inner place.path form None 1 actions)
+      actions (view form items actions) (items_declared entered items front.0)
       (ap all_differ (actions_named inner place.path form None 1 actions)
       ∙ actions_differ 1 actions (omega arith) (own_labels actions good.labels)
       (all_apart (action_labels actions) front.1))

@@ -1,20 +1,23 @@
 -- What is found in the table of the children of a node, and among the names of its variables.
-use Rattle.std.proofs.Common.{◌≡◌, ℕ, suc, Bool, true, false, cond, List, [], ◌∷◌, ◌++◌, map, Some, None, refl, sym, ap, ◌∙◌}
+use Rattle.std.proofs.Common.{◌≡◌, ℕ, suc, Bool, true, false, cond, List, [], ◌∷◌, ◌++◌, map, Some, None, option_map, refl, sym, ap, ◌∙◌, inl, inr}
 use Rattle.std.specs.Prelude.{◌||◌}
-use Rattle.std.specs.List.{list_any, fold}
+use Rattle.std.specs.List.{list_any}
 use Rattle.std.specs.Map.{lookup}
 use Rattle.std.proofs.Math.Bool.{or_assoc, or-false}
+use Rattle.std.proofs.lemmas.Bool.{cases_Bool}
 use Rattle.std.proofs.lemmas.List.Folds.{list_any-append}
+use Rattle.std.proofs.lemmas.Map.Made.{find_same}
 use Rattle.std.proofs.lemmas.Slice.Eq.{bytes_eq-Decides}
-use Rattle.indexmap.specs.IndexMap.{insert_entry}
-use Rattle.indexmap.specs.IndexSet.{insert_key}
+use Rattle.indexmap.specs.IndexMap.{insert_all, insert_entry}
+use Rattle.indexmap.specs.IndexSet.{insert_all as insert_keys, insert_key}
 use Rattle.px_value.specs.Path.{below}
+use Rattle.px_value.proofs.General.{lookup-map}
 use Rattle.px_syntax.specs.Block.{Actions, NoActions, More}
 use Rattle.px_core.specs.Plan.{is_same}
 use Rattle.px_expand.specs.Core.{name_of, actions_seen, children_seen}
 use Rattle.px_expand.specs.Kinds.{Shape, Rest, OneAction, Children}
 use Rattle.px_expand.specs.Children.{seen}
-use Rattle.px_scope.specs.Scope.{table, each_once, inserted}
+use Rattle.px_scope.specs.Scope.{table, each_once}
 use Rattle.px_expand.proofs.Naming.{names_from}
 
 -- ---- children
@@ -35,14 +38,14 @@ entry_put parent (first ∷ known) name =
     of_test false false same more = ap (λ rest. seen parent first ∷ rest) more
 
 all_put : (parent : List ℕ) (known names : List (List ℕ))
-    → inserted (map (seen parent) known) (map (seen parent) names) ≡ map (seen parent) (fold (insert_key is_same) known names)
+    → insert_all is_same (map (seen parent) known) (map (seen parent) names) ≡ map (seen parent) (insert_keys is_same known names)
 all_put parent known [] = refl
 all_put parent known (name ∷ names) =
-    ap (λ entries. inserted entries (map (seen parent) names)) (entry_put parent known name)
+    ap (λ entries. insert_all is_same entries (map (seen parent) names)) (entry_put parent known name)
     ∙ all_put parent (insert_key is_same known name) names
 
 once_among : (name : List ℕ) (known names : List (List ℕ))
-    → list_any (is_same name) (fold (insert_key is_same) known names)
+    → list_any (is_same name) (insert_keys is_same known names)
     ≡ (list_any (is_same name) known || list_any (is_same name) names)
 once_among name known [] = sym (or-false (list_any (is_same name) known))
 once_among name known (first ∷ names) =
@@ -75,16 +78,10 @@ once_among name known (first ∷ names) =
 
 found_below : (parent name : List ℕ) (known : List (List ℕ))
     → lookup (is_same name) (map (seen parent) known) ≡ cond (list_any (is_same name) known) (Some (below parent name)) None
-found_below parent name [] = refl
-found_below parent name (first ∷ known) =
-    of_test (is_same name first) (bytes_eq-Decides name first).0 (found_below parent name known)
-  where
-    of_test : (test : Bool) → (test ≡ true → name ≡ first)
-        → lookup (is_same name) (map (seen parent) known) ≡ cond (list_any (is_same name) known) (Some (below parent name)) None
-        → cond test (Some (below parent first)) (lookup (is_same name) (map (seen parent) known))
-        ≡ cond (test || list_any (is_same name) known) (Some (below parent name)) None
-    of_test true same more = ap (λ text. Some (below parent text)) (sym (same refl))
-    of_test false same more = more
+found_below parent name known =
+    lookup-map (is_same name) (λ text. text) (below parent) known
+    ∙ ap (option_map (below parent)) (find_same bytes_eq-Decides name known)
+    ∙ elim (cases_Bool (list_any (is_same name) known)) [ inl is ↦ rw is refl | inr is ↦ rw is refl ]
 
 -- the child of a name is below its parent, if there is one
 pub child_found : (parent name : List ℕ) (names : List (List ℕ))

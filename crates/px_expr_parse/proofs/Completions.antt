@@ -1,5 +1,5 @@
 -- What has been begun is completed by the shortest of what it lacks.
-use Rattle.std.proofs.Common.{◌≡◌, ℕ, zero, suc, ◌+◌, ◌≤◌, inl, refl, sym, subst, List, [], ◌∷◌, ◌++◌, length, map, pos, Some, None, true, length-append, arith, lit≤}
+use Rattle.std.proofs.Common.{◌≡◌, ℕ, zero, suc, ◌+◌, ◌≤◌, inl, refl, sym, subst, List, [], ◌∷◌, ◌++◌, length, map, take, pos, Some, None, true, length-append, length-take-le, arith, lit≤}
 use Rattle.std.proofs.lemmas.List.{length-map}
 use Rattle.px_lex.specs.declared.keyword.Keyword.TheVariants as words
 use Rattle.px_lex.specs.declared.sign.Sign.{Sign}
@@ -204,9 +204,7 @@ token_of kind = record { kind = kind; at = 0 }
 
 -- the tokens before a place, and others behind them
 abbrev completed : List Token → ℕ → List TokenKind → List Token
-completed tokens zero kinds = map token_of kinds
-completed [] (suc end) kinds = []
-completed (token ∷ tokens) (suc end) kinds = token ∷ completed tokens end kinds
+completed tokens end kinds = take end tokens ++ map token_of kinds
 
 completed_agrees :
     (tokens : List Token) (end : ℕ) (kinds : List TokenKind) → end ≤ length tokens → AgreeBefore tokens (completed tokens end kinds) end
@@ -240,10 +238,8 @@ completed_stand (token ∷ tokens) (suc end) kinds within =
 length_completed :
     (tokens : List Token) (end : ℕ) (kinds : List TokenKind) → end ≤ length tokens
     → length (completed tokens end kinds) ≡ end + length kinds
-length_completed tokens zero kinds within = omega (arith, length-map kinds token_of)
-length_completed [] (suc end) kinds within = absurd (omega (arith, within))
-length_completed (token ∷ tokens) (suc end) kinds within =
-    omega (arith, length_completed tokens end kinds (omega (arith, within)))
+length_completed tokens end kinds within =
+    omega (arith, length-append (take end tokens) (map token_of kinds), length-take-le end tokens within, length-map kinds token_of)
 
 -- what is begun stands in tokens that are the same before the place, and is all of them
 pub whole_of :

@@ -27,22 +27,22 @@ no_tolerance tokens at within none =
 
 -- ---- what closes a lookup
 
+-- nothing closes a lookup where neither the comma before a tolerance nor the parenthesis stands
+not_closed :
+    (word : LookWord) (tokens : List Token) (place : ℕ) → (word ≡ looks.LookupOnChange → HasSign tokens place signs.Comma → ⊥)
+    → (HasSign tokens place signs.CloseParen → ⊥) → (part : Option Tolerance) (end : ℕ) → look_end word part tokens place end → ⊥
+not_closed word tokens place no_comma no_paren None end o = no_paren o.0
+not_closed looks.Lookup tokens place no_comma no_paren (Some tolerance) end o = o
+not_closed looks.LookupNow tokens place no_comma no_paren (Some tolerance) end o = o
+not_closed looks.LookupOnChange tokens place no_comma no_paren (Some tolerance) end o = no_comma refl o.1.0
+
 module _ (word : LookWord) (tokens : List Token) (from : ℕ) where
-  -- neither a tolerance nor the parenthesis
   pub missing_close :
       (fault : ParseFault) → from ≤ length tokens → (word ≡ looks.LookupOnChange → HasSign tokens from signs.Comma → ⊥)
       → LacksSign tokens from signs.CloseParen fault → IsMissing (look_end word) tokens from fault
   missing_close fault within no_comma lacks =
-      missing_here (look_end word) tokens from fault lacks.0 within (short_look_end word) (none word no_comma)
-    where
-      none :
-          (which : LookWord) → (which ≡ looks.LookupOnChange → HasSign tokens from signs.Comma → ⊥)
-          → (others : List Token) → kind_at others from ≡ kind_at tokens from → (other : Option Tolerance) (end : ℕ)
-          → look_end which other others from end → ⊥
-      none which no_comma others same None end o = lacks.1 (sym same ∙ o.0)
-      none looks.Lookup no_comma others same (Some tolerance) end o = o
-      none looks.LookupNow no_comma others same (Some tolerance) end o = o
-      none looks.LookupOnChange no_comma others same (Some tolerance) end o = no_comma refl (sym same ∙ o.1.0)
+      missing_here (look_end word) tokens from fault lacks.0 within (short_look_end word)
+      (λ others same. not_closed word others from (λ is has. no_comma is (sym same ∙ has)) (λ has. lacks.1 (sym same ∙ has)))
 
 -- a comma, a tolerance and the parenthesis
 abbrev pub behind_comma : Tolerance → Form
@@ -68,11 +68,9 @@ ends_comma tokens from comma =
 closes_nothing :
     (word : LookWord) (tokens : List Token) (place : ℕ) → HasSign tokens place signs.OpenParen → (part : Option Tolerance) (end : ℕ)
     → look_end word part tokens place end → ⊥
-closes_nothing word tokens place opening None end o = not_both tokens place signs.OpenParen signs.CloseParen (λ e. cc) opening o.0
-closes_nothing looks.Lookup tokens place opening (Some tolerance) end o = o
-closes_nothing looks.LookupNow tokens place opening (Some tolerance) end o = o
-closes_nothing looks.LookupOnChange tokens place opening (Some tolerance) end o =
-    not_both tokens place signs.OpenParen signs.Comma (λ e. cc) opening o.1.0
+closes_nothing word tokens place opening =
+    not_closed word tokens place (λ is. not_both tokens place signs.OpenParen signs.Comma (λ e. cc) opening)
+    (not_both tokens place signs.OpenParen signs.CloseParen (λ e. cc) opening)
 
 -- arguments in parentheses, and what closes the lookup
 abbrev pub given_rest : LookWord → Terms × Option Tolerance → Form

@@ -1,6 +1,6 @@
 -- A change of one node's cells or of what it has under way is a change of its record alone.
-use Rattle.std.proofs.Common.{◌≡◌, ◌≢◌, ℕ, zero, suc, ◌+◌, ◌-◌, ◌<◌, ◌≤◌, List, [], ◌∷◌, length, set, map, sum, take, drop, refl, ap, sym, ◌∙◌, arith, if◌then◌else◌}
-use Rattle.std.proofs.lemmas.List.{take-set-le, drop-set-add}
+use Rattle.std.proofs.Common.{◌≡◌, ◌≢◌, ℕ, zero, suc, ◌+◌, ◌<◌, List, [], ◌∷◌, length, map, sum, take, drop, refl, ap, sym, ◌∙◌, arith, if◌then◌else◌}
+use Rattle.std.proofs.lemmas.List.{drop-drop}
 use Rattle.std.proofs.lemmas.List.Sums.{sum_by-cons}
 use Rattle.px_value.specs.declared.value.Value.{Value}
 use Rattle.px_core.specs.Fit.{cells_of, AreDistinct}
@@ -9,8 +9,10 @@ use Rattle.px_core.proofs.Paths.{same-self, same-other, distinct_behind, head_ap
 use Rattle.px_sem.specs.Events.{with_entry, with_record}
 use Rattle.px_sem.specs.World.{World, NodeRecord, LookState, Report}
 use Rattle.px_flat.specs.declared.act.Act.{Act}
+use Rattle.px_flat.specs.Numbered.{held}
 use Rattle.px_flat.specs.Parts.{values_in, record_in, entries, world_of}
 use Rattle.px_flat.specs.Row.{site_in}
+use Rattle.px_flat.proofs.Sources.{same_cells}
 
 -- ---- the records of all nodes but one stay
 
@@ -75,24 +77,24 @@ world_of-changed plan cells new_cells reports acts new_acts node distinct within
     ∙ ap (record_in plan cells acts) (sym (from k)))
     ∙ ap (λ n. with_entry (site_in plan node).path (record_in plan new_cells new_acts n) (entries (record_in plan cells acts) 0 plan)) (from node))
 
--- ---- the variables don't see a write behind them
+-- ---- the values of variables
 
-pub values_in-behind : (variables : List VariableData) (cells : List Value) (cell : ℕ) (value : Value)
-    → sum (map cells_of variables) ≤ cell → values_in variables (set cells cell value) ≡ values_in variables cells
-values_in-behind [] cells cell value behind = refl
-values_in-behind (variable ∷ variables) cells cell value behind =
-    let total : sum (map cells_of (variable ∷ variables)) ≡ cells_of variable + sum (map cells_of variables) =
-    sum_by-cons (λ n. n) (cells_of variable) (map cells_of variables) in
-    let far : cell ≡ cells_of variable + (cell - cells_of variable) = omega arith in
-    let rest : drop (cells_of variable) (set cells cell value)
-    ≡ set (drop (cells_of variable) cells) (cell - cells_of variable) value =
-    ap (λ n. drop (cells_of variable) (set cells n value)) far
-    ∙ drop-set-add (cells_of variable) cells (cell - cells_of variable) value in
-    ap (λ front. front ∷ values_in variables (drop (cells_of variable) (set cells cell value)))
-    (take-set-le (cells_of variable) cells cell value (omega arith))
-    ∙ ap (λ behind. take (cells_of variable) cells ∷ values_in variables behind) rest
-    ∙ ap (λ more. take (cells_of variable) cells ∷ more)
-    (values_in-behind variables (drop (cells_of variable) cells) (cell - cells_of variable) value (omega arith))
+-- where the cells of variables are the same, their values are
+pub values_in-same : (variables : List VariableData) (first : ℕ) (a b : List Value) → length a ≡ length b
+    → ((i : ℕ) → i < sum (map cells_of variables) → held a (first + i) ≡ held b (first + i))
+    → values_in variables (drop first a) ≡ values_in variables (drop first b)
+values_in-same [] first a b long same = refl
+values_in-same (variable ∷ variables) first a b long same =
+    let n : ℕ = cells_of variable in
+    let total : sum (map cells_of (variable ∷ variables)) ≡ n + sum (map cells_of variables) =
+    sum_by-cons (λ n. n) n (map cells_of variables) in
+    let head : take n (drop first a) ≡ take n (drop first b) =
+    same_cells first n a b long (λ i within. same i (omega (arith, within, total))) in
+    let rest : values_in variables (drop (first + n) a) ≡ values_in variables (drop (first + n) b) =
+    values_in-same variables (first + n) a b long (λ i within.
+    let there : first + n + i ≡ first + (n + i) = omega arith in
+    ap (held a) there ∙ same (n + i) (omega (arith, within, total)) ∙ ap (held b) (sym there)) in
+    λ i. head i ∷ (ap (values_in variables) (drop-drop n first a) ∙ rest ∙ ap (values_in variables) (sym (drop-drop n first b))) i
 
 -- ---- the records of all nodes, where each is what the node's site tells
 

@@ -1,12 +1,13 @@
 -- All that the expressions of a fit plan speak of and look up is the plan's.
-use Rattle.std.proofs.Common.{◌≡◌, ℕ, zero, suc, ◌<◌, ◌≤◌, Bool, true, false, ◌&&◌, List, [], ◌∷◌, ◌++◌, length, get_or, fold, refl, ap, sym, ◌∙◌, subst, arith, if◌then◌else◌}
+use Rattle.std.proofs.Common.{◌≡◌, ℕ, ◌<◌, ◌≤◌, Bool, true, false, ◌&&◌, List, [], ◌∷◌, ◌++◌, length, get_or, fold, refl, ap, sym, ◌∙◌, subst, arith, if◌then◌else◌}
 use Rattle.std.specs.List.{list_all, list_any, flat_map, All}
 use Rattle.std.proofs.Math.Logic.{∥∥₁_elim}
 use Rattle.std.proofs.Props.{props}
 use Rattle.std.proofs.lemmas.Bool.{and_parts, and_from, or_left, or_right}
 use Rattle.std.proofs.lemmas.Grind.{common_steps}
 use Rattle.std.proofs.lemmas.List.{length-map}
-use Rattle.std.proofs.lemmas.List.Folds.{list_any-append}
+use Rattle.std.proofs.lemmas.List.Folds.{fold_along, list_all-append, list_any-append}
+use Rattle.std.proofs.lemmas.List.Recursion.{and_at}
 use Rattle.std.proofs.lemmas.List.Sums.{AllPass-from_list_all}
 use Rattle.px_value.proofs.General.{list_all_parts}
 use Rattle.px_core.specs.Fit.{Reference, references_of_site, path_is_there, variable_is_there, paths_are_there, variables_are_there, has_right_variables, AreDistinct, is_there}
@@ -40,10 +41,9 @@ back plan mentions more names others known = record {
 -- what all that a list gives passes, all that one of its items gives does
 pub part_passes : {X Y : Type 0} (p : Y → Bool) (f : X → List Y) (xs : List X) (i : ℕ) (d : X)
     → list_all p (flat_map f xs) ≡ true → i < length xs → list_all p (f (get_or xs i d)) ≡ true
-part_passes p f [] i d all within = absurd (omega arith)
-part_passes p f (x ∷ xs) zero d all within = (list_all_parts p (f x) (flat_map f xs) all).0
-part_passes p f (x ∷ xs) (suc i) d all within =
-    part_passes p f xs i d (list_all_parts p (f x) (flat_map f xs) all).1 (omega arith)
+part_passes {X} p f xs i d all within =
+    and_at (λ (xs : List X). list_all p (flat_map f xs)) (λ (x : X). list_all p (f x)) refl
+    (λ x xs. list_all-append p (f x) (flat_map f xs)) xs i d within all
 
 -- what holds of expressions or targets together holds of each of them
 pub each_known : {X : Type 0} (plan : List Site) (mentions : X → List Reference) (names : X → List (List ℕ)) (xs : List X)
@@ -108,13 +108,15 @@ both_pass p q (x ∷ xs) hp hq =
 -- a name that is there stays
 kept : (name : List ℕ) (names more : List (List ℕ)) → list_any (is_same name) names ≡ true
     → list_any (is_same name) (fold with_name names more) ≡ true
-kept name names [] there = there
-kept name names (other ∷ more) there =
-    kept name (with_name names other) more (by (list_any (is_same other) names))
+kept name names more there =
+    fold_along with_name (λ (same : Unit {0}) (other : List ℕ). same)
+    (λ (names : List (List ℕ)) (same : Unit {0}). list_any (is_same name) names ≡ true)
+    (λ names same other there. by names other there (list_any (is_same other) names)) names tt more there
   where
-    by : (b : Bool) → list_any (is_same name) (if b then names else names ++ other ∷ []) ≡ true
-    by true = there
-    by false = list_any-append (is_same name) names (other ∷ [])
+    by : (names : List (List ℕ)) (other : List ℕ) → list_any (is_same name) names ≡ true → (b : Bool)
+        → list_any (is_same name) (if b then names else names ++ other ∷ []) ≡ true
+    by names other there true = there
+    by names other there false = list_any-append (is_same name) names (other ∷ [])
         ∙ or_left (list_any (is_same name) names) (list_any (is_same name) (other ∷ [])) there
 
 -- all names are there that were added

@@ -1,6 +1,6 @@
 -- A write of one of a node's cells is a change of one field of its record.
-use Rattle.std.proofs.Common.{◌≡◌, ◌≢◌, ℕ, ◌+◌, ◌-◌, ◌<◌, ◌≤◌, List, length, set, drop, ap, sym, ◌∙◌, arith}
-use Rattle.std.proofs.lemmas.List.{get_or-set_same, get_or-set_other, drop-set-add}
+use Rattle.std.proofs.Common.{◌≡◌, ◌≢◌, ℕ, ◌+◌, ◌<◌, ◌≤◌, List, length, set, drop, ap, sym, ◌∙◌, arith}
+use Rattle.std.proofs.lemmas.List.{get_or-set_same, get_or-set_other, length-set}
 use Rattle.px_value.specs.declared.value.Value.{Value}
 use Rattle.px_value.specs.declared.value.Value.TheVariants as values
 use Rattle.px_core.specs.Fit.{cells_of_site, AreDistinct}
@@ -13,7 +13,7 @@ use Rattle.px_flat.specs.Layout.{variable_cells, first_cell, node_cell, state_ce
 use Rattle.px_flat.specs.Numbered.{held}
 use Rattle.px_flat.specs.Parts.{values_in, record_in, world_of, action_in, act_of, state_in, outcome_in, failure_in}
 use Rattle.px_flat.specs.Row.{site_in}
-use Rattle.px_flat.proofs.Changes.{values_in-behind, world_of-changed}
+use Rattle.px_flat.proofs.Changes.{values_in-same, world_of-changed}
 use Rattle.px_flat.proofs.Variables.{cells_within}
 use Rattle.px_flat.proofs.Worlds.{record_at-world_of}
 
@@ -25,10 +25,8 @@ variables_stay : (plan : List Site) (cells : List Value) (cell : ℕ) (value : V
 variables_stay plan cells cell value node within behind =
     let first : ℕ = first_cell plan node in
     let room : first + cells_of_site (site_in plan node) ≤ variable_cells plan = cells_within plan node within in
-    let far : cell ≡ first + (cell - first) = omega arith in
-    ap (λ n. values_in (site_in plan node).head.variables (drop first (set cells n value))) far
-    ∙ ap (values_in (site_in plan node).head.variables) (drop-set-add first cells (cell - first) value)
-    ∙ values_in-behind (site_in plan node).head.variables (drop first cells) (cell - first) value (omega arith)
+    values_in-same (site_in plan node).head.variables first (set cells cell value) cells (length-set cells cell value)
+    (λ i few. get_or-set_other cells cell (first + i) value values.Unknown (λ is. absurd (omega (arith, few, is))))
 
 -- a write of a cell of one node leaves the record of every other
 others_stay : (plan : List Site) (cells : List Value) (acts : List Act) (node part : ℕ) (value : Value) → part < 5

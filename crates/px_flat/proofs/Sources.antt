@@ -1,7 +1,8 @@
 -- An expression has the same value wherever all its sources are the same.
-use Rattle.std.proofs.Common.{◌≡◌, ℕ, ◌<◌, List, [], ◌∷◌, ◌++◌, length, take, drop, get_or, refl, ap, sym, ◌∙◌, subst, arith, All, rules}
+use Rattle.std.proofs.Common.{◌≡◌, ℕ, ◌+◌, ◌<◌, List, [], ◌∷◌, length, take, drop, get_or, refl, ap, sym, ◌∙◌, arith, All, rules}
 use Rattle.std.proofs.lemmas.List.{ext_get_or, get_or-drop, get_or-take, length-drop, length-take}
 use Rattle.std.proofs.lemmas.List.Elements.{All-head, All-tail}
+use Rattle.px_value.specs.declared.value.Value.{Value}
 use Rattle.px_value.specs.declared.value.Value.TheVariants.{Unknown}
 use Rattle.px_value.proofs.General.{All-back, All-front}
 use Rattle.px_core.specs.Plan.{Site}
@@ -11,6 +12,24 @@ use Rattle.px_flat.specs.Lookups.{lookups_of}
 use Rattle.px_flat.specs.Numbered.{Numbered, EachNumbered, NoneNumbered, MoreNumbered, Literal, Variable, Element, StateOf, OutcomeOf, FailureOf, HandleOf, Acknowledged, Look, Unary, Binary, held, reported_of, numbered_values}
 use Rattle.px_flat.specs.Sources.{Source, Cells, Reports, Present, IsSame, sources_in, sources_in_each, value_in, ReadOnlySources}
 
+-- cells that hold the same one after another are the same part of a list
+pub same_cells : (first size : ℕ) (a b : List Value) → length a ≡ length b
+    → ((k : ℕ) → k < size → held a (first + k) ≡ held b (first + k)) → take size (drop first a) ≡ take size (drop first b)
+same_cells first size a b long same = ext_get_or Unknown (take size (drop first a)) (take size (drop first b))
+    (omega (
+      arith,
+      long,
+      length-take size (drop first a),
+      length-take size (drop first b),
+      length-drop first a,
+      length-drop first b,
+    ))
+    (λ k inside.
+    let below : k < size = omega (arith, inside, length-take size (drop first a)) in
+    get_or-take size (drop first a) k Unknown below ∙ get_or-drop first a k Unknown
+    ∙ same k below
+    ∙ sym (get_or-take size (drop first b) k Unknown below ∙ get_or-drop first b k Unknown))
+
 module _ (plan : List Site) (one other : Present) (long : length one.cells ≡ length other.cells) where
   abbrev AreSame : List Source → Type 0
   AreSame sources = All (IsSame plan one other) sources
@@ -19,24 +38,6 @@ module _ (plan : List Site) (one other : Present) (long : length one.cells ≡ l
   cell : (at : ℕ) → AreSame (Cells at 1 ∷ []) → held one.cells at ≡ held other.cells at
   cell at all = search (rules, All-head)
 
-  -- an array's cells hold the same
-  cells : (first size : ℕ) → IsSame plan one other (Cells first size)
-      → take size (drop first one.cells) ≡ take size (drop first other.cells)
-  cells first size same = ext_get_or Unknown (take size (drop first one.cells)) (take size (drop first other.cells))
-      (omega (
-        arith,
-        long,
-        length-take size (drop first one.cells),
-        length-take size (drop first other.cells),
-        length-drop first one.cells,
-        length-drop first other.cells,
-      ))
-      (λ k inside.
-      let below : k < size = omega (arith, inside, length-take size (drop first one.cells)) in
-      get_or-take size (drop first one.cells) k Unknown below ∙ get_or-drop first one.cells k Unknown
-      ∙ same k below
-      ∙ sym (get_or-take size (drop first other.cells) k Unknown below ∙ get_or-drop first other.cells k Unknown))
-
   mutual
     pub same_value : (expr : Numbered) → AreSame (sources_in plan expr) → value_in plan one expr ≡ value_in plan other expr
     same_value (Literal value) all = refl
@@ -44,7 +45,7 @@ module _ (plan : List Site) (one other : Present) (long : length one.cells ≡ l
     same_value (Element first size index) all =
         let sources = sources_in plan index in
         (λ i. element
-        (cells first size (All-head (IsSame plan one other) (Cells first size) sources all) i)
+        (same_cells first size one.cells other.cells long (All-head (IsSame plan one other) (Cells first size) sources all) i)
         (same_value index (All-tail (IsSame plan one other) (Cells first size) sources all) i))
     same_value (StateOf node) all = cell (state_cell plan node) all
     same_value (OutcomeOf node) all = cell (outcome_cell plan node) all

@@ -7,7 +7,8 @@ use Rattle.std.proofs.lemmas.List.Elements.{All-from_get_or, recursion_from_All}
 use Rattle.std.proofs.lemmas.List.Folds.{length-prefix_len, list_any-append, list_any_at}
 use Rattle.std.proofs.lemmas.List.Sums.{AllPass-from_list_all}
 use Rattle.std.proofs.Math.Seq.{get_or-append_seam}
-use Rattle.px_value.proofs.General.{each-append, each_front, each_back, each_map, prefix_run}
+use Rattle.std.proofs.Permutation.{every_append as each-append}
+use Rattle.px_value.proofs.General.{each_front, each_back, each_map, prefix_run}
 use Rattle.px_core.specs.Fit.{AreDistinct}
 use Rattle.px_core.specs.Plan.{Tree, NoNode, Branch, Site, no_site, is_same, count_of, path_under, site_under, sites_under, sites}
 use Rattle.px_core.proofs.Differing.{Differ}

@@ -1,5 +1,5 @@
 -- What a node of a fit plan writes is declared, and a cell belongs to one variable at most.
-use Rattle.std.proofs.Common.{◌≡◌, ℕ, ◌+◌, ◌<◌, ◌≤◌, Bool, true, false, not, ◌&&◌, List, [], ◌∷◌, ◌++◌, length, refl, ap, sym, ◌∙◌, subst, arith, inl, inr, Option, Some, None, is_some, if◌then◌else◌}
+use Rattle.std.proofs.Common.{◌≡◌, ◌≢◌, ℕ, ◌+◌, ◌<◌, ◌≤◌, Bool, true, false, not, ◌&&◌, List, [], ◌∷◌, ◌++◌, length, refl, ap, sym, ◌∙◌, subst, arith, inl, inr, Option, Some, None, is_some, if◌then◌else◌}
 use Rattle.std.specs.List.{list_all, list_any, flat_map}
 use Rattle.std.specs.Cmp.Lexicographic.{same_text}
 use Rattle.std.proofs.lemmas.Bool.{and_parts, cases_lt}
@@ -48,6 +48,16 @@ pub cells_within : (plan : List Site) (node : ℕ) → node < length plan
     → first_cell plan node + cells_of_site (site_in plan node) ≤ variable_cells plan
 cells_within plan node within =
     omega (arith, sum_more cells_of_site plan node no_site within, sum_front cells_of_site plan (node + 1))
+
+-- cells of variables of different nodes differ
+pub nodes_apart : (plan : List Site) (a b i j : ℕ) → a < length plan → b < length plan → a ≢ b
+    → i < cells_of_site (site_in plan a) → j < cells_of_site (site_in plan b)
+    → first_cell plan a + i ≢ first_cell plan b + j
+nodes_apart plan a b i j a_in b_in apart few others same = elim (cases_lt a b) [
+  | inl before ↦ omega (arith, few, same, cells_apart plan a b before (omega (arith, b_in)))
+  | inr not_before ↦
+      omega (arith, others, same, cells_apart plan b a (omega (arith, not_before, apart)) (omega (arith, a_in)))
+]
 
 -- ---- what is declared
 

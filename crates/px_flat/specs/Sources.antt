@@ -40,13 +40,17 @@ pub record Present : Type 0 where
 abbrev pub value_in : List Site → Present → Numbered → Value
 value_in plan present expr = numbered_value plan present.cells present.reports expr
 
+-- under a name each state reads the same in both, with this tolerance or with none
+abbrev pub IsSameReport : List Site → List (LookState × Report) → List (LookState × Report) → ℕ → Option ℕ → Type 0
+IsSameReport plan one other lookup tolerance = (args : List Value)
+    → reported_of one (slice_index_or (lookups_of plan) lookup []) args tolerance
+    ≡ reported_of other (slice_index_or (lookups_of plan) lookup []) args tolerance
+
 -- a source is the same in both: each of its cells holds the same, or each state of its name reads the same
 abbrev pub IsSame : List Site → Present → Present → Source → Type 0
 IsSame plan one other (Cells first size) =
     (k : ℕ) → k < size → held one.cells (first + k) ≡ held other.cells (first + k)
-IsSame plan one other (Reports lookup tolerance) = (args : List Value)
-    → reported_of one.reports (slice_index_or (lookups_of plan) lookup []) args tolerance
-    ≡ reported_of other.reports (slice_index_or (lookups_of plan) lookup []) args tolerance
+IsSame plan one other (Reports lookup tolerance) = IsSameReport plan one.reports other.reports lookup tolerance
 
 -- Of so many cells each expression has the same value in both where each of its sources is the same.
 abbrev pub ReadOnlySources : List Site → Type 0

@@ -1,5 +1,5 @@
 -- What isn't touched is still as it was seen: where all was just seen, where a cell is written, and where something is reported.
-use Rattle.std.proofs.Common.{◌≡◌, ℕ, ◌+◌, ◌<◌, ◌≤◌, true, false, List, length, set, get_or, refl, sym, ◌∙◌, subst, arith, All}
+use Rattle.std.proofs.Common.{◌≡◌, ℕ, ◌+◌, ◌<◌, ◌≤◌, true, false, List, set, get_or, refl, sym, ◌∙◌, subst, arith}
 use Rattle.px_value.specs.declared.value.Value.{Value}
 use Rattle.px_value.specs.declared.value.Value.TheVariants.{Unknown}
 use Rattle.std.proofs.lemmas.Bool.{false≢true}
@@ -11,7 +11,7 @@ use Rattle.px_flat.specs.declared.flat.Flat.{Flat}
 use Rattle.px_flat.specs.Flat.{plan_of}
 use Rattle.px_flat.specs.Layout.{all_cells}
 use Rattle.px_flat.specs.Sources.{Source, Cells, Reports, Present, IsSame, sources_in}
-use Rattle.px_cached.specs.Cached.{CachedData, HasTouchedCell, HasTouchedReports, IsSeen, IsSeenBut, is_touched, plan_in}
+use Rattle.px_cached.specs.Cached.{CachedData, HasTouchedCell, HasTouchedReports, IsSeen, IsSeenBut, SeenIn, is_touched, plan_in}
 use Rattle.px_cached.specs.Conditions.{all_sources, condition_in, source_number}
 use Rattle.px_cached.specs.Firsts.{HasCell}
 use Rattle.px_cached.proofs.Conditions.{condition_within}
@@ -36,20 +36,11 @@ just_seen cached present all node kind there k d inside untouched =
 -- ---- something is touched
 
 -- what was not touched before is as it was seen, said of what is kept now
-abbrev pub WasSeen : (old new : CachedData) → Present → Type 0
-WasSeen old new before = (node : ℕ) (kind : ConditionKind) → node < length (plan_in new)
-    → All (λ source. is_touched old (source_number (plan_in new) source) ≡ false → IsSame (plan_in new) new.seen before source)
-    (sources_of (plan_in new) node kind)
-
 pub was_seen : (old new : CachedData) (before : Present) → new.flat ≡ old.flat → new.seen ≡ old.seen
-    → IsSeenBut old before → WasSeen old new before
+    → IsSeenBut old before → SeenIn (plan_in new) (record old { seen = new.seen }) before
 was_seen old new before flat seen was =
-    subst (λ (seen : Present). (node : ℕ) (kind : ConditionKind) → node < length (plan_in new)
-    → All (λ source. is_touched old (source_number (plan_in new) source) ≡ false → IsSame (plan_in new) seen before source)
-    (sources_of (plan_in new) node kind)) (sym seen)
-    (subst (λ (flat : Flat). (node : ℕ) (kind : ConditionKind) → node < length (plan_of flat)
-    → All (λ source. is_touched old (source_number (plan_of flat) source) ≡ false → IsSame (plan_of flat) old.seen before source)
-    (sources_of (plan_of flat) node kind)) (sym flat) was)
+    subst (λ (seen : Present). SeenIn (plan_in new) (record old { seen = seen }) before) (sym seen)
+    (subst (λ (flat : Flat). SeenIn (plan_of flat) old before) (sym flat) was)
 
 -- ---- a cell is written
 

@@ -1,6 +1,6 @@
 -- Bytes are of at most one version, and stand for at most one text and one history.
-use Rattle.std.proofs.Common.{rules, ◌≡◌, ◌≤◌, ◌<◌, ◌+◌, ◌^◌, ℕ, List, [], ◌∷◌, ◌++◌, Option, length, take, drop, refl, sym, ◌∙◌, ap, subst, arith, length-append, IsTrue}
-use Rattle.std.proofs.lemmas.List.{take_at, drop_at, drop-drop, take-take, drop-take, get_or-drop}
+use Rattle.std.proofs.Common.{rules, ◌≡◌, ◌≤◌, ◌<◌, ◌+◌, ◌^◌, ◌⊎◌, inl, inr, ℕ, List, [], ◌∷◌, ◌++◌, Option, length, take, drop, refl, sym, ◌∙◌, ap, subst, arith, length-append, IsTrue}
+use Rattle.std.proofs.lemmas.List.{drop_at, drop-drop, drop-take, get_or-drop}
 use Rattle.std.proofs.lemmas.Bool.{and_parts}
 use Rattle.std.specs.Prelude.{slice_index}
 use Rattle.std.specs.Io.{StartsWith}
@@ -9,21 +9,18 @@ use Rattle.byteorder.specs.Endian.{big_bytes, big_number}
 use Rattle.byteorder.specs.Numbers.{length-bytes_high_first, big_number-reads_back}
 use Rattle.px_event.specs.declared.entry.Entry.{Entry}
 use Rattle.px_event.specs.declared.named.NamedEntry.{NamedEntry}
+use Rattle.px_event.proofs.Appends.{begins_with}
 use Rattle.px_journal.specs.Layout.{magic, digit, HasVersion, heading, body_bytes, record_bytes, entries, interfaces, is_fit, is_open, is_closed, Opens, Records, records_size, StandsAs, Stands, AreNamesOf}
 use Rattle.px_journal.specs.declared.version.Version.{Version}
 use Rattle.px_journal.proofs.Bodies.{one_body, body_short}
 use Rattle.px_journal.proofs.Digits.{one_digit}
 
--- the bytes stand at the front of a list
-abbrev pub Starts : List ℕ → List ℕ → Type 0
-Starts front bytes = StartsWith bytes front
+-- what stands at the front of a list
+module _ (a b bytes : List ℕ) (starts : StartsWith bytes (a ++ b)) where
+  pub starts_first : StartsWith bytes a
+  starts_first = begins_with a b (a ++ b) bytes refl starts
 
-module _ (a b bytes : List ℕ) (starts : Starts (a ++ b) bytes) where
-  pub starts_first : Starts a bytes
-  starts_first =
-      sym (take-take (length a) (length (a ++ b)) bytes (omega (arith, length-append a b))) ∙ ap (λ (l : List ℕ). take (length a) l) starts ∙ take_at a b (length a) refl
-
-  pub starts_second : Starts b (drop (length a) bytes)
+  pub starts_second : StartsWith (drop (length a) bytes) b
   starts_second =
       sym (drop-take (length a) (length b) bytes)
       ∙ ap (λ (n : ℕ). drop (length a) (take n bytes)) (sym (length-append a b))
@@ -36,8 +33,8 @@ one_number n x y x_fits y_fits same =
     sym (big_number-reads_back n x [] x_fits) ∙ ap (λ (l : List ℕ). big_number n (l ++ [])) same ∙ big_number-reads_back n y [] y_fits
 
 -- what is spelled behind its length is one text
-one_text : (n : ℕ) (x y bytes : List ℕ) → length x < 256 ^ n → length y < 256 ^ n → Starts (big_bytes n (length x) ++ x) bytes
-    → Starts (big_bytes n (length y) ++ y) bytes → x ≡ y
+one_text : (n : ℕ) (x y bytes : List ℕ) → length x < 256 ^ n → length y < 256 ^ n → StartsWith bytes (big_bytes n (length x) ++ x)
+    → StartsWith bytes (big_bytes n (length y) ++ y) → x ≡ y
 one_text n x y bytes x_fits y_fits x_starts y_starts =
     let x_long = length-bytes_high_first n (length x) in
     let y_long = length-bytes_high_first n (length y) in
@@ -51,7 +48,7 @@ one_text n x y bytes x_fits y_fits x_starts y_starts =
     ∙ ap (λ (k : ℕ). take (length y) (drop k bytes)) (x_long ∙ sym y_long)
     ∙ starts_second (big_bytes n (length y)) y bytes y_starts
 
-first_byte : (byte : ℕ) (later bytes : List ℕ) → Starts (byte ∷ later) bytes → slice_index bytes 0 ≡ byte
+first_byte : (byte : ℕ) (later bytes : List ℕ) → StartsWith bytes (byte ∷ later) → slice_index bytes 0 ≡ byte
 first_byte byte later [] starts = absurd cc
 first_byte byte later (first ∷ rest) starts = ap (λ (l : List ℕ). slice_index l 0) starts
 
@@ -67,10 +64,10 @@ module _ (version : Version) where
       a_opens.content b_opens.content)
 
   -- the parts of a heading
-  pub version_starts : (text bytes : List ℕ) → Opens (heading version text) bytes → Starts (digit version ∷ (big_bytes 4 (length text) ++ text)) (drop 7 (drop 1 bytes))
+  pub version_starts : (text bytes : List ℕ) → Opens (heading version text) bytes → StartsWith (drop 7 (drop 1 bytes)) (digit version ∷ (big_bytes 4 (length text) ++ text))
   version_starts text bytes opens = starts_second magic (digit version ∷ (big_bytes 4 (length text) ++ text)) (drop 1 bytes) opens.content
 
-  pub text_starts : (text bytes : List ℕ) → Opens (heading version text) bytes → Starts (big_bytes 4 (length text) ++ text) (drop 1 (drop 7 (drop 1 bytes)))
+  pub text_starts : (text bytes : List ℕ) → Opens (heading version text) bytes → StartsWith (drop 1 (drop 7 (drop 1 bytes))) (big_bytes 4 (length text) ++ text)
   text_starts text bytes opens = starts_second (digit version ∷ []) (big_bytes 4 (length text) ++ text) (drop 7 (drop 1 bytes)) (version_starts text bytes opens)
 
   pub has_version : (text bytes : List ℕ) → Opens (heading version text) bytes → HasVersion version bytes
@@ -81,22 +78,66 @@ module _ (version : Version) where
       one_text 4 a b (drop 1 (drop 7 (drop 1 bytes))) (omega (arith, a_fits)) (omega (arith, b_fits))
       (text_starts a bytes a_opens) (text_starts b bytes b_opens)
 
-  pub one_history : (a b : List NamedEntry) (bytes : List ℕ) → IsTrue (list_all (is_fit version) a) → IsTrue (list_all (is_fit version) b) → Records version a bytes → Records version b bytes
-      → IsTrue (is_closed (drop (records_size version a) bytes)) → IsTrue (is_closed (drop (records_size version b) bytes)) → a ≡ b
-  one_history [] [] bytes a_fit b_fit a_records b_records a_closed b_closed = refl
-  one_history [] (b ∷ b_later) bytes a_fit b_fit a_records b_records a_closed b_closed = open_and_closed bytes (b_records.0).gate a_closed
-  one_history (a ∷ a_later) [] bytes a_fit b_fit a_records b_records a_closed b_closed = open_and_closed bytes (a_records.0).gate b_closed
-  one_history (a ∷ a_later) (b ∷ b_later) bytes a_fit b_fit a_records b_records a_closed b_closed =
+  -- ---- a history goes on behind a part of it
+
+  pub record Ahead (history before : List NamedEntry) (bytes : List ℕ) : Type 0 where
+    pub entry : NamedEntry
+    pub fit : IsTrue (is_fit version entry)
+    pub opens : Opens (record_bytes version entry) (drop (records_size version before) bytes)
+    pub shorter : length before < length history
+    pub within : records_size version before + 1 + length (record_bytes version entry) ≤ records_size version history
+
+  -- where nothing stands before
+  first_ahead : (entry : NamedEntry) (later : List NamedEntry) (bytes : List ℕ) → IsTrue (list_all (is_fit version) (entry ∷ later)) → Records version (entry ∷ later) bytes
+      → Ahead (entry ∷ later) [] bytes
+  first_ahead entry later bytes fit records = record {
+    entry = entry;
+    fit = (and_parts _ _ fit).0;
+    opens = records.0;
+    shorter = omega arith;
+    within = omega arith;
+  }
+
+  -- one record more in front of both
+  ahead_behind : (h b : NamedEntry) (history before : List NamedEntry) (bytes : List ℕ) → h ≡ b → Ahead history before (drop (1 + length (record_bytes version h)) bytes)
+      → Ahead (h ∷ history) (b ∷ before) bytes
+  ahead_behind h b history before bytes same later = record {
+    entry = later.entry;
+    fit = later.fit;
+    opens = subst (Opens (record_bytes version later.entry))
+        (ap (λ (e : NamedEntry). drop (records_size version before) (drop (1 + length (record_bytes version e)) bytes)) same
+        ∙ drop-drop (records_size version before) (1 + length (record_bytes version b)) bytes) later.opens;
+    shorter = omega (arith, later.shorter);
+    within = omega (arith, later.within, ap (λ (e : NamedEntry). length (record_bytes version e)) same);
+  }
+
+  -- of two histories at the front of the same bytes, one is a part of the other
+  pub one_ahead : (a b : List NamedEntry) (bytes : List ℕ) → IsTrue (list_all (is_fit version) a) → IsTrue (list_all (is_fit version) b) → Records version a bytes → Records version b bytes
+      → (a ≡ b) ⊎ (Ahead a b bytes ⊎ Ahead b a bytes)
+  one_ahead [] [] bytes a_fit b_fit a_records b_records = inl refl
+  one_ahead [] (b ∷ later_b) bytes a_fit b_fit a_records b_records = inr (inr (first_ahead b later_b bytes b_fit b_records))
+  one_ahead (a ∷ later_a) [] bytes a_fit b_fit a_records b_records = inr (inl (first_ahead a later_a bytes a_fit a_records))
+  one_ahead (a ∷ later_a) (b ∷ later_b) bytes a_fit b_fit a_records b_records =
       let a_parts = and_parts _ _ a_fit in
       let b_parts = and_parts _ _ b_fit in
-      let first : a ≡ b = one_record a b bytes (a_parts.0) (b_parts.0) (a_records.0) (b_records.0) in
-      let place : drop (1 + length (record_bytes version b)) bytes ≡ drop (1 + length (record_bytes version a)) bytes = ap (λ (e : NamedEntry). drop (1 + length (record_bytes version e)) bytes) (sym first) in
+      let same : a ≡ b = one_record a b bytes (a_parts.0) (b_parts.0) (a_records.0) (b_records.0) in
       let rest = drop (1 + length (record_bytes version a)) bytes in
-      let closed_rest : IsTrue (is_closed (drop (records_size version b_later) rest)) =
-      subst IsTrue (ap is_closed (sym (drop-drop (records_size version b_later) (1 + length (record_bytes version b)) bytes) ∙ ap (λ (l : List ℕ). drop (records_size version b_later) l) place)) b_closed in
-      let later : a_later ≡ b_later = one_history a_later b_later rest (a_parts.1) (b_parts.1) (a_records.1) (subst (Records version b_later) place (b_records.1))
-      (subst IsTrue (ap is_closed (sym (drop-drop (records_size version a_later) (1 + length (record_bytes version a)) bytes))) a_closed) closed_rest in
-      ap (λ (e : NamedEntry). e ∷ a_later) first ∙ ap (λ (l : List NamedEntry). b ∷ l) later
+      let b_rest = subst (λ (e : NamedEntry). Records version later_b (drop (1 + length (record_bytes version e)) bytes)) (sym same) (b_records.1) in
+      elim (one_ahead later_a later_b rest (a_parts.1) (b_parts.1) (a_records.1) b_rest) [
+        | inl equal ↦ inl (ap (λ (e : NamedEntry). e ∷ later_a) same ∙ ap (λ (l : List NamedEntry). b ∷ l) equal)
+        | inr (inl longer) ↦ inr (inl (ahead_behind a b later_a later_b bytes same longer))
+        | inr (inr longer) ↦ inr (inr (ahead_behind b a later_b later_a bytes (sym same)
+            (subst (λ (e : NamedEntry). Ahead later_b later_a (drop (1 + length (record_bytes version e)) bytes)) same longer)))
+      ]
+
+  -- so they are one where a closed gate stands behind each
+  pub one_history : (a b : List NamedEntry) (bytes : List ℕ) → IsTrue (list_all (is_fit version) a) → IsTrue (list_all (is_fit version) b) → Records version a bytes → Records version b bytes
+      → IsTrue (is_closed (drop (records_size version a) bytes)) → IsTrue (is_closed (drop (records_size version b) bytes)) → a ≡ b
+  one_history a b bytes a_fit b_fit a_records b_records a_closed b_closed = elim (one_ahead a b bytes a_fit b_fit a_records b_records) [
+    | inl same ↦ same
+    | inr (inl longer) ↦ open_and_closed (drop (records_size version b) bytes) (longer.opens).gate b_closed
+    | inr (inr longer) ↦ open_and_closed (drop (records_size version a) bytes) (longer.opens).gate a_closed
+  ]
 
 -- in one version
 module _ (version : Version) (bytes text_a text_b : List ℕ) (a b : List NamedEntry) (a_stands : StandsAs version bytes text_a a) (b_stands : StandsAs version bytes text_b b) where

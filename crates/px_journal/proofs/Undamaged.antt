@@ -1,8 +1,8 @@
 -- Bytes that stand for a text and a history are not damaged, and others are damaged at one place.
-use Rattle.std.proofs.Common.{rules, ◌≡◌, ◌≢◌, ◌≤◌, ◌<◌, ◌+◌, ◌^◌, ◌⊎◌, inl, inr, ⊎_elim, ℕ, false, List, [], ◌∷◌, length, take, drop, refl, sym, ◌∙◌, ap, subst, arith, IsTrue}
+use Rattle.std.proofs.Common.{rules, ◌≡◌, ◌≢◌, ◌≤◌, ◌<◌, ◌+◌, ◌^◌, ◌⊎◌, inl, inr, ⊎_elim, ℕ, false, List, [], length, take, drop, refl, sym, ◌∙◌, ap, subst, arith, IsTrue}
 use Rattle.std.specs.Prelude.{slice_index}
-use Rattle.std.specs.List.{list_all}
-use Rattle.std.proofs.lemmas.Bool.{and_parts, cases_lt, false_from_ne_true}
+use Rattle.std.specs.Io.{StartsWith}
+use Rattle.std.proofs.lemmas.Bool.{cases_lt, false_from_ne_true}
 use Rattle.std.proofs.lemmas.List.{drop-drop, get_or-drop, get_or-take, append-nil}
 use Rattle.byteorder.specs.Endian.{big_bytes, big_number}
 use Rattle.byteorder.specs.Numbers.{big_from-take, big_number-reads_back, length-bytes_high_first}
@@ -11,18 +11,18 @@ use Rattle.px_event.specs.declared.named.NamedEntry.{NamedEntry}
 use Rattle.px_journal.specs.Damage.{body, body_length, text_length, DamagedRecord}
 use Rattle.px_journal.specs.Damage as Damage
 use Rattle.px_journal.specs.Damage.Damaged.{magic_differs, version_differs, text_is_cut, record_is}
-use Rattle.px_journal.specs.Layout.{magic, body_bytes, heading, is_fit, is_open, is_closed, record_bytes, records_size, next_gate, Opens, Records, Front, Stands, StandsAs}
+use Rattle.px_journal.specs.Layout.{magic, body_bytes, heading, is_open, is_closed, record_bytes, records_size, next_gate, Opens, Front, Stands, StandsAs}
 use Rattle.px_journal.specs.declared.version.Version.{Version}
 use Rattle.px_journal.proofs.Appending.{closed_within, gate_within}
 use Rattle.px_journal.proofs.Bodies.{body_short}
 use Rattle.px_journal.proofs.Histories.{length-heading, length-record}
-use Rattle.px_journal.proofs.Meaning.{Starts, starts_first, starts_second, one_record, one_heading, one_version, has_version, text_starts, open_and_closed}
+use Rattle.px_journal.proofs.Meaning.{Ahead, starts_first, starts_second, one_ahead, one_heading, one_version, has_version, text_starts, open_and_closed}
 
 pub open_not_closed : (bytes : List ℕ) → IsTrue (is_open bytes) → is_closed bytes ≡ false
 open_not_closed bytes opened = false_from_ne_true (is_closed bytes) (open_and_closed bytes opened)
 
 -- the number that is spelled at the front
-spelled : (n x : ℕ) (bytes : List ℕ) → x < 256 ^ n → Starts (big_bytes n x) bytes → big_number n bytes ≡ x
+spelled : (n x : ℕ) (bytes : List ℕ) → x < 256 ^ n → StartsWith bytes (big_bytes n x) → big_number n bytes ≡ x
 spelled n x bytes fits starts =
     let long = length-bytes_high_first n x in
     sym (big_from-take 0 n n bytes (omega arith))
@@ -40,58 +40,6 @@ right_byte bytes n i same below =
     sym (get_or-drop 1 bytes i 0) ∙ sym (get_or-take n (drop 1 bytes) i 0 below) ∙ ap (λ (l : List ℕ). slice_index l i) same ∙ get_or-take n magic i 0 below
 
 module _ (version : Version) where
-  -- ---- a history goes on behind a part of it
-
-  record Ahead (history before : List NamedEntry) (bytes : List ℕ) : Type 0 where
-    pub entry : NamedEntry
-    pub fit : IsTrue (is_fit version entry)
-    pub opens : Opens (record_bytes version entry) (drop (records_size version before) bytes)
-    pub shorter : length before < length history
-    pub within : records_size version before + 1 + length (record_bytes version entry) ≤ records_size version history
-
-  -- where nothing stands before
-  first_ahead : (entry : NamedEntry) (later : List NamedEntry) (bytes : List ℕ) → IsTrue (list_all (is_fit version) (entry ∷ later)) → Records version (entry ∷ later) bytes
-      → Ahead (entry ∷ later) [] bytes
-  first_ahead entry later bytes fit records = record {
-    entry = entry;
-    fit = (and_parts _ _ fit).0;
-    opens = records.0;
-    shorter = omega arith;
-    within = omega arith;
-  }
-
-  -- one record more in front of both
-  ahead_behind : (h b : NamedEntry) (history before : List NamedEntry) (bytes : List ℕ) → h ≡ b → Ahead history before (drop (1 + length (record_bytes version h)) bytes)
-      → Ahead (h ∷ history) (b ∷ before) bytes
-  ahead_behind h b history before bytes same later = record {
-    entry = later.entry;
-    fit = later.fit;
-    opens = subst (Opens (record_bytes version later.entry))
-        (ap (λ (e : NamedEntry). drop (records_size version before) (drop (1 + length (record_bytes version e)) bytes)) same
-        ∙ drop-drop (records_size version before) (1 + length (record_bytes version b)) bytes) later.opens;
-    shorter = omega (arith, later.shorter);
-    within = omega (arith, later.within, ap (λ (e : NamedEntry). length (record_bytes version e)) same);
-  }
-
-  -- of two histories at the front of the same bytes, one is a part of the other
-  one_ahead : (a b : List NamedEntry) (bytes : List ℕ) → IsTrue (list_all (is_fit version) a) → IsTrue (list_all (is_fit version) b) → Records version a bytes → Records version b bytes
-      → (a ≡ b) ⊎ (Ahead a b bytes ⊎ Ahead b a bytes)
-  one_ahead [] [] bytes a_fit b_fit a_records b_records = inl refl
-  one_ahead [] (b ∷ later_b) bytes a_fit b_fit a_records b_records = inr (inr (first_ahead b later_b bytes b_fit b_records))
-  one_ahead (a ∷ later_a) [] bytes a_fit b_fit a_records b_records = inr (inl (first_ahead a later_a bytes a_fit a_records))
-  one_ahead (a ∷ later_a) (b ∷ later_b) bytes a_fit b_fit a_records b_records =
-      let a_parts = and_parts _ _ a_fit in
-      let b_parts = and_parts _ _ b_fit in
-      let same : a ≡ b = one_record version a b bytes (a_parts.0) (b_parts.0) (a_records.0) (b_records.0) in
-      let rest = drop (1 + length (record_bytes version a)) bytes in
-      let b_rest = subst (λ (e : NamedEntry). Records version later_b (drop (1 + length (record_bytes version e)) bytes)) (sym same) (b_records.1) in
-      elim (one_ahead later_a later_b rest (a_parts.1) (b_parts.1) (a_records.1) b_rest) [
-        | inl equal ↦ inl (ap (λ (e : NamedEntry). e ∷ later_a) same ∙ ap (λ (l : List NamedEntry). b ∷ l) equal)
-        | inr (inl longer) ↦ inr (inl (ahead_behind a b later_a later_b bytes same longer))
-        | inr (inr longer) ↦ inr (inr (ahead_behind b a later_b later_a bytes (sym same)
-            (subst (λ (e : NamedEntry). Ahead later_b later_a (drop (1 + length (record_bytes version e)) bytes)) same longer)))
-      ]
-
   -- ---- what stands behind an open master gate
 
   module _ (bytes text : List ℕ) (history : List NamedEntry) (front : Front version bytes text history) (within : next_gate version text history < length bytes) where
@@ -106,7 +54,7 @@ module _ (version : Version) where
     not_cut cut = search (rules, is_length, within, length-heading)
 
     -- the record that the history has at the gate behind a part of it
-    module _ (few : length history ≤ 100000) (before : List NamedEntry) (next : Ahead history before (drop (1 + length (heading version text)) bytes)) where
+    module _ (few : length history ≤ 100000) (before : List NamedEntry) (next : Ahead version history before (drop (1 + length (heading version text)) bytes)) where
       opens : Opens (record_bytes version next.entry) (drop (next_gate version text before) bytes)
       opens = subst (Opens (record_bytes version next.entry)) (drop-drop (records_size version before) (1 + length (heading version text)) bytes) next.opens
 
@@ -125,9 +73,9 @@ module _ (version : Version) where
 
   -- two histories behind one text, over the same bytes
   fronts_ahead : (bytes text : List ℕ) (a b : List NamedEntry) → Front version bytes text a → Front version bytes text b
-      → (a ≡ b) ⊎ (Ahead a b (drop (1 + length (heading version text)) bytes) ⊎ Ahead b a (drop (1 + length (heading version text)) bytes))
+      → (a ≡ b) ⊎ (Ahead version a b (drop (1 + length (heading version text)) bytes) ⊎ Ahead version b a (drop (1 + length (heading version text)) bytes))
   fronts_ahead bytes text a b first second =
-      one_ahead a b (drop (1 + length (heading version text)) bytes) first.fit second.fit first.records second.records
+      one_ahead version a b (drop (1 + length (heading version text)) bytes) first.fit second.fit first.records second.records
 
   -- ---- one place
 

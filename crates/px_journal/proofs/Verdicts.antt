@@ -2,7 +2,7 @@
 use Rattle.std.proofs.Common.{rules, ◌≡◌, ◌≢◌, ◌≤◌, ◌<◌, ◌+◌, ◌⊎◌, inl, inr, ℕ, zero, suc, false, List, [], ◌∷◌, ◌++◌, Option, Some, None, length, take, drop, refl, sym, ◌∙◌, ap, arith, length-append, take-add, IsTrue}
 use Rattle.std.specs.Prelude.{slice_index, IsFalse}
 use Rattle.std.proofs.lemmas.Bool.{both_ways, cases_lt, cases_eq, cases_Bool}
-use Rattle.std.proofs.lemmas.List.{take-take, length-take, length-drop, drop-drop, get_or-drop, get_or-take}
+use Rattle.std.proofs.lemmas.List.{take-take, take_more, length-take, length-drop, drop-drop, get_or-drop, get_or-take}
 use Rattle.byteorder.specs.Endian.{big_bytes}
 use Rattle.byteorder.specs.Numbers.{big_from-take}
 use Rattle.px_event.specs.declared.entry.Entry.{Entry}
@@ -54,11 +54,6 @@ first_difference (x ∷ xs) (y ∷ ys) same = elim (cases_eq x y) [
   | inr differs ↦ inr (0, omega arith, refl, differs)
 ]
 
--- the first of some bytes
-one_byte : (bytes : List ℕ) → 1 ≤ length bytes → take 1 bytes ≡ slice_index bytes 0 ∷ []
-one_byte [] long = absurd (omega arith)
-one_byte (byte ∷ rest) long = refl
-
 abbrev Verdict : List ℕ → Type 0
 Verdict bytes = ((text : List ℕ) × (history : List Entry) × Stands bytes text history) ⊎ ((at : ℕ) × Damage.Damaged bytes at)
 
@@ -68,7 +63,7 @@ module _ (version : Version) where
   opens_heading : (bytes text : List ℕ) → IsTrue (is_open bytes) → 13 ≤ length bytes → HasVersion version bytes → take 4 (drop 9 bytes) ≡ big_bytes 4 (length text)
       → take (length text) (drop 13 bytes) ≡ text → Opens (heading version text) bytes
   opens_heading bytes text gate long has is_length is_text =
-      search (rules, take-add, drop-drop, one_byte, long, length-drop, get_or-drop, gate, length-heading)
+      search (rules, take-add, drop-drop, take_more bytes 0 0, long, length-drop, get_or-drop, gate, length-heading)
 
   opens_record : (rest : List ℕ) (entry : NamedEntry) → IsBytes rest → IsTrue (is_open rest) → 3 + body_length rest < length rest → body rest ≡ body_bytes version entry
       → (length (body_bytes version entry) ≡ body_length rest) × Opens (record_bytes version entry) rest

@@ -1,18 +1,21 @@
 -- The three gaps: where a text may be cut behind one, and what stands there.
-use Rattle.std.proofs.Common.{◌≡◌, ℕ, ◌+◌, ◌-◌, ◌≤◌, true, false, ◌&&◌, ◌==◌, List, [], ◌∷◌, ◌++◌, length, take, drop, get_or, Some, None, refl, sym, ap, ◌∙◌, subst, arith, inl, inr, length-append, append_assoc}
+use Rattle.std.proofs.Common.{◌≡◌, ℕ, suc, ◌+◌, ◌-◌, ◌≤◌, true, ◌&&◌, ◌==◌, List, [], ◌∷◌, ◌++◌, length, take, drop, get_or, Some, None, refl, sym, ap, ◌∙◌, subst, arith, inl, inr, length-append, append_assoc}
 use Rattle.std.specs.Prelude.{codes}
 use Rattle.std.specs.Char.{is_ascii}
 use Rattle.std.specs.List.{prefix_len}
 use Rattle.std.specs.Str.{IsUtf8, IsCharBoundary}
+use Rattle.std.proofs.iter.AsciiBoundary.{before_ascii}
 use Rattle.std.proofs.lemmas.Bool.{cases_Bool, and_parts, not-false, eqb-true}
 use Rattle.std.proofs.lemmas.Bool.Decides.{nat_tests}
+use Rattle.std.proofs.lemmas.List.{take-append-drop}
+use Rattle.std.proofs.lemmas.List.Sums.{prefix_len-le-length, prefix_len_stops}
 use Rattle.std.proofs.lemmas.Option.{none-some}
-use Rattle.std.proofs.lemmas.Str.{IsCharBoundary-end, IsCharBoundary-before_ascii, IsCharBoundary-after_ascii}
+use Rattle.std.proofs.lemmas.Str.{IsCharBoundary-after_ascii}
 use Rattle.std.proofs.Math.Seq.{take-length, drop-append_seam, get_or-append_seam}
 use Rattle.px_lex.specs.Gap.{begins, is_white_space, is_in_line, after_close, blank, line_comment, comment}
 use Rattle.px_lex.specs.Lexer.{Begins}
 use Rattle.px_lex.proofs.Cuts.{cut_behind}
-use Rattle.px_lex.proofs.Spans.{Span, span}
+use Rattle.px_lex.proofs.Spans.{taken_pass, left_stops}
 
 -- a blank
 pub ascii_blank : (c : ℕ) → is_white_space c ≡ true → is_ascii c ≡ true
@@ -27,29 +30,29 @@ blank_begins [] h = cc
 blank_begins (c ∷ cs) h = record { spelling = c ∷ []; split = refl; some = omega arith; stands = blank c refl h }
 
 -- // up to the end of its line
-ends_line : (text front rest : List ℕ) → text ≡ front ++ rest → begins is_in_line rest ≡ false → IsCharBoundary text (length front)
-ends_line text front [] e h = subst (IsCharBoundary text) (ap length e ∙ omega (arith, length-append front [])) (IsCharBoundary-end text)
-ends_line text front (c ∷ cs) e h =
-    let feed : c ≡ 10 = eqb-true c 10 (not-false (c == 10) h) in
-    let here : get_or text (length front) 0 ≡ c = ap (λ t. get_or t (length front) 0) e ∙ get_or-append_seam front c cs 0 in
-    IsCharBoundary-before_ascii text (length front) (omega (arith, ap length e, length-append front (c ∷ cs))) (omega arith)
-
 pub line_cut : (text : List ℕ) → IsCharBoundary text (prefix_len is_in_line text)
-line_cut text = let s : Span is_in_line text = span is_in_line text in
-    subst (IsCharBoundary text) s.long (ends_line text s.front s.rest s.split s.stop)
+line_cut text = before_ascii text (prefix_len is_in_line text) (prefix_len-le-length is_in_line text) (λ inside.
+    let feed : get_or text (prefix_len is_in_line text) 0 ≡ 10 =
+    eqb-true _ 10 (not-false (get_or text (prefix_len is_in_line text) 0 == 10) (prefix_len_stops is_in_line text 0 inside)) in
+    omega arith)
 
 pub line_begins : (text tail rest : List ℕ) → text ≡ codes "//" ++ tail → rest ≡ drop (prefix_len is_in_line text) text → Begins None text rest
 line_begins text tail rest e r =
-    let s : Span is_in_line tail = span is_in_line tail in
-    let front : List ℕ = codes "//" ++ s.front in
-    let whole : text ≡ front ++ s.rest = e ∙ ap (λ t. codes "//" ++ t) s.split in
-    let long : prefix_len is_in_line text ≡ length front = ap (prefix_len is_in_line) e ∙ omega (arith, s.long) in
-    let left : rest ≡ s.rest = r ∙ ap (λ n. drop n text) long ∙ ap (drop (length front)) whole ∙ drop-append_seam front s.rest in
+    let n = prefix_len is_in_line tail in
+    let front : List ℕ = codes "//" ++ take n tail in
+    let whole : text ≡ front ++ drop n tail = e ∙ ap (λ t. codes "//" ++ t) (sym (take-append-drop n tail)) in
+    let long : prefix_len is_in_line text ≡ suc (suc n) = ap (prefix_len is_in_line) e ∙ omega arith in
+    let left : rest ≡ drop n tail = r ∙ (λ i. drop (long i) (e i)) in
     record {
       spelling = front;
       split = whole ∙ ap (λ t. front ++ t) (sym left);
       some = omega arith;
-      stands = line_comment (record { comment = s.front; spelled = refl; one_line = s.pass; longest = rw left s.stop });
+      stands = line_comment (record {
+        comment = take n tail;
+        spelled = refl;
+        one_line = taken_pass is_in_line tail (take n tail) refl;
+        longest = left_stops is_in_line tail rest left;
+      });
     }
 
 -- /* up to its */

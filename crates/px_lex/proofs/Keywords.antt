@@ -1,5 +1,5 @@
 -- A word is a keyword where the rows of its length have it.
-use Rattle.std.proofs.Common.{◌≡◌, ℕ, ◌<◌, ◌≤◌, ◌==◌, Bool, true, false, List, [], ◌∷◌, length, map, None, refl, sym, ap, ◌∙◌, arith, inl, inr}
+use Rattle.std.proofs.Common.{◌≡◌, ℕ, ◌<◌, ◌≤◌, ◌==◌, Bool, true, false, List, [], length, map, None, refl, sym, ap, ◌∙◌, arith, inl, inr}
 use Rattle.std.specs.Prelude.{nat_lt, get_or}
 use Rattle.std.specs.List.{list_all, range_with_len}
 use Rattle.std.specs.Str.{bytes_eq}
@@ -8,6 +8,7 @@ use Rattle.std.proofs.lemmas.Bool.{cases_Bool, false≢true, eq-eqb, ltb-true, l
 use Rattle.std.proofs.Math.ListN.{get_or-eq_default}
 use Rattle.std.proofs.lemmas.List.{length-map}
 use Rattle.std.proofs.lemmas.List.FromFn.{get_or-map-range_with_len}
+use Rattle.std.proofs.lemmas.Map.Entries.{lookup-filter-keys}
 use Rattle.px_value.proofs.General.{none_from}
 use Rattle.px_lex.specs.declared.keyword.Keyword.{Keyword}
 use Rattle.px_lex.specs.Keyword.{keyword_rows, keyword_of}
@@ -18,14 +19,9 @@ pub none_past : {X Y : Type 0} (view : X → Y) (xs : List X) (place : ℕ) (oth
 none_past view xs place other past = get_or-eq_default (map view xs) other (rw (length-map xs view) past)
 
 row_of-of_length : {K : Type 0} (rows : List (List ℕ × K)) (spelling : List ℕ) → row_of (of_length rows (length spelling)) spelling ≡ row_of rows spelling
-row_of-of_length [] spelling = refl
-row_of-of_length (row ∷ rows) spelling = elim (cases_Bool (length row.0 == length spelling)) [
-  | inl same ↦ rw (same, row_of-of_length rows spelling)
-  | inr other ↦ elim (cases_Bool (bytes_eq row.0 spelling)) [
-    | inl found ↦ absurd (false≢true (sym other ∙ eq-eqb (length row.0) (length spelling) (ap length ((bytes_decides row.0 spelling).0 found))))
-    | inr differs ↦ rw (other, differs, row_of-of_length rows spelling)
-  ]
-]
+row_of-of_length rows spelling =
+    lookup-filter-keys (λ key. bytes_eq key spelling) (λ key. length key == length spelling) true
+    (λ key same. eq-eqb (length key) (length spelling) (ap length ((bytes_decides key spelling).0 same))) rows
 
 -- a word that lacks what the spelling of each keyword has is none
 pub no_keyword : (p : List ℕ → Bool) → list_all (λ (row : List ℕ × Keyword). p row.0) keyword_rows ≡ true → (word : List ℕ) → p word ≡ false → keyword_of word ≡ None

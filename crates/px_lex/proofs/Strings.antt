@@ -1,7 +1,7 @@
 -- How the reading of a string goes on over one more character.
-use Rattle.std.proofs.Common.{◌≡◌, ◌≢◌, ℕ, ◌+◌, ◌/◌, ◌%◌, ◌<◌, ◌≤◌, Bool, true, false, List, [], ◌∷◌, ◌++◌, Option, Some, None, refl, sym, ap, ◌∙◌, arith, ◌⊎◌, inl, inr, length, append-nil}
-use Rattle.std.proofs.lemmas.Bool.{cases_lt, lt-ltb, le-ltb, ne_eqb}
-use Rattle.std.proofs.lemmas.Str.{encode_ascii}
+use Rattle.std.proofs.Common.{◌≡◌, ◌≢◌, ℕ, suc, ◌<◌, ◌≤◌, Bool, true, false, List, [], ◌∷◌, ◌++◌, get_or, Option, Some, None, refl, sym, ap, ◌∙◌, arith, ◌⊎◌, inl, inr, length, append-nil}
+use Rattle.std.proofs.lemmas.Bool.{cases_lt, ne_eqb}
+use Rattle.std.proofs.lemmas.Str.{encode_ascii, inside_one, length-encode, len_utf8_bounds}
 use Rattle.std.proofs.lemmas.Bool.Decides.{nat_tests}
 use lib.Utf8.{encode}
 use Rattle.px_value.specs.Text.{unescaped}
@@ -40,44 +40,39 @@ high b t h = plain b t (λ e. omega arith) (λ e. omega arith) (λ e. omega arit
 no_escape : (b : ℕ) → 128 ≤ b → unescaped b ≡ None
 no_escape b h = rw (ne_eqb b 34 (λ e. omega arith), ne_eqb b 92 (λ e. omega arith), ne_eqb b 110 (λ e. omega arith), ne_eqb b 116 (λ e. omega arith))
 
--- the bytes of a character that is not ASCII
-data Wide (bytes : List ℕ) : Type 0 where
-  two : (a b : ℕ) → bytes ≡ (a ∷ b ∷ []) → 128 ≤ a → 128 ≤ b → Wide bytes
-  three : (a b c : ℕ) → bytes ≡ (a ∷ b ∷ c ∷ []) → 128 ≤ a → 128 ≤ b → 128 ≤ c → Wide bytes
-  four : (a b c d : ℕ) → bytes ≡ (a ∷ b ∷ c ∷ d ∷ []) → 128 ≤ a → 128 ≤ b → 128 ≤ c → 128 ≤ d → Wide bytes
+-- no byte is of ASCII, as in a character that is not ASCII
+abbrev pub AreHigh : List ℕ → Type 0
+AreHigh bytes = (k : ℕ) → k < length bytes → 128 ≤ get_or bytes k 0
 
-wide : (c : ℕ) → 128 ≤ c → Wide (encode c)
-unfolding encode
-wide c big = elim (cases_lt c 2048) [
-  | inl small ↦ two (192 + c / 64) (128 + c % 64) (rw (le-ltb c 128 big, lt-ltb c 2048 small)) (omega arith) (omega arith)
-  | inr more ↦ elim (cases_lt c 65536) [
-    | inl small ↦ three (224 + c / 4096) (128 + c / 64 % 64) (128 + c % 64) (rw (le-ltb c 128 big, le-ltb c 2048 more, lt-ltb c 65536 small)) (omega arith) (omega arith) (omega arith)
-    | inr most ↦ four (240 + c / 262144) (128 + c / 4096 % 64) (128 + c / 64 % 64) (128 + c % 64) (rw (le-ltb c 128 big, le-ltb c 2048 more, le-ltb c 65536 most)) (omega arith) (omega arith) (omega arith) (omega arith)
-  ]
+pub high_char : (c : ℕ) → 128 ≤ c → AreHigh (encode c)
+high_char c big k below = elim (cases_lt (get_or (encode c) k 0) 128) [
+  | inl low ↦ absurd (omega (arith, inside_one c [] (encode c) k (sym (append-nil (encode c))) below low))
+  | inr other ↦ other
 ]
 
-wide_stands : (bytes t : List ℕ) → Wide bytes → string_from (bytes ++ t) ≡ with_bytes bytes (string_from t)
-wide_stands bytes t (two a b e ha hb) = rw (e, high a (b ∷ t) ha, high b t hb)
-wide_stands bytes t (three a b c e ha hb hc) = rw (e, high a (b ∷ c ∷ t) ha, high b (c ∷ t) hb, high c t hc)
-wide_stands bytes t (four a b c d e ha hb hc hd) = rw (e, high a (b ∷ c ∷ d ∷ t) ha, high b (c ∷ d ∷ t) hb, high c (d ∷ t) hc, high d t hd)
+high_stand : (bytes t : List ℕ) → AreHigh bytes → string_from (bytes ++ t) ≡ with_bytes bytes (string_from t)
+high_stand [] t each = refl
+high_stand (b ∷ bytes) t each =
+    high b (bytes ++ t) (each 0 (omega arith)) ∙ ap (with_byte (Some b)) (high_stand bytes t (λ k below. each (suc k) (omega arith)))
 
-wide_is_no_escape : (bytes t : List ℕ) → Wide bytes → escape_from (bytes ++ t) ≡ None
-wide_is_no_escape bytes t (two a b e ha hb) = rw (e, no_escape a ha)
-wide_is_no_escape bytes t (three a b c e ha hb hc) = rw (e, no_escape a ha)
-wide_is_no_escape bytes t (four a b c d e ha hb hc hd) = rw (e, no_escape a ha)
+high_is_no_escape : (bytes t : List ℕ) → AreHigh bytes → 0 < length bytes → escape_from (bytes ++ t) ≡ None
+high_is_no_escape [] t each some = absurd (omega arith)
+high_is_no_escape (b ∷ bytes) t each some = ap (λ d. with_byte d (string_from (bytes ++ t))) (no_escape b (each 0 (omega arith)))
 
 -- a character that is not special stands for itself
 pub plain_char : (c : ℕ) (t : List ℕ) → c ≢ 34 → c ≢ 92 → c ≢ 10 → c ≢ 13 → string_from (encode c ++ t) ≡ with_bytes (encode c) (string_from t)
 plain_char c t quote backslash feed return = elim (cases_lt c 128) [
   | inl small ↦ rw (encode_ascii c small) (plain c t quote backslash feed return)
-  | inr big ↦ wide_stands (encode c) t (wide c big)
+  | inr big ↦ high_stand (encode c) t (high_char c big)
 ]
 
 -- a character behind a backslash
 pub unescaped_char : (c : ℕ) (t : List ℕ) → escape_from (encode c ++ t) ≡ with_byte (unescaped c) (string_from t)
 unescaped_char c t = elim (cases_lt c 128) [
   | inl small ↦ rw (encode_ascii c small)
-  | inr big ↦ wide_is_no_escape (encode c) t (wide c big) ∙ sym (rw (no_escape c big))
+  | inr big ↦
+      high_is_no_escape (encode c) t (high_char c big) (omega (arith, length-encode c, (len_utf8_bounds c).0))
+      ∙ sym (rw (no_escape c big))
 ]
 
 -- ---- the steps of a loop that reads a string: `read` is what is read of the whole

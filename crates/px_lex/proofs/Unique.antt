@@ -47,17 +47,22 @@ agree at (p ∷ ps) (q ∷ qs) r s e sp sq stop_r stop_s =
 end_stops : Stops []
 end_stops = λ kind rest h. cc
 
+-- what is at fault is no piece
+pub clash : (kind : FaultKind) (other : Option TokenKind) (rest : List ℕ) → faulty kind ≡ piece other rest → ⊥
+clash kind other rest h = cc
+
 faulty_stops : (kind : FaultKind) (rest : List ℕ) → IsFaulty kind rest → Stops rest
-faulty_stops kind rest f = λ piece_kind behind h. ends (sym (fault_front kind rest f) ∙ h)
-  where
-    ends : {piece_kind : Option TokenKind} {behind : List ℕ} → faulty kind ≡ piece piece_kind behind → ⊥
-    ends h = cc
+faulty_stops kind rest f = λ other behind h. clash kind other behind (sym (fault_front kind rest f) ∙ h)
+
+-- a fault of the text is of one of three kinds
+pub faulty_kind : (fault : LexFault) (place : ℕ) (rest : List ℕ) → fault ≢ faults.NoMemory → IsFault fault place rest → (kind : FaultKind) × IsFaulty kind rest
+faulty_kind (faults.Bad at) place rest some f = (Bad, f.1)
+faulty_kind (faults.Real at) place rest some f = (Real, f.1)
+faulty_kind (faults.TooLong at) place rest some f = (TooLong, f.1)
+faulty_kind faults.NoMemory place rest some f = absurd (some refl)
 
 pub fault_stops : (fault : LexFault) (place : ℕ) (rest : List ℕ) → fault ≢ faults.NoMemory → IsFault fault place rest → Stops rest
-fault_stops (faults.Bad at) place rest some f = faulty_stops Bad rest f.1
-fault_stops (faults.Real at) place rest some f = faulty_stops Real rest f.1
-fault_stops (faults.TooLong at) place rest some f = faulty_stops TooLong rest f.1
-fault_stops faults.NoMemory place rest some f = absurd (some refl)
+fault_stops fault place rest some f = let told = faulty_kind fault place rest some f in faulty_stops told.0 rest told.1
 
 pub one_way : (text : List ℕ) (a b : List Token) → Splits text a → Splits text b → a ≡ b
 one_way text a b s t =
@@ -69,10 +74,7 @@ pub not_at_end : (kind : FaultKind) → IsFaulty kind [] → ⊥
 not_at_end kind f = let h : nothing ≡ faulty kind = fault_front kind [] f in cc
 
 no_fault_at_end : (fault : LexFault) (place : ℕ) → fault ≢ faults.NoMemory → IsFault fault place [] → ⊥
-no_fault_at_end (faults.Bad at) place some f = not_at_end Bad f.1
-no_fault_at_end (faults.Real at) place some f = not_at_end Real f.1
-no_fault_at_end (faults.TooLong at) place some f = not_at_end TooLong f.1
-no_fault_at_end faults.NoMemory place some f = some refl
+no_fault_at_end fault place some f = let told = faulty_kind fault place [] some f in not_at_end told.0 told.1
 
 pub no_fault : (text : List ℕ) (tokens : List Token) (fault : LexFault) → Splits text tokens → fault ≢ faults.NoMemory → FirstFault text fault → ⊥
 no_fault text tokens fault s some f =

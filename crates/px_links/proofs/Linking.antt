@@ -1,9 +1,11 @@
 -- What linked cells are, and how the links of one list change.
 use Rattle.std.proofs.Common.{◌≡◌, ◌≢◌, ℕ, zero, suc, ◌-◌, ◌≤◌, true, false, ◌||◌, nat_eq, List, [], ◌∷◌, ◌++◌, length, slice_get, Option, Some, None, IfSome, refl, ap, sym, ◌∙◌, arith, inl, inr, ◌⊎◌}
 use Rattle.std.specs.Option.{option_or}
+use Rattle.std.proofs.iter.runs.Lists.{at_some}
 use Rattle.std.proofs.lemmas.Bool.{eqb-true, eq-eqb, or_left, or_right}
 use Rattle.std.proofs.lemmas.Bool.Decides.{eqb_tells}
 use Rattle.std.proofs.lemmas.Grind.{common_steps}
+use Rattle.std.proofs.lemmas.Map.Keys.{any_passes_from_place}
 use Rattle.px_value.specs.General.{is_number}
 use Rattle.px_links.specs.Lists.{has, without, behind}
 use Rattle.px_links.specs.Keeping.{walk, AreLinked}
@@ -12,6 +14,9 @@ use Rattle.px_links.specs.Relinking.{past}
 -- what a list has
 pub has_head : (cell : ℕ) (list : List ℕ) → has (cell ∷ list) cell ≡ true
 has_head cell list = or_left (nat_eq cell cell) (has list cell) (eq-eqb cell cell refl)
+
+pub first_has : (list : List ℕ) (cell : ℕ) → slice_get list 0 ≡ Some cell → has list cell ≡ true
+first_has list cell is = any_passes_from_place (nat_eq cell) list 0 cell is (eq-eqb cell cell refl)
 
 module _ (next before : ℕ → Option ℕ) where
   -- a walk goes over a list that is no longer than it may be
@@ -122,10 +127,8 @@ module _ (next before : ℕ → Option ℕ) where
 
   pub first_is : (ahead first : Option ℕ) (list : List ℕ) (last : Option ℕ) (cell : ℕ)
       → AreLinked next before ahead first list last → first ≡ Some cell → has list cell ≡ true
-  first_is ahead first [] last cell linked is = absurd (cc)
-  first_is ahead first (head ∷ list) last cell linked is =
-      let same : head ≡ cell = cc in
-      or_left (nat_eq cell head) (has list cell) (eq-eqb cell head (sym same))
+  first_is ahead first list last cell linked is =
+      first_has list cell (sym (linked_first ahead first list last linked) ∙ is)
 
 -- ---- links that change
 
@@ -138,8 +141,7 @@ here_number None cell is = absurd (cc)
 here_number (Some at) cell is = let same : at ≡ cell = cc in eq-eqb at cell same
 
 pub if_some : {P : ℕ → Type 0} (link : Option ℕ) → ((at : ℕ) → link ≡ Some at → P at) → IfSome link P
-if_some None each = tt
-if_some (Some at) each = each at refl
+if_some {P} link each = at_some link P each
 
 past_here : {gone cell : ℕ} (other : Option ℕ) → gone ≡ cell → past gone other (Some cell) ≡ other
 past_here {gone} {cell} other same = rw (eq-eqb cell gone (sym same)) refl

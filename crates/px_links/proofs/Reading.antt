@@ -1,10 +1,10 @@
 -- What a cell and an end of a table tell of its lists.
-use Rattle.std.proofs.Common.{◌≡◌, ℕ, ◌<◌, ◌-◌, true, false, ◌||◌, nat_eq, List, [], ◌∷◌, length, drop, set, get_or, slice_get, Option, Some, None, IfSome, refl, ap, sym, ◌∙◌, subst, arith, inl, inr}
+use Rattle.std.proofs.Common.{◌≡◌, ℕ, ◌<◌, ◌-◌, true, false, ◌||◌, List, [], ◌∷◌, length, drop, set, get_or, slice_get, Option, Some, None, IfSome, refl, ap, sym, ◌∙◌, subst, arith, inl, inr}
 use Rattle.std.specs.List.{position, position_or_len}
 use Rattle.std.specs.Option.{option_and_then}
-use Rattle.std.proofs.lemmas.Bool.{eq-eqb, lt-ltb, le-ltb, cases_Bool}
+use Rattle.std.proofs.lemmas.Bool.{eq-eqb, ne_eqb, lt-ltb, le-ltb, cases_Bool}
 use Rattle.std.proofs.lemmas.Bool.Decides.{eqb_tells}
-use Rattle.std.proofs.lemmas.List.{get_or_default, get_or-set_same, get_or-set_other, length-set, length-map, same_lists}
+use Rattle.std.proofs.lemmas.List.{get_or_default, get_or-set_same, get_or-set_other, length-set, length-map, ext_get_or}
 use Rattle.std.proofs.Math.ListN.{get_or-map}
 use Rattle.std.proofs.lemmas.Grind.{common_steps}
 use Rattle.std.proofs.lemmas.List.Sums.{position_or_len_is}
@@ -33,11 +33,8 @@ holder_position lists cell (Some at) held =
     let below : at < length lists = passes_within (λ list. has list cell) lists at [] refl has_it in
     let here : position_or_len (λ list. has list cell) lists ≡ at =
     position_or_len_is (λ list. has list cell) lists at [] (omega arith)
-    (λ k before. sym (held k) ∙ apart k (omega arith)) (λ past. has_it) in
+    (λ k before. sym (held k) ∙ ne_eqb at k (omega arith)) (λ past. has_it) in
     rw (here, lt-ltb at (length lists) below) refl
-  where
-    apart : (k : ℕ) → (at ≡ k → ⊥) → nat_eq at k ≡ false
-    apart k differs = elim (eqb_tells at k) [ inl same ↦ absurd (differs same.1) | inr is ↦ is.0 ]
 
 module _ (cells : List Cell) (ends : List Ends) (lists : List (List ℕ)) (table : IsTable cells ends lists) where
   pub holder-read : (cell : ℕ) → position (λ list. has list cell) lists ≡ (cell_at cells cell).holder
@@ -71,23 +68,18 @@ first-without next before first [] last gone linked is = refl
 first-without next before first (head ∷ list) last gone linked is =
     grind (arith, common_steps, leads_back, without-absent)
 
-same_nth : (lists others : List (List ℕ)) → length lists ≡ length others
-    → ((list : ℕ) → nth lists list ≡ nth others list) → lists ≡ others
-same_nth lists others long same = same_lists lists others long (λ list d below.
-    get_or_default lists list d [] below ∙ same list ∙ get_or_default others list [] d (omega arith))
-
 module _ (cells : List Cell) (ends : List Ends) (lists : List (List ℕ)) (table : IsTable cells ends lists) where
   -- an absent cell is taken out of no list
   pub absent-unlinked : (cell : ℕ) → (cell_at cells cell).holder ≡ None → without_cell lists cell ≡ lists
-  absent-unlinked cell none = same_nth (without_cell lists cell) lists (length-map lists (λ list. without list cell)) (λ list.
+  absent-unlinked cell none = ext_get_or [] (without_cell lists cell) lists (length-map lists (λ list. without list cell)) (λ list below.
       get_or-map (λ list. without list cell) lists list [] ∙ without-absent (nth lists list) cell
       (sym (table.held cell list) ∙ ap (λ holder. is_number holder list) none))
 
   -- the first cell of a list is taken out of that one alone
   pub first-unlinked : (list gone : ℕ) → list < length ends → (ends_at ends list).first ≡ Some gone
       → without_cell lists gone ≡ set lists list (drop 1 (nth lists list))
-  first-unlinked list gone there is = same_nth (without_cell lists gone) (set lists list (drop 1 (nth lists list)))
-      (length-map lists (λ list. without list gone) ∙ sym (length-set lists list _)) (λ other.
+  first-unlinked list gone there is = ext_get_or [] (without_cell lists gone) (set lists list (drop 1 (nth lists list)))
+      (length-map lists (λ list. without list gone) ∙ sym (length-set lists list _)) (λ other below.
       get_or-map (λ list. without list gone) lists other [] ∙ elim (eqb_tells list other) [
         | inl same ↦ subst (λ other. without (nth lists other) gone ≡ nth (set lists list (drop 1 (nth lists list))) other)
             same.1 (first-without (next_in cells) (before_in cells) (ends_at ends list).first (nth lists list)

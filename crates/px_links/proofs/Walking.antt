@@ -1,5 +1,5 @@
 -- A walk along a list, from a cell to the one behind it.
-use Rattle.std.proofs.Common.{◌≡◌, ◌≢◌, ℕ, suc, true, ◌||◌, nat_eq, List, [], ◌∷◌, slice_get, Option, Some, None, IfSome, IsSome, AllPairs, refl, ap, sym, ◌∙◌, arith, subst, inl, inr, rules}
+use Rattle.std.proofs.Common.{◌≡◌, ◌≢◌, ℕ, suc, true, ◌||◌, nat_eq, List, [], ◌∷◌, slice_get, Option, Some, None, IfSome, IsSome, AllPairs, Contains, refl, ap, sym, ◌∙◌, arith, subst, inl, inr, rules}
 use Rattle.std.specs.Prelude.{if◌then◌else◌}
 use Rattle.std.specs.Option.{unwrap_or}
 use Rattle.std.proofs.lemmas.Bool.{eqb-true, eq-eqb, or_right}
@@ -12,7 +12,7 @@ use Rattle.px_links.specs.declared.links.Links.TheInside.{Inside}
 use Rattle.px_links.specs.Links.{LinksData, rest_of, holder_of, first_of, last_of, next_of}
 use Rattle.px_links.specs.Lists.{has, behind, from_cell, nth}
 use Rattle.px_links.specs.Keeping.{IsKept, links_data}
-use Rattle.px_links.proofs.Linking.{has_head, number_here, here_number, if_some}
+use Rattle.px_links.proofs.Linking.{first_has, number_here, here_number, if_some}
 use Rattle.px_links.proofs.Reading.{holder-read, first-read, last-read}
 use Rattle.px_links.proofs.Tables.{first_in, last_in}
 
@@ -29,39 +29,32 @@ from-first (first ∷ list) = rw (eq-eqb first first refl) refl
 behind_has : (list : List ℕ) (cell other : ℕ) → behind list cell ≡ Some other → has list other ≡ true
 behind_has [] cell other is = absurd (cc)
 behind_has (first ∷ list) cell other is = elim (eqb_tells cell first) [
-  | inl same ↦ or_right (nat_eq other first) _ (second list (sym (ap (λ b. if b then slice_get list 0 else behind list cell) same.0) ∙ is))
+  | inl same ↦ or_right (nat_eq other first) _ (first_has list other (sym (ap (λ b. if b then slice_get list 0 else behind list cell) same.0) ∙ is))
   | inr apart ↦ or_right (nat_eq other first) _
       (behind_has list cell other (sym (ap (λ b. if b then slice_get list 0 else behind list cell) apart.0) ∙ is))
 ]
-  where
-    second : (list : List ℕ) → slice_get list 0 ≡ Some other → has list other ≡ true
-    second [] is = absurd (cc)
-    second (head ∷ list) is = let same : head ≡ other = cc in subst (λ other. has (head ∷ list) other ≡ true) same (has_head head list)
 
 -- a list without its first cell, from a cell that isn't the first
 from-tail : (first : ℕ) (list : List ℕ) (at : Option ℕ) → (at ≡ Some first → ⊥) → from_at (first ∷ list) at ≡ from_at list at
 from-tail first list None apart = refl
 from-tail first list (Some cell) apart = grind (arith, common_steps)
 
+-- the first of those that stand once each is not among the others
+pub not_again : (first : ℕ) (list : List ℕ) → AllPairs (λ a b. a ≢ b) (first ∷ list) → Contains list first → ⊥
+not_again first list once again = once 0 (suc again.0) first (omega arith) (omega (arith, again.1)) (sym again.2)
+
 from-behind : (list : List ℕ) (cell : ℕ) → AllPairs (λ a b. a ≢ b) list → has list cell ≡ true
     → from_cell list cell ≡ cell ∷ from_at list (behind list cell)
 from-behind [] cell once has_it = absurd (cc)
 from-behind (first ∷ list) cell once has_it = elim (eqb_tells cell first) [
   | inl same ↦ rw (same.0, same.1) (ap (λ rest. first ∷ rest)
-      (sym (from-tail first list (slice_get list 0) (second list once) ∙ from-first list)))
+      (sym (from-tail first list (slice_get list 0) (λ is.
+      not_again first list once (Contains-from_any eqb-true first list (first_has list first is))) ∙ from-first list)))
   | inr apart ↦ rw (apart.0) (from-behind list cell (λ i j d before below. once (suc i) (suc j) d (omega arith) (omega arith))
       (sym (ap (λ b. b || has list cell) apart.0) ∙ has_it)
-      ∙ ap (λ rest. cell ∷ rest) (sym (from-tail first list (behind list cell) (λ is. not_again (behind_has list cell first is)))))
+      ∙ ap (λ rest. cell ∷ rest) (sym (from-tail first list (behind list cell) (λ is.
+      not_again first list once (Contains-from_any eqb-true first list (behind_has list cell first is))))))
 ]
-  where
-    not_again : has list first ≡ true → ⊥
-    not_again has_it =
-        let again = Contains-from_any eqb-true first list has_it in
-        once 0 (suc again.0) first (omega arith) (omega (arith, again.1)) (sym again.2)
-
-    second : (list : List ℕ) → AllPairs (λ a b. a ≢ b) (first ∷ list) → slice_get list 0 ≡ Some first → ⊥
-    second [] once is = cc
-    second (head ∷ list) once is = once 0 1 0 (omega arith) (omega arith) cc
 
 -- ---- a walk along a list of a table
 

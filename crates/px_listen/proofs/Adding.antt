@@ -5,13 +5,13 @@ use Rattle.std.specs.Cmp.{nat_eq_equiv}
 use Rattle.std.specs.List.{position}
 use Rattle.std.proofs.lemmas.Bool.{cases_lt, eq-eqb}
 use Rattle.std.proofs.lemmas.Bool.Decides.{eqb_tells}
-use Rattle.std.proofs.lemmas.List.{get_or_append_left, get_or_default, get_or_past, get_or-set_same, get_or-set_other, length-map, length-set, map-append, map-set}
+use Rattle.std.proofs.lemmas.List.{get_or_append_left, get_or_default, get_or-set_same, get_or-set_other, length-map, length-set, map-append, map-set}
 use Rattle.std.proofs.lemmas.List.Elements.{All-head, All-push, All-set, All-tail, All-weaker}
 use Rattle.std.proofs.lemmas.List.Folds.{list_any_at, list_any_none}
 use Rattle.std.proofs.lemmas.List.Sums.{sum_by-set}
 use Rattle.std.proofs.Math.ListN.{get_or-map}
 use Rattle.std.proofs.Math.Seq.{get_or-append_seam}
-use Rattle.px_value.proofs.General.{nowhere, once_push}
+use Rattle.px_value.proofs.General.{nowhere, once_push, read_anywhere}
 use Rattle.px_links.specs.Links.{LinksData, HoldsOthersAsBefore, holder_of, is_absent, pushed}
 use Rattle.px_links.specs.Lists.{has, nth}
 use Rattle.px_listen.specs.Keeping.{ArePairs, listening}
@@ -21,10 +21,9 @@ use Rattle.px_listen.specs.Walking.{watchers_in}
 -- where the cell has no holder, no list has it
 none-has : (lists : List (List ℕ)) (cell : ℕ) → position (λ list. has list cell) lists ≡ None
     → (list : ℕ) → has (nth lists list) cell ≡ false
-none-has lists cell none list = elim (cases_lt list (length lists)) [
-  | inl below ↦ nowhere (λ list. has list cell) lists list [] none below
-  | inr past ↦ ap (λ list. has list cell) (get_or_past lists list [] past)
-]
+none-has lists cell none list =
+    read_anywhere (λ list. has list cell ≡ false) lists list []
+    (λ k d within. nowhere (λ list. has list cell) lists k d none within) refl
 
 -- a watcher more leaves those of the cells before
 same-watchers : (watcher_of : List ℕ) (watcher : ℕ) (cells : List ℕ) → All (λ cell. cell < length watcher_of) cells

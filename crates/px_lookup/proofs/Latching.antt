@@ -14,12 +14,12 @@ use Rattle.indexmap.specs.IndexMap.{IndexMap, insert_entry, set_value_at}
 use Rattle.indexmap.proofs.MapLemmas.{Missing-position}
 use Rattle.px_value.specs.declared.value.Value.{Value}
 use Rattle.px_value.proofs.General.{is_some_mapped}
-use Rattle.px_sem.specs.Events.{first_report, next_report}
+use Rattle.px_sem.specs.Events.{first_report, latched_then, next_report}
 use Rattle.px_sem.specs.World.{LookState, Report, is_same_state, latched_at}
 use Rattle.px_lookup.specs.declared.reports.Change.{Change}
 use Rattle.px_lookup.specs.declared.reports.Change.TheVariants as changes
 use Rattle.px_lookup.specs.Undoing.{HadLatchedEach, IsChange, LatchEach, place_of, undone}
-use Rattle.px_lookup.proofs.Reporting.{latched_then, set_value_at-back, take-insert_entry}
+use Rattle.px_lookup.proofs.Reporting.{set_value_at-back, take-insert_entry}
 
 first_each : (tolerances : List ℕ) (given : Value) → keys_of (map (λ tolerance. (tolerance, given)) tolerances) ≡ tolerances
 first_each tolerances given =

@@ -12,7 +12,7 @@ use Rattle.indexmap.proofs.MapLemmas.{Found-position, Missing-position, index-fi
 use Rattle.indexmap.proofs.RemoveLemmas.{own_first}
 use Rattle.px_value.specs.declared.value.Value.{Value}
 use Rattle.px_sem.specs.World.{LookState, Report, is_same_state, report_at}
-use Rattle.px_sem.specs.Events.{first_report, is_latched, next_report, reported}
+use Rattle.px_sem.specs.Events.{first_report, next_report, reported}
 use Rattle.px_lookup.specs.declared.reports.Change.{Change}
 use Rattle.px_lookup.specs.Undoing.{place_of, undone, undone_each}
 use Rattle.px_lookup.specs.contracts.look_state.LookStateEq.TheImpl.Laws as same_states
@@ -29,10 +29,6 @@ lookup-report_at state xs i = lookup (λ key. is_same_state-symm state key i) xs
 abbrev report_after : List ℕ → Option Report → Value → Report
 report_after tolerances None given = first_report tolerances given
 report_after tolerances (Some report) given = next_report report given
-
--- what a tolerance keeps after one more report
-abbrev pub latched_then : Value → ℕ × Value → ℕ × Value
-latched_then given kept = (kept.0, if is_latched kept.0 kept.1 given then given else kept.1)
 
 insert_entry-reported : (tolerances : List ℕ) (state : LookState) (given : Value) (xs : List (LookState × Report))
     → insert_entry is_same_state xs state (report_after tolerances (report_at xs state) given)

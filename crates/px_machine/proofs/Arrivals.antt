@@ -1,6 +1,6 @@
 -- Where nodes go by what is kept is where they go in the world, once all is seen and caught up: from the six inputs of a node
 -- to its destination.
-use Rattle.std.proofs.Common.{◌≡◌, ℕ, ◌+◌, ◌<◌, Bool, length, Option, refl, ap, sym, ◌∙◌, arith}
+use Rattle.std.proofs.Common.{◌≡◌, ℕ, ◌+◌, ◌<◌, ◌&&◌, Bool, length, get_or, Option, Some, None, refl, ap, sym, ◌∙◌, arith, if◌then◌else◌}
 use Rattle.px_value.specs.declared.enums.NodeState.{NodeState}
 use Rattle.px_value.specs.declared.enums.NodeState.TheVariants as states
 use Rattle.px_core.specs.declared.node.Kind.{Kind}
@@ -9,6 +9,7 @@ use Rattle.px_sem.specs.Conflicts.{destination}
 use Rattle.px_sem.specs.Table.{dest}
 use Rattle.px_sem.specs.World.{NodeRecord}
 use Rattle.px_flat.specs.Row.{site_in, parent_number}
+use Rattle.px_assign.specs.Conflicts.{is_writer}
 use Rattle.px_told.specs.declared.asks.Asks.{Asks}
 use Rattle.px_told.specs.Told.{told_at}
 use Rattle.px_tables.specs.Reading.{read_by}
@@ -16,12 +17,14 @@ use Rattle.px_tables.proofs.Readings.{dest_read}
 use Rattle.px_parts.specs.declared.parts.Parts.{Parts}
 use Rattle.px_parts.specs.Parts.{AreStanding, plan_in, world_in, record_of}
 use Rattle.px_micro.specs.declared.truths.Truths.{Truths}
+use Rattle.px_micro.specs.Going.{is_start}
 use Rattle.px_micro.specs.Guarded.{guards_at, guards_in}
 use Rattle.px_micro.proofs.Guarding.{guards_are}
 use Rattle.px_parts.proofs.Found.{record_is}
 use Rattle.px_machine.specs.declared.kept.Kept.{Kept}
 use Rattle.px_machine.specs.Kept.{arrival_of, is_rest, own_seen, parent_state, truths_of, truths_read}
 use Rattle.px_machine.specs.Right.{IsNow, IsRight}
+use Rattle.px_machine.specs.Still.{claims_now, free_arrival}
 use Rattle.px_machine.proofs.Asking.{told_now}
 use Rattle.px_machine.proofs.Present.{own_now, parent_now, truths_now}
 use Rattle.px_machine.proofs.Resting.{rest_now}
@@ -42,6 +45,22 @@ pub same_arrival : (parts parts' : Parts) (kept kept' : Kept) (node : ℕ) → H
 same_arrival parts parts' kept kept' node same i =
     dest (site_in (same.plan i) node).head.kind (same.own i).state
     (guards_in (site_in (same.plan i) node).head.kind (same.own i) (same.parent i) (same.told i) (same.rest i) (same.truths i))
+
+-- so it claims the same, and goes the same way without asking
+pub same_claims : (parts parts' : Parts) (kept kept' : Kept) (node : ℕ) → HasTheSame parts parts' kept kept' node
+    → claims_now parts' kept' node ≡ claims_now parts kept node
+same_claims parts parts' kept kept' node same i =
+    is_writer (same.plan i) node && is_start (same.own i).state (same_arrival parts parts' kept kept' node same i)
+
+pub same_free : (parts parts' : Parts) (kept kept' : Kept) (node : ℕ) → HasTheSame parts parts' kept kept' node
+    → free_arrival parts' kept' node ≡ free_arrival parts kept node
+same_free parts parts' kept kept' node same i =
+    if same_claims parts parts' kept kept' node same i then None else same_arrival parts parts' kept kept' node same i
+
+-- with the same states a parent has the same one
+pub parent_same : (old new : Kept) → new.states ≡ old.states → (parent : Option ℕ) → parent_state new parent ≡ parent_state old parent
+parent_same old new same None = refl
+parent_same old new same (Some parent) = λ i. get_or (same i).items parent states.Inactive
 
 -- ---- what a state reads
 

@@ -1,6 +1,6 @@
 -- What is kept stays right as one node is caught up: whoever reads what changes waits.
-use Rattle.std.proofs.Common.{◌≡◌, ◌≢◌, ◌⊎◌, ℕ, ◌<◌, ◌&&◌, Bool, true, false, not, List, [], length, set, get_or, Option, Some, None, nat_eq, refl, ap, sym, ◌∙◌, subst, arith, inl, inr, if◌then◌else◌}
-use Rattle.std.proofs.lemmas.Bool.{and_from, cases_eq, cond-false, cond-true, eq-eqb, ne_eqb, not-false}
+use Rattle.std.proofs.Common.{◌≡◌, ◌≢◌, ◌⊎◌, ℕ, ◌<◌, ◌&&◌, Bool, true, false, not, List, [], length, set, get_or, Option, Some, None, nat_eq, refl, ap, sym, ◌∙◌, subst, arith, inl, inr}
+use Rattle.std.proofs.lemmas.Bool.{and_from, cases_eq, cond-false, cond-true, eq-eqb, false_from_ne_true, ne_eqb, not-false}
 use Rattle.std.proofs.lemmas.List.{get_or-set_same, get_or-set_other, length-set, set-get_or}
 use Rattle.px_value.specs.declared.enums.NodeState.{NodeState}
 use Rattle.px_value.specs.declared.enums.NodeState.TheVariants as states
@@ -15,8 +15,6 @@ use Rattle.px_cached.specs.Cached.{kept_truth}
 use Rattle.px_cached.specs.Cached as cached
 use Rattle.px_cached.proofs.OneList.{not_both, was_absent}
 use Rattle.px_micro.specs.Above.{asks_in}
-use Rattle.px_micro.specs.Going.{is_start}
-use Rattle.px_assign.specs.Conflicts.{is_writer}
 use Rattle.px_links.specs.Links.{LinksData, holder_of, is_absent}
 use Rattle.px_told.specs.declared.asks.Asks.{Asks}
 use Rattle.px_told.specs.Asking.{is_same}
@@ -27,30 +25,24 @@ use Rattle.px_parts.specs.declared.parts.Parts.{Parts}
 use Rattle.px_parts.specs.Parts.{plan_in}
 use Rattle.px_machine.specs.declared.kept.Kept.{Kept}
 use Rattle.px_machine.specs.CatchingUp.{HasTakenState, IsAskedFor}
-use Rattle.px_machine.specs.Kept.{arrival_of, is_rest, kept_state, own_seen, parent_state, kept_truths}
+use Rattle.px_machine.specs.Kept.{is_rest, kept_state, own_seen, parent_state, kept_truths}
 use Rattle.px_machine.specs.Queue.{IsBehind, Wakes, behind_in}
 use Rattle.px_machine.specs.Right.{IsRight}
-use Rattle.px_machine.specs.Still.{IsStill, claims_now, is_marked}
+use Rattle.px_machine.specs.Still.{IsStill, is_marked}
 use Rattle.px_machine.specs.Told.{Agrees, IsCaughtUp}
-use Rattle.px_machine.proofs.Arrivals.{HasTheSame, same_arrival}
+use Rattle.px_machine.proofs.Arrivals.{HasTheSame, same_claims, same_free}
 use Rattle.px_machine.proofs.Places.{parents_at}
 use Rattle.px_machine.proofs.Waiting.{still_behind, wakes_both, wakes_none}
 
 -- ---- frames
 
--- The same six inputs and the same mark: `same_arrival` in both fields.
+-- the same six inputs and the same mark
 pub still_same : (parts parts' : Parts) (kept kept' : Kept) (node : ℕ) → HasTheSame parts parts' kept kept' node
     → is_marked kept' node ≡ is_marked kept node → IsStill parts kept node → IsStill parts' kept' node
 still_same parts parts' kept kept' node same mark still = record {
-  marked = mark ∙ still.marked ∙ sym claims;
-  stays = (λ i. if claims i then None else arrival i) ∙ still.stays;
+  marked = mark ∙ still.marked ∙ sym (same_claims parts parts' kept kept' node same);
+  stays = same_free parts parts' kept kept' node same ∙ still.stays;
 }
-  where
-    arrival : arrival_of parts' kept' node ≡ arrival_of parts kept node
-    arrival = same_arrival parts parts' kept kept' node same
-
-    claims : claims_now parts' kept' node ≡ claims_now parts kept node
-    claims i = is_writer (same.plan i) node && is_start (same.own i).state (arrival i)
 
 -- ---- a node takes the state that was seen
 
@@ -244,20 +236,16 @@ module _ (parts : Parts) (old : Kept) (told : ToldData) (queue : LinksData) (nod
 
   -- who waits nowhere is told what it was
   same_told : (other : ℕ) → is_absent queue other ≡ true → told_at told other ≡ told_at old.told other
-  same_told other absent = by (is_told_anew old.told.told told.told other) refl
-    where
-      was : is_absent old.queue other ≡ true
-      was = was_absent old.queue queue 1 other wakes.added absent
-
-      by : (anew : Bool) → is_told_anew old.told.told told.told other ≡ anew → told_at told other ≡ told_at old.told other
-      by false is = same_asks (told_at told other) (told_at old.told other)
-          (not-false (is_same (told_at told other) (told_at old.told other)) is)
-      by true is =
-          let both : Bool = is_told_anew old.told.told told.told other && is_absent old.queue other in
-          let woken : holder_of queue other ≡ Some 1 = asked.heard.holders other
-          ∙ cond-true both (Some 1) (holder_of old.queue other)
-          (and_from (is_told_anew old.told.told told.told other) (is_absent old.queue other) is was) in
-          absurd (not_both queue other 1 woken absent)
+  same_told other absent =
+      same_asks (told_at told other) (told_at old.told other)
+      (not-false (is_same (told_at told other) (told_at old.told other))
+      (false_from_ne_true (is_told_anew old.told.told told.told other) (λ anew.
+      let both : Bool = is_told_anew old.told.told told.told other && is_absent old.queue other in
+      let woken : holder_of queue other ≡ Some 1 = asked.heard.holders other
+      ∙ cond-true both (Some 1) (holder_of old.queue other)
+      (and_from (is_told_anew old.told.told told.told other) (is_absent old.queue other) anew
+      (was_absent old.queue queue 1 other wakes.added absent)) in
+      not_both queue other 1 woken absent)))
 
   -- what another node asks is as before; this one is behind, and nothing is owed of it
   askers_caught_up : (other : ℕ) → other < length (plan_in parts) → (IsBehind queue other → ⊥)

@@ -4,7 +4,7 @@ use Rattle.std.specs.Cmp.{nat_eq_equiv}
 use Rattle.std.specs.List.{filter_map, cons_option, list_any}
 use Rattle.std.specs.List.Sorted.{IsNonDecreasingBy, IsPermutation}
 use Rattle.std.specs.Option.{option_map, unwrap_or}
-use Rattle.std.proofs.lemmas.Bool.{and_from, and_parts, eqb-true, false≢true, not-true}
+use Rattle.std.proofs.lemmas.Bool.{and_from, and_parts, eqb-true, false_from_ne_true, false≢true, not-true}
 use Rattle.std.proofs.lemmas.Bool.Decides.{Decides-eqb}
 use Rattle.std.proofs.lemmas.List.{append_assoc, get_or-map, length-map, map-append}
 use Rattle.std.proofs.lemmas.List.Elements.{All-append, All-contains_itself, All-map, Contains-append_left, Contains-append_right, filter_map-append}
@@ -16,7 +16,7 @@ use Rattle.px_value.proofs.General.{same_bool, pairs_append}
 use Rattle.px_value.specs.declared.enums.NodeState.TheVariants as states
 use Rattle.px_core.specs.Plan.{Site, TargetData}
 use Rattle.px_sem.specs.declared.guards.Arrival.{Arrival}
-use Rattle.px_sem.specs.Conflicts.{destination, holds_variable, keeps_back, target_of, transition, would_start}
+use Rattle.px_sem.specs.Conflicts.{destination, holds_variable, target_of, transition, would_start}
 use Rattle.px_sem.specs.Conflicts as semantics
 use Rattle.px_sem.specs.Guards.{is_active}
 use Rattle.px_sem.specs.World.{World, state_at}
@@ -29,7 +29,7 @@ use Rattle.px_parts.specs.declared.parts.Parts.{Parts}
 use Rattle.px_parts.specs.Parts.{AreStanding, plan_in, world_in}
 use Rattle.px_micro.specs.declared.sight.Going.{Going}
 use Rattle.px_micro.specs.Going.{AreAllGoing, is_start, with_node}
-use Rattle.px_micro.proofs.Choosing.{start_goes, would_start_is}
+use Rattle.px_micro.proofs.Choosing.{loser_starts, start_goes, would_start_is}
 use Rattle.px_micro.proofs.Lists.{pairs_map, pairs_unmap}
 use Rattle.px_micro.proofs.Resting.{state_is}
 use Rattle.px_machine.specs.declared.kept.Kept.{Kept}
@@ -41,6 +41,7 @@ use Rattle.px_machine.specs.Still.{claims_now, free_arrival}
 use Rattle.px_machine.proofs.Arrivals.{arrival_now}
 use Rattle.px_machine.proofs.Present.{state_seen}
 use Rattle.px_machine.proofs.Resting.{state_now}
+use Rattle.px_machine.proofs.Waiting.{nodes_of}
 
 -- ---- starts
 
@@ -67,14 +68,10 @@ writer_loses plan world node loses = by (target_of (site_in plan node).head.body
         let never : semantics.is_loser plan world (site_in plan node) ≡ false = rw is refl in
         absurd (false≢true (sym never ∙ loses))
     by (Some target) is =
-        let over : semantics.is_loser plan world (site_in plan node)
-        ≡ (would_start plan world (site_in plan node) && list_any (keeps_back plan world target (site_in plan node)) plan) =
-        rw is refl in
-        let both = and_parts (would_start plan world (site_in plan node))
-        (list_any (keeps_back plan world target (site_in plan node)) plan) (sym over ∙ loses) in
         let writer : is_writer plan node ≡ true =
         ap is_some (written_is plan (site_in plan node).head.body ∙ ap (option_map (first_of plan)) is) in
-        and_from (is_writer plan node) (would_start plan world (site_in plan node)) writer both.0
+        and_from (is_writer plan node) (would_start plan world (site_in plan node)) writer
+        (loser_starts plan world (site_in plan node) loses)
 
 -- the marks and the holders of variables are the world's
 pub are_writers : (parts : Parts) (kept : Kept) (going : List Going) → AreStanding parts → IsRight parts kept → IsNow parts kept
@@ -147,24 +144,16 @@ module _ (parts : Parts) (kept : Kept) (stand : AreStanding parts) (right : IsRi
 
   -- who goes without asking claims nothing, and so loses nothing
   claims_nothing : (node : ℕ) (arrival : Arrival) → free_arrival parts kept node ≡ Some arrival → claims_now parts kept node ≡ false
-  claims_nothing node arrival is = by (claims_now parts kept node) refl
-    where
-      by : (claims : Bool) → claims_now parts kept node ≡ claims → claims_now parts kept node ≡ false
-      by false so = so
-      by true so =
-          let none : free_arrival parts kept node ≡ None = ap (λ claims. if claims then None else leads node) so in
-          absurd (cc (sym none ∙ is))
+  claims_nothing node arrival is = false_from_ne_true (claims_now parts kept node) (λ so.
+      let none : free_arrival parts kept node ≡ None = ap (λ claims. if claims then None else leads node) so in
+      absurd (cc (sym none ∙ is)))
 
   free_is : (node : ℕ) → claims_now parts kept node ≡ false → free_arrival parts kept node ≡ leads node
   free_is node so = ap (λ claims. if claims then None else leads node) so
 
   loses_nothing : (node : ℕ) → node < length sites → claims_now parts kept node ≡ false → is_loser_in sites present node ≡ false
-  loses_nothing node here nothing = by (is_loser_in sites present node) refl
-    where
-      by : (loses : Bool) → is_loser_in sites present node ≡ loses → is_loser_in sites present node ≡ false
-      by false is = is
-      by true is =
-          absurd (false≢true (sym nothing ∙ claims_are parts kept node stand right now here ∙ writer_loses sites present node is))
+  loses_nothing node here nothing = false_from_ne_true (is_loser_in sites present node) (λ loses.
+      false≢true (sym nothing ∙ claims_are parts kept node stand right now here ∙ writer_loses sites present node loses))
 
   -- so it goes in the world
   pub free_goes : (node : ℕ) (arrival : Arrival) → node < length (plan_in parts) → free_arrival parts kept node ≡ Some arrival
@@ -318,22 +307,19 @@ in_order plan world before after each moved sorted = record {
   rise = λ i j d less inside. rises i j d less inside;
   within = All-permutation (λ (one : Going). one.node < length plan) before after moved each.within;
   each = All-permutation (λ (one : Going). transition plan world (site_in plan one.node) ≡ Some one.arrival) before after moved each.each;
-  all = λ node here goes. Contains-permutation (numbers before) (numbers after) node moves (each.all node here goes);
+  all = λ node here goes. Contains-permutation (nodes_of before) (nodes_of after) node moves (each.all node here goes);
 }
   where
-    numbers : List Going → List ℕ
-    numbers going = map (λ (one : Going). one.node) going
-
-    moves : IsPermutation (numbers before) (numbers after)
+    moves : IsPermutation (nodes_of before) (nodes_of after)
     moves = IsPermutation-map (λ (one : Going). one.node) before after moved
 
-    apart_before : AllPairs (λ a b. a ≢ b) (numbers before)
+    apart_before : AllPairs (λ a b. a ≢ b) (nodes_of before)
     apart_before = pairs_map (λ (a b : ℕ). a ≢ b) (λ (one : Going). one.node) before each.once
 
-    apart_after : AllPairs (λ a b. a ≢ b) (numbers after)
-    apart_after = AllPairs-from_IsDistinct Decides-eqb (numbers after)
-        (IsDistinct-IsPermutation nat_eq nat_eq_equiv.symm (numbers before) (numbers after) moves
-        (IsDistinct-from_AllPairs Decides-eqb (numbers before) apart_before))
+    apart_after : AllPairs (λ a b. a ≢ b) (nodes_of after)
+    apart_after = AllPairs-from_IsDistinct Decides-eqb (nodes_of after)
+        (IsDistinct-IsPermutation nat_eq nat_eq_equiv.symm (nodes_of before) (nodes_of after) moves
+        (IsDistinct-from_AllPairs Decides-eqb (nodes_of before) apart_before))
 
     rises : (i j : ℕ) (d : Going) → i < j → j < length after → (get_or after i d).node < (get_or after j d).node
     rises i j d less inside =

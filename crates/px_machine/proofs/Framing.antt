@@ -1,5 +1,5 @@
 -- What is kept stays right where what it reads stays: whoever isn't behind has the own record and the truths that it had.
-use Rattle.std.proofs.Common.{◌≡◌, ℕ, ◌<◌, true, false, not, List, length, get_or, Option, Some, None, nat_eq, refl, ap, sym, ◌∙◌, subst, arith}
+use Rattle.std.proofs.Common.{◌≡◌, ℕ, ◌<◌, true, false, not, List, length, get_or, nat_eq, ap, sym, ◌∙◌, subst, arith}
 use Rattle.px_value.specs.declared.enums.NodeState.TheVariants as states
 use Rattle.px_core.specs.declared.conditions.ConditionKind.{ConditionKind}
 use Rattle.px_core.specs.declared.conditions.ConditionKind.TheVariants as which
@@ -20,7 +20,7 @@ use Rattle.px_machine.specs.Kept.{IsOfPlan, own_seen, parent_state}
 use Rattle.px_machine.specs.Queue.{IsBehind}
 use Rattle.px_machine.specs.Right.{IsRight}
 use Rattle.px_machine.specs.Told.{Agrees, IsCaughtUp}
-use Rattle.px_machine.proofs.Arrivals.{HasTheSame}
+use Rattle.px_machine.proofs.Arrivals.{HasTheSame, parent_same}
 use Rattle.px_machine.proofs.Changing.{still_same}
 
 -- All but the conditions, the queue and the parts is the same; who was behind is, and who waits nowhere did.
@@ -63,16 +63,12 @@ module _ (old new : Parts) (before after : Kept) (framed : IsFramed old new befo
             (sym (framed.truths node which.Invariant here apart) i) (sym (framed.truths node which.End here apart) i));
       }
 
-  parent_same : (parent : Option ℕ) → parent_state after parent ≡ parent_state before parent
-  parent_same None = refl
-  parent_same (Some parent) = λ i. get_or (framed.states i).items parent states.Inactive
-
   six_same : (node : ℕ) → node < length (plan_in old) → (IsBehind after.queue node → ⊥) → HasTheSame old new before after node
   six_same node here apart = record {
     plan = framed.plan;
     own = framed.own node here apart;
     parent = ap (λ (sites : List Site). parent_state after (parent_number sites node)) framed.plan
-        ∙ parent_same (parent_number (plan_in old) node);
+        ∙ parent_same before after framed.states (parent_number (plan_in old) node);
     told = λ i. told_at (framed.told i) node;
     rest = λ i. nat_eq (total (framed.busy i) node) 0;
     truths = λ i. record {

@@ -1,6 +1,6 @@
 -- Who was not chosen is still. (The queue after a step: Requeueing.)
-use Rattle.std.proofs.Common.{◌≡◌, ℕ, ◌<◌, List, length, Option, Some, None, IsSome, refl, sym, subst}
-use Rattle.px_sem.specs.declared.guards.Arrival.{Arrival}
+use Rattle.std.proofs.Common.{ℕ, ◌<◌, List, length, IsSome, refl, sym, subst}
+use Rattle.px_value.proofs.General.{none_from}
 use Rattle.px_parts.specs.declared.parts.Parts.{Parts}
 use Rattle.px_parts.specs.Parts.{AreStanding, plan_in, world_in}
 use Rattle.px_micro.specs.declared.sight.Going.{Going}
@@ -18,10 +18,6 @@ pub others_still : (parts : Parts) (kept : Kept) (looked going : List Going) →
     → (node : ℕ) → node < length (plan_in parts) → (IsGoer going node → ⊥) → IsStill parts kept node
 others_still parts kept looked going stand right now found all node here apart = record {
   marked = found.marked node here;
-  stays = by (free_arrival parts kept node) refl;
+  stays = none_from (free_arrival parts kept node) (λ arrival is.
+      apart (all.all node here (subst IsSome (sym (free_goes parts kept stand right now node arrival here is)) refl)));
 }
-  where
-    by : (to : Option Arrival) → free_arrival parts kept node ≡ to → to ≡ None
-    by None is = refl
-    by (Some arrival) is =
-        absurd (apart (all.all node here (subst IsSome (sym (free_goes parts kept stand right now node arrival here is)) refl)))

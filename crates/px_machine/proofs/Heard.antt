@@ -8,7 +8,7 @@ use Rattle.px_core.specs.Plan.{Site}
 use Rattle.px_sem.specs.Tolerances.{tolerances}
 use Rattle.px_flat.specs.Layout.{all_cells}
 use Rattle.px_flat.specs.Lookups.{lookups_of}
-use Rattle.px_flat.specs.Sources.{Reports}
+use Rattle.px_flat.specs.Sources.{Reports, IsSameReport}
 use Rattle.px_lookup.specs.Reports.{HasStayed}
 use Rattle.px_cached.specs.Cached.{CachedData, is_touched}
 use Rattle.px_cached.specs.Conditions.{source_number}
@@ -17,7 +17,6 @@ use Rattle.px_cached.proofs.Seeing.{was_untouched}
 use Rattle.px_parts.specs.declared.parts.Parts.{Parts}
 use Rattle.px_parts.specs.Parts.{plan_in}
 use Rattle.px_machine.specs.Hearing.{HasHeard, HasHeardLatched}
-use Rattle.px_machine.specs.Seen.{IsSameReport}
 use Rattle.px_machine.proofs.Hearing.{stayed_reads}
 
 module _ (parts : Parts) (lookup : ℕ) where

@@ -1,17 +1,16 @@
 -- Which reports an event changes: those of the name that is heard of, at most.
-use Rattle.std.proofs.Common.{◌≡◌, ◌≢◌, ℕ, ◌<◌, Bool, true, false, not, ◌&&◌, cond, [], ◌∷◌, ◌++◌, position, List, length, get_or, Option, Some, None, AllPairs, refl, ap, sym, ◌∙◌, subst, arith, inl, inr, if◌then◌else◌}
+use Rattle.std.proofs.Common.{◌≡◌, ◌≢◌, ℕ, ◌<◌, Bool, true, false, not, ◌&&◌, cond, [], ◌∷◌, ◌++◌, position, List, length, get_or, Option, Some, None, AllPairs, nat_lt, refl, ap, sym, ◌∙◌, subst, arith, if◌then◌else◌}
 use Rattle.std.specs.Cmp.Lexicographic.{pointwise, same_text}
-use Rattle.std.specs.List.{flat_map, list_any}
+use Rattle.std.specs.List.{flat_map, list_any, position_or_len}
 use Rattle.std.specs.Option.{option_and_then, option_map, unwrap_or}
-use Rattle.std.proofs.lemmas.Bool.{and_parts, cases_lt, false_from_ne_true, false≢true}
-use Rattle.std.proofs.lemmas.List.Quantifiers.{position-Some}
-use Rattle.std.proofs.Math.Nat.{eq-or-lt_of_le}
+use Rattle.std.proofs.lemmas.Bool.{and_parts, cond_both, false_from_ne_true, lt-ltb}
+use Rattle.std.proofs.lemmas.List.Sums.{position_or_len_is}
 use Rattle.px_value.specs.declared.value.Value.{Value}
 use Rattle.px_value.specs.declared.value.Value.TheVariants.{Unknown}
 use Rattle.px_value.specs.Value.{is_known}
-use Rattle.px_value.proofs.General.{nowhere, once_push}
+use Rattle.px_value.proofs.General.{once_push}
 use Rattle.px_core.specs.Plan.{Site, is_same}
-use Rattle.px_core.proofs.Paths.{same-self}
+use Rattle.px_core.proofs.Paths.{same-self, same-other}
 use Rattle.px_event.specs.declared.event.Event.{Event}
 use Rattle.px_event.specs.declared.event.Event.TheVariants as events
 use Rattle.px_event.specs.Values.{value_eq}
@@ -21,7 +20,7 @@ use Rattle.px_sem.specs.Tolerances.{tolerances}
 use Rattle.px_sem.specs.World.{LookState, Report, is_same_state, latched_at, report_at}
 use Rattle.px_flat.specs.Lookups.{lookups_in_head, lookups_of, with_name}
 use Rattle.px_flat.specs.Numbered.{reported_of}
-use Rattle.px_flat.specs.Sources.{Reports}
+use Rattle.px_flat.specs.Sources.{Reports, IsSameReport}
 use Rattle.px_cached.specs.Cached.{CachedData, is_touched}
 use Rattle.px_cached.specs.Conditions.{source_number}
 use Rattle.px_cached.proofs.Seeing.{was_untouched}
@@ -30,17 +29,15 @@ use Rattle.px_parts.specs.declared.parts.Parts.{Parts}
 use Rattle.px_parts.specs.Parts.{plan_in}
 use Rattle.px_micro.proofs.Hits.{fold_keeps}
 use Rattle.px_machine.specs.Hearing.{heard_by}
-use Rattle.px_machine.specs.Seen.{IsSameReport, IsSeen}
+use Rattle.px_machine.specs.Seen.{IsSeen}
 
 -- ---- names
 
 -- each name stands once
 name_apart : (found : List (List ℕ)) (name : List ℕ) → AllPairs (λ a b. a ≢ b) found → AllPairs (λ a b. a ≢ b) (with_name found name)
-name_apart found name apart = by (list_any (is_same name) found) refl
-  where
-    by : (among : Bool) → list_any (is_same name) found ≡ among → AllPairs (λ a b. a ≢ b) (if among then found else found ++ name ∷ [])
-    by true is = apart
-    by false is = once_push is_same same-self found name is apart
+name_apart found name apart =
+    cond_both (list_any (is_same name) found) found (found ++ name ∷ []) (AllPairs (λ (a b : List ℕ). a ≢ b)) (λ _. apart)
+    (λ fresh. once_push is_same same-self found name fresh apart)
 
 names_differ : (plan : List Site) → AllPairs (λ a b. a ≢ b) (lookups_of plan)
 names_differ plan =
@@ -50,24 +47,15 @@ names_differ plan =
 -- the number of a name is the one where it stands
 number_is : (plan : List Site) (name : List ℕ) (number : ℕ) → number < length (lookups_of plan)
     → is_same name (get_or (lookups_of plan) number []) ≡ true → position (is_same name) (lookups_of plan) ≡ Some number
-number_is plan name number within same = by (position (is_same name) names) refl
-  where
-    names : List (List ℕ)
-    names = lookups_of plan
-
-    by : (found : Option ℕ) → position (is_same name) names ≡ found → found ≡ Some number
-    by None is = absurd (false≢true (sym (nowhere (is_same name) names number [] is within) ∙ same))
-    by (Some k) is =
-        let there = position-Some (is_same name) names k [] is in
-        let one : get_or names k [] ≡ get_or names number [] =
-        sym (same_text name (get_or names k []) (sym there.1)) ∙ same_text name (get_or names number []) (sym same) in
-        elim (cases_lt number k) [
-          | inl sooner ↦ absurd (false≢true (sym (there.2 number sooner) ∙ same))
-          | inr later ↦ elim (eq-or-lt_of_le later) [
-            | inl is_it ↦ ap Some is_it
-            | inr behind ↦ absurd (names_differ plan k number [] behind within one)
-          ]
-        ]
+number_is plan name number within same =
+    let names : List (List ℕ) = lookups_of plan in
+    let first : position_or_len (is_same name) names ≡ number =
+    position_or_len_is (is_same name) names number [] (omega (arith, within))
+    (λ k before. same-other name (get_or names k []) (λ is.
+    names_differ plan k number [] before within (sym is ∙ same_text name (get_or names number []) (sym same))))
+    (λ inside. same) in
+    ap (λ k. cond (nat_lt k (length names)) (Some k) None) first
+    ∙ ap (λ b. cond b (Some number) None) (lt-ltb number (length names) within)
 
 -- ---- reports
 

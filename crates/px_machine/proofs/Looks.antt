@@ -1,7 +1,7 @@
 -- How far a look over the woken nodes has come.
-use Rattle.std.proofs.Common.{◌≡◌, ◌≢◌, ℕ, suc, ◌+◌, ◌<◌, Bool, true, false, ◌&&◌, [], ◌∷◌, ◌++◌, append-nil, List, length, get_or, Option, Some, None, All, AllPairs, Contains, IsSome, map, refl, ap, sym, ◌∙◌, subst, arith, inl, inr, if◌then◌else◌}
+use Rattle.std.proofs.Common.{◌≡◌, ◌≢◌, ℕ, suc, ◌+◌, ◌<◌, Bool, true, false, [], ◌∷◌, ◌++◌, append-nil, List, length, get_or, Option, Some, None, All, AllPairs, Contains, IsSome, map, refl, ap, sym, ◌∙◌, subst, arith, inl, inr, if◌then◌else◌}
 use Rattle.std.specs.List.{concat, cons_option}
-use Rattle.std.proofs.lemmas.Bool.{cases_eq, eqb-true, false≢true}
+use Rattle.std.proofs.lemmas.Bool.{cases_eq, eqb-true, false≢true, true_from_ne_false}
 use Rattle.std.proofs.lemmas.List.{get_or-append-add, get_or_append_left, get_or-set_other, length-append, length-set, map-append}
 use Rattle.std.proofs.lemmas.List.Elements.{All-nil, All-push, Contains-append_left, Contains-append_right}
 use Rattle.std.proofs.lemmas.List.Quantifiers.{all_pairs_push, position-Some}
@@ -14,21 +14,20 @@ use Rattle.px_sem.specs.World.{World}
 use Rattle.px_flat.specs.Row.{parent_number, site_in}
 use Rattle.px_links.specs.Links.{is_absent}
 use Rattle.px_links.specs.Lists.{has, nth}
-use Rattle.px_assign.specs.Conflicts.{is_writer}
 use Rattle.px_claims.specs.Claims.{ClaimsData}
 use Rattle.px_cached.proofs.OneList.{not_both}
 use Rattle.px_parts.specs.declared.parts.Parts.{Parts}
 use Rattle.px_parts.specs.Parts.{AreStanding, plan_in, world_in}
 use Rattle.px_micro.specs.declared.sight.Going.{Going}
-use Rattle.px_micro.specs.Going.{is_start, with_node}
+use Rattle.px_micro.specs.Going.{with_node}
 use Rattle.px_machine.specs.declared.kept.Kept.{Kept}
 use Rattle.px_machine.specs.Contest.{HasLooked, IsSimulation}
-use Rattle.px_machine.specs.Kept.{arrival_of, own_seen, parent_state}
+use Rattle.px_machine.specs.Kept.{arrival_of}
 use Rattle.px_machine.specs.Looking.{HasLookedAt, IsSameButMark, with_mark}
 use Rattle.px_machine.specs.Queue.{IsGoer, IsWoken, NobodyIsBehind}
 use Rattle.px_machine.specs.Right.{IsNow, IsRight}
 use Rattle.px_machine.specs.Still.{claims_now, free_arrival, is_marked}
-use Rattle.px_machine.proofs.Arrivals.{HasTheSame, arrival_now, same_arrival}
+use Rattle.px_machine.proofs.Arrivals.{HasTheSame, arrival_now, parent_same, same_claims, same_free}
 use Rattle.px_machine.proofs.Changing.{still_same}
 use Rattle.px_machine.proofs.Choosing.{claims_are, writer_loses}
 use Rattle.px_machine.proofs.Waiting.{in_one_of_two}
@@ -51,30 +50,19 @@ six_marked : (parts : Parts) (kept : Kept) (claims : ClaimsData) (node : ℕ) �
 six_marked parts kept claims node = record {
   plan = refl;
   own = refl;
-  parent = parent (parent_number (plan_in parts) node);
+  parent = parent_same kept (with_claims kept claims) refl (parent_number (plan_in parts) node);
   told = refl;
   rest = refl;
   truths = refl;
 }
-  where
-    parent : (above : Option ℕ) → parent_state (with_claims kept claims) above ≡ parent_state kept above
-    parent None = refl
-    parent (Some above) = refl
-
-arrival_marked : (parts : Parts) (kept : Kept) (claims : ClaimsData) (node : ℕ)
-    → arrival_of parts (with_claims kept claims) node ≡ arrival_of parts kept node
-arrival_marked parts kept claims node =
-    same_arrival parts parts kept (with_claims kept claims) node (six_marked parts kept claims node)
 
 claims_marked : (parts : Parts) (kept : Kept) (claims : ClaimsData) (node : ℕ)
     → claims_now parts (with_claims kept claims) node ≡ claims_now parts kept node
-claims_marked parts kept claims node i =
-    is_writer (plan_in parts) node && is_start (own_seen parts node).state (arrival_marked parts kept claims node i)
+claims_marked parts kept claims node = same_claims parts parts kept (with_claims kept claims) node (six_marked parts kept claims node)
 
 free_marked : (parts : Parts) (kept : Kept) (claims : ClaimsData) (node : ℕ)
     → free_arrival parts (with_claims kept claims) node ≡ free_arrival parts kept node
-free_marked parts kept claims node i =
-    if claims_marked parts kept claims node i then None else arrival_marked parts kept claims node i
+free_marked parts kept claims node = same_free parts parts kept (with_claims kept claims) node (six_marked parts kept claims node)
 
 -- ---- at first
 
@@ -91,15 +79,12 @@ looked_at_none parts kept right nobody = record {
 }
   where
     absent : (node : ℕ) → (Contains (nth kept.queue.lists 1) node → ⊥) → is_absent kept.queue node ≡ true
-    absent node apart = by (is_absent kept.queue node) refl
-      where
-        by : (none : Bool) → is_absent kept.queue node ≡ none → is_absent kept.queue node ≡ true
-        by true is = is
-        by false is = elim (in_one_of_two kept.queue node right.of_plan.lists is) [
-          | inl behind ↦ absurd (nobody node behind)
-          | inr woken ↦ absurd (apart (Contains-from_any eqb-true node (nth kept.queue.lists 1)
-              (position-Some (λ cells. has cells node) kept.queue.lists 1 [] woken).1))
-        ]
+    absent node apart = true_from_ne_false (is_absent kept.queue node) (λ waits.
+        elim (in_one_of_two kept.queue node right.of_plan.lists waits) [
+          | inl behind ↦ nobody node behind
+          | inr woken ↦ apart (Contains-from_any eqb-true node (nth kept.queue.lists 1)
+              (position-Some (λ cells. has cells node) kept.queue.lists 1 [] woken).1)
+        ])
 
 -- ---- one more
 
@@ -235,10 +220,6 @@ woken_once (first ∷ cells ∷ rest) apart i j d before inside same =
   where
     at : (k : ℕ) → k < length cells → get_or (first ++ (cells ++ concat rest)) (length first + k) d ≡ get_or cells k d
     at k within = get_or-append-add first (cells ++ concat rest) k d ∙ get_or_append_left cells (concat rest) d k within
-
--- so the first of those that are left is not among the others
-pub not_again : (node : ℕ) (ahead : List ℕ) → AllPairs (λ a b. a ≢ b) (node ∷ ahead) → Contains ahead node → ⊥
-not_again node ahead apart there = apart 0 (suc there.0) node (omega arith) (omega (arith, there.1)) (sym there.2)
 
 pub others_once : (node : ℕ) (ahead : List ℕ) → AllPairs (λ a b. a ≢ b) (node ∷ ahead) → AllPairs (λ a b. a ≢ b) ahead
 others_once node ahead apart i j d before inside = apart (suc i) (suc j) d (omega (arith, before)) (omega (arith, inside))

@@ -1,6 +1,7 @@
 -- Where each node of a plan stands, as a tree in preorder.
-use Rattle.std.proofs.Common.{◌≡◌, ℕ, ◌<◌, ◌≤◌, true, false, ◌&&◌, ◌||◌, nat_eq, nat_lt, List, [], ◌∷◌, length, get_or, Option, Some, None, All, IfSome, refl, ap, sym, ◌∙◌, subst, arith, inl, inr}
+use Rattle.std.proofs.Common.{◌≡◌, ℕ, ◌<◌, ◌≤◌, true, false, ◌&&◌, ◌||◌, nat_eq, nat_lt, List, [], ◌∷◌, length, get_or, None, All, IfSome, refl, ap, sym, ◌∙◌, subst, arith, inl, inr}
 use Rattle.std.specs.List.{list_any}
+use Rattle.std.proofs.iter.runs.Lists.{at_some}
 use Rattle.std.proofs.lemmas.Bool.{cases_lt, eq-eqb, eqb-true, le-ltb, ne_eqb}
 use Rattle.std.proofs.lemmas.List.FromFn.{get_or-map-range_with_len, length-map-range_with_len}
 use Rattle.px_value.proofs.General.{same_bool}
@@ -113,11 +114,8 @@ pub all_parents : (flat : Flat) → All (λ parent. IfSome parent (λ parent. pa
 all_parents flat k d inside =
     subst (λ parent. IfSome parent (λ parent. parent < length (plan_of flat)))
     (sym (get_or-map-range_with_len (parent_number (plan_of flat)) 0 (length (plan_of flat)) k k d here (omega arith)))
-    (by (parent_number (plan_of flat) k) refl)
+    (at_some (parent_number (plan_of flat) k) (λ parent. parent < length (plan_of flat)) (λ parent is.
+    chain_within flat k (parent ∷ []) parent here (is, refl)))
   where
     here : k < length (plan_of flat)
     here = omega (arith, inside, parents_long (plan_of flat))
-
-    by : (parent : Option ℕ) → parent_number (plan_of flat) k ≡ parent → IfSome parent (λ parent. parent < length (plan_of flat))
-    by None is = tt
-    by (Some parent) is = chain_within flat k (parent ∷ []) parent here (is, refl)

@@ -17,7 +17,7 @@ use Rattle.px_flat.specs.Flat.{plan_of}
 use Rattle.px_flat.specs.Layout.{all_cells}
 use Rattle.px_flat.specs.Lookups.{lookups_of}
 use Rattle.px_flat.specs.Numbered.{reported_of}
-use Rattle.px_flat.specs.Sources.{Reports}
+use Rattle.px_flat.specs.Sources.{Reports, IsSameReport}
 use Rattle.px_flat.specs.Parts.{IsParts}
 use Rattle.px_links.specs.Links.{LinksData}
 use Rattle.px_lookup.specs.Reports.{reports_after}
@@ -32,6 +32,7 @@ use Rattle.px_parts.specs.Seen.{AreSeenAsBefore}
 use Rattle.px_parts.proofs.Stepped as stepped
 use Rattle.px_micro.specs.declared.sight.Going.{Going}
 use Rattle.px_micro.specs.Stepping.{moves_after}
+use Rattle.px_micro.proofs.Turning.{Latches, with_room}
 use Rattle.px_machine.specs.declared.begun.Begun.{Begun}
 use Rattle.px_machine.specs.declared.begun.Begun.TheVariants as begun
 use Rattle.px_machine.specs.declared.kept.Kept.{Kept}
@@ -41,7 +42,6 @@ use Rattle.px_machine.specs.Kept.{own_in}
 use Rattle.px_machine.specs.Machine.{state_with}
 use Rattle.px_machine.specs.Queue.{HaveGone, HaveRested}
 use Rattle.px_machine.specs.Right.{IsRight}
-use Rattle.px_machine.specs.Seen.{IsSameReport}
 use Rattle.px_machine.specs.Stepping.{HasChosen, IsReady}
 use Rattle.px_machine.proofs.Framing.{right_framed}
 use Rattle.px_machine.proofs.Hearing.{others_stay, seen_then}
@@ -50,22 +50,15 @@ use Rattle.px_machine.proofs.Requeueing.{right_after_going, right_after_rest, wi
 -- ---- parts
 
 -- the same, by another proof that reports latch by the tolerances of the plan
-abbrev pub latched_by : (parts : Parts) → parts.reports.tolerances ≡ tolerances (plan_in parts) → Parts
-latched_by parts latching = record {
-  flat = parts.flat;
-  cells = parts.cells;
-  reports = parts.reports;
-  actions = parts.actions;
-  moves = parts.moves;
-  latching = latching;
-}
+abbrev pub latched_by : (parts : Parts) → Latches parts → Parts
+latched_by parts latching = with_room parts latching parts.cells parts.actions
 
 numbers_set : IsSet (List ℕ)
 numbers_set = hlevel codes
 
 -- what is said of parts is said of these
-pub relatched : (P : Parts → Type 0) (parts : Parts) (latching : parts.reports.tolerances ≡ tolerances (plan_in parts))
-    → P parts → P (latched_by parts latching)
+pub relatched : (P : Parts → Type 0) (parts : Parts) (latching : Latches parts) → P parts
+    → P (latched_by parts latching)
 relatched P parts latching holds =
     subst (λ latching. P (latched_by parts latching))
     (numbers_set parts.reports.tolerances (tolerances (plan_in parts)) parts.latching latching) holds
@@ -281,13 +274,6 @@ one_both first middle last one two = record {
   actions = two.actions ∙ one.actions;
 }
 
--- the same parts stand for the same world
-pub same_stand : (old new : Parts) → AreSame old new → AreStanding old → AreStanding new
-same_stand old new same stand =
-    subst (λ (plan : List Site). IsParts plan new.cells.contents.values new.actions.contents.values) (sym same.plan)
-    (subst (λ (values : List Value). IsParts (plan_in old) values new.actions.contents.values) (λ i. (sym same.cells i).values)
-    (subst (λ (done : List Act). IsParts (plan_in old) old.cells.contents.values done) (λ i. (sym same.actions i).values) stand))
-
 -- ---- the stepper's state
 
 pub same_state : (now : Begun) (old new : Parts) → AreSame old new → state_with now new ≡ state_with now old
@@ -351,7 +337,7 @@ module _ (old middle new : Parts) (event : Event) (marked : AreMarked middle) (k
     }
 
   -- what was heard is touched where it reads another value than before
-  pub heard_now : (latching : new.reports.tolerances ≡ tolerances (plan_in new)) (before after : CachedData) (lookup : ℕ)
+  pub heard_now : (latching : Latches new) (before after : CachedData) (lookup : ℕ)
       → HasHeard (latched_by new latching) before after lookup
       → TouchesMore before after × ((tolerance : Option ℕ)
       → is_touched after (source_number (plan_in old) (Reports lookup tolerance)) ≡ false

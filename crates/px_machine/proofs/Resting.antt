@@ -1,6 +1,6 @@
 -- Whether all children of a node are at rest, by who is counted as busy.
-use Rattle.std.proofs.Common.{◌≡◌, ℕ, ◌<◌, ◌≤◌, Bool, true, false, not, List, length, get_or, Some, None, refl, ap, sym, ◌∙◌, arith, inl, inr}
-use Rattle.std.proofs.lemmas.Bool.{cases_lt, eq-eqb, eqb-true, not-false}
+use Rattle.std.proofs.Common.{◌≡◌, ℕ, ◌<◌, ◌≤◌, true, false, not, List, length, get_or, Some, None, ap, sym, ◌∙◌, arith, inl, inr}
+use Rattle.std.proofs.lemmas.Bool.{cases_lt, eq-eqb, eqb-true, false≢true, not-false, true_from_ne_false}
 use Rattle.std.proofs.lemmas.List.{get_or_past}
 use Rattle.px_value.proofs.General.{same_bool}
 use Rattle.px_core.specs.Plan.{Site, is_child_of}
@@ -63,14 +63,13 @@ module _ (parts : Parts) (kept : Kept) (node : ℕ) (right : IsRight parts kept)
   nobody_counts all child of = elim (cases_lt child (length plan)) [
     | inr past ↦
         absurd (cc (sym (ap (λ parents. get_or parents child None) right.of_plan.parents ∙ no_parent plan child past) ∙ of))
-    | inl there ↦ counted child there ∙ by (is_at_rest (state_at (world_in parts) (site_in plan child).path)) refl there
-        (is_child parts.flat node child there (sym (group child there) ∙ of))
+    | inl there ↦
+        let is_one : is_child_of own (site_in plan child) ≡ true =
+        is_child parts.flat node child there (sym (group child there) ∙ of) in
+        counted child there
+        ∙ ap not (true_from_ne_false (is_at_rest (state_at (world_in parts) (site_in plan child).path)) (λ works.
+        false≢true (sym (one_works plan (world_in parts) own child there is_one works) ∙ all)))
   ]
-    where
-      by : (rests : Bool) → is_at_rest (state_at (world_in parts) (site_in plan child).path) ≡ rests → child < length plan
-          → is_child_of own (site_in plan child) ≡ true → not rests ≡ false
-      by true is there is_one = refl
-      by false is there is_one = absurd (cc (sym (one_works plan (world_in parts) own child there is_one is) ∙ all))
 
   pub rest_now : is_rest kept node ≡ each_child is_at_rest plan (world_in parts) own
   rest_now =

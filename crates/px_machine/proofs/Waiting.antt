@@ -84,7 +84,7 @@ push_wakes old new cell holders links counts = record {
 
 -- ---- those that have gone are behind
 
-abbrev nodes_of : List Going → List ℕ
+abbrev pub nodes_of : List Going → List ℕ
 nodes_of going = map (λ (one : Going). one.node) going
 
 -- whoever waits has gone, and is behind

@@ -4,12 +4,12 @@ use Rattle.std.specs.Option.{unwrap_or}
 use Rattle.px_sem.specs.Stepper as stepper
 use Rattle.px_sem.specs.World.{World}
 use Rattle.px_flat.specs.Lookups.{lookups_of}
+use Rattle.px_flat.specs.Sources.{IsSameReport}
 use Rattle.px_parts.specs.declared.parts.Parts.{Parts}
 use Rattle.px_parts.specs.Marks.{AreMarked, AreUnmarked}
 use Rattle.px_parts.specs.Parts.{plan_in}
 use Rattle.px_machine.specs.declared.begun.Begun.{Begun}
 use Rattle.px_machine.specs.declared.begun.Begun.TheVariants as begun
-use Rattle.px_machine.specs.Seen.{IsSameReport}
 
 abbrev pub begun_in : Begun → World → stepper.Pending
 begun_in begun.Nothing settled = stepper.Nothing

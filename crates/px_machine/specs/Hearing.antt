@@ -5,13 +5,12 @@ use Rattle.px_core.specs.Plan.{Site, is_same}
 use Rattle.px_event.specs.declared.event.Event.{Event}
 use Rattle.px_event.specs.declared.event.Event.TheVariants as events
 use Rattle.px_flat.specs.Lookups.{lookups_of}
-use Rattle.px_flat.specs.Sources.{Reports}
+use Rattle.px_flat.specs.Sources.{Reports, IsSameReport}
 use Rattle.px_lookup.specs.Reports.{HasStayed}
 use Rattle.px_cached.specs.Cached.{CachedData, is_touched}
 use Rattle.px_cached.specs.Conditions.{source_number}
 use Rattle.px_parts.specs.declared.parts.Parts.{Parts}
 use Rattle.px_parts.specs.Parts.{plan_in}
-use Rattle.px_machine.specs.Seen.{IsSameReport}
 
 -- the lookup name that an event reports, where the plan looks it up
 abbrev pub heard_by : List Site → Event → Option ℕ

@@ -1,7 +1,7 @@
 -- The initial values of the nodes that begin to wait.
-use Rattle.std.proofs.Common.{◌≡◌, ◌≢◌, ℕ, ◌+◌, ◌<◌, ◌≤◌, Bool, true, false, List, [], ◌∷◌, length, get_or, drop, fold, map, nat_eq, refl, ap, sym, ◌∙◌, subst, arith, inl, inr, Option, Some, None, All, AllPairs, if◌then◌else◌}
+use Rattle.std.proofs.Common.{◌≡◌, ◌≢◌, ℕ, ◌+◌, ◌<◌, ◌≤◌, Bool, true, false, List, [], ◌∷◌, length, get_or, drop, fold, map, nat_eq, refl, ap, sym, ◌∙◌, subst, arith, Option, Some, None, All, AllPairs, if◌then◌else◌}
 use Rattle.std.specs.List.{flat_map, find}
-use Rattle.std.proofs.lemmas.Bool.{cases_lt, eqb-true, eqb-false}
+use Rattle.std.proofs.lemmas.Bool.{cond_both, eqb-true, eqb-false}
 use Rattle.std.proofs.lemmas.List.Elements.{All-append, All-cons, All-head, All-nil, All-tail}
 use Rattle.px_value.specs.declared.value.Value.{Value}
 use Rattle.px_value.specs.declared.value.Value.TheVariants as values
@@ -13,8 +13,9 @@ use Rattle.px_flat.specs.Layout.{all_cells, first_cell, variable_cells}
 use Rattle.px_flat.specs.Numbered.{held}
 use Rattle.px_flat.specs.Parts.{values_in}
 use Rattle.px_flat.specs.Row.{site_in}
+use Rattle.px_flat.proofs.Changes.{values_in-same}
 use Rattle.px_flat.proofs.Tables.{flat_sound}
-use Rattle.px_flat.proofs.Variables.{cells_apart, cells_within}
+use Rattle.px_flat.proofs.Variables.{cells_within, nodes_apart}
 use Rattle.px_parts.specs.declared.parts.Parts.{Parts}
 use Rattle.px_micro.specs.declared.sight.Going.{Going}
 use Rattle.px_micro.specs.declared.turns.CellValue.{CellValue}
@@ -22,7 +23,7 @@ use Rattle.px_micro.specs.Moving.{put_value}
 use Rattle.px_parts.specs.Parts.{plan_in}
 use Rattle.px_micro.specs.Turns.{begins, from_cell, initial_in, initial_of}
 use Rattle.px_micro.proofs.Initial.{initial_cells, right_cells}
-use Rattle.px_micro.proofs.Blocks.{values_in-same, values_in-initial, begun_off, begun_at, set_length, fold-flat_map}
+use Rattle.px_micro.proofs.Blocks.{values_in-initial, begun_off, begun_at, set_length, fold-flat_map}
 use Rattle.px_micro.proofs.Hits.{hit_by, one_hit, keys_apart}
 
 -- a cell of the variables of a node after it
@@ -33,33 +34,19 @@ begun parts i one old = if begins parts one then get_or (initial_of (plan_in par
 abbrev step : Parts → List Value → Going → List Value
 step parts cells one = fold put_value cells (initial_in parts one)
 
--- cells of variables of different nodes differ
-nodes_apart : (plan : List Site) (a b i j : ℕ) → a < length plan → b < length plan → a ≢ b
-    → i < cells_of_site (site_in plan a) → j < cells_of_site (site_in plan b)
-    → first_cell plan a + i ≢ first_cell plan b + j
-nodes_apart plan a b i j a_in b_in apart few others same = elim (cases_lt a b) [
-  | inl before ↦ omega (arith, few, same, cells_apart plan a b before (omega (arith, b_in)))
-  | inr not_before ↦
-      omega (arith, others, same, cells_apart plan b a (omega (arith, not_before, apart)) (omega (arith, a_in)))
-]
-
 missed : (parts : Parts) (cells : List Value) (one : Going) (node i : ℕ) → one.node < length (plan_in parts)
     → node < length (plan_in parts) → i < cells_of_site (site_in (plan_in parts) node) → node ≢ one.node
     → held (step parts cells one) (first_cell (plan_in parts) node + i) ≡ held cells (first_cell (plan_in parts) node + i)
-missed parts cells one node i one_in node_in few apart = by (begins parts one)
+missed parts cells one node i one_in node_in few apart =
+    cond_both (begins parts one) (from_cell (first_cell plan one.node) (initial_of plan one.node)) []
+    (λ (given : List CellValue). held (fold put_value cells given) (first_cell plan node + i) ≡ held cells (first_cell plan node + i))
+    (λ _. begun_off (initial_of plan one.node) (first_cell plan one.node) cells (first_cell plan node + i)
+    (λ j within. nodes_apart plan node one.node i j node_in one_in apart few
+    (omega (arith, within, initial_cells plan one.node (flat_sound parts.flat) one_in))))
+    (λ _. refl)
   where
     plan : List Site
     plan = plan_in parts
-
-    by : (b : Bool)
-        → held (fold put_value cells (if b then from_cell (first_cell plan one.node) (initial_of plan one.node) else []))
-        (first_cell plan node + i)
-        ≡ held cells (first_cell plan node + i)
-    by true =
-        begun_off (initial_of plan one.node) (first_cell plan one.node) cells (first_cell plan node + i)
-        (λ j within. nodes_apart plan node one.node i j node_in one_in apart few
-        (omega (arith, within, initial_cells plan one.node (flat_sound parts.flat) one_in)))
-    by false = refl
 
 hit : (parts : Parts) (cells : List Value) (one : Going) (i : ℕ) → one.node < length (plan_in parts)
     → i < cells_of_site (site_in (plan_in parts) one.node) → length cells ≡ all_cells (plan_in parts)
@@ -149,7 +136,7 @@ begun_variables parts going cells node found rise within all node_in is = by fou
     by : (found : Option Going) → find (λ one. nat_eq one.node node) going ≡ found
         → values_in own (drop first after)
         ≡ begun_as parts found (map initial_values own) (values_in own (drop first cells))
-    by None is = values_in-same own first after cells long room (λ i few. cell i few None is)
+    by None is = values_in-same own first after cells long (λ i few. cell i few None is)
     by (Some one) is = test (begins parts one) refl
       where
         node_is : one.node ≡ node
@@ -165,7 +152,7 @@ begun_variables parts going cells node found rise within all node_in is = by fou
             ∙ ap (λ b. if b then get_or (initial_of plan one.node) i values.Unknown else held cells (first + i)) starts
             ∙ ap (λ node. get_or (initial_of plan node) i values.Unknown) node_is)
         test false stays =
-            values_in-same own first after cells long room (λ i few.
+            values_in-same own first after cells long (λ i few.
             cell i few (Some one) is
             ∙ ap (λ b. if b then get_or (initial_of plan one.node) i values.Unknown else held cells (first + i)) stays)
 
@@ -183,18 +170,15 @@ pub initial_small : (parts : Parts) (going : List Going) → All (λ one. one.no
 initial_small parts [] within = All-nil (λ one. one.cell < variable_cells (plan_in parts))
 initial_small parts (one ∷ going) within =
     All-append (λ one. one.cell < variable_cells (plan_in parts)) (initial_in parts one) (flat_map (initial_in parts) going)
-    (by (begins parts one)) (initial_small parts going (All-tail (λ (one : Going). one.node < length (plan_in parts)) one going within))
+    (cond_both (begins parts one) (from_cell (first_cell plan one.node) (initial_of plan one.node)) []
+    (All (λ (one : CellValue). one.cell < variable_cells plan))
+    (λ _. from_cell_small (initial_of plan one.node) (first_cell plan one.node) (variable_cells plan)
+    (omega (arith, initial_cells plan one.node (flat_sound parts.flat) here, cells_within plan one.node here)))
+    (λ _. All-nil (λ one. one.cell < variable_cells plan)))
+    (initial_small parts going (All-tail (λ (one : Going). one.node < length (plan_in parts)) one going within))
   where
     plan : List Site
     plan = plan_in parts
 
     here : one.node < length plan
     here = All-head (λ (one : Going). one.node < length (plan_in parts)) one going within
-
-    by : (b : Bool)
-        → All (λ one. one.cell < variable_cells plan)
-        (if b then from_cell (first_cell plan one.node) (initial_of plan one.node) else [])
-    by true =
-        from_cell_small (initial_of plan one.node) (first_cell plan one.node) (variable_cells plan)
-        (omega (arith, initial_cells plan one.node (flat_sound parts.flat) here, cells_within plan one.node here))
-    by false = All-nil (λ one. one.cell < variable_cells plan)

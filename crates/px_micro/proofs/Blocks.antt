@@ -29,28 +29,6 @@ block_is n first cells block long room same =
     let inside : i < n = omega (arith, within, sized) in
     get_or-take n (drop first cells) i values.Unknown inside ∙ get_or-drop first cells i values.Unknown ∙ same i inside)
 
--- where the cells of variables are the same, their values are
-pub values_in-same : (variables : List VariableData) (first : ℕ) (a b : List Value) → length a ≡ length b
-    → first + sum (map cells_of variables) ≤ length a
-    → ((i : ℕ) → i < sum (map cells_of variables) → held a (first + i) ≡ held b (first + i))
-    → values_in variables (drop first a) ≡ values_in variables (drop first b)
-values_in-same [] first a b long room same = refl
-values_in-same (variable ∷ variables) first a b long room same =
-    let n : ℕ = cells_of variable in
-    let total : sum (map cells_of (variable ∷ variables)) ≡ n + sum (map cells_of variables) =
-    sum_by-cons (λ n. n) n (map cells_of variables) in
-    let sized : length (take n (drop first b)) ≡ n =
-    length-take-le n (drop first b) (omega (arith, length-drop first b, room, total, long)) in
-    let head : take n (drop first a) ≡ take n (drop first b) =
-    block_is n first a (take n (drop first b)) sized (omega (arith, room, total)) (λ i within.
-    same i (omega (arith, within, total))
-    ∙ sym (get_or-take n (drop first b) i values.Unknown within ∙ get_or-drop first b i values.Unknown)) in
-    let rest : values_in variables (drop (first + n) a) ≡ values_in variables (drop (first + n) b) =
-    values_in-same variables (first + n) a b long (omega (arith, room, total)) (λ i within.
-    let there : first + n + i ≡ first + (n + i) = omega arith in
-    ap (held a) there ∙ same (n + i) (omega (arith, within, total)) ∙ ap (held b) (sym there)) in
-    λ i. head i ∷ (ap (values_in variables) (drop-drop n first a) ∙ rest ∙ ap (values_in variables) (sym (drop-drop n first b))) i
-
 -- ---- initial values
 
 pub values_in-initial : (variables : List VariableData) (first : ℕ) (cells : List Value)

@@ -140,7 +140,7 @@ losers_rise plan now nodes are =
     (AllPairs-filter (λ a b. a < b) (starting plan now) nodes are.rise)
 
 -- a loser would start
-loser_starts : (plan : List Site) (now : World) (site : Site) → is_loser plan now site ≡ true
+pub loser_starts : (plan : List Site) (now : World) (site : Site) → is_loser plan now site ≡ true
     → would_start plan now site ≡ true
 loser_starts plan now site = grind (arith, common_steps, and_parts)
 

@@ -3,7 +3,7 @@ use Rattle.std.proofs.Common.{◌≡◌, ℕ, Bool, true, false, cond, List, [],
 use Rattle.std.specs.Cmp.{nat_eq_equiv}
 use Rattle.std.specs.List.{find}
 use Rattle.std.specs.Option.{option_or}
-use Rattle.std.proofs.lemmas.Bool.{eqb-true, false_from_ne_true}
+use Rattle.std.proofs.lemmas.Bool.{cond_both, eqb-true, false_from_ne_true}
 use Rattle.std.proofs.lemmas.Grind.{common_steps}
 use Rattle.std.proofs.lemmas.List.Elements.{All-nil, All-push}
 use Rattle.std.proofs.lemmas.List.Folds.{find-append, list_any_none}
@@ -21,11 +21,8 @@ writes_to variable write = nat_eq write.variable variable
 -- what holds of all holds of the first ones
 all_with : (P : CellWrite → Type 0) (before : List CellWrite) (write : CellWrite) → P write → All P before
     → All P (with_write before write)
-all_with P before write one all = by (is_written before write.variable)
-  where
-    by : (b : Bool) → All P (if b then before else before ++ write ∷ [])
-    by true = all
-    by false = All-push P before write all one
+all_with P before write one all =
+    cond_both (is_written before write.variable) before (before ++ write ∷ []) (All P) (λ _. all) (λ _. All-push P before write all one)
 
 pub firsts_all : (P : CellWrite → Type 0) (writes : List CellWrite) → All P writes → All P (first_writes writes)
 firsts_all P writes all = fold_keeps with_write (All P) P (all_with P) writes [] all (All-nil P)
@@ -36,18 +33,15 @@ AreApart variable writes = AllPairs (λ a b. writes_to variable a ≡ true → w
 
 apart_with : (variable : ℕ) (before : List CellWrite) (write : CellWrite) → AreApart variable before
     → AreApart variable (with_write before write)
-apart_with variable before write apart = by (is_written before write.variable) refl
-  where
-    by : (b : Bool) → is_written before write.variable ≡ b → AreApart variable (if b then before else before ++ write ∷ [])
-    by true known = apart
-    by false fresh =
-        all_pairs_push (λ a b. writes_to variable a ≡ true → writes_to variable b ≡ false) before write apart
-        (λ k d within to. false_from_ne_true (writes_to variable write) (λ same.
-        let one : (get_or before k d).variable ≡ variable = eqb-true (get_or before k d).variable variable to in
-        let other : write.variable ≡ variable = eqb-true write.variable variable same in
-        let missed : nat_eq write.variable (get_or before k d).variable ≡ false =
-        one_fails (λ (other : CellWrite). nat_eq write.variable other.variable) before k d fresh within in
-        absurd (cc (sym missed ∙ (λ i. nat_eq (other i) (one i)) ∙ nat_eq_equiv.refl variable))))
+apart_with variable before write apart =
+    cond_both (is_written before write.variable) before (before ++ write ∷ []) (AreApart variable) (λ _. apart) (λ fresh.
+    all_pairs_push (λ a b. writes_to variable a ≡ true → writes_to variable b ≡ false) before write apart
+    (λ k d within to. false_from_ne_true (writes_to variable write) (λ same.
+    let one : (get_or before k d).variable ≡ variable = eqb-true (get_or before k d).variable variable to in
+    let other : write.variable ≡ variable = eqb-true write.variable variable same in
+    let missed : nat_eq write.variable (get_or before k d).variable ≡ false =
+    one_fails (λ (other : CellWrite). nat_eq write.variable other.variable) before k d fresh within in
+    absurd (cc (sym missed ∙ (λ i. nat_eq (other i) (one i)) ∙ nat_eq_equiv.refl variable)))))
 
 pub firsts_apart : (variable : ℕ) (writes : List CellWrite) → AreApart variable (first_writes writes)
 firsts_apart variable writes =

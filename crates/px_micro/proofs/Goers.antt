@@ -4,7 +4,7 @@ use Rattle.std.specs.List.{filter_map, cons_option, find}
 use Rattle.std.specs.Option.{option_map}
 use Rattle.std.specs.Cmp.{nat_eq_equiv}
 use Rattle.std.proofs.lemmas.List.{get_or-map, length-map}
-use Rattle.px_value.proofs.General.{none_found}
+use Rattle.px_value.proofs.General.{none_found, none_from}
 use Rattle.px_core.specs.Plan.{Site, no_site}
 use Rattle.px_sem.specs.declared.guards.Arrival.{Arrival}
 use Rattle.px_sem.specs.Conflicts.{transition}
@@ -134,22 +134,15 @@ gone plan now f going are =
 -- a node that is not among those that go stays
 pub stays : (plan : List Site) (now : World) (going : List Going) (node : ℕ) → AreAllGoing plan now going → node < length plan
     → find (λ one. nat_eq one.node node) going ≡ None → transition plan now (site_in plan node) ≡ None
-stays plan now going node are within none = by (transition plan now (site_in plan node)) refl
+stays plan now going node are within none = none_from (transition plan now (site_in plan node)) (λ arrival is.
+    found arrival (are.all node within (subst IsSome (sym is) refl)))
   where
-    by : (arrival : Option Arrival) → transition plan now (site_in plan node) ≡ arrival
-        → transition plan now (site_in plan node) ≡ None
-    by None is = is
-    by (Some arrival) is =
-        let (i, inside, at) = are.all node within (subst IsSome (sym is) refl) in
-        absurd (found i inside at)
-      where
-        found : (i : ℕ) → i < length (map (λ (one : Going). one.node) going)
-            → get_or (map (λ (one : Going). one.node) going) i node ≡ node → ⊥
-        found i inside at =
-            let one : Going = record { node = node; arrival = arrival } in
-            let few : i < length going = omega (arith, inside, length-map going (λ (one : Going). one.node)) in
-            let there : (get_or going i one).node ≡ node =
-            sym (get_or-map (λ (one : Going). one.node) going i one node few) ∙ at in
-            let missed : nat_eq (get_or going i one).node node ≡ false =
-            none_found (λ (one : Going). nat_eq one.node node) going none i one few in
-            absurd (cc (sym missed ∙ ap (λ n. nat_eq n node) there ∙ nat_eq_equiv.refl node))
+    found : Arrival → Contains (map (λ (one : Going). one.node) going) node → ⊥
+    found arrival (i, inside, at) =
+        let one : Going = record { node = node; arrival = arrival } in
+        let few : i < length going = omega (arith, inside, length-map going (λ (one : Going). one.node)) in
+        let there : (get_or going i one).node ≡ node =
+        sym (get_or-map (λ (one : Going). one.node) going i one node few) ∙ at in
+        let missed : nat_eq (get_or going i one).node node ≡ false =
+        none_found (λ (one : Going). nat_eq one.node node) going none i one few in
+        absurd (cc (sym missed ∙ ap (λ n. nat_eq n node) there ∙ nat_eq_equiv.refl node))

@@ -1,30 +1,22 @@
 -- The guards of a node by what is seen of it are those that the semantics asks.
-use Rattle.std.proofs.Common.{◌≡◌, ℕ, ◌<◌, List, length, ap, sym, ◌∙◌, arith}
-use Rattle.std.proofs.lemmas.Grind.{common_steps}
+use Rattle.std.proofs.Common.{◌≡◌, ℕ, ◌<◌, List, length, ap, sym, ◌∙◌}
 use Rattle.px_value.specs.declared.enums.NodeState.{NodeState}
-use Rattle.px_core.specs.declared.node.Kind.TheVariants as kinds
 use Rattle.px_core.specs.Plan.{Site}
 use Rattle.px_sem.specs.declared.guards.Guards.{Guards}
-use Rattle.px_sem.specs.Guards.{is_ready, each_child, is_at_rest}
-use Rattle.px_sem.specs.World.{World, NodeRecord, record_at, parent_state}
+use Rattle.px_sem.specs.Guards.{each_child, is_at_rest}
+use Rattle.px_sem.specs.World.{World, NodeRecord, parent_state}
 use Rattle.px_flat.specs.Numbered.{ConditionsNumbered, numbered_conditions}
 use Rattle.px_flat.specs.Row.{site_in}
 use Rattle.px_parts.specs.declared.parts.Parts.{Parts}
 use Rattle.px_tables.specs.Reading.{read_by}
 use Rattle.px_told.specs.declared.asks.Asks.{Asks}
 use Rattle.px_micro.specs.Above.{asked_of}
-use Rattle.px_micro.specs.Guarded.{guards_at, guards_in, ready_in}
+use Rattle.px_micro.specs.Guarded.{guards_at, guards_in}
 use Rattle.px_parts.specs.Parts.{AreStanding, plan_in, world_in, record_of, value_in}
 use Rattle.px_micro.specs.declared.truths.Truths.{Truths}
 use Rattle.px_micro.specs.Truths.{truths_in}
 use Rattle.px_parts.proofs.Found.{record_is}
 use Rattle.px_micro.proofs.Seeing.{truths_by, truths_are}
-
--- whether a node is ready, by its kind
-ready_is : (plan : List Site) (now : World) (site : Site)
-    → is_ready plan now site
-    ≡ ready_in site.head.kind (record_at now site.path).action (each_child is_at_rest plan now site.path)
-ready_is plan now site = grind (arith, common_steps)
 
 -- what is seen of a node whose record is this
 abbrev seen : List Site → World → Site → NodeRecord → ℕ → Guards
@@ -37,8 +29,6 @@ pub guards_are : (parts : Parts) (node : ℕ) → node < length (plan_in parts)
     ≡ guards_at parts node
 guards_are parts node here =
     ap (λ r. seen (plan_in parts) (world_in parts) (site_in (plan_in parts) node) r node) (sym (record_is parts node here))
-    ∙ ap (λ ready. record (guards_at parts node) { ready = ready })
-    (sym (ready_is (plan_in parts) (world_in parts) (site_in (plan_in parts) node)))
 
 -- what is read of a node, by what is asked of it and by its numbered conditions
 abbrev looked : Parts → ℕ → Asks → Truths → Guards

@@ -24,11 +24,10 @@ pub none_hit : {A S V : Type 0} (step : S → A → S) (see : S → V) (hits : A
     → ((s : S) (item : A) → Fits item → Ok s → hits item ≡ false → see (step s item) ≡ see s)
     → (items : List A) (s : S) → All Fits items → Ok s → All (λ item. hits item ≡ false) items
     → see (fold step s items) ≡ see s
-none_hit step see hits Ok Fits keeps missed [] s fit ok none = refl
-none_hit step see hits Ok Fits keeps missed (item ∷ items) s fit ok none =
-    none_hit step see hits Ok Fits keeps missed items (step s item) (All-tail Fits item items fit)
-    (keeps s item (All-head Fits item items fit) ok) (All-tail (λ item. hits item ≡ false) item items none)
-    ∙ missed s item (All-head Fits item items fit) ok (All-head (λ item. hits item ≡ false) item items none)
+none_hit step see hits Ok Fits keeps missed items s fit ok none =
+    (fold_keeps step (λ t. Ok t × (see t ≡ see s)) (λ item. Fits item × (hits item ≡ false))
+    (λ t item so same. (keeps t item so.0 same.0, missed t item so.0 same.0 so.1 ∙ same.1)) items s
+    (λ k d within. (fit k d within, none k d within)) (ok, refl)).1
 
 -- at most one has
 pub one_hit : {A S V : Type 0} (step : S → A → S) (see : S → V) (hits : A → Bool) (Ok : S → Type 0) (Fits : A → Type 0)

@@ -1,11 +1,11 @@
 -- The initial values of variables, cell by cell.
-use Rattle.std.proofs.Common.{◌≡◌, ℕ, ◌+◌, ◌-◌, ◌<◌, ◌≤◌, true, List, [], ◌∷◌, ◌++◌, length, map, sum, get_or, take, append-nil, refl, ap, sym, ◌∙◌, arith, length-append}
+use Rattle.std.proofs.Common.{◌≡◌, ℕ, ◌+◌, ◌-◌, ◌<◌, ◌≤◌, true, List, [], ◌∷◌, ◌++◌, length, map, sum, get_or, take, append-nil, refl, ap, sym, ◌∙◌, subst, arith, length-append}
 use Rattle.std.specs.List.{flat_map, list_all}
 use Rattle.std.proofs.lemmas.Bool.{and_parts, cases_lt}
 use Rattle.std.proofs.lemmas.Grind.{flat_map-append, common_steps}
 use Rattle.std.proofs.lemmas.List.Sums.{AllPass-from_list_all, list_all-from_AllPass, sum_by-cons}
 use Rattle.std.proofs.lemmas.List.Elements.{All-take}
-use Rattle.std.proofs.lemmas.List.{take_more, get_or-map, length-map, get_or_past, length-take-le, get_or_append_left, get_or-append_right, get_or-replicate, length-replicate}
+use Rattle.std.proofs.lemmas.List.{take_more, get_or_past, length-take-le, get_or_append_left, get_or-append_right, get_or-replicate, length-replicate}
 use Rattle.px_value.specs.declared.value.Value.{Value}
 use Rattle.px_value.specs.declared.value.Value.TheVariants as values
 use Rattle.px_core.proofs.Cells.{few_initials}
@@ -18,6 +18,7 @@ use Rattle.px_flat.specs.Layout.{first_cell}
 use Rattle.px_flat.specs.Numbered.{held}
 use Rattle.px_flat.specs.Row.{site_in, IsRowOf}
 use Rattle.px_flat.proofs.Known.{IsSound}
+use Rattle.px_flat.proofs.Slotted.{next as next_item}
 use Rattle.px_flat.proofs.Sums.{sum_more, sum_front}
 use Rattle.px_flat.proofs.Variables.{cells_within}
 use Rattle.px_micro.specs.Turns.{from_cell, initial_of}
@@ -110,11 +111,11 @@ next_variable plan node i cell row items item sound here row_is items_are inside
     are = ap (map variable_data) items_are ∙ ap (λ (head : Head). head.variables) row_is.head
 
     within : i < length own
-    within = omega (arith, inside, length-map items variable_data, ap length are)
+    within = subst (λ (own : List VariableData). i < length own) are (next_item items i item inside item_is).within
 
     is : get_or own i (variable_data item) ≡ variable_data item
-    is = ap (λ own. get_or own i (variable_data item)) (sym are)
-        ∙ get_or-map variable_data items i item (variable_data item) inside ∙ ap variable_data (sym item_is)
+    is = subst (λ (own : List VariableData). get_or own i (variable_data item) ≡ variable_data item) are
+        (next_item items i item inside item_is).is
 
 -- its cells are behind those of the variables before
 pub next_cell : (plan : List Site) (node i cell : ℕ) (variable : VariableData) → IsNext plan node i cell variable

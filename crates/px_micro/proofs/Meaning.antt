@@ -4,9 +4,10 @@ use Rattle.std.specs.List.{All}
 use Rattle.std.specs.Option.{ForSome, option_map, option_and_then}
 use Rattle.std.proofs.lemmas.Bool.{and_parts, ltb-true}
 use Rattle.std.proofs.lemmas.Grind.{common_steps}
+use Rattle.std.proofs.lemmas.Option.{same_Some}
 use Rattle.px_value.specs.declared.value.Value.{Value}
 use Rattle.px_value.specs.declared.value.Value.TheVariants as values
-use Rattle.px_value.specs.Value.{value_index}
+use Rattle.px_value.specs.Value.{place_in, value_index}
 use Rattle.px_value.proofs.General.{All-unmap}
 use Rattle.px_core.specs.Expr.{Term}
 use Rattle.px_core.specs.Fit.{terms_of, targets_of}
@@ -18,7 +19,6 @@ use Rattle.px_sem.specs.Effects.{as_kind, cell_of, index_of, move_kind, row_of, 
 use Rattle.px_sem.specs.Expressions.{value}
 use Rattle.px_sem.specs.World as world
 use Rattle.px_sem.specs.World.{World, NodeRecord, Action, NoAction, cells_at}
-use Rattle.px_eval.specs.Arrays.{place_in}
 use Rattle.px_flat.specs.declared.act.Abort.TheVariants as aborts
 use Rattle.px_flat.specs.declared.act.Act.{Act}
 use Rattle.px_flat.specs.declared.act.Act.TheVariants as acts
@@ -333,13 +333,10 @@ each_row parts node move body stand here is = by move body is
         (λ target none. absurd (cc none)) (λ target term none at. absurd (cc none))
     by sem.Starts (Command name args (Some result)) is =
         sends_as parts node name args (Some result) (have (Command name args (Some result)) is)
-        (λ target same. subst (λ target. HasCells parts target.owner target.name) (one result target same)
+        (λ target same. subst (λ target. HasCells parts target.owner target.name) (same_Some result target same)
         (cells (Command name args (Some result)) result is refl))
         (λ target term same at. indices (Command name args (Some result)) is 0 result (omega arith) term
-        (ap (λ (target : TargetData). target.index) (one result target same) ∙ at))
-      where
-        one : (a b : TargetData) → Some a ≡ Some b → a ≡ b
-        one a b same = cc same
+        (ap (λ (target : TargetData). target.index) (same_Some result target same) ∙ at))
     by sem.Starts (Update pairs) is = updates_as parts node pairs (have (Update pairs) is)
     by sem.Fails Nothing is = nothing parts node (fit Nothing is)
     by sem.Fails (Assign target right) is =

@@ -23,7 +23,7 @@ use Rattle.px_flat.specs.Layout.{all_cells, first_cell, state_cell, outcome_cell
 use Rattle.px_flat.specs.Numbered.{held}
 use Rattle.px_flat.specs.Parts.{IsNode, IsParts, action_in, act_of, fits, values_in, record_in, world_of, state_in, outcome_in, failure_in, is_state, is_outcome, is_failure, is_handle_of, is_acknowledgement_of}
 use Rattle.px_flat.specs.Row.{site_in}
-use Rattle.px_flat.proofs.Changes.{nodes_are}
+use Rattle.px_flat.proofs.Changes.{nodes_are, values_in-same}
 use Rattle.px_flat.proofs.Tables.{flat_sound}
 use Rattle.px_flat.proofs.Variables.{cells_within}
 use Rattle.px_command.proofs.Rows.{command_handle}
@@ -41,7 +41,7 @@ use Rattle.px_parts.specs.Parts.{AreStanding, plan_in, world_in, record_of}
 use Rattle.px_micro.specs.Turns.{action_after, act_after, act_then, begins, effects_in, first_writes, written_in, AreTurns, IsTurn}
 use Rattle.px_micro.proofs.Arriving.{Said, said_in, said_after, handle_after, acknowledgement_after, AreWithin, Rise, all_length, all_acts_length, variable_stays, said_then, acts_then}
 use Rattle.px_micro.proofs.Beginning.{begun_as, begun_variables, initial_small}
-use Rattle.px_micro.proofs.Blocks.{values_in-same, set_length, set_off}
+use Rattle.px_micro.proofs.Blocks.{set_length, set_off}
 use Rattle.px_micro.proofs.Firsts.{firsts_all}
 use Rattle.px_micro.proofs.Goers.{stays}
 use Rattle.px_micro.proofs.Hits.{hit_by}
@@ -141,7 +141,7 @@ variables_then : (parts : Parts) (made : Turns) (node : ℕ) (found : Option Tur
     (as_written parts node (record_of parts node).variables)
 variables_then parts made node found ready here is =
     values_in-same (own parts node) first (cells_after parts made) (cells_begun parts made) (long ∙ sym (begun_all parts made ready))
-    (omega (arith, long, inside)) (λ i few.
+    (λ i few.
     variable_stays plan made.turns.items (cells_begun parts made) (first + i) (turns_within parts made ready)
     (begun_all parts made ready) (omega (arith, inside, few)))
     ∙ ap (λ (initial : List CellValue). values_in (own parts node) (drop first (fold put_value (cells_written parts made) initial)))

@@ -1,8 +1,7 @@
 -- A walk over the children of a node: the first stands behind the node, and each other one behind the last descendant of the
 -- one before.
-use Rattle.std.proofs.Common.{◌≡◌, ◌⊎◌, ℕ, ◌+◌, ◌<◌, true, List, length, sym, subst, arith, inl, inr}
-use Rattle.std.proofs.lemmas.Bool.{cases_lt}
-use Rattle.std.proofs.Math.Nat.{eq-or-lt_of_le}
+use Rattle.std.proofs.Common.{◌≡◌, ◌⊎◌, ℕ, ◌+◌, ◌<◌, true, List, length, subst, arith, inl, inr}
+use Rattle.std.proofs.lemmas.Bool.{cases_order}
 use Rattle.px_core.specs.Plan.{Site, is_child_of}
 use Rattle.px_flat.specs.declared.flat.Flat.{Flat}
 use Rattle.px_flat.specs.Flat.{plan_of}
@@ -14,21 +13,6 @@ use Rattle.px_micro.proofs.Families.{IsBelow, behind, among, end_within, below_b
 pub record HavePassed (plan : List Site) (node next : ℕ) : Type 0 where
   pub first : node < next
   pub done : (k o : ℕ) → node < k → k < next → o < length plan → IsBelow plan k o → o < next
-
--- one number stands before another, is it, or stands behind it
-data Side (k n : ℕ) : Type 0 where
-  Before : k < n → Side k n
-  Same : k ≡ n → Side k n
-  Behind : n < k → Side k n
-
-side : (k n : ℕ) → Side k n
-side k n = elim (cases_lt k n) [
-  | inl less ↦ Before less
-  | inr more ↦ elim (eq-or-lt_of_le more) [
-    | inl same ↦ Same (sym same)
-    | inr greater ↦ Behind greater
-  ]
-]
 
 module _ (flat : Flat) (node next end : ℕ) (there : next < length (plan_of flat)) (is : end ≡ after_last (plan_of flat) next)
     (passed : HavePassed (plan_of flat) node next) where
@@ -42,12 +26,13 @@ module _ (flat : Flat) (node next end : ℕ) (there : next < length (plan_of fla
   before_end : (o : ℕ) → o < length plan → IsBelow plan next o → o < end
   before_end o inside below = omega (arith, (behind plan next o (flat_sound flat) there inside below).1, is)
 
-  stands : (k o : ℕ) → node < k → k < end → o < length plan → IsBelow plan k o → Side k next → o < end
-  stands k o after before inside below (Before earlier) =
-      omega (arith, passed.done k o after earlier inside below, is)
-  stands k o after before inside below (Same same) =
+  stands : (k o : ℕ) → node < k → k < end → o < length plan → IsBelow plan k o
+      → (k ≡ next) ⊎ ((k < next) ⊎ (next < k)) → o < end
+  stands k o after before inside below (inl same) =
       before_end o inside (subst (λ n. IsBelow plan n o) same below)
-  stands k o after before inside below (Behind later) =
+  stands k o after before inside below (inr (inl earlier)) =
+      omega (arith, passed.done k o after earlier inside below, is)
+  stands k o after before inside below (inr (inr later)) =
       let within : k < length plan = omega (arith, before, is, end_within plan next there) in
       before_end o inside (below_below flat next k o (o + 1) there within inside (omega arith) (lower k later before within) below)
 
@@ -55,16 +40,16 @@ module _ (flat : Flat) (node next end : ℕ) (there : next < length (plan_of fla
   pub passed_more : HavePassed plan node end
   passed_more = record {
     first = omega (arith, passed.first, is);
-    done = λ k o after before inside below. stands k o after before inside below (side k next);
+    done = λ k o after before inside below. stands k o after before inside below (cases_order k next);
   }
 
   -- a child that was passed was passed before, or is the next
   pub passed_child : (k : ℕ) → node < length plan → k < end → k < length plan
       → is_child_of (site_in plan node).path (site_in plan k) ≡ true → (k < next) ⊎ (k ≡ next)
-  passed_child k here before inside child = by (side k next)
+  passed_child k here before inside child = by (cases_order k next)
     where
-      by : Side k next → (k < next) ⊎ (k ≡ next)
-      by (Before earlier) = inl earlier
-      by (Same same) = inr same
-      by (Behind later) =
+      by : (k ≡ next) ⊎ ((k < next) ⊎ (next < k)) → (k < next) ⊎ (k ≡ next)
+      by (inl same) = inr same
+      by (inr (inl earlier)) = inl earlier
+      by (inr (inr later)) =
           absurd (no_grandchild flat node next k here there inside passed.first (lower k later before inside) child)

@@ -1,9 +1,13 @@
 -- How many cells a step puts.
-use Rattle.std.proofs.Common.{◌≡◌, ℕ, zero, suc, ◌+◌, ◌*◌, ◌^◌, ◌<◌, ◌≤◌, Bool, true, false, List, [], ◌∷◌, length, fold, get_or, refl, ap, sym, ◌∙◌, arith, length-append, if◌then◌else◌, Option, All, AllPairs}
+use Rattle.std.proofs.Common.{◌≡◌, ℕ, suc, ◌+◌, ◌*◌, ◌^◌, ◌<◌, ◌≤◌, Bool, true, false, List, [], ◌∷◌, length, fold, get_or, map, refl, ap, sym, ◌∙◌, subst, arith, length-append, if◌then◌else◌, Option, All, AllPairs}
 use Rattle.std.proofs.lemmas.Grind.{common_steps}
 use Rattle.std.specs.List.{flat_map, filter_map}
 use Rattle.std.proofs.lemmas.List.{length-map}
-use Rattle.std.proofs.lemmas.List.Elements.{All-head, All-tail}
+use Rattle.std.proofs.lemmas.List.Concat.{length-flat_map}
+use Rattle.std.proofs.lemmas.List.Elements.{All-map}
+use Rattle.std.proofs.lemmas.List.Sums.{sum_by-le}
+use Rattle.std.proofs.lemmas.Map.Keys.{sorted_from_strictly_increasing}
+use Rattle.std.proofs.lemmas.Map.Views.{length-le_from_below}
 use Rattle.px_value.specs.declared.value.Value.{Value}
 use Rattle.px_core.specs.Plan.{Site}
 use Rattle.px_flat.specs.Layout.{first_cell, variable_cells}
@@ -18,24 +22,19 @@ use Rattle.px_micro.specs.Going.{AreAllGoing}
 use Rattle.px_parts.specs.Parts.{plan_in, world_in}
 use Rattle.px_micro.specs.Turns.{begins, from_cell, initial_in, initial_of, with_write, written_in, AreTurns}
 use Rattle.px_micro.proofs.Initial.{initial_cells}
+use Rattle.px_micro.proofs.Lists.{pairs_map}
 
 -- ---- no more nodes go than there are
 
-rising_at : (ones : List Going) → AllPairs (λ a b. a.node < b.node) ones → (k : ℕ) (d : Going) → k < length ones
-    → k ≤ (get_or ones k d).node
-rising_at ones rise zero d within = omega arith
-rising_at ones rise (suc k) d within =
-    omega (arith, rising_at ones rise k d (omega arith), rise k (suc k) d (omega arith) within)
-
 pub few_go : (n : ℕ) (ones : List Going) → AllPairs (λ a b. a.node < b.node) ones → All (λ one. one.node < n) ones
     → length ones ≤ n
-few_go n [] rise within = omega arith
-few_go n (one ∷ ones) rise within =
-    omega (
-      arith,
-      rising_at (one ∷ ones) rise (length ones) one (omega arith),
-      within (length ones) one (omega arith),
-    )
+few_go n ones rise within =
+    let nodes : List ℕ = map (λ (one : Going). one.node) ones in
+    subst (λ count. count ≤ n) (length-map ones (λ (one : Going). one.node))
+    (length-le_from_below n nodes
+    (sorted_from_strictly_increasing nodes
+    (λ k inside. pairs_map (λ (a b : ℕ). a < b) (λ (one : Going). one.node) ones rise k (k + 1) 0 (omega arith) inside))
+    (All-map (λ (node : ℕ). node < n) (λ (one : Going). one.node) ones within))
 
 -- ---- their writes
 
@@ -78,13 +77,12 @@ initial_few parts one here = by (begins parts one)
 
 initials_few : (parts : Parts) (ones : List Going) → All (λ one. one.node < length (plan_in parts)) ones
     → length (flat_map (initial_in parts) ones) ≤ 131072 * length ones
-initials_few parts [] within = omega arith
-initials_few parts (one ∷ ones) within =
+initials_few parts ones within =
     omega (
       arith,
-      length-append (initial_in parts one) (flat_map (initial_in parts) ones),
-      initial_few parts one (All-head (λ one. one.node < length (plan_in parts)) one ones within),
-      initials_few parts ones (All-tail (λ one. one.node < length (plan_in parts)) one ones within),
+      length-flat_map (initial_in parts) ones,
+      sum_by-le (λ (one : Going). length (initial_in parts one)) 131072 ones
+          (λ k d inside. initial_few parts (get_or ones k d) (within k d inside)),
     )
 
 -- ---- all cells that are put

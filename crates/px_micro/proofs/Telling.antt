@@ -1,12 +1,13 @@
 -- Where moves are told, or not, all else of a step stays.
-use Rattle.std.proofs.Common.{◌≡◌, Bool, true, false, List, sym, ◌∙◌, subst}
+use Rattle.std.proofs.Common.{◌≡◌, Bool, true, false, List, sym, ◌∙◌}
 use Rattle.px_sem.specs.declared.moves.Move.{Move}
 use Rattle.px_sem.specs.Step.{move_of, moves}
 use Rattle.px_flat.specs.Flat.{plan_of}
-use Rattle.px_flat.specs.Parts.{IsParts, world_of}
+use Rattle.px_flat.specs.Parts.{world_of}
 use Rattle.px_parts.specs.declared.parts.Parts.{Parts}
 use Rattle.px_parts.specs.Parts.{AreStanding, plan_in, world_in}
 use Rattle.px_parts.specs.Seen.{AreSeenAsBefore}
+use Rattle.px_parts.proofs.Stepped.{same_stand}
 use Rattle.px_micro.specs.declared.sight.Going.{Going}
 use Rattle.px_micro.specs.Going.{AreAllGoing}
 use Rattle.px_micro.specs.Stepping.{HasTold, HaveMoved, moves_after}
@@ -18,10 +19,12 @@ told_world tells made old new told i =
     world_of (plan_of (told.flat i)) (told.cells i).contents.values (told.reports i).reports (told.actions i).contents.values
 
 pub told_stand : (tells : Bool) (made : List Move) (old new : Parts) → HasTold tells made old new → AreStanding old → AreStanding new
-told_stand tells made old new told stand =
-    subst (λ flat. IsParts (plan_of flat) new.cells.contents.values new.actions.contents.values) (sym told.flat)
-    (subst (λ cells. IsParts (plan_in old) cells.contents.values new.actions.contents.values) (sym told.cells)
-    (subst (λ actions. IsParts (plan_in old) old.cells.contents.values actions.contents.values) (sym told.actions) stand))
+told_stand tells made old new told = same_stand old new (record {
+  plan = λ i. plan_of (told.flat i);
+  cells = λ i. (told.cells i).contents;
+  reports = told.reports;
+  actions = λ i. (told.actions i).contents;
+})
 
 pub told_seen : (tells : Bool) (made : List Move) (before old new : Parts) → HasTold tells made old new
     → AreSeenAsBefore before old → AreSeenAsBefore before new

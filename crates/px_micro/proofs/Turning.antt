@@ -54,7 +54,7 @@ moves_then parts tells going one old new before added =
 -- ---- what the turns are does not change with the room
 
 -- reports latch by the tolerances of the plan
-abbrev Latches : Parts → Type 0
+abbrev pub Latches : Parts → Type 0
 Latches parts = parts.reports.tolerances ≡ tolerances (plan_of parts.flat)
 
 -- parts with other room

@@ -1,13 +1,12 @@
 -- The guards of a node, by what is seen of it.
-use Rattle.std.specs.Prelude.{ℕ, Bool, true, false, is_some}
+use Rattle.std.specs.Prelude.{ℕ, Bool, is_some}
 use Rattle.px_value.specs.declared.enums.NodeState.{NodeState}
 use Rattle.px_core.specs.declared.node.Kind.{Kind}
-use Rattle.px_core.specs.declared.node.Kind.TheVariants as kinds
 use Rattle.px_sem.specs.declared.guards.Guards.{Guards}
 use Rattle.px_sem.specs.World as world
-use Rattle.px_sem.specs.Expressions.{handle_of, is_acknowledged}
+use Rattle.px_sem.specs.Expressions.{handle_of}
 use Rattle.px_sem.specs.Guards as sem
-use Rattle.px_sem.specs.Guards.{is_true, is_false, command_is_over, is_waiting, is_executing, is_finished}
+use Rattle.px_sem.specs.Guards.{is_true, is_false, ready_in, is_waiting, is_executing, is_finished}
 use Rattle.px_flat.specs.Row.{site_in}
 use Rattle.px_parts.specs.declared.parts.Parts.{Parts}
 use Rattle.px_parts.specs.Parts.{plan_in, world_in}
@@ -17,14 +16,6 @@ use Rattle.px_micro.specs.declared.truths.Truths.{Truths}
 -- the guards of a node, as the semantics has them
 abbrev pub guards_at : Parts → ℕ → Guards
 guards_at parts node = sem.guards (plan_in parts) (world_in parts) (site_in (plan_in parts) node)
-
--- whether a failing node may leave FAILING
-abbrev pub ready_in : Kind → world.Action → Bool → Bool
-ready_in kinds.List _ rest = rest
-ready_in kinds.Empty _ rest = false
-ready_in kinds.Assignment _ rest = true
-ready_in kinds.Command action rest = command_is_over action
-ready_in kinds.Update action rest = is_acknowledged action
 
 -- all guards of a node: by its kind, its record, its parent's state, what its ancestors ask, whether its children are at
 -- rest, and the truths of its conditions

@@ -1,8 +1,8 @@
 -- The places that moves write.
 use Rattle.std.specs.Prelude.{Option, Some, None}
 use Rattle.std.specs.Option.{option_map}
+use Rattle.px_value.specs.Value.{place_in}
 use Rattle.px_sem.specs.World as world
-use Rattle.px_eval.specs.Arrays.{place_in}
 use Rattle.px_flat.specs.Numbered.{Numbered, TargetNumbered}
 use Rattle.px_parts.specs.declared.parts.Parts.{Parts}
 use Rattle.px_micro.specs.declared.places.Place.{Place}

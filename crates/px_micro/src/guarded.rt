@@ -4,13 +4,13 @@ ghost use Rattle.std.specs.Prelude.{◌≡◌, ◌<◌, length, IfOk, OnOk};
 ghost use Rattle.std.specs.BTreeMap.{get};
 ghost use Rattle.std.specs.Ordering.{nat_cmp};
 ghost use Rattle.px_value.specs.declared.enums.NodeState.TheVariants as states;
-ghost use Rattle.px_sem.specs.Guards.{each_child, is_at_rest};
+ghost use Rattle.px_sem.specs.Guards.{each_child, is_at_rest, ready_in};
 ghost use Rattle.px_sem.specs.World.{parent_state};
 ghost use Rattle.px_flat.specs.Row.{site_in};
 ghost use Rattle.px_parts.specs.Parts.{AreStanding, plan_in, world_in, record_of};
 ghost use Rattle.px_tables.specs.Reading.{read_by};
 ghost use Rattle.px_micro.specs.Above.{asked_of, AreRight};
-ghost use Rattle.px_micro.specs.Guarded.{guards_at, guards_in, ready_in};
+ghost use Rattle.px_micro.specs.Guarded.{guards_at, guards_in};
 
 use crate::asked::asked_of;
 use crate::children::children_rest;

@@ -6,10 +6,10 @@ use Rattle.px_event.specs.declared.entry.Entry.{Entry}
 use Rattle.px_event.specs.declared.event.Event.{Event}
 use Rattle.px_sem.specs.World.{World}
 use Rattle.px_sem.specs.Log.{HasRun, events_of}
-use Rattle.px_sem.specs.Run.{settled, started, posted, settled_world, run_on, run}
+use Rattle.px_sem.specs.Run.{settled, posted, settled_world, run_on, run}
 use Rattle.px_sem.specs.Stepper.{State, fresh, settled_state}
 use Rattle.px_output.specs.Summary.{steps_in, steps_on, steps_of, sum_in, sum_behind}
-use Rattle.px_output.proofs.Telling.{IsNext, run_on_event, begun_nodes, posted_is}
+use Rattle.px_output.proofs.Telling.{IsNext, run_on_event, fresh_starts, begun_nodes, posted_is}
 
 no_steps : (plan : List Site) (world : World) → steps_on plan (Some world) [] ≡ 0
 unfolding steps_on
@@ -32,14 +32,11 @@ pub counted_at_start : (plan : List Site) (history : List Entry) (from now : Sta
     → settled from.nodes from.world ≡ Some (now.world, count) → now ≡ settled_state from.nodes now.world → count ≤ 100000
     → IsSome (run plan (events_of history)) → IsCounted plan history 0 now count
 counted_at_start plan history from now count f s rests few some = record {
-  left = sym (ap (λ o. steps_in o + steps_on plan (settled_world o) (events_of history)) start);
-  runs = subst (λ o. IsSome (run_on plan (settled_world o) (events_of history))) start some;
+  left = sym (ap (λ o. steps_in o + steps_on plan (settled_world o) (events_of history)) (fresh_starts plan from (now.world, count) f s));
+  runs = subst (λ o. IsSome (run_on plan (settled_world o) (events_of history))) (fresh_starts plan from (now.world, count) f s) some;
   rest = rw f at rests;
   few = omega (arith, few);
 }
-  where
-    start : started plan ≡ Some (now.world, count)
-    start = subst (λ (x : State). settled x.nodes x.world ≡ Some (now.world, count)) f s
 
 module _ (plan : List Site) (history : List Entry) (position : ℕ) (now begun : State) (entry : Entry) (steps : ℕ)
     (counted : IsCounted plan history position now steps) (next : IsNext plan history position now begun entry) where

@@ -1,7 +1,8 @@
 -- A line for each item of a list, on their way to the sink.
-use Rattle.std.proofs.Common.{◌≡◌, ℕ, ◌+◌, ◌<◌, List, [], ◌∷◌, ◌++◌, take, drop, get_or, length, ap, sym, ◌∙◌, append-nil}
+use Rattle.std.proofs.Common.{◌≡◌, ℕ, ◌+◌, ◌<◌, List, ◌++◌, take, drop, get_or, length, ap, sym, ◌∙◌}
+use Rattle.std.proofs.Concat.{flat_map-take_more}
 use Rattle.std.proofs.lemmas.Grind.{flat_map-append}
-use Rattle.std.proofs.lemmas.List.{take-append-drop, take_more}
+use Rattle.std.proofs.lemmas.List.{take-append-drop}
 use Rattle.std.specs.List.{flat_map}
 use Rattle.px_value.proofs.General.{cut_at}
 use Rattle.px_output.specs.Printing.{Buffers}
@@ -20,10 +21,7 @@ module _ {X : Type 0} (line : X → List ℕ) (xs : List X) where
   -- the next item
   module _ (count : ℕ) (x : X) (within : count < length xs) (is : x ≡ get_or xs count x) where
     lines_more : flat_map line (take (count + 1) xs) ≡ flat_map line (take count xs) ++ line x
-    lines_more =
-        ap (flat_map line) (take_more xs count x within ∙ ap (λ y. take count xs ++ y ∷ []) (sym is))
-        ∙ flat_map-append line (take count xs) (x ∷ [])
-        ∙ ap (λ text. flat_map line (take count xs) ++ text) (append-nil (line x))
+    lines_more = sym (flat_map-take_more line xs count x within) ∙ ap (λ y. flat_map line (take count xs) ++ line y) (sym is)
 
     -- one line more
     pub one_listed : (old mid new : View) (p q r : List ℕ) → IsListed line xs count old p mid q → Buffers mid q new r (line x) → OnlyPrints mid new

@@ -52,6 +52,10 @@ pub start_is : (plan : List Site) (history : List Entry)
     → trace plan history ≡ start_text ++ (settled_text plan (initial_world plan) ++ events_trace plan 1 (settled_world (started plan)) history)
 start_is plan history = refl
 
+-- what settles from a fresh state starts
+pub fresh_starts : (plan : List Site) (from : State) (found : World × ℕ) → from ≡ fresh plan → settled from.nodes from.world ≡ Some found → started plan ≡ Some found
+fresh_starts plan from found f s = subst (λ (x : State). settled x.nodes x.world ≡ Some found) f s
+
 -- the stepper has settled in a world
 abbrev pub Settles : State → State → Type 0
 Settles from now = ((count : ℕ) × (settled from.nodes from.world ≡ Some (now.world, count))) × (now ≡ settled_state from.nodes now.world)
@@ -65,13 +69,11 @@ told_at_start plan history from now old mid new p q r f heads one ((count, s), r
   buffers = goes_on old mid new p q r start_text (settled_text plan (initial_world plan)) heads (rw f at buffers);
   only = only_more old mid new one two;
   left = sym (append_assoc start_text (settled_text plan (initial_world plan)) (events_trace plan 1 (settled_world (started plan)) history))
-      ∙ ap (λ o. (start_text ++ settled_text plan (initial_world plan)) ++ events_trace plan 1 (settled_world o) history) start;
-  runs = sym (ap (λ o. run_on plan (settled_world o) (events_of history)) start);
+      ∙ ap (λ o. (start_text ++ settled_text plan (initial_world plan)) ++ events_trace plan 1 (settled_world o) history)
+      (fresh_starts plan from (now.world, count) f s);
+  runs = sym (ap (λ o. run_on plan (settled_world o) (events_of history)) (fresh_starts plan from (now.world, count) f s));
   rest = rw f at rests;
 }
-  where
-    start : started plan ≡ Some (now.world, count)
-    start = subst (λ (x : State). settled x.nodes x.world ≡ Some (now.world, count)) f s
 
 -- an entry is the next of the history, and its event was begun
 pub record IsNext (plan : List Site) (history : List Entry) (position : ℕ) (now begun : State) (entry : Entry) : Type 0 where

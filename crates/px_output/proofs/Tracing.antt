@@ -1,15 +1,14 @@
 -- The text of micro steps on its way to the sink.
-use Rattle.std.proofs.Common.{◌≡◌, ℕ, ◌+◌, ◌≤◌, Bool, true, false, List, ◌++◌, Some, IsSome, ap, subst, ◌∙◌, sym, append_assoc, arith}
+use Rattle.std.proofs.Common.{◌≡◌, ℕ, ◌+◌, ◌≤◌, Bool, true, false, List, ◌++◌, Some, IsSome, ap, ◌∙◌, sym, append_assoc, arith}
 use Rattle.std.specs.Option.{unwrap_or}
 use Rattle.px_value.proofs.General.{told_of}
 use Rattle.px_core.specs.Plan.{Site}
 use Rattle.px_sem.specs.World.{World}
 use Rattle.px_sem.specs.declared.moves.Move.{Move}
-use Rattle.px_sem.specs.Step.{moves}
 use Rattle.px_sem.specs.Stepper.{State, Steps}
-use Rattle.px_sem.specs.Run.{after_steps, settled, steps_until_quiet}
+use Rattle.px_sem.specs.Run.{settled, steps_until_quiet}
 use Rattle.px_sem.specs.Text.{step_text, steps_text, quiet_text, settled_text}
-use Rattle.px_sem.proofs.Settles.{IsUnderway, underway_at_once, underway_after_step, underway_within, settles_at, settled_count}
+use Rattle.px_sem.proofs.Settles.{IsUnderway, underway_at_once, underway_after_step, moves_of_step, underway_within, settles_at, settled_count}
 use Rattle.px_sem.proofs.Texts.{steps_text_none, steps_text_more, steps_text_front, settled_text_is}
 use Rattle.px_output.specs.Printing.{Buffers}
 use Rattle.px_output.specs.Printing.{run_text}
@@ -41,11 +40,9 @@ stepped_on from now next count shown u s = underway_after_step from now next cou
 pub text_more : (from now next : State) (count : ℕ) (shown : List Move) → IsUnderway from now count → IsStepped now next shown
     → steps_text from.nodes from.world (count + 1) ≡ steps_text from.nodes from.world count ++ step_text (count + 1) shown
 text_more from now next count shown u s =
-    let steps = subst (λ answer. Steps now next s.made answer) s.yes s.steps in
-    let made : s.made ≡ moves from.nodes (after_steps from.nodes from.world count) =
-    steps.2 ∙ ap (λ plan. moves plan now.world) u.nodes ∙ ap (moves from.nodes) u.reached in
     steps_text_more from.nodes from.world count
-    ∙ ap (λ ms. steps_text from.nodes from.world count ++ step_text (count + 1) ms) (sym (s.are ∙ made))
+    ∙ ap (λ ms. steps_text from.nodes from.world count ++ step_text (count + 1) ms)
+    (sym (s.are ∙ moves_of_step from now next count s.made s.answer u s.yes s.steps))
 
 pub tracing_more : (from now next : State) (count : ℕ) (shown : List Move) (old mid new : View) (p q r : List ℕ)
     → IsTracing from old p now count mid q → IsStepped now next shown → Buffers mid q new r (step_text (count + 1) shown) → OnlyPrints mid new

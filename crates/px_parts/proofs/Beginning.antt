@@ -2,6 +2,7 @@
 use Rattle.std.proofs.Common.{◌≡◌, ℕ, zero, suc, ◌+◌, ◌-◌, false, ◌*◌, ◌<◌, ◌≤◌, List, [], ◌∷◌, ◌++◌, length, map, sum, take, drop, get_or, replicate, refl, ap, ◌∙◌, arith, length-append}
 use Rattle.std.proofs.lemmas.List.{drop-append-le, drop-replicate, get_or-append-add, get_or_append_left, get_or-replicate, length-replicate, take-append-le, take-replicate}
 use Rattle.std.proofs.lemmas.List.Sums.{sum_by-cons}
+use Rattle.std.proofs.Concat.{length-repeat}
 use Rattle.px_value.specs.declared.enums.NodeState.TheVariants.{Inactive}
 use Rattle.px_value.specs.declared.value.Value.{Value}
 use Rattle.px_value.specs.declared.value.Value.TheVariants as values
@@ -20,20 +21,10 @@ use Rattle.px_parts.specs.Fresh.{at_rest, all_at_rest, first_cells}
 
 -- ---- the cells of nodes
 
-pub one_more_at_rest : (nodes : ℕ) → all_at_rest nodes ++ at_rest ≡ all_at_rest (nodes + 1)
-one_more_at_rest zero = refl
-one_more_at_rest (suc nodes) =
-    let more : suc (nodes + 1) ≡ suc nodes + 1 = omega arith in
-    ap (λ rest. at_rest ++ rest) (one_more_at_rest nodes) ∙ ap all_at_rest more
-
-long_at_rest : (nodes : ℕ) → length (all_at_rest nodes) ≡ 5 * nodes
-long_at_rest zero = refl
-long_at_rest (suc nodes) = omega (arith, long_at_rest nodes)
-
 pub long_first_cells : (plan : List Site) → length (first_cells plan) ≡ all_cells plan
 long_first_cells plan =
     length-append (replicate (variable_cells plan) values.Unknown) (all_at_rest (length plan))
-    ∙ omega (arith, length-replicate (variable_cells plan) values.Unknown, long_at_rest (length plan))
+    ∙ omega (arith, length-replicate (variable_cells plan) values.Unknown, length-repeat (length plan) at_rest)
 
 -- the cells of one among them
 cell_at_rest : (nodes node which : ℕ) → node < nodes → which < 5

@@ -1,14 +1,15 @@
 -- What is found in the world at the path of a node, and at a path that the plan doesn't have.
-use Rattle.std.proofs.Common.{◌≡◌, ℕ, ◌+◌, ◌<◌, Bool, true, false, cond, List, [], ◌∷◌, length, refl, ap, sym, ◌∙◌, Option, Some, None}
+use Rattle.std.proofs.Common.{◌≡◌, ◌≢◌, ℕ, ◌+◌, ◌<◌, Bool, true, false, cond, List, [], ◌∷◌, length, refl, ap, sym, ◌∙◌, Option, Some, None}
 use Rattle.std.specs.List.{position_from}
 use Rattle.std.specs.Map.{lookup}
 use Rattle.std.specs.Option.{option_map, unwrap_or}
 use Rattle.std.proofs.lemmas.Cmp.{nat_list_eq_equiv}
 use Rattle.std.proofs.lemmas.Iterator.Adapters.{position_from-zero}
+use Rattle.px_value.specs.declared.enums.NodeState.{NodeState}
 use Rattle.px_value.specs.declared.enums.NodeState.TheVariants as states
 use Rattle.px_value.specs.declared.enums.Outcome.TheVariants.{Success}
 use Rattle.px_core.specs.Plan.{Site, is_same, root_of}
-use Rattle.px_sem.specs.declared.standing.Standing.TheVariants.{Finished}
+use Rattle.px_sem.specs.declared.standing.Standing.TheVariants.{Finished, Running}
 use Rattle.px_sem.specs.World.{World, NodeRecord, record_at, known_state, standing_of}
 use Rattle.px_flat.specs.Parts.{entries}
 use Rattle.px_flat.specs.Row.{site_in, paths_of, number_at}
@@ -59,10 +60,6 @@ state_known parts path =
 pub some_node : (parts : Parts) → 0 < length (plan_in parts)
 some_node parts = (flat_sound parts.flat).some
 
-root_is : (plan : List Site) → root_of plan ≡ site_in plan 0
-root_is [] = refl
-root_is (root ∷ others) = refl
-
 -- the record of a node
 pub record_is : (parts : Parts) (node : ℕ) → node < length (plan_in parts)
     → record_at (world_in parts) (site_in (plan_in parts) node).path ≡ record_of parts node
@@ -71,8 +68,7 @@ record_is parts node here =
     (flat_sound parts.flat).distinct here
 
 pub root_record : (parts : Parts) → record_at (world_in parts) (root_of (plan_in parts)).path ≡ record_of parts 0
-root_record parts =
-    ap (λ site. record_at (world_in parts) site.path) (root_is (plan_in parts)) ∙ record_is parts 0 (some_node parts)
+root_record parts = record_is parts 0 (some_node parts)
 
 finished : (plan : List Site) (world : World) → (record_at world (root_of plan).path).state ≡ states.Finished
     → Finished (unwrap_or (record_at world (root_of plan).path).outcome Success)
@@ -85,3 +81,21 @@ pub root_finished : (parts : Parts) → (record_of parts 0).state ≡ states.Fin
 root_finished parts is =
     ap (λ r. Finished (unwrap_or r.outcome Success) r.failure) (sym (root_record parts))
     ∙ finished (plan_in parts) (world_in parts) (ap (λ r. r.state) (root_record parts) ∙ is)
+
+running : (plan : List Site) (world : World) → (record_at world (root_of plan).path).state ≢ states.Finished
+    → Running ≡ standing_of plan world
+running plan world apart = by (record_at world (root_of plan).path).state refl
+  where
+    by : (state : NodeState) → (record_at world (root_of plan).path).state ≡ state → Running ≡ standing_of plan world
+    by states.Finished is = absurd (apart is)
+    by states.Inactive is = rw is refl
+    by states.Waiting is = rw is refl
+    by states.Executing is = rw is refl
+    by states.IterationEnded is = rw is refl
+    by states.Finishing is = rw is refl
+    by states.Failing is = rw is refl
+
+pub root_running : (parts : Parts) → (record_of parts 0).state ≢ states.Finished
+    → Running ≡ standing_of (plan_in parts) (world_in parts)
+root_running parts apart =
+    running (plan_in parts) (world_in parts) (λ is. apart (sym (ap (λ r. r.state) (root_record parts)) ∙ is))

@@ -11,7 +11,7 @@ use Rattle.px_plan_parse.specs.Part.{Follow, Anything, IsPart, IsLacking}
 use Rattle.px_plan_parse.specs.Tail.{Only}
 use Rattle.px_expr_parse.proofs.Completions.{short_nothing}
 use Rattle.px_expr_parse.proofs.Spans.{IsLocal, local_sign, local_then, local_never}
-use Rattle.px_plan_parse.proofs.Parts.{IsFront, Begins, HasKind, Joins, LacksKind, Makes, Splits, behind, before, both, front_ends, front_lacks, front_more, joins_both, lack_before, lack_behind, lack_first, lack_joined, lack_made, lack_token, local_each, makes_by, part_before, part_behind, part_joined, part_made}
+use Rattle.px_plan_parse.proofs.Parts.{IsFront, Begins, HasKind, Joins, LacksKind, Makes, Splits, behind, before, both, each_begins, front_ends, front_lacks, front_more, joins_both, lack_before, lack_behind, lack_first, lack_joined, lack_made, lack_token, local_each, makes_by, part_before, part_behind, part_joined, part_made}
 
 abbrev pub further : {A : Type 0} → (A → Form) → A → Form
 further form = behind (kinds.Sign signs.Comma) form
@@ -44,8 +44,9 @@ pub record Separates {A : Type 0} (form : A → Form) (Next : Follow) (close : S
 
 module _ {A : Type 0} {form : A → Form} {Next : Follow} {close : Sign} (separates : Separates form Next close) where
   rest_begins : Begins (each (further form)) (Only close) Next
-  rest_begins others [] place end o closes = separates.close_follows others place (subst (λ (p : ℕ). Only close others p) o closes)
-  rest_begins others (part ∷ rest) place end o closes = separates.comma_follows others place o.1.1.0
+  rest_begins =
+      each_begins {form = further form} {Next = Next} {Last = Only close} (λ others other place end o. separates.comma_follows others place o.1.0)
+      separates.close_follows
 
 module _ {A : Type 0} {form : A → Form} {Next : Follow} {close : Sign} (separates : Separates form Next close) {tokens : List Token} {from : ℕ} where
   as_pair : Makes (with_commas form) (both form (each (further form))) (λ (parts : A × List A). parts.0 ∷ parts.1) tokens from

@@ -1,14 +1,16 @@
 -- What is open before a token, token by token.
-use Rattle.std.proofs.Common.{◌≡◌, ℕ, zero, suc, ◌+◌, ◌-◌, ◌≤◌, ◌<◌, ◌⊎◌, inl, inr, refl, sym, ap, subst, ◌∙◌, List, [], ◌∷◌, ◌++◌, length, take, drop, get_or, Option, Some, None, Bool, true, false, not, cond, arith, nat_le, nat_lt, ◌&&◌, ◌||◌}
+use Rattle.std.proofs.Common.{◌≡◌, ℕ, zero, suc, ◌+◌, ◌-◌, ◌≤◌, ◌<◌, ◌⊎◌, inl, inr, refl, sym, ap, subst, ◌∙◌, List, [], ◌∷◌, ◌++◌, length, map, fold, take, drop, get_or, Option, Some, None, Bool, true, false, not, cond, arith, nat_le, nat_lt, ◌&&◌, ◌||◌}
 use Rattle.std.specs.List.{count_by, filter, list_all, list_any, range_with_len, slice_get, slice_range}
 use Rattle.std.specs.Option.{option_map, option_map_or}
-use Rattle.std.proofs.lemmas.List.{get_or-drop, length-append, length-drop, take-append-le, take_all, take_more}
+use Rattle.std.proofs.lemmas.List.{length-append, length-drop, take-append-le, take_all}
 use Rattle.std.proofs.Math.Bool.{and-true, or-false}
 use Rattle.std.proofs.Math.Nat.{eq-or-lt_of_le}
 use Rattle.std.proofs.lemmas.Bool.{and_parts, false_from_ne_true, le-leb, leb-true}
 use Rattle.std.proofs.lemmas.Bool.Decides.{leb_tells}
-use Rattle.std.proofs.lemmas.List.Folds.{list_all-append, list_any-append}
-use Rattle.std.proofs.lemmas.List.Sums.{sum_by-append}
+use Rattle.std.proofs.lemmas.List.Edits.{between_more, between_none}
+use Rattle.std.proofs.lemmas.List.Folds.{fold-map, list_all-append, list_all-map, list_any-append}
+use Rattle.std.proofs.lemmas.List.FromFn.{fill_by_all, get_or-map-range_with_len, get_or-range_with_len, length-map-range_with_len, length-range_with_len}
+use Rattle.std.proofs.lemmas.List.Sums.{get_or-le-sum_by, length-filter, sum_by_push}
 use Rattle.std.proofs.lemmas.Option.{get_or_from_slice_get, slice_get_within}
 use Rattle.px_value.proofs.General.{one_if, no_filtered, range_more}
 use Rattle.px_lex.specs.declared.token.Token.{Token}
@@ -26,48 +28,38 @@ use Rattle.px_plan_parse.specs.Walk.{counts, is_deep, walk_behind}
 range_suc : (a n : ℕ) → range_with_len a (suc n) ≡ range_with_len a n ++ (a + n) ∷ []
 range_suc a n = let e : suc n ≡ n + 1 = omega arith in ap (range_with_len a) e ∙ range_more a n
 
-count_one : {X : Type 0} (p : X → Bool) (x : X) → count_by p (x ∷ []) ≡ cond (p x) 1 0
-count_one p x = omega arith
-
 count_suc : (p : ℕ → Bool) (n : ℕ) → count_by p (range_with_len 0 (suc n)) ≡ count_by p (range_with_len 0 n) + cond (p n) 1 0
 count_suc p n =
     let e : 0 + n ≡ n = omega arith in
-    ap (count_by p) (range_suc 0 n) ∙ sum_by-append (λ (k : ℕ). cond (p k) 1 0) (range_with_len 0 n) ((0 + n) ∷ [])
-    ∙ ap (λ (k : ℕ). count_by p (range_with_len 0 n) + k) (count_one p (0 + n) ∙ ap (λ (k : ℕ). cond (p k) 1 0) e)
+    ap (count_by p) (range_suc 0 n) ∙ sum_by_push (λ (k : ℕ). cond (p k) 1 0) (range_with_len 0 n) (0 + n)
+    ∙ ap (λ (k : ℕ). count_by p (range_with_len 0 n) + cond (p k) 1 0) e
 
-all_range : (p q : ℕ → Bool) (n : ℕ) → ((k : ℕ) → k < n → p k ≡ q k) → list_all p (range_with_len 0 n) ≡ list_all q (range_with_len 0 n)
-all_range p q zero same = refl
-all_range p q (suc n) same =
-    let start = range_suc 0 n in
-    let here : p (0 + n) ≡ q (0 + n) = same (0 + n) (omega arith) in
-    ap (list_all p) start ∙ list_all-append p (range_with_len 0 n) ((0 + n) ∷ [])
-    ∙ ap (λ (b : Bool). b && list_all p ((0 + n) ∷ [])) (all_range p q n (λ k below. same k (omega (arith, below))))
-    ∙ ap (λ (b : Bool). list_all q (range_with_len 0 n) && (b && true)) here
-    ∙ sym (list_all-append q (range_with_len 0 n) ((0 + n) ∷ [])) ∙ sym (ap (list_all q) start)
+-- tests that agree below n give one answer over the numbers below it
+module _ (p q : ℕ → Bool) (n : ℕ) (same : (k : ℕ) → k < n → p k ≡ q k) where
+  answers_same : map p (range_with_len 0 n) ≡ map q (range_with_len 0 n)
+  answers_same =
+      fill_by_all q (map p (range_with_len 0 n)) n true (length-map-range_with_len p 0 n)
+      (λ k below. get_or-map-range_with_len p 0 n k k true below (omega arith) ∙ same k below)
 
-count_same : (p q : ℕ → Bool) (n : ℕ) → ((k : ℕ) → k < n → p k ≡ q k) → count_by p (range_with_len 0 n) ≡ count_by q (range_with_len 0 n)
-count_same p q zero same = refl
-count_same p q (suc n) same =
-    let rest = count_same p q n (λ k below. same k (omega (arith, below))) in
-    let here = ap (λ (b : Bool). cond b 1 0) (same n (omega arith)) in
-    count_suc p n ∙ ap (λ (k : ℕ). k + cond (p n) 1 0) rest ∙ ap (λ (k : ℕ). count_by q (range_with_len 0 n) + k) here ∙ sym (count_suc q n)
+  all_range : list_all p (range_with_len 0 n) ≡ list_all q (range_with_len 0 n)
+  all_range =
+      let itself = λ (b : Bool). b in
+      sym (list_all-map itself p (range_with_len 0 n)) ∙ ap (list_all itself) answers_same ∙ list_all-map itself q (range_with_len 0 n)
+
+  count_same : count_by p (range_with_len 0 n) ≡ count_by q (range_with_len 0 n)
+  count_same =
+      let more = λ (k : ℕ) (b : Bool). k + cond b 1 0 in
+      sym (fold-map more p 0 (range_with_len 0 n)) ∙ ap (fold more 0) answers_same ∙ fold-map more q 0 (range_with_len 0 n)
 
 count_none : (p : ℕ → Bool) (n : ℕ) → ((k : ℕ) → k < n → p k ≡ false) → count_by p (range_with_len 0 n) ≡ 0
-count_none p zero none = refl
-count_none p (suc n) none =
-    let rest = count_none p n (λ k below. none k (omega (arith, below))) in
-    let here : one_if (p n) ≡ 0 = ap (λ (b : Bool). cond b 1 0) (none n (omega arith)) in
-    omega (arith, count_suc p n, rest, here)
+count_none p n none =
+    sym (length-filter p (range_with_len 0 n)) ∙ ap length (no_filtered p 0 n (λ k below. ap p (omega arith) ∙ none k below))
 
 count_some : (p : ℕ → Bool) (n k : ℕ) → k < n → p k ≡ true → 0 < count_by p (range_with_len 0 n)
-count_some p zero k below is = omega (arith, below)
-count_some p (suc n) k below is = go (eq-or-lt_of_le (omega (arith, below))) (λ before. count_some p n k before is)
-  where
-    go : (k ≡ n) ⊎ (k < n) → (k < n → 0 < count_by p (range_with_len 0 n)) → 0 < count_by p (range_with_len 0 (suc n))
-    go (inr before) ih = omega (arith, count_suc p n, ih before)
-    go (inl same) ih =
-        let here : one_if (p n) ≡ 1 = ap (λ (j : ℕ). cond (p j) 1 0) (sym same) ∙ ap (λ (b : Bool). cond b 1 0) is in
-        omega (arith, count_suc p n, here)
+count_some p n k below is =
+    let at : get_or (range_with_len 0 n) k 0 ≡ k = omega (arith, get_or-range_with_len 0 n k 0 below) in
+    let here : one_if (p (get_or (range_with_len 0 n) k 0)) ≡ 1 = ap one_if (ap p at ∙ is) in
+    omega (arith, here, get_or-le-sum_by (λ (j : ℕ). one_if (p j)) (range_with_len 0 n) k 0 (omega (arith, below, length-range_with_len 0 n)))
 
 -- ---- the first of a range that passes
 
@@ -95,9 +87,7 @@ filter_first p a (suc n) (suc i) below none is =
 
 module _ (xs : List Token) (t : Token) where
   count_snoc : (test : TokenKind → Bool) → count_of test (xs ++ t ∷ []) ≡ count_of test xs + cond (test t.kind) 1 0
-  count_snoc test =
-      sum_by-append (λ (token : Token). cond (test token.kind) 1 0) xs (t ∷ [])
-      ∙ ap (λ (k : ℕ). count_of test xs + k) (count_one (λ (token : Token). test token.kind) t)
+  count_snoc test = sum_by_push (λ (token : Token). cond (test token.kind) 1 0) xs t
 
   fewer : List Token → ℕ → Bool
   fewer ys n = nat_le (count_of is_closing (take n ys)) (count_of is_opening (take n ys))
@@ -123,24 +113,12 @@ module _ (xs : List Token) (t : Token) where
 -- ---- one more token
 
 -- the tokens behind a place, and one more
-between_more :
+behind_more :
     (tokens : List Token) (place at : ℕ) (t : Token) → place < at → slice_get tokens at ≡ Some t
     → slice_range tokens (place + 1) (at + 1) ≡ slice_range tokens (place + 1) at ++ t ∷ []
-between_more tokens place at t before is =
-    let inside = slice_get_within tokens at t is in
-    let n : at + 1 - (place + 1) ≡ at - (place + 1) + 1 = omega (arith, before) in
-    let d = length-drop (place + 1) tokens in
-    let last : get_or (drop (place + 1) tokens) (at - (place + 1)) t ≡ t =
-    get_or-drop (place + 1) tokens (at - (place + 1)) t
-    ∙ ap (λ (k : ℕ). get_or tokens k t) (omega (arith, before)) ∙ get_or_from_slice_get tokens at t t is in
-    ap (λ (k : ℕ). take k (drop (place + 1) tokens)) n
-    ∙ take_more (drop (place + 1) tokens) (at - (place + 1)) t (omega (arith, d, before, inside))
-    ∙ ap (λ (token : Token). take (at - (place + 1)) (drop (place + 1) tokens) ++ token ∷ []) last
-
--- no tokens are behind a place
-between_none : (tokens : List Token) (at : ℕ) → slice_range tokens (at + 1) (at + 1) ≡ []
-between_none tokens at =
-    let e : at + 1 - (at + 1) ≡ 0 = omega arith in ap (λ (k : ℕ). take k (drop (at + 1) tokens)) e
+behind_more tokens place at t before is =
+    between_more tokens (place + 1) at t (omega (arith, before)) (slice_get_within tokens at t is)
+    ∙ ap (λ (token : Token). slice_range tokens (place + 1) at ++ token ∷ []) (get_or_from_slice_get tokens at t t is)
 
 -- a bracket that is open before a token, and how many open inside it
 record Open (tokens : List Token) (at place inside : ℕ) : Type 0 where
@@ -195,7 +173,7 @@ module _ (tokens : List Token) (at : ℕ) (t : Token) (is : slice_get tokens at 
       → Open tokens at place inside → Open tokens (at + 1) place after
   grown place inside after before same op =
       let old = slice_range tokens (place + 1) at in
-      let more = between_more tokens place at t before is in
+      let more = behind_more tokens place at t before is in
       let o = count_snoc old t is_opening in
       let c = count_snoc old t is_closing in
       let counts_are : count_of is_opening (old ++ t ∷ []) ≡ count_of is_closing (old ++ t ∷ []) + after = omega (arith, o, c, op.excess, same) in
@@ -218,7 +196,7 @@ module _ (tokens : List Token) (at : ℕ) (t : Token) (is : slice_get tokens at 
       ≤ count_of is_opening (slice_range tokens (place + 1) at) + cond (is_opening t.kind) 1 0)
   shrunk place before stays =
       let old = slice_range tokens (place + 1) at in
-      let more = between_more tokens place at t before is in
+      let more = behind_more tokens place at t before is in
       let b = and_parts (stays_open old) _ (sym (stays_snoc old t) ∙ sym (ap stays_open more) ∙ stays) in (
         b.0,
         omega (arith, leb-true _ _ b.1, count_snoc old t is_opening, count_snoc old t is_closing),
@@ -235,7 +213,7 @@ module _ (tokens : List Token) (at : ℕ) (t : Token) (is : slice_get tokens at 
 
   opened : is_opening t.kind ≡ true → Open tokens (at + 1) at 0
   opened opens =
-      let none = between_none tokens at in
+      let none = between_none tokens (at + 1) in
       record {
         opens = passes_here is_opening ∙ opens;
         stays = ap stays_open none;
@@ -270,19 +248,20 @@ module _ (tokens : List Token) (at : ℕ) (t : Token) (is : slice_get tokens at 
     not_here place same passing =
         let f : false ≡ true = sym opens ∙ sym (passes_here tokens at t is is_opening) ∙ ap (passes is_opening tokens) (sym same) ∙ passing in cc
 
+    -- a bracket that is open behind the token is one that was open before it
+    was_open : (place : ℕ) → (place ≡ at) ⊎ (place < at) → passes is_opening tokens place ≡ true
+        → stays_open (slice_range tokens (place + 1) (at + 1)) ≡ true → In place stack
+    was_open place (inl same) passing stays = absurd (not_here place same passing)
+    was_open place (inr before) passing stays = st.all place before passing (shrunk tokens at t is place before stays).0
+
     stack_stays : is_closing t.kind ≡ false → IsStack tokens (at + 1) stack
     stack_stays closes =
         let same : 0 + cond (is_opening t.kind) 1 0 ≡ 0 + cond (is_closing t.kind) 1 0 =
         ap (λ (b : Bool). 0 + cond b 1 0) opens ∙ sym (ap (λ (b : Bool). 0 + cond b 1 0) closes) in
         record {
           standing = widened 0 at (at + 1) stack (omega arith) (moved tokens at t is 0 0 at stack (omega arith) same st.standing);
-          all = λ place before passing stays. go place (eq-or-lt_of_le (omega (arith, before))) passing stays;
+          all = λ place before passing stays. was_open place (eq-or-lt_of_le (omega (arith, before))) passing stays;
         }
-      where
-        go : (place : ℕ) → (place ≡ at) ⊎ (place < at) → passes is_opening tokens place ≡ true
-            → stays_open (slice_range tokens (place + 1) (at + 1)) ≡ true → In place stack
-        go place (inl same) passing stays = absurd (not_here place same passing)
-        go place (inr before) passing stays = st.all place before passing (shrunk tokens at t is place before stays).0
 
 closed_stack :
     (tokens : List Token) (at : ℕ) (t : Token) (is : slice_get tokens at ≡ Some t) (stack : List ℕ) → IsStack tokens at stack
@@ -290,13 +269,8 @@ closed_stack :
 closed_stack tokens at t is [] st opens closes =
     record {
       standing = empty;
-      all = λ place before passing stays. go place (eq-or-lt_of_le (omega (arith, before))) passing stays;
+      all = λ place before passing stays. was_open tokens at t is [] st opens place (eq-or-lt_of_le (omega (arith, before))) passing stays;
     }
-  where
-    go : (place : ℕ) → (place ≡ at) ⊎ (place < at) → passes is_opening tokens place ≡ true
-        → stays_open (slice_range tokens (place + 1) (at + 1)) ≡ true → In place []
-    go place (inl same) passing stays = absurd (not_here tokens at t is [] st opens place same passing)
-    go place (inr before) passing stays = st.all place before passing (shrunk tokens at t is place before stays).0
 closed_stack tokens at t is (top ∷ rest) st opens closes =
     record {
       standing = under st.standing;
@@ -508,7 +482,7 @@ module _ (tokens : List Token) (at : ℕ) (t : Token) (is : slice_get tokens at 
   last_counts : since (at + 1) at ≡ counts_as_operator tokens at
   unfolding since
   last_counts =
-      ap (λ (ys : List Token). counts_as_operator tokens at && not (list_any (λ token. ends_statement token.kind) ys)) (between_none tokens at)
+      ap (λ (ys : List Token). counts_as_operator tokens at && not (list_any (λ token. ends_statement token.kind) ys)) (between_none tokens (at + 1))
       ∙ and-true (counts_as_operator tokens at)
 
   before_last :
@@ -519,7 +493,7 @@ module _ (tokens : List Token) (at : ℕ) (t : Token) (is : slice_get tokens at 
   unfolding since
   before_last place before =
       ap (λ (ys : List Token). counts_as_operator tokens place && not (list_any (λ token. ends_statement token.kind) ys))
-      (between_more tokens place at t before is)
+      (behind_more tokens place at t before is)
       ∙ ap (λ (b : Bool). counts_as_operator tokens place && not b)
       (list_any-append (λ (token : Token). ends_statement token.kind) (slice_range tokens (place + 1) at) (t ∷ []))
 

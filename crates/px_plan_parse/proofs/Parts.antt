@@ -357,6 +357,14 @@ each_push form tokens [] part from middle to all o = (to, subst (λ (p : ℕ). f
 each_push form tokens (first ∷ parts) part from middle to all o =
     (all.0, all.1, each_push form tokens parts part all.0 middle to all.2 o)
 
+-- what is before parts in turn is followed by the first of them, or by what follows them all
+module _ {A : Type 0} {form : A → Form} {Next Last : Follow} (next_begins : (tokens : List Token) (part : A) (from end : ℕ) → form part tokens from end → Next tokens from)
+    (last_follows : (others : List Token) (place : ℕ) → Last others place → Next others place)
+  where
+    pub each_begins : Begins (each form) Last Next
+    each_begins others [] place end o last = last_follows others place (subst (λ (p : ℕ). Last others p) o last)
+    each_begins others (part ∷ rest) place end o last = next_begins others part place o.0 o.1
+
 -- all parts in turn are those that are done and the rest, which stand from a place on
 abbrev pub HasRest : {A : Type 0} → (A → Form) → List A → ℕ → List Token → List A → ℕ → Type 0
 HasRest {A = A} form done at tokens all end = (rest : List A) × (all ≡ done ++ rest) × each form rest tokens at end
@@ -402,12 +410,6 @@ module _ {A : Type 0} {form : A → Form} {Last : Follow} {tokens : List Token} 
     module _ {Next : Follow} (next_begins : (tokens : List Token) (part : A) (from end : ℕ) → form part tokens from end → Next tokens from) (last_follows : (others : List Token) (place : ℕ) → Last others place → Next others place)
         (starts : (others : List Token) → Agree tokens others at → Last others at → ⊥)
       where
-        followed :
-            (others : List Token) (rest : List A) (place end : ℕ) → each form rest others place end → Last others end
-            → Next others place
-        followed others [] place end o last = last_follows others place (subst (λ (p : ℕ). Last others p) o last)
-        followed others (part ∷ rest) place end o last = next_begins others part place o.0 o.1
-
         -- the next element of all, and those behind it
         next_of :
             (others : List Token) → Agree tokens others at → (all : List A) (end : ℕ) → each form all others from end → Last others end
@@ -420,7 +422,15 @@ module _ {A : Type 0} {form : A → Form} {Last : Follow} {tokens : List Token} 
                 → (part : A) × (stop : ℕ) × form part others at stop × Next others stop
                 × (rest : List A) × (all ≡ done ++ part ∷ rest) × each form rest others stop end
             go ([], is, o) = absurd (starts others agree (subst (λ (p : ℕ). Last others p) o last))
-            go (part ∷ rest, is, o) = (part, o.0, o.1, followed others rest o.0 end o.2 last, rest, is, o.2)
+            go (part ∷ rest, is, o) = (
+              part,
+              o.0,
+              o.1,
+              each_begins {form = form} {Next = Next} {Last = Last} next_begins last_follows others rest o.0 end o.2 last,
+              rest,
+              is,
+              o.2,
+            )
 
         pub front_more :
             {part : A} {to : ℕ} → IsPart form Next tokens at part to → IsFront form Last tokens from (done ++ part ∷ []) to

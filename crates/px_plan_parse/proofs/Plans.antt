@@ -1,5 +1,5 @@
 -- The whole plan.
-use Rattle.std.proofs.Common.{◌≡◌, ℕ, ◌≤◌, ◌<◌, ◌⊎◌, inl, inr, get_or, refl, sym, ap, subst, ◌∙◌, List, length, Option, Some, None, false, arith}
+use Rattle.std.proofs.Common.{◌≡◌, ℕ, ◌≤◌, ◌<◌, ◌⊎◌, inl, inr, get_or, refl, sym, ap, subst, ◌∙◌, List, [], ◌∷◌, length, Option, Some, None, false, arith}
 use Rattle.std.specs.Option.{option_map}
 use Rattle.std.specs.List.{slice_get}
 use Rattle.std.proofs.lemmas.Option.{slice_get_cases}
@@ -10,9 +10,10 @@ use Rattle.px_syntax.specs.declared.fault.ParseFault.{ParseFault}
 use Rattle.px_syntax.specs.declared.fault.ParseFault.TheVariants as faults
 use Rattle.px_syntax.specs.Block.{BlockTree}
 use Rattle.px_syntax.specs.BlockGrammar.{block, label}
+use Rattle.px_syntax.specs.Depth.{too_deep}
 use Rattle.px_syntax.specs.Form.{Form, kind_at}
 use Rattle.px_syntax.specs.Plan.{DeclarationData, PlanTree}
-use Rattle.px_syntax.specs.PlanGrammar.{plan}
+use Rattle.px_syntax.specs.PlanGrammar.{plan, Spells}
 use Rattle.px_expr_parse.specs.Verdict.{Agree, IsBegun}
 use Rattle.px_expr_parse.proofs.Completions.{begun_whole, whole_of}
 use Rattle.px_plan_parse.proofs.Spans.{local_plan}
@@ -22,7 +23,7 @@ use Rattle.px_plan_parse.specs.declared.start.Start.TheVariants as starts
 use Rattle.px_plan_parse.specs.Part.{Anything, IsLacking, IsPart}
 use Rattle.px_plan_parse.specs.Start.{NoDeclaration, is_declaration, start_at}
 use Rattle.px_plan_parse.specs.Tail.{every_declaration}
-use Rattle.px_plan_parse.specs.Verdict.{BeginsPlan, IsFaultAt, IsNoPlan, IsPlan}
+use Rattle.px_plan_parse.specs.Verdict.{BeginsPlan, IsFaultAt, IsNoPlan, IsPlan, IsRefused}
 use Rattle.px_plan_parse.proofs.Blocks.{block_sort}
 use Rattle.px_plan_parse.proofs.Parts.{Begins, Makes, both, makes_by}
 use Rattle.px_plan_parse.proofs.Sorts as sorts
@@ -110,3 +111,12 @@ module _ (tokens : List Token) where
 
   pub one_place : (first second : ℕ) → IsFaultAt tokens first → IsFaultAt tokens second → first ≡ second
   one_place first second f g = omega (arith, not_before first second f g, not_before second first g f)
+
+-- tokens that spell a plan, and of which none is too deep, are refused for nothing but want of memory
+pub only_memory : (tokens : List Token) (tree : PlanTree) → Spells tree tokens → too_deep tokens ≡ [] → (fault : ParseFault)
+    → IsRefused tokens fault → fault ≡ faults.NoMemory
+only_memory tokens tree spelled shallow (faults.Deep token) refused =
+    let both : token ∷ refused.0 ≡ [] = sym refused.1 ∙ shallow in cc
+only_memory tokens tree spelled shallow (faults.SyntaxFault token) refused =
+    absurd (refused.1.none tokens (λ place within. refl) tree spelled)
+only_memory tokens tree spelled shallow faults.NoMemory refused = refl

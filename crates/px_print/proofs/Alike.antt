@@ -4,6 +4,7 @@ use Rattle.std.specs.Prelude.{codes}
 use Rattle.std.specs.Fmt.{signed_decimal}
 use Rattle.std.specs.List.{flat_map, join_by}
 use Rattle.std.specs.Option.{option_map}
+use Rattle.std.proofs.lemmas.List.Folds.{flat_map-map}
 use Rattle.px_syntax.specs.declared.block.ListedLiteral.{ListedLiteral}
 use Rattle.px_syntax.specs.declared.expr.Identifier.{Identifier}
 use Rattle.px_syntax.specs.declared.expr.NodeReference.{NodeReference}
@@ -27,8 +28,7 @@ use Rattle.px_print.specs.Unnumbered.{plain_name, plain_node, plain_tolerance, p
 
 module _ {A : Type 0} (plain : A → A) (text : A → List ℕ) (one : (part : A) → text (plain part) ≡ text part) where
   each_alike : (parts : List A) → flat_map text (map plain parts) ≡ flat_map text parts
-  each_alike [] = refl
-  each_alike (part ∷ parts) = λ i. one part i ++ each_alike parts i
+  each_alike parts = flat_map-map text plain parts ∙ (λ i. flat_map (λ part. one part i) parts)
 
 joined_alike : {A : Type 0} (plain : A → A) (text : A → List ℕ) → ((part : A) → text (plain part) ≡ text part) → (between : List ℕ)
     (parts : List A) → join_by text between (map plain parts) ≡ join_by text between parts

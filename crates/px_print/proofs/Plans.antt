@@ -1,5 +1,5 @@
 -- Plans are printed, and read again.
-use Rattle.std.proofs.Common.{◌≡◌, ℕ, true, List, [], ◌∷◌, ◌++◌, map, length, Option, Some, None, refl, sym, ap, ◌∙◌, subst, inl}
+use Rattle.std.proofs.Common.{◌≡◌, ℕ, true, List, [], ◌∷◌, ◌++◌, map, length, Option, Some, None, refl, ap, subst, inl}
 use Rattle.std.specs.Prelude.{codes}
 use Rattle.std.specs.Str.{is_utf8}
 use Rattle.std.proofs.lemmas.Str.{IsUtf8-from_is_utf8, is_utf8-from_IsUtf8}
@@ -9,8 +9,6 @@ use Rattle.px_lex.specs.declared.token.Token.{Token}
 use Rattle.px_lex.specs.Lexer.{Splits, tokens_from}
 use Rattle.px_lex.proofs.Unique.{one_way}
 use Rattle.px_syntax.specs.declared.expr.Identifier.{Identifier}
-use Rattle.px_syntax.specs.declared.fault.ParseFault.{ParseFault}
-use Rattle.px_syntax.specs.declared.fault.ParseFault.TheVariants as faults
 use Rattle.px_syntax.specs.declared.plan.Parameter.{Parameter}
 use Rattle.px_syntax.specs.declared.word.TypeName.{TypeName}
 use Rattle.px_syntax.specs.BlockGrammar.{type_word}
@@ -18,7 +16,7 @@ use Rattle.px_syntax.specs.Depth.{too_deep}
 use Rattle.px_syntax.specs.Form.{sign, identifier, ◌then◌, maybe, with_commas}
 use Rattle.px_syntax.specs.Plan.{DeclarationData, Command, Lookup, PlanTree}
 use Rattle.px_syntax.specs.PlanGrammar.{parameter, parameters, declaration, plan, Spells}
-use Rattle.px_plan_parse.specs.Verdict.{IsRefused}
+use Rattle.px_plan_parse.proofs.Plans.{only_memory}
 use Rattle.px_print.specs.BlockLayout.{line, type_text}
 use Rattle.px_print.specs.Layout.{name_text, parameter_text, parameters_text, answer_text, declaration_text, layout}
 use Rattle.px_print.specs.Reading.{IsWritten, IsReadAs, IsAnswered}
@@ -143,11 +141,5 @@ answered_again tree tokens w splits shallow =
     let spelled = subst (Spells again.read) (one_way (layout tree) again.tokens tokens again.splits splits) again.spelled in
     record {
       found = λ read is. subst (λ other. IsSame other tree) (is.only again.read spelled) again.same;
-      refused = refused again.read tokens spelled shallow;
+      refused = only_memory tokens again.read spelled shallow;
     }
-  where
-    refused : (read : PlanTree) (tokens : List Token) → Spells read tokens → too_deep tokens ≡ [] → (fault : ParseFault) → IsRefused tokens fault
-        → fault ≡ faults.NoMemory
-    refused read tokens spelled shallow (faults.Deep token) h = let none : [] ≡ token ∷ h.0 = sym shallow ∙ h.1 in cc
-    refused read tokens spelled shallow (faults.SyntaxFault token) h = absurd (h.1.none tokens (λ place within. refl) read spelled)
-    refused read tokens spelled shallow faults.NoMemory h = refl

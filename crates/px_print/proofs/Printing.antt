@@ -1,10 +1,11 @@
 -- Texts that are pieces before a rest, and forms that their tokens have wherever these stand.
-use Rattle.std.proofs.Common.{◌≡◌, ℕ, ◌+◌, true, List, [], ◌∷◌, ◌++◌, length, Option, Some, None, refl, sym, ap, ◌∙◌, subst, append_assoc, append-nil}
+use Rattle.std.proofs.Common.{◌≡◌, ℕ, ◌+◌, true, List, [], ◌∷◌, ◌++◌, length, fold, Option, Some, None, refl, sym, ap, ◌∙◌, subst, append_assoc, append-nil}
 use Rattle.std.specs.List.{list_all}
 use Rattle.std.specs.Str.{IsUtf8}
 use Rattle.std.proofs.lemmas.Bool.{and_parts, ltb-true}
 use Rattle.std.proofs.lemmas.Grind.{flat_map-append}
 use Rattle.std.proofs.lemmas.List.{length_push}
+use Rattle.std.proofs.lemmas.List.Sums.{fold-append}
 use Rattle.std.proofs.lemmas.Str.{IsUtf8-append, IsUtf8-nil}
 use Rattle.px_lex.proofs.Gaps.{ascii_blank}
 use Rattle.px_lex.proofs.Pieces.{stand-append}
@@ -24,8 +25,7 @@ next None from = from
 next (Some kind) from = from + 1
 
 abbrev pub behind : List Piece → ℕ → ℕ
-behind [] from = from
-behind (piece ∷ pieces) from = behind pieces (next piece.kind from)
+behind pieces from = fold (λ (at : ℕ) (piece : Piece). next piece.kind at) from pieces
 
 abbrev pub Stays : Option TokenKind → List Token → ℕ → Type 0
 Stays None tokens from = Unit {0}
@@ -38,8 +38,7 @@ StandsAt (piece ∷ pieces) tokens from =
     Stays piece.kind tokens from × StandsAt pieces tokens (next piece.kind from)
 
 behind-append : (ps qs : List Piece) (from : ℕ) → behind (ps ++ qs) from ≡ behind qs (behind ps from)
-behind-append [] qs from = refl
-behind-append (p ∷ ps) qs from = behind-append ps qs (next p.kind from)
+behind-append ps qs from = fold-append (λ (at : ℕ) (piece : Piece). next piece.kind at) from ps qs
 
 stands_at-append : (ps qs : List Piece) (tokens : List Token) (from : ℕ) → StandsAt (ps ++ qs) tokens from
     → StandsAt ps tokens from × StandsAt qs tokens (behind ps from)

@@ -1,12 +1,12 @@
 -- Which tokens a text can have, and how each is printed.
-use Rattle.std.proofs.Common.{◌≡◌, ℕ, ◌+◌, ◌<◌, ◌≤◌, ◌^◌, Bool, true, false, ◌&&◌, ◌==◌, List, [], ◌∷◌, ◌++◌, length, drop, Some, None, refl, ap, ◌∙◌, subst, arith, append_assoc}
+use Rattle.std.proofs.Common.{◌≡◌, ℕ, ◌+◌, ◌<◌, ◌≤◌, ◌^◌, true, false, ◌&&◌, ◌==◌, List, [], ◌∷◌, ◌++◌, length, drop, Some, None, refl, ap, ◌∙◌, subst, arith, append_assoc}
 use Rattle.std.specs.Prelude.{if◌then◌else◌, codes, decimal, pos, nat_lt}
 use Rattle.std.specs.Char.{digit_value}
 use Rattle.std.specs.List.{list_all, flat_map}
 use Rattle.std.specs.Str.{IsUtf8}
 use Rattle.std.specs.Str.Parse.{digits_value}
 use Rattle.std.proofs.Math.Bool.{and-false}
-use Rattle.std.proofs.lemmas.Bool.{and_parts, or_right, and_from, lt-ltb}
+use Rattle.std.proofs.lemmas.Bool.{and_left, and_parts, or_right, and_from, lt-ltb}
 use Rattle.std.proofs.lemmas.Bool.Decides.{nat_tests}
 use Rattle.std.proofs.lemmas.Fmt.{decimal_is_IsNumeral, decimal_nonempty, IsAscii-decimal}
 use Rattle.std.proofs.lemmas.Str.{IsUtf8-from_ascii}
@@ -148,11 +148,8 @@ writes (a ∷ b ∷ ds) some all =
 
 no_fraction : (ds rest : List ℕ) → begins (λ c. c == 46) rest ≡ false → is_fraction ds rest ≡ false
 no_fraction ds rest stop =
-    ap (λ x. list_all is_digit ds && x && begins is_digit (drop 1 rest)) stop ∙ of_all (list_all is_digit ds) (begins is_digit (drop 1 rest))
-  where
-    of_all : (x y : Bool) → (x && false && y) ≡ false
-    of_all true y = refl
-    of_all false y = refl
+    ap (λ x. list_all is_digit ds && x && begins is_digit (drop 1 rest)) stop
+    ∙ and_left _ (begins is_digit (drop 1 rest)) (and-false (list_all is_digit ds))
 
 pub prints_integer : {source : List ℕ} (value : ℕ) (rest : List ℕ) → value < 2 ^ 31 → Stops rest → Prints source (one (kinds.Integer (pos value))) (decimal value) rest
 prints_integer value rest small stops =

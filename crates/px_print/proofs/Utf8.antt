@@ -8,12 +8,12 @@ use Rattle.std.proofs.lemmas.Bool.{and_parts, cases_eq, cases_lt, ne_eqb}
 use Rattle.std.proofs.lemmas.Bool.Decides.{nat_tests}
 use Rattle.std.proofs.lemmas.Grind.{flat_map-append}
 use Rattle.std.proofs.lemmas.Option.{none-some}
-use Rattle.std.proofs.lemmas.Str.{IsUtf8-append, IsUtf8-drop, IsUtf8-encode, IsUtf8-nil, IsCharBoundary-after_ascii, encode_ascii, inside_one}
+use Rattle.std.proofs.lemmas.Str.{IsUtf8-append, IsUtf8-drop, IsUtf8-encode, IsUtf8-nil, IsCharBoundary-after_ascii, encode_ascii}
 use lib.Utf8.{scalar, scalars, encode, encodes, low_scalar}
 use Rattle.px_value.specs.Text.{unescaped, escape_letter, escaped_as, escaped, quoted}
 use Rattle.px_lex.specs.String.{string_from, escape_from}
 use Rattle.px_lex.proofs.StringFronts.{content_of, before}
-use Rattle.px_lex.proofs.Strings.{with_bytes, plain_char, unescaped_char, unescaped_small, the_quote, a_line_end}
+use Rattle.px_lex.proofs.Strings.{AreHigh, high_char, with_bytes, plain_char, unescaped_char, unescaped_small, the_quote, a_line_end}
 
 pub ascii_then : (b : ℕ) (bytes : List ℕ) → b < 128 → IsUtf8 bytes → IsUtf8 (b ∷ bytes)
 ascii_then b bytes small u =
@@ -91,7 +91,7 @@ high_byte : (b : ℕ) → 128 ≤ b → escaped b ≡ b ∷ []
 high_byte b high =
     rw (ne_eqb b 34 (λ e. omega arith), ne_eqb b 92 (λ e. omega arith), ne_eqb b 10 (λ e. omega arith), ne_eqb b 9 (λ e. omega arith))
 
-high_bytes : (bytes : List ℕ) → ((k : ℕ) → k < length bytes → 128 ≤ get_or bytes k 0) → flat_map escaped bytes ≡ bytes
+high_bytes : (bytes : List ℕ) → AreHigh bytes → flat_map escaped bytes ≡ bytes
 high_bytes [] each = refl
 high_bytes (b ∷ bytes) each = λ i.
     high_byte b (each 0 (omega arith)) i ++ high_bytes bytes (λ k below. each (suc k) (omega arith)) i
@@ -99,12 +99,7 @@ high_bytes (b ∷ bytes) each = λ i.
 char_text : (c : ℕ) → scalar c ≡ true → IsUtf8 (flat_map escaped (encode c))
 char_text c ok = elim (cases_lt c 128) [
   | inl small ↦ rw (encode_ascii c small, append-nil) (escaped_text c small)
-  | inr big ↦
-      let high : (k : ℕ) → k < length (encode c) → 128 ≤ get_or (encode c) k 0 = λ k below. elim (cases_lt (get_or (encode c) k 0) 128) [
-        | inl low ↦ absurd (omega (arith, inside_one c [] (encode c) k (sym (append-nil (encode c))) below low))
-        | inr other ↦ other
-      ] in
-      subst IsUtf8 (sym (high_bytes (encode c) high)) (IsUtf8-encode c ok)
+  | inr big ↦ subst IsUtf8 (sym (high_bytes (encode c) (high_char c big))) (IsUtf8-encode c ok)
 ]
 
 chars_text : (cs : List ℕ) → scalars cs ≡ true → IsUtf8 (flat_map escaped (encodes cs))

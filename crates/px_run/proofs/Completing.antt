@@ -77,16 +77,16 @@ module _ {D : Type 0} (members : Disk.Ghosts D) (words : List (List ℕ)) (befor
     session_sound telling plan left session _ (DueBehind.failed some rose) = absurd (steady rose)
     session_sound telling plan left session _ (DueBehind.no_memory none) = tt
 
-    -- over a new journal, on a disk that was nothing
-    new_sound : (telling : Telling) (plan : List Site) (text : List ℕ) (limit : ℕ) (script : Script) (course : Course) (due : Due) (bytes : List ℕ)
-        → members.content old ≡ Some bytes → IsTrue (is_nothing bytes) → NewCalls members telling plan text limit script old new course due
-        → WhereDue (λ ending. OrStalled 0 ending.status) due
-    new_sound telling plan text limit script _ _ bytes content nothing (NewCalls.exists told) =
+    -- over a new journal, on a disk that was nothing: what is so behind its session
+    new_sound : (Expected : Ending → Type 0) (telling : Telling) (plan : List Site) (text : List ℕ) (limit : ℕ) (script : Script) (course : Course) (due : Due)
+        (bytes : List ℕ) → members.content old ≡ Some bytes → IsTrue (is_nothing bytes)
+        → ((session : Session) (due : Due) → DueBehind members telling plan (rest script.threads []) session old new due → WhereDue Expected due)
+        → NewCalls members telling plan text limit script old new course due → WhereDue Expected due
+    new_sound Expected telling plan text limit script _ _ bytes content nothing sound (NewCalls.exists told) =
         absurd (both_ways (is_nothing bytes) (told bytes content) nothing)
-    new_sound telling plan text limit script _ _ bytes content nothing (NewCalls.half_made rose) = absurd (steady rose)
-    new_sound telling plan text limit script _ _ bytes content nothing (NewCalls.made session due was (so, behind)) =
-        session_sound telling plan (rest script.threads []) session due behind
-    new_sound telling plan text limit script _ _ bytes content nothing NewCalls.no_memory = tt
+    new_sound Expected telling plan text limit script _ _ bytes content nothing sound (NewCalls.half_made rose) = absurd (steady rose)
+    new_sound Expected telling plan text limit script _ _ bytes content nothing sound (NewCalls.made session due was (so, behind)) = sound session due behind
+    new_sound Expected telling plan text limit script _ _ bytes content nothing sound NewCalls.no_memory = tt
 
     -- or on one that was something
     new_refused : (telling : Telling) (plan : List Site) (text : List ℕ) (limit : ℕ) (script : Script) (course : Course) (due : Due) (bytes : List ℕ)
@@ -98,7 +98,7 @@ module _ {D : Type 0} (members : Disk.Ghosts D) (words : List (List ℕ)) (befor
         absurd (both_ways (is_nothing bytes) something (was bytes content))
     new_refused telling plan text limit script _ _ bytes content something NewCalls.no_memory = tt
 
-    -- a soak over a new journal, on a disk that was nothing
+    -- behind the session of a soak
     soak_session_sound : (plan : List Site) (count seed : ℕ) (session : Session) (due : Due)
         → DueBehind members tellings.Summary plan (rest (soak_threads count seed) []) session old new due → WhereDue (λ ending. ending.status ≡ 0) due
     soak_session_sound plan count seed session _ (DueBehind.whole none all) = refl
@@ -107,15 +107,14 @@ module _ {D : Type 0} (members : Disk.Ghosts D) (words : List (List ℕ)) (befor
     soak_session_sound plan count seed session _ (DueBehind.failed some rose) = absurd (steady rose)
     soak_session_sound plan count seed session _ (DueBehind.no_memory none) = tt
 
-    soak_new_sound : (plan : List Site) (text : List ℕ) (limit count seed : ℕ) (course : Course) (due : Due) (bytes : List ℕ)
-        → members.content old ≡ Some bytes → IsTrue (is_nothing bytes)
-        → NewCalls members tellings.Summary plan text limit (soak_lines count seed) old new course due → WhereDue (λ ending. ending.status ≡ 0) due
-    soak_new_sound plan text limit count seed _ _ bytes content nothing (NewCalls.exists told) =
-        absurd (both_ways (is_nothing bytes) (told bytes content) nothing)
-    soak_new_sound plan text limit count seed _ _ bytes content nothing (NewCalls.half_made rose) = absurd (steady rose)
-    soak_new_sound plan text limit count seed _ _ bytes content nothing (NewCalls.made session due was (so, behind)) =
-        soak_session_sound plan count seed session due behind
-    soak_new_sound plan text limit count seed _ _ bytes content nothing NewCalls.no_memory = tt
+  -- the start of a plan behind a journal that doesn't fail
+  start_refused : HasJournal words → IsSound members words old new (λ bytes. IsFalse (is_nothing bytes)) → (telling : Telling) (plan : List Site) (text : List ℕ)
+      (limit : ℕ) (script : Script) (course : Course) (ending : Ending) (found : Option (World × ℕ)) → IsSome found
+      → RunCallsBy members telling plan text limit script old new course (Some ending) found → ending.status ≡ 5
+  start_refused has_journal journal telling plan text limit script course ending None some ends = absurd (none_or_some {X = World × ℕ} None refl some)
+  start_refused has_journal journal telling plan text limit script course ending (Some settled) some calls =
+      let ((bytes, content, something), steady) = journal has_journal in
+      new_refused steady telling plan text limit script course (Some ending) bytes content something calls
 
   -- ---- a soak whose plan compiles
 
@@ -142,7 +141,8 @@ module _ {D : Type 0} (members : Disk.Ghosts D) (words : List (List ℕ)) (befor
     soak_status journal course ending None ends = ending_is course Untouched ending runaway_at_start ends
     soak_status journal course ending (Some settled) calls =
         let ((bytes, content, nothing), steady) = journal (soak_journal words asked) in
-        soak_new_sound steady (sites tree) soak_plan event_limit asked.0 asked.1 course (Some ending) bytes content nothing calls
+        new_sound steady (λ ending. ending.status ≡ 0) tellings.Summary (sites tree) soak_plan event_limit (soak_lines asked.0 asked.1) course (Some ending)
+        bytes content nothing (soak_session_sound steady (sites tree) asked.0 asked.1) calls
 
     soak_runs_away : started (sites tree) ≡ None → (course : Course) (ending : Ending)
         → RunCallsBy members tellings.Summary (sites tree) soak_plan event_limit (soak_lines asked.0 asked.1) old new course (Some ending) (started (sites tree))
@@ -151,15 +151,6 @@ module _ {D : Type 0} (members : Disk.Ghosts D) (words : List (List ℕ)) (befor
         ending_is course Untouched ending runaway_at_start
         (subst (λ found. RunCallsBy members tellings.Summary (sites tree) soak_plan event_limit (soak_lines asked.0 asked.1) old new course (Some ending) found)
         none calls)
-
-    soak_exists_status : IsSound members words old new (λ bytes. IsFalse (is_nothing bytes)) → (course : Course) (ending : Ending) (found : Option (World × ℕ))
-        → IsSome found
-        → RunCallsBy members tellings.Summary (sites tree) soak_plan event_limit (soak_lines asked.0 asked.1) old new course (Some ending) found
-        → ending.status ≡ 5
-    soak_exists_status journal course ending None some ends = absurd (none_or_some {X = World × ℕ} None refl some)
-    soak_exists_status journal course ending (Some settled) some calls =
-        let ((bytes, content, something), steady) = journal (soak_journal words asked) in
-        new_refused steady _ (sites tree) soak_plan event_limit (soak_lines asked.0 asked.1) course (Some ending) bytes content something calls
 
   module _ (files : Files) (told : before.files ≡ Some files) where
     -- ---- a script that the host holds, or that is none
@@ -265,7 +256,8 @@ module _ {D : Type 0} (members : Disk.Ghosts D) (words : List (List ℕ)) (befor
             start_sound has_journal text limit script course ending None ends = inl (ending_is course Untouched ending runaway_at_start ends)
             start_sound has_journal text limit script course ending (Some settled) calls =
                 let ((bytes, content, nothing), steady) = journal has_journal in
-                new_sound steady _ (sites tree) text limit script course (Some ending) bytes content nothing calls
+                new_sound steady (λ ending. OrStalled 0 ending.status) tellings.Text (sites tree) text limit script course (Some ending) bytes content nothing
+                (session_sound steady tellings.Text (sites tree) (rest script.threads [])) calls
 
             complete_by : (asked : Option Command) (course : Course) (ending : Ending) → command words ≡ asked → Calls asked course ending
                 → OrStalled (status_behind asked tree) ending.status
@@ -324,14 +316,6 @@ module _ {D : Type 0} (members : Disk.Ghosts D) (words : List (List ℕ)) (befor
 
           module _ (has_journal : HasJournal words) (starts : IsSome (started (sites tree)))
               (journal : IsSound members words old new (λ bytes. IsFalse (is_nothing bytes))) where
-            -- the start of a plan behind a journal that doesn't fail
-            start_refused : (text : List ℕ) (limit : ℕ) (script : Script) (course : Course) (ending : Ending) (found : Option (World × ℕ)) → IsSome found
-                → RunCallsBy members tellings.Text (sites tree) text limit script old new course (Some ending) found → ending.status ≡ 5
-            start_refused text limit script course ending None some ends = absurd (none_or_some {X = World × ℕ} None refl some)
-            start_refused text limit script course ending (Some settled) some calls =
-                let ((bytes, content, something), steady) = journal has_journal in
-                new_refused steady _ (sites tree) text limit script course (Some ending) bytes content something calls
-
             exists_by : (asked : Option Command) (course : Course) (ending : Ending) → command words ≡ asked → Calls asked course ending → ending.status ≡ 5
             exists_by None course ending is calls = absurd (some_or_none plan has (ap (option_and_then plan_operand) is))
             exists_by (Some (TraceStart other)) course ending is calls = absurd (some_or_none has_journal.0 has_journal.1 (ap (option_and_then journal_operand) is))
@@ -340,7 +324,7 @@ module _ {D : Type 0} (members : Disk.Ghosts D) (words : List (List ℕ)) (befor
             exists_by (Some (Format other)) course ending is calls = absurd (some_or_none has_journal.0 has_journal.1 (ap (option_and_then journal_operand) is))
             exists_by (Some (Run other script name limit)) course ending is calls =
                 let asks : HasScript words script = ap (option_and_then script_operand) is in
-                start_refused holds.0 limit (scripts script asks).0 course ending (started (sites tree)) starts
+                start_refused has_journal journal tellings.Text (sites tree) holds.0 limit (scripts script asks).0 course ending (started (sites tree)) starts
                 (run_behind other script name limit course ending (ap (option_and_then plan_operand) is) asks calls)
             exists_by (Some (Resume script name limit)) course ending is calls = absurd (some_or_none plan has (ap (option_and_then plan_operand) is))
             exists_by (Some (Trace name)) course ending is calls = absurd (some_or_none plan has (ap (option_and_then plan_operand) is))
@@ -523,8 +507,8 @@ module _ {D : Type 0} (members : Disk.Ghosts D) (words : List (List ℕ)) (befor
           (λ course ending calls. exists_by files told plan has readable tree holds script_readable scripts has_journal starts journal (command words) course ending refl calls);
       soak_exists = λ tree asked compiled starts journal sound.
           sound_status members words before now old new (λ s. s ≡ 5) status headline sound
-          (λ course ending calls. soak_exists_status asked tree compiled journal course ending (started (sites tree)) starts
-          (soak_behind asked tree compiled course (Some ending) calls));
+          (λ course ending calls. start_refused (soak_journal words asked) journal tellings.Summary (sites tree) soak_plan event_limit (soak_lines asked.0 asked.1)
+          course ending (started (sites tree)) starts (soak_behind asked tree compiled course (Some ending) calls));
       journal = λ why reopens runs has_journal refuses told steady sound.
           sound_status members words before now old new (λ s. s ≡ why.status) status headline sound
           (λ course ending calls. journal_refused_by reopens has_journal told.0 told.1 steady why refuses runs (command words) course ending refl calls);

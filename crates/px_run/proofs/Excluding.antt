@@ -6,7 +6,6 @@ use Rattle.std.proofs.lemmas.List.{map-append}
 use Rattle.px_value.proofs.General.{is_some_at, none_or_some}
 use Rattle.px_core.specs.Plan.{Site, Tree, sites}
 use Rattle.px_event.specs.declared.entry.Entry.{Entry}
-use Rattle.px_event.specs.declared.event.Event.{Event}
 use Rattle.px_compile.specs.Compiled.{IsCompiled}
 use Rattle.px_compile.proofs.Refusals.{no_refusal, one_plan}
 use Rattle.px_exec.specs.Opening.{RunsAwayAt}
@@ -17,8 +16,8 @@ use Rattle.px_journal.proofs.Undamaged.{undamaged}
 use Rattle.px_output.proofs.Telling.{run_starts}
 use Rattle.px_ports.specs.declared.disk.Disk
 use Rattle.px_sem.specs.Log.{events_of}
-use Rattle.px_sem.specs.Run.{posted, started, settled_world, run_on, run}
-use Rattle.px_sem.specs.World.{World}
+use Rattle.px_sem.specs.Run.{started, settled_world, run}
+use Rattle.px_sem.proofs.Logs.{run_on_front}
 use Rattle.px_run.specs.Ending.{Ending, no_journal, journal_damaged, journal_plan, journal_runaway}
 use Rattle.px_session.specs.Session.{StandsFor}
 use Rattle.px_run.specs.Journaled.{JournalRefuses, HasNoJournal, CannotRun}
@@ -28,21 +27,14 @@ use Rattle.px_run.specs.Journaled.{JournalRefuses, HasNoJournal, CannotRun}
 pub some_or_none : {A : Type 0} {found : Option A} (some : A) → found ≡ Some some → found ≡ None → ⊥
 some_or_none some has none = none_or_some _ none (is_some_at _ some has)
 
--- a run over a history is one over each front of it
-front_runs : (plan : List Site) (now : Option World) (front rest : List Event) → IsSome (run_on plan now (front ++ rest)) → IsSome (run_on plan now front)
-unfolding run_on
-front_runs plan None front rest some = some
-front_runs plan (Some world) [] rest some = refl
-front_runs plan (Some world) (event ∷ front) rest some = front_runs plan (settled_world (posted plan world event)) front rest some
-
--- so no event of it runs away
+-- no event of a history that has a run runs away
 pub runs_to_its_end : (plan : List Site) (history : List Entry) (at : ℕ) → RunsAwayAt plan history at → IsSome (run plan (events_of history)) → ⊥
 runs_to_its_end plan history at away some =
     let before = away.before ++ away.entry ∷ [] in
     let parts : history ≡ before ++ away.rest = away.parts ∙ sym (append_assoc away.before (away.entry ∷ []) away.rest) in
     let split : events_of history ≡ events_of before ++ events_of away.rest = ap events_of parts ∙ map-append (λ e. e.event) before away.rest in
     none_or_some (run plan (events_of before)) away.runs_away
-    (front_runs plan (settled_world (started plan)) (events_of before) (events_of away.rest) (subst (λ events. IsSome (run plan events)) split some))
+    (run_on_front plan (settled_world (started plan)) (events_of before) (events_of away.rest) (subst (λ events. IsSome (run plan events)) split some))
 
 -- ---- bytes
 

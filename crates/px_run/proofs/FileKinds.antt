@@ -1,5 +1,6 @@
 -- What every kind of files keeps, and what becomes of a file that a host tells.
 use Rattle.std.proofs.Common.{◌≡◌, ℕ, ◌<◌, inl, inr, List, Some, None, length, refl, arith, ap, subst, sym, ◌∙◌}
+use Rattle.std.proofs.Math.Path.{Σ_path}
 use Rattle.px_compile.proofs.Refusals.{one_plan, no_refusal}
 use Rattle.px_core.specs.Plan.{Site, Tree}
 use Rattle.px_output.specs.View.{View}
@@ -58,12 +59,9 @@ pub text_kind : (A : Type 0) (kind : FileKind A) (status : ℕ) → IsKind A kin
 text_kind A kind status is_kind = record {
   too_long = is_kind.too_long;
   refused = is_kind.refused;
-  one = λ bytes a b s t. pair a b (s.0 ∙ sym t.0) (is_kind.one bytes a.1 b.1 s.1 t.1);
+  one = λ bytes a b s t. Σ_path {u = a} {v = b} (s.0 ∙ sym t.0) (is_kind.one bytes a.1 b.1 s.1 t.1);
   never = λ bytes a ending s r. is_kind.never bytes a.1 ending s.1 r;
 }
-  where
-    pair : (a b : List ℕ × A) → a.0 ≡ b.0 → a.1 ≡ b.1 → a ≡ b
-    pair (text, part) (other, another) same also = rw (same, also) refl
 
 pub holds_text : (A : Type 0) (kind : FileKind A) (files : Files) (name : List ℕ) (part : A) → (h : Holds kind files name part)
     → Holds (with_text kind) files name (h.0, part)

@@ -4,7 +4,6 @@ use Rattle.std.specs.Prelude.{IsErrOf}
 use Rattle.px_core.specs.Plan.{Site}
 use Rattle.px_crew.specs.Crew.{Ends}
 use Rattle.px_event.specs.declared.entry.Entry.{Entry}
-use Rattle.px_value.proofs.General.{told_of}
 use Rattle.px_exec.specs.Executive.{Executive, plan_of, IsTextOf, TellsBytes}
 use Rattle.px_journal.specs.Crash.{LeavesOnly}
 use Rattle.px_journal.specs.Goes.{Goes}
@@ -25,6 +24,7 @@ use Rattle.px_script.specs.declared.stall.Stall.{Stall}
 use Rattle.px_script.specs.declared.todo.Todo.{Todo}
 use Rattle.px_sem.specs.Log.{Log, accepted}
 use Rattle.px_sem.specs.declared.stepper.Stepper
+use Rattle.px_session.proofs.Sessions.{images_stand}
 use Rattle.px_session.specs.Posting.{Posts, WasDue}
 use Rattle.px_session.specs.Session.{Session, IsFront, LeavesFronts}
 use Rattle.px_session.specs.declared.posting.Posted.{Posted}
@@ -45,11 +45,8 @@ use Rattle.px_run.proofs.Performing.{printed, broken_off}
 pub opening_stands : {S D : Type 0} (members : Disk.Ghosts D) (exec : Executive S D) (text : List ℕ) (session : Session) → session.text ≡ text
     → session.first ≡ exec.opening.history → TellsBytes members exec.opening.journal.disk → IsTextOf members exec text → (image : List ℕ)
     → members.images (members.moments exec.opening.journal.disk) image → Stands image session.text session.first
-opening_stands members exec text session same_text same_first tells ready image left =
-    let told = told_of (members.content exec.opening.journal.disk) tells in
-    subst (λ (t : List ℕ). Stands image t session.first) (sym same_text)
-    (subst (λ (h : List Entry). Stands image text h) (sym same_first)
-    (subst (λ (bytes : List ℕ). Stands bytes text exec.opening.history) (sym (ready_synced _ _ _ _ ready told.0 told.1 image left)) (ready_stands _ _ _ _ ready told.0 told.1)))
+opening_stands members exec text session same_text same_first tells ready image left = rw (same_text, same_first)
+    (images_stand members exec.opening.journal.disk text exec.opening.history (ready_synced _ _ _ _ ready) tells (ready_stands _ _ _ _ ready) image left)
 
 -- a disk that came to a moment of the text and the history with such images, and of which each image since then is a front
 pub leaves_fronts : {D : Type 0} (members : Disk.Ghosts D) (IsEarly : List ℕ → Type 0) (session : Session) (old mid new : D)

@@ -1,5 +1,5 @@
 -- The names that a session leaves, from what its posts leave of them since the opening.
-use Rattle.std.proofs.Common.{◌≡◌, ◌⊎◌, inl, inr, ⊎_elim, ℕ, List, [], ◌∷◌, map, length, take, refl, sym, ◌∙◌, ap, subst}
+use Rattle.std.proofs.Common.{◌≡◌, ◌⊎◌, inl, inr, ⊎_elim, ℕ, List, map, length, take, sym, ◌∙◌, ap, subst}
 use Rattle.px_event.specs.declared.entry.Entry.{Entry}
 use Rattle.px_event.specs.declared.named.NamedEntry.{NamedEntry}
 use Rattle.px_exec.specs.Executive.{StandsNamed}
@@ -23,10 +23,7 @@ same_name journal naming version gives entry =
 
 same_names : {D : Type 0} (journal : Journal D) (naming : Naming) → journal.version ≡ naming.version → GivesNames journal naming.names → (entries : List Entry)
     → map (with_name journal) entries ≡ map (named_by naming) entries
-same_names journal naming version gives [] = refl
-same_names journal naming version gives (entry ∷ later) =
-    ap (λ more. with_name journal entry ∷ more) (same_names journal naming version gives later)
-    ∙ ap (λ first. first ∷ map (named_by naming) later) (same_name journal naming version gives entry)
+same_names journal naming version gives entries i = map (λ entry. same_name journal naming version gives entry i) entries
 
 module _ {D : Type 0} (members : Disk.Ghosts D) (session : Session) (naming : Naming) where
   has_names : (journal : Journal D) (text : List ℕ) → session.text ≡ text → journal.version ≡ naming.version → GivesNames journal naming.names → (bytes : List ℕ)

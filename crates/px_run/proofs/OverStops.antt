@@ -24,6 +24,7 @@ use Rattle.px_sem.specs.Log.{accepted}
 use Rattle.px_sem.specs.Run.{started}
 use Rattle.px_sem.specs.World.{World}
 use Rattle.px_session.proofs.Closed.{ReadsAreLeft}
+use Rattle.px_session.proofs.Sessions.{from_before}
 use Rattle.px_session.specs.Creating.{LeavesNew}
 use Rattle.px_session.specs.Session.{Session, unsure, longest_of, IsFront, LeavesFronts, StandsFor}
 use Rattle.px_words.specs.Words.{Command, TraceStart, DryRun, Check, Format, Run, Resume, Trace, Names, Soak, script_operand, command}
@@ -80,8 +81,7 @@ module _ {D : Type 0} (members : Disk.Ghosts D) (read_left : ReadsAreLeft member
       (subst (λ (d : D). LeftSince members.images (members.moments d) (length (members.moments old)) image) same since))
 
   unwritten : IsUnwritten members old new → AreSound
-  unwritten none image since =
-      let from = (none.elapses).each image since in subst (IsSoundImage script.threads) (sym (from.2)) (was (from.0) (from.1))
+  unwritten none image since = was image (from_before members old new none image since)
 
   fronts : (IsEarly : List ℕ → Type 0) (session : Session) → ((image : List ℕ) → IsEarly image → IsTrue (is_nothing image))
       → IsSoundFor script.threads (longest_of session) → LeavesFronts members IsEarly session old new → AreSound

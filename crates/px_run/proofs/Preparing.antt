@@ -1,15 +1,14 @@
 -- The reading of a plan and its script, and the start of the plan, ahead of a new journal.
-use Rattle.std.proofs.Common.{◌≡◌, ◌≤◌, inr, ℕ, List, [], Some, None, IsErrAnd, Result, Err, IfErr, length, refl, sym, ap, subst}
-use Rattle.px_value.proofs.General.{handed_on, is_some_at}
+use Rattle.std.proofs.Common.{◌≡◌, ◌≤◌, inr, ℕ, List, Some, None, IsErrAnd, Result, Err, IfErr, length, refl, sym, ap, subst}
+use Rattle.px_value.proofs.General.{handed_on}
 use Rattle.px_core.specs.Plan.{Site, Tree, sites}
 use Rattle.px_output.specs.View.{View, OnlyReads, KeepsFiles}
 use Rattle.px_ports.specs.declared.disk.Disk
 use Rattle.px_script.specs.Fit.{IsFitScript}
 use Rattle.px_script.specs.declared.script.Script.{Script}
 use Rattle.px_sem.proofs.Logs.{run_started}
-use Rattle.px_sem.specs.Run.{run, started}
+use Rattle.px_sem.specs.Run.{started}
 use Rattle.px_sem.specs.Stepper.{settled_state}
-use Rattle.px_sem.specs.World.{World}
 use Rattle.px_sem.specs.declared.settling.StepFault.{StepFault}
 use Rattle.px_sem.specs.declared.settling.StepFault.TheVariants as steps
 use Rattle.px_sem.specs.declared.stepper.Stepper
@@ -28,7 +27,7 @@ use Rattle.px_run.specs.declared.finishing.Telling.TheVariants as tellings
 use Rattle.px_run.specs.declared.run.Prepared.{Prepared}
 use Rattle.px_run.proofs.Performing.{performs_since}
 use Rattle.px_run.proofs.SeenFiles.{shows_since, reads_later, reads_since, after_reading, after_since, reads_at_once}
-use Rattle.px_run.proofs.Starting.{some_start}
+use Rattle.px_run.proofs.Starting.{start_of}
 
 -- ---- what stops the preparation
 
@@ -125,7 +124,8 @@ module _ {D : Type 0} (members : Disk.Ghosts D) (plan script name : List ℕ) (l
         (reads_later (List ℕ × Tree) (with_text plan_file) old mid new plan (ready.text.items, tree) keeps.read_faults is_ready.source)
         (after_reading Script (script_file (sites tree)) old new script ready.script Untouched _ done.course due
         (reads_later Script (script_file (sites tree)) old mid new script ready.script keeps.read_faults is_ready.script)
-        (subst (RunCallsBy members tellings.Text (sites tree) ready.text.items limit ready.script disk carried.disk done.course due) (sym start.1) calls)))
+        (subst (RunCallsBy members tellings.Text (sites tree) ready.text.items limit ready.script disk carried.disk done.course due)
+        (sym (start_of _ _ _ is_ready.nodes is_ready.started).1) calls)))
         done.performs;
     leaves = done.leaves;
     bound = done.bound;
@@ -137,10 +137,6 @@ module _ {D : Type 0} (members : Disk.Ghosts D) (plan script name : List ℕ) (l
 
       done : PreparedCarries members tellings.Text (sites tree) ready.text.items name limit ready.script mid new disk carried
       done = subst (λ (nodes : List Site). PreparedCarries members tellings.Text nodes ready.text.items name limit ready.script mid new disk carried) is_ready.nodes of_nodes
-
-      start : (found : World × ℕ) × (started (sites tree) ≡ Some found)
-      start = some_start (sites tree) (is_some_at (run (sites tree) []) (runs.state ready.stepper).world
-          (subst (λ (nodes : List Site). run nodes [] ≡ Some (runs.state ready.stepper).world) is_ready.nodes is_ready.started))
 
   -- where none has, the disk is as it was
   pub not_prepared_runs : (stop : Stop) → OnlyReads old mid → members.bound_to disk ≡ None → IsNotPrepared plan script old mid stop

@@ -1,8 +1,7 @@
 -- A journal that is taken up: what a command has come to then.
-use Rattle.std.proofs.Common.{◌≡◌, ◌≢◌, ◌≤◌, inl, inr, ℕ, List, [], Some, None, Result, Ok, Err, length, refl, sym, ◌∙◌, ap, subst, arith, append-nil}
+use Rattle.std.proofs.Common.{◌≡◌, ◌≢◌, ◌≤◌, inl, inr, ℕ, List, [], Some, Result, Ok, Err, length, refl, sym, ◌∙◌, ap, subst, arith}
 use Rattle.std.proofs.lemmas.List.{take_all}
 use Rattle.std.specs.Prelude.{is_some}
-use Rattle.px_value.proofs.General.{told_of}
 use Rattle.px_core.specs.Plan.{Site, Tree, tree_of, sites}
 use Rattle.px_event.specs.declared.entry.Entry.{Entry}
 use Rattle.px_exec.proofs.Images.{left_now}
@@ -33,19 +32,18 @@ use Rattle.px_run.specs.Trace.{TraceCarries}
 use Rattle.px_run.specs.Journaled.{IsSession, DueBehind, HasNoJournal, CannotRun, AfterJournal, ResumeCalls, TraceCalls}
 use Rattle.px_run.specs.Kinds.{script_file}
 use Rattle.px_run.specs.Naming.{Naming}
-use Rattle.px_run.specs.Stops.{Performs, StopsReading, stop_of, stop_of_reopen, ending_of}
+use Rattle.px_run.specs.Stops.{Performs, StopsReading, stop_of, stop_of_reopen}
 use Rattle.px_run.specs.declared.ending.End.{End}
 use Rattle.px_run.specs.declared.ending.End.TheVariants as ends
 use Rattle.px_run.specs.declared.ending.Stop.{Stop}
-use Rattle.px_run.specs.declared.ending.Stop.TheVariants as stops
 use Rattle.px_run.specs.declared.finishing.Carried.{Carried}
 use Rattle.px_run.specs.declared.finishing.Telling.TheVariants as tellings
 use Rattle.px_output.specs.Printing.{Prints}
 use Rattle.px_output.specs.declared.printer.PrintFault.{PrintFault}
-use Rattle.px_session.proofs.Sessions.{from_before, one_history}
+use Rattle.px_session.proofs.Sessions.{first_front, from_before, images_stand, one_history}
 use Rattle.px_run.proofs.Finished.{due_behind_since, leaves_fronts, opening_stands}
 use Rattle.px_run.proofs.Named.{leaves_names}
-use Rattle.px_run.proofs.Performing.{performs_since, printed, broken_off}
+use Rattle.px_run.proofs.Performing.{performs_since, performs_more, reading_stopped, printed, broken_off}
 use Rattle.px_run.proofs.SeenFiles.{shows_later}
 
 -- ---- what is left of a disk to which nothing was written
@@ -59,38 +57,24 @@ fronts_since members session old opened new untouched stands since =
     leaves_fronts members (λ image. ⊥) session old opened new
     (record {
       grows = ((untouched.unwritten).elapses).grows;
-      each = λ image early. inl (from_before members old opened untouched image early);
+      each = λ image early. inl (from_before members old opened untouched.unwritten image early);
     })
     stands since
-
--- bytes that stand for a text and a history are a front of it
-front_unposted : (text : List ℕ) (first : List Entry) (bytes : List ℕ) → Stands bytes text first → IsFront (unposted text first) bytes
-front_unposted text first bytes stands = record {
-  more = [];
-  rest = [];
-  front = refl;
-  stands = subst (λ (h : List Entry). Stands bytes text h) (sym (append-nil first)) stands;
-}
 
 -- a journal of this text and history was read, and no more
 pub left_taken_up : {D : Type 0} (members : Disk.Ghosts D) (text : List ℕ) (first : List Entry) (old new : D) → IsUntouched members old new
     → TellsBytes members old → IsSynced members new → StandsFor members new text first
     → Leaves members old new (TakenUp text first)
-left_taken_up members text first old new untouched tells synced stands = (
-  untouched,
-  one_history members new text first synced stands,
-  fronts_since members (unposted text first) old new new untouched stands_now
-      (record {
-        grows = take_all (length (members.moments new)) (members.moments new) (omega arith);
-        each = λ image since. front_unposted text first image (stands_now image (left_now members.images (members.moments new) image since));
-      }),
-)
-  where
-    told : (bytes : List ℕ) × (members.content new ≡ Some bytes)
-    told = told_of (members.content new) (ap is_some untouched.content ∙ tells)
-
-    stands_now : (image : List ℕ) → members.images (members.moments new) image → Stands image text first
-    stands_now image left = subst (λ (b : List ℕ). Stands b text first) (sym (synced told.0 told.1 image left)) (stands told.0 told.1)
+left_taken_up members text first old new untouched tells synced stands =
+    let stands_now = images_stand members new text first synced (ap is_some untouched.content ∙ tells) stands in (
+      untouched,
+      one_history members new text first synced stands,
+      fronts_since members (unposted text first) old new new untouched stands_now
+          (record {
+            grows = take_all (length (members.moments new)) (members.moments new) (omega arith);
+            each = λ image since. first_front (unposted text first) image (stands_now image (left_now members.images (members.moments new) image since));
+          }),
+    )
 
 -- ---- a journal that is not taken up
 
@@ -187,23 +171,15 @@ module _ {S D : Type 0} (runs : Stepper.Ghosts S) (members : Disk.Ghosts D) (scr
       → ResumeCarries members script journal limit before mid old (record { result = Err stop; disk = disk })
   resume_refused stop disk here stopped = record {
     course = taken_up;
-    performs = by stop stopped;
+    performs = performs_more before mid (AfterFile (script_file (sites tree)) before mid script taken_up _ taken_up)
+        (ResumeCalls members script limit before mid old disk taken_up) (Err stop)
+        (λ due after. AfterJournal.opened r.text reopened.exec.opening.history tree taken_up due r.stands r.compiled r.settles after)
+        (reading_stopped Script (script_file (sites tree)) before mid script taken_up _ stop (Err stop) refl stopped only);
     leaves = λ tells. subst (λ (d : D). Leaves members old d taken_up) (sym here)
         (left_taken_up members r.text reopened.exec.opening.history old reopened.exec.opening.journal.disk r.untouched tells (ready_synced _ _ _ _ r.ready) (ready_stands _ _ _ _ r.ready));
     bound = inl (ap members.bound_to here ∙ r.bound);
     back = reopened_back runs members journal limit old reopened r disk here _;
   }
-    where
-      by : (s : Stop) → StopsReading (script_file (sites tree)) before mid script s
-          → Performs before mid (ResumeCalls members script limit before mid old disk taken_up) (Err s)
-      by (stops.Refused refusal) (seen, shows, refuses) = (
-        AfterJournal.opened r.text reopened.exec.opening.history tree taken_up (Some (ending_of refusal)) r.stands r.compiled r.settles
-            (AfterFile.refused seen (ending_of refusal) shows refuses),
-        only.emitted,
-      )
-      by stops.SinkFailed none = absurd none
-      by stops.NoMemory any =
-          inr (AfterJournal.opened r.text reopened.exec.opening.history tree taken_up None r.stands r.compiled r.settles AfterFile.no_memory, only.emitted)
 
   -- it is read, and a session goes on with what is left of it
   pub resume_finished : (history : List Entry) (script_left : Script) (carried : Carried D) → history ≡ reopened.exec.opening.history
@@ -222,7 +198,7 @@ module _ {S D : Type 0} (runs : Stepper.Ghosts S) (members : Disk.Ghosts D) (scr
               (opening_stands members reopened.exec r.text f.session (f.is_session).same_text (f.is_session).same_first told r.ready) l.since,
           leaves_names members f.session naming (λ image. ⊥) r.text old reopened.exec.opening.journal carried.disk (f.is_session).same_text refl
               (subst (GivesNames reopened.exec.opening.journal) left.names gives) elapses.grows
-              (λ image early. inl (from_before members old reopened.exec.opening.journal.disk r.untouched image early))
+              (λ image early. inl (from_before members old reopened.exec.opening.journal.disk r.untouched.unwritten image early))
               (f.names told r.found r.named),
         );
     bound = inl (f.goes.stays.bound ∙ r.bound);

@@ -24,8 +24,9 @@ use Rattle.px_script.specs.declared.todo.Todo.{Todo}
 use Rattle.px_sem.specs.Run.{run}
 use Rattle.px_sem.specs.declared.stepper.Stepper
 use Rattle.px_session.proofs.Created.{none_named}
+use Rattle.px_session.proofs.Sessions.{first_front}
 use Rattle.px_session.specs.Creating.{LeavesNew, Creates, IsCreateWhy, IsNotCreated, version_for}
-use Rattle.px_session.specs.Session.{Session, unposted, longest_of, IsEnd, IsFront, HasOneHistory, LeavesFronts}
+use Rattle.px_session.specs.Session.{Session, unposted, IsEnd, IsFront, HasOneHistory, LeavesFronts}
 use Rattle.px_run.specs.Course.{Untouched, HalfMade, IsUnnamed, Made, Due}
 use Rattle.px_run.specs.Finishing.{Carries, Finishes}
 use Rattle.px_run.specs.Journaled.{IsSession, DueBehind, NewCalls}
@@ -39,16 +40,6 @@ use Rattle.px_run.proofs.Named.{leaves_names}
 use Rattle.px_run.proofs.Performing.{performs_more}
 
 -- ---- what a crash may leave
-
--- bytes that stand for the text and no event are a front of each session over a new journal
-front_of_none : (session : Session) (text bytes : List ℕ) → session.text ≡ text → session.first ≡ [] → Stands bytes text []
-    → IsFront session bytes
-front_of_none session text bytes same_text same_first stands = record {
-  more = [];
-  rest = longest_of session;
-  front = rw same_first refl;
-  stands = rw (same_text, same_first) stands;
-}
 
 end_of_none : (text bytes : List ℕ) → IsEnd (unposted text []) bytes → Stands bytes text []
 end_of_none text bytes (inl stands) = stands
@@ -76,7 +67,7 @@ module _ {D : Type 0} (members : Disk.Ghosts D) where
           → members.images (members.moments old) image ⊎ (IsTrue (is_nothing image) ⊎ IsFront session image)
       of_making image (inl was) = inl was
       of_making image (inr (inl nothing)) = inr (inl nothing)
-      of_making image (inr (inr stands)) = inr (inr (front_of_none session text image same_text same_first stands))
+      of_making image (inr (inr stands)) = inr (inr (first_front session image (rw (same_text, same_first) stands)))
 
   -- memory ran out right behind the making
   fronts_of_none : (text : List ℕ) (old new : D) → TellsBytes members old → TellsBytes members new → LeavesNew members text old new
@@ -86,7 +77,7 @@ module _ {D : Type 0} (members : Disk.Ghosts D) where
       fronts_behind (unposted text []) text old new new refl refl told_then making
       (take_all (length (members.moments new)) (members.moments new) (omega arith))
       (λ image left. end_of_none text image (now.left told.0 told.1 image left))
-      (λ image since. front_of_none (unposted text []) text image refl refl
+      (λ image since. first_front (unposted text []) image
       (end_of_none text image (now.left told.0 told.1 image (left_now members.images (members.moments new) image since))))
 
   -- ---- the names that entries have then

@@ -1,6 +1,6 @@
 -- A soak, from its plan and its lines.
-use Rattle.std.proofs.Common.{◌≡◌, inr, ℕ, List, [], Some, None, Result, Err, IsErrAnd, IfErr, refl, sym, ap, subst}
-use Rattle.px_value.proofs.General.{handed_on, is_some_at}
+use Rattle.std.proofs.Common.{◌≡◌, inr, ℕ, List, Some, None, Result, Err, IsErrAnd, IfErr, refl, sym, ap, subst}
+use Rattle.px_value.proofs.General.{handed_on}
 use Rattle.px_compile.specs.Compiled.{IsCompiled}
 use Rattle.px_core.specs.Plan.{Site, Tree, sites}
 use Rattle.px_output.specs.View.{View}
@@ -8,9 +8,8 @@ use Rattle.px_ports.specs.declared.disk.Disk
 use Rattle.px_script.specs.Fit.{IsFitScript}
 use Rattle.px_script.specs.declared.script.Script.{Script}
 use Rattle.px_sem.proofs.Logs.{run_started}
-use Rattle.px_sem.specs.Run.{run, started}
+use Rattle.px_sem.specs.Run.{started}
 use Rattle.px_sem.specs.Stepper.{settled_state}
-use Rattle.px_sem.specs.World.{World}
 use Rattle.px_sem.specs.declared.settling.StepFault.{StepFault}
 use Rattle.px_sem.specs.declared.settling.StepFault.TheVariants as steps
 use Rattle.px_sem.specs.declared.stepper.Stepper
@@ -27,7 +26,7 @@ use Rattle.px_run.specs.declared.finishing.Carried.{Carried}
 use Rattle.px_run.specs.declared.finishing.Telling.TheVariants as tellings
 use Rattle.px_run.specs.declared.run.Prepared.{Prepared}
 use Rattle.px_run.proofs.Performing.{performs_more}
-use Rattle.px_run.proofs.Starting.{some_start}
+use Rattle.px_run.proofs.Starting.{start_of}
 
 -- a start that runs away, or for which memory is wanting
 no_start : (tree : Tree) (fault : StepFault) → IsCompiled soak_plan tree → (fault ≡ steps.Runaway → started (sites tree) ≡ None)
@@ -66,7 +65,7 @@ module _ {D : Type 0} (members : Disk.Ghosts D) (count seed : ℕ) (name : List 
         (SoakCalls members count seed disk carried.disk done.course) carried.result
         (λ due calls. SoakCalls.starts is_ready.tree done.course due is_ready.compiled
         (subst (RunCallsBy members tellings.Summary (sites is_ready.tree) soak_plan event_limit (soak_lines count seed) disk carried.disk done.course due)
-        (sym start.1) calls))
+        (sym (start_of _ _ _ is_ready.nodes is_ready.started).1) calls))
         done.performs;
     leaves = done.leaves;
     bound = done.bound;
@@ -81,10 +80,6 @@ module _ {D : Type 0} (members : Disk.Ghosts D) (count seed : ℕ) (name : List 
           is_ready.text
           (subst (λ (script : Script). PreparedCarries members tellings.Summary (runs.state ready.stepper).nodes ready.text.items name event_limit script before now disk carried)
           is_ready.script of_nodes))
-
-      start : (found : World × ℕ) × (started (sites is_ready.tree) ≡ Some found)
-      start = some_start (sites is_ready.tree) (is_some_at (run (sites is_ready.tree) []) (runs.state ready.stepper).world
-          (subst (λ (nodes : List Site). run nodes [] ≡ Some (runs.state ready.stepper).world) is_ready.nodes is_ready.started))
 
   -- where none has, the disk is as it was
   pub not_prepared_soaks : (stop : Stop) → members.bound_to disk ≡ None → IsSoakNotPrepared stop

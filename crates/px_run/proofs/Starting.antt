@@ -2,7 +2,7 @@
 use Rattle.std.proofs.Common.{◌≡◌, ℕ, List, [], ◌++◌, Option, Some, None, IsSome, Result, refl, ap, subst, sym, ◌∙◌}
 use Rattle.px_core.specs.Plan.{Site, Tree, sites}
 use Rattle.px_event.specs.declared.entry.Entry.{Entry}
-use Rattle.px_value.proofs.General.{told_of}
+use Rattle.px_value.proofs.General.{is_some_at, told_of}
 use Rattle.px_output.specs.Drafts.{Keeps, Holds}
 use Rattle.px_output.specs.Printing.{Prints}
 use Rattle.px_output.specs.View.{View}
@@ -57,6 +57,10 @@ start_held plan nodes new draft same is keeps = rw same (subst (λ new. Keeps ne
 -- where an empty history has a run, the start settles
 pub some_start : (plan : List Site) → IsSome (run plan []) → (settled : World × ℕ) × (started plan ≡ Some settled)
 some_start plan runs = told_of (started plan) (run_starts plan [] runs)
+
+-- by the nodes of a stepper, and by the world in which it is then
+pub start_of : (plan nodes : List Site) (world : World) → nodes ≡ plan → run nodes [] ≡ Some world → (found : World × ℕ) × (started plan ≡ Some found)
+start_of plan nodes world same runs = some_start plan (is_some_at (run plan []) world (subst (λ nodes. run nodes [] ≡ Some world) same runs))
 
 -- what posting all entries of a script has come to is what a dry run calls for
 pub posted_all : (tree : Tree) (threads : List Todo) (now : State) (log : Log) (entries : List Entry)

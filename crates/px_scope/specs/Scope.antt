@@ -1,10 +1,10 @@
 -- Which variable and which node a name means somewhere in a plan: the paths of both in the core plan.
-use Rattle.std.specs.Prelude.{ℕ, Bool, List, [], ◌∷◌, fold, slice_get, unwrap_or, Option, Some, None, if◌then◌else◌}
+use Rattle.std.specs.Prelude.{ℕ, Bool, List, [], ◌∷◌, slice_get, unwrap_or, Option, Some, None, if◌then◌else◌}
 use Rattle.std.specs.List.{list_any}
 use Rattle.std.specs.Map.{lookup}
 use Rattle.std.specs.Option.{option_map, option_and_then, option_or}
-use Rattle.indexmap.specs.IndexMap.{insert_entry}
-use Rattle.indexmap.specs.IndexSet.{insert_key}
+use Rattle.indexmap.specs.IndexMap.{insert_all}
+use Rattle.indexmap.specs.IndexSet.{insert_all as insert_keys}
 use Rattle.px_syntax.specs.declared.expr.NodeReference.{NodeReference}
 use Rattle.px_syntax.specs.declared.expr.NodeReference.TheVariants as nodes
 use Rattle.px_core.specs.Plan.{is_same}
@@ -15,16 +15,13 @@ use Rattle.px_core.specs.Plan.{is_same}
 abbrev pub Table : Type 0
 Table = List (List ℕ × List ℕ)
 
--- Names with their paths into a table. Of two paths of one name the last counts; a tree without faults has none such.
-abbrev pub inserted : Table → Table → Table
-inserted = fold (λ known child. insert_entry is_same known child.0 child.1)
-
+-- Names with their paths as a table. Of two paths of one name the last counts; a tree without faults has none such.
 abbrev pub table : Table → Table
-table = inserted []
+table = insert_all is_same []
 
 -- names, each once
 abbrev pub each_once : List (List ℕ) → List (List ℕ)
-each_once = fold (insert_key is_same) []
+each_once = insert_keys is_same []
 
 -- A node of the text, as it is seen from inside: its name and its path, the paths of its children by their names, and
 -- the names of its variables. A generated name begins with `#`, so no name of the text means it.

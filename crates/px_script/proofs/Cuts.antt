@@ -4,11 +4,11 @@ use Rattle.std.specs.Char.{is_ascii}
 use Rattle.std.specs.List.{suffix_len, position_or_len}
 use Rattle.std.specs.Prelude.{not}
 use Rattle.std.specs.Str.{IsCharBoundary}
-use Rattle.std.proofs.lemmas.Bool.{cases_Bool, cases_lt, ltb-true}
+use Rattle.std.proofs.iter.AsciiBoundary.{before_ascii}
+use Rattle.std.proofs.lemmas.Bool.{cases_Bool, ltb-true}
 use Rattle.std.proofs.lemmas.Bool.Decides.{nat_tests}
 use Rattle.std.proofs.lemmas.List.{get_or-reverse}
 use Rattle.std.proofs.lemmas.List.Sums.{passes_at_first, prefix_len-le-length, prefix_len_passes, suffix_len-le-length}
-use Rattle.std.proofs.lemmas.Str.{IsCharBoundary-end, IsCharBoundary-before_ascii}
 use Rattle.px_script.specs.Place.{is_sign, ends_place, behind_byte, place_length}
 use Rattle.px_script.specs.Text.{is_blank}
 use Rattle.px_script.specs.declared.place.Quoting.{Quoting}
@@ -25,27 +25,20 @@ sign_small c h = grind (arith, nat_tests)
 
 -- before the first blank
 pub cut_word : (text : List ℕ) → IsCharBoundary text (position_or_len is_blank text)
-cut_word text = elim (cases_lt (position_or_len is_blank text) (length text)) [
-  | inl inside ↦ IsCharBoundary-before_ascii text (position_or_len is_blank text) inside (blank_small _ (passes_at_first is_blank text 0 inside))
-  | inr out ↦
-      let end : position_or_len is_blank text ≡ length text = omega (arith, prefix_len-le-length (λ c. not (is_blank c)) text) in
-      rw end (IsCharBoundary-end text)
-]
+cut_word text =
+    before_ascii text (position_or_len is_blank text) (prefix_len-le-length (λ c. not (is_blank c)) text)
+    (λ inside. blank_small _ (passes_at_first is_blank text 0 inside))
 
 -- before the blanks at the end
 pub cut_end : (text : List ℕ) → IsCharBoundary text (length text - suffix_len is_blank text)
-cut_end text = elim (cases_lt 0 (suffix_len is_blank text)) [
-  | inl some ↦
-      let few : suffix_len is_blank text ≤ length text = suffix_len-le-length is_blank text in
-      let last : ℕ = suffix_len is_blank text - 1 in
-      let blank : is_blank (get_or text (length text - 1 - last) 0) ≡ true
-      = rw (← get_or-reverse text last 0 (omega arith)) (prefix_len_passes is_blank (reverse text) last 0 (omega arith)) in
-      let place : length text - 1 - last ≡ length text - suffix_len is_blank text = omega arith in
-      IsCharBoundary-before_ascii text (length text - suffix_len is_blank text) (omega arith) (blank_small _ (rw (← place) blank))
-  | inr none ↦
-      let whole : length text - suffix_len is_blank text ≡ length text = omega arith in
-      rw whole (IsCharBoundary-end text)
-]
+cut_end text = before_ascii text (length text - suffix_len is_blank text) (omega arith) (λ inside.
+    let some : 0 < suffix_len is_blank text = omega arith in
+    let few : suffix_len is_blank text ≤ length text = suffix_len-le-length is_blank text in
+    let last : ℕ = suffix_len is_blank text - 1 in
+    let blank : is_blank (get_or text (length text - 1 - last) 0) ≡ true
+    = rw (← get_or-reverse text last 0 (omega arith)) (prefix_len_passes is_blank (reverse text) last 0 (omega arith)) in
+    let place : length text - 1 - last ≡ length text - suffix_len is_blank text = omega arith in
+    blank_small _ (rw (← place) blank))
 
 -- ---- places
 
@@ -73,9 +66,4 @@ place_ends quoting (c ∷ cs) within = elim (cases_Bool (ends_place quoting c)) 
 
 -- before the sign that ends a place
 pub cut_place : (text : List ℕ) → IsCharBoundary text (place_length Outside text)
-cut_place text = elim (cases_lt (place_length Outside text) (length text)) [
-  | inl inside ↦ IsCharBoundary-before_ascii text (place_length Outside text) inside (place_ends Outside text inside)
-  | inr out ↦
-      let end : place_length Outside text ≡ length text = omega (arith, place_within Outside text) in
-      rw end (IsCharBoundary-end text)
-]
+cut_place text = before_ascii text (place_length Outside text) (place_within Outside text) (place_ends Outside text)

@@ -1,17 +1,17 @@
 -- Numbers in digits, as the library reads them; these and names are text.
 use Rattle.std.proofs.Common.{◌≡◌, ℕ, ◌^◌, ◌<◌, ◌≤◌, true, List, length, refl, ap, arith, Result, Ok, Err, Option, Some, None, inl, inr}
-use Rattle.std.specs.Char.{is_ascii}
 use Rattle.std.specs.Prelude.{nat_le, if◌then◌else◌}
 use Rattle.std.specs.List.{list_all}
 use Rattle.std.specs.Result.{result_ok}
 use Rattle.std.specs.Str.{IsUtf8}
 use Rattle.std.specs.Str.Parse.{AllDigits, ParsesUnsigned, digits_value}
 use Rattle.std.proofs.lemmas.Bool.{cases_Bool, and_parts, leb-true}
-use Rattle.std.proofs.lemmas.Bool.Decides.{nat_tests}
+use Rattle.std.proofs.lemmas.Fmt.{IsAscii-from_digits}
+use Rattle.std.proofs.lemmas.Str.{IsUtf8-from_ascii}
 use Rattle.std.proofs.lemmas.Str.Parse.{IsNumeralModel, numerals_by_value, tells_digits, digits_value_short, parse_digits, parse_gives}
 use Rattle.px_value.specs.Name.{is_digit, is_identifier}
 use Rattle.px_value.proofs.Digits.{all_digits}
-use Rattle.px_value.proofs.Ascii.{ascii_text, identifier_text, list_all-weaker}
+use Rattle.px_value.proofs.Ascii.{identifier_text}
 use Rattle.px_event.specs.Fit.{is_report_name}
 use Rattle.px_script.specs.ThreadLine.{are_digits, is_thread}
 
@@ -35,12 +35,8 @@ read_short ds read digits short parses none =
     cc
 
 -- digits are text
-digit_ascii : (c : ℕ) → is_digit c ≡ true → is_ascii c ≡ true
-digit_ascii c h = grind (arith, nat_tests)
-
 pub digits_text : (ds : List ℕ) → are_digits ds ≡ true → IsUtf8 ds
-digits_text ds digits =
-    ascii_text ds (list_all-weaker is_digit is_ascii digit_ascii ds (and_parts (nat_le 1 (length ds)) (list_all is_digit ds) digits).1)
+digits_text ds digits = IsUtf8-from_ascii ds (IsAscii-from_digits ds (digits_of ds digits))
 
 -- and so are names
 pub no_name : (word : List ℕ) → (IsUtf8 word → ⊥) → None ≡ (if is_report_name word then Some word else None)

@@ -1,11 +1,13 @@
 -- What a line says is fit.
-use Rattle.std.proofs.Common.{rules, ◌≡◌, ℕ, zero, suc, ◌≤◌, Bool, true, false, List, [], ◌∷◌, length, map, refl, arith, Option, Some, None, cond, inl, inr}
+use Rattle.std.proofs.Common.{rules, ◌≡◌, ℕ, zero, suc, ◌≤◌, Bool, true, List, [], ◌∷◌, length, map, refl, arith, Option, Some, None, cond}
 use Rattle.std.specs.Prelude.{◌&&◌, ◌==◌, nat_le, codes, IfSome, ⊤}
 use Rattle.std.specs.List.{list_all, AllByRecursion}
 use Rattle.std.specs.Option.{option_map, option_and_then, option_or, unwrap_or}
 use Rattle.std.specs.Str.{is_utf8}
 use Rattle.std.specs.Str.Parse.{digits_value}
 use Rattle.std.proofs.lemmas.Bool.{le-leb, and_from, cases_Bool, cond_both}
+use Rattle.std.proofs.lemmas.List.Elements.{All-from_recursion}
+use Rattle.std.proofs.lemmas.Map.Entries.{All-lookup}
 use Rattle.std.proofs.lemmas.Option.{IfSome_then, MatchOption-at_some}
 use Rattle.px_value.specs.Path.{is_path}
 use Rattle.px_value.specs.declared.value.Value.{Value}
@@ -181,17 +183,20 @@ ack_fit plan text =
 
 -- ---- lines that wait, or name a thread
 
--- each row of a table of lines says what is fit
+-- a line says what is fit, whatever the text
+abbrev SaysFit : (List ℕ → Option ParsedLine) → Type 0
+SaysFit line = (text : List ℕ) → IfSome (line text) IsFitParsedLine
+
+-- so does each row of a table of lines
 abbrev AllRows : List (List ℕ × (List ℕ → Option ParsedLine)) → Type 0
-AllRows rows = AllByRecursion (λ row. (text : List ℕ) → IfSome (row.1 text) IsFitParsedLine) rows
+AllRows rows = AllByRecursion (λ row. SaysFit row.1) rows
 
 row_fit : (rows : List (List ℕ × (List ℕ → Option ParsedLine))) (word text : List ℕ) → AllRows rows
     → IfSome (option_and_then (λ line. line text) (row_of rows word)) IsFitParsedLine
-row_fit [] word text all = tt
-row_fit (row ∷ rows) word text all = elim (cases_Bool (is_same row.0 word)) [
-  | inl is ↦ rw is (all.0 text)
-  | inr isnt ↦ rw isnt (row_fit rows word text all.1)
-]
+row_fit rows word text all =
+    let each = All-from_recursion (λ (row : List ℕ × (List ℕ → Option ParsedLine)). SaysFit row.1) rows all in
+    let found = All-lookup SaysFit (λ spelling. is_same spelling word) rows each in
+    IfSome-and_then IsFitParsedLine (λ line. line text) (row_of rows word) (λ line is. MatchOption-at_some ⊤ SaysFit line is found text)
 
 node_fit : (kind : Option Kind) (says : ParsedLine) → IsFitParsedLine says → IsFitParsedLine (of_node kind says)
 node_fit None says fit = tt

@@ -1,6 +1,6 @@
 -- What a fit script posts is fit.
-use Rattle.std.proofs.Common.{◌≡◌, ℕ, ◌^◌, ◌<◌, ◌≤◌, true, List, [], ◌∷◌, length, map, refl, ◌∙◌, arith}
-use Rattle.std.specs.Prelude.{nat_le, nat_lt, ◌&&◌}
+use Rattle.std.proofs.Common.{◌≡◌, ℕ, ◌^◌, ◌<◌, ◌≤◌, true, List, [], ◌∷◌, map, refl, ◌∙◌, arith}
+use Rattle.std.specs.Prelude.{nat_le, nat_lt}
 use Rattle.std.specs.List.{list_all, cons_option}
 use Rattle.std.specs.List.Sorted.{IsPermutation}
 use Rattle.std.proofs.lemmas.List.Folds.{list_all-append}
@@ -16,6 +16,7 @@ use Rattle.px_script.specs.declared.line.What.{What}
 use Rattle.px_script.specs.declared.line.What.TheVariants as whats
 use Rattle.px_script.specs.declared.todo.Todo.{Todo}
 use Rattle.px_script.specs.declared.script.Script.{Script}
+use Rattle.px_script.proofs.Remainders.{fit_parts}
 use Rattle.px_script.proofs.Walks.{line_at}
 
 -- what one line posts, before other entries
@@ -39,10 +40,8 @@ lines_fit thread low (line ∷ lines) above within rising fit =
 -- what one thread posts
 thread_fit : (todo : Todo) → 0 < todo.thread → todo.thread ≤ 8 → are_fit_lines todo.lines ≡ true → list_all is_fit_entry (thread_entries todo) ≡ true
 thread_fit todo above within fit =
-    let count = nat_le 1 (length todo.lines) && nat_le (length todo.lines) 100000 in
-    let rise = rise_above 0 (map (λ line. line.number) todo.lines) in
-    let all = and_parts (count && rise) (list_all is_fit_line todo.lines) fit in
-    lines_fit todo.thread 0 todo.lines above within (and_parts count rise all.0).1 all.1
+    let parts = fit_parts todo.lines fit in
+    lines_fit todo.thread 0 todo.lines above within parts.rising parts.fit
 
 -- what all threads post
 threads_fit : (low : ℕ) (threads : List Todo) → rise_above low (map (λ todo. todo.thread) threads) ≡ true

@@ -1,9 +1,10 @@
 -- How the reading of a string goes on behind a byte.
-use Rattle.std.proofs.Common.{◌≡◌, ℕ, ◌-◌, ◌≤◌, Bool, true, false, List, [], ◌∷◌, length, get_or, take, drop, Option, Some, None, refl, arith}
+use Rattle.std.proofs.Common.{◌≡◌, ℕ, ◌-◌, ◌≤◌, Bool, true, false, List, [], ◌∷◌, length, get_or, take, drop, Option, Some, None, refl, ap, ◌∙◌, arith}
 use Rattle.std.specs.Prelude.{if◌then◌else◌}
 use Rattle.std.proofs.lemmas.List.{take_rest}
 use Rattle.px_value.specs.Text.{unescaped}
 use Rattle.std.proofs.lemmas.Option.{none-some}
+use Rattle.px_lex.proofs.Fronts.{opened}
 use Rattle.px_lex.proofs.StringFronts.{inner}
 use Rattle.px_lex.specs.String.{is_quote, is_backslash, is_line_end, with_byte, string_from, escape_from, read_string}
 use Rattle.px_script.specs.Place.{behind_byte}
@@ -39,7 +40,9 @@ list_goes_on quoting [] content rest within some h = absurd (omega arith)
 list_goes_on quoting (c ∷ cs) content rest within some h =
     rw (take_rest (c ∷ cs) 1) (goes_on quoting c cs content rest within h)
 
-pub opened_by : (text content rest : List ℕ) → 1 ≤ length text → get_or text 0 0 ≡ 34 → read_string text ≡ Some (content, rest)
+-- behind the quote with which it begins
+pub opened_by : (text content rest : List ℕ) → read_string text ≡ Some (content, rest)
     → (less : List ℕ) × (string_from (take (length text - 1) (drop 1 text)) ≡ Some (less, rest))
-opened_by [] content rest some quote h = absurd (omega arith)
-opened_by (c ∷ cs) content rest some quote h = (content, rw (take_rest (c ∷ cs) 1) (rw quote at h))
+opened_by text content rest h =
+    let begun = opened text content rest h in
+    (content, ap string_from (take_rest text 1 ∙ ap (drop 1) begun.1) ∙ begun.2)

@@ -2,6 +2,7 @@
 use Rattle.std.proofs.Common.{rules, ◌≡◌, ℕ, ◌<◌, ◌≤◌, Bool, true, false, List, [], ◌∷◌, ◌++◌, length, map, get_or, refl, sym, ap, ◌∙◌, arith, cond, eqb, inl, inr}
 use Rattle.std.specs.Prelude.{◌&&◌, max, nat_le, nat_lt}
 use Rattle.std.specs.List.{filter, fold, list_all, All}
+use Rattle.std.proofs.iter.runs.Lists.{folded_grows}
 use Rattle.std.proofs.lemmas.List.{map-append}
 use Rattle.std.proofs.lemmas.List.Elements.{filter-append, filter_passes, All-nil, All-cons, All-map, All-filter, All-weaker}
 use Rattle.std.proofs.lemmas.List.Folds.{list_all-map}
@@ -26,8 +27,7 @@ numbers_of thread history = map line_of (entries_of thread history)
 
 -- a greatest number so far never falls
 max_grows : (low : ℕ) (numbers : List ℕ) → low ≤ fold max low numbers
-max_grows low [] = omega arith
-max_grows low (number ∷ numbers) = omega (arith, max_grows (max low number) numbers)
+max_grows low numbers = folded_grows max (λ most number. omega arith) numbers low
 
 last_line-append : (thread : ℕ) (history more : List Entry) → last_line thread (history ++ more) ≡ fold max (last_line thread history) (numbers_of thread more)
 last_line-append thread history more =

@@ -5,7 +5,8 @@ use Rattle.std.specs.List.{filter, filter_map, cons_option, count_by, AllByRecur
 use Rattle.std.proofs.lemmas.List.Elements.{filter-append, filter_map-append}
 use Rattle.std.proofs.lemmas.List.Sums.{sum_by-append, sum_by-cons}
 use Rattle.std.proofs.lemmas.Bool.{lt-ltb, le-ltb, cases_Bool}
-use Rattle.px_value.proofs.General.{each-append, each_map}
+use Rattle.std.proofs.Permutation.{every_append as each-append}
+use Rattle.px_value.proofs.General.{each_map}
 use Rattle.px_script.specs.declared.line.Line.{Line}
 use Rattle.px_script.specs.declared.parsed_line.ParsedLine.{ParsedLine}
 use Rattle.px_script.specs.declared.parsed_line.ParsedLine.TheVariants.{Nothing, Posts, Waits, Thread, Faulty}

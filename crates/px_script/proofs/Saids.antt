@@ -1,9 +1,9 @@
 -- What a line says by its first word.
-use Rattle.std.proofs.Common.{◌≡◌, ℕ, true, false, List, refl, None, inl, inr}
+use Rattle.std.proofs.Common.{◌≡◌, ℕ, true, false, List, refl, None}
 use Rattle.std.specs.Prelude.{codes}
-use Rattle.std.specs.Str.{IsUtf8, is_utf8}
-use Rattle.std.proofs.lemmas.Bool.{cases_Bool}
-use Rattle.std.proofs.lemmas.Str.{is_utf8-from_IsUtf8, IsUtf8-from_is_utf8}
+use Rattle.std.specs.Str.{IsUtf8}
+use Rattle.std.proofs.lemmas.Str.{is_utf8-from_IsUtf8}
+use Rattle.px_value.proofs.General.{not_utf8}
 use Rattle.px_core.specs.Plan.{Site, is_same}
 use Rattle.px_script.specs.NodeLine.{return_line}
 use Rattle.px_script.specs.ParsedLine.{said_in_text, said}
@@ -21,10 +21,7 @@ wait_row plan text set handle return abort ack wait = rw (set, handle, return, a
 
 -- bytes that don't begin with `thread` and aren't text
 pub no_text : (plan : List Site) (line : List ℕ) → is_same (codes "thread") (first_word line) ≡ false → (IsUtf8 line → ⊥) → None ≡ said plan line
-no_text plan line unnamed other = elim (cases_Bool (is_utf8 line)) [
-  | inl is ↦ absurd (other (IsUtf8-from_is_utf8 line is))
-  | inr isnt ↦ rw (unnamed, isnt) refl
-]
+no_text plan line unnamed other = rw (unnamed, not_utf8 line other) refl
 
 pub text_says : (plan : List Site) (line : List ℕ) → is_same (codes "thread") (first_word line) ≡ false → IsUtf8 line → said_in_text plan line ≡ said plan line
 text_says plan line unnamed utf8 = rw (unnamed, is_utf8-from_IsUtf8 line utf8) refl

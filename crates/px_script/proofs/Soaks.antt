@@ -1,8 +1,8 @@
 -- The script of `soak` is fit.
 use Rattle.std.proofs.Common.{◌≡◌, ℕ, zero, suc, ◌+◌, ◌^◌, ◌<◌, ◌≤◌, Bool, true, false, List, [], ◌∷◌, ◌++◌, Some, length, map, refl, sym, ap, ◌∙◌, subst, arith}
-use Rattle.std.specs.Prelude.{◌&&◌, nat_le, nat_lt}
+use Rattle.std.specs.Prelude.{nat_lt}
 use Rattle.std.specs.List.{list_all, range_with_len, slice_get}
-use Rattle.std.proofs.lemmas.Bool.{le-leb, lt-ltb, and_from, and_parts}
+use Rattle.std.proofs.lemmas.Bool.{lt-ltb, and_from, and_parts}
 use Rattle.std.proofs.lemmas.List.FromFn.{length-map-range_with_len, map-range_with_len_more}
 use Rattle.std.proofs.lemmas.List.Sums.{AllPass-from_list_all}
 use Rattle.std.proofs.lemmas.Option.{get_or_from_slice_get, slice_get_within}
@@ -20,6 +20,7 @@ use Rattle.px_script.specs.declared.line.What.TheVariants as whats
 use Rattle.px_script.specs.declared.script.Script.{Script}
 use Rattle.px_script.specs.declared.stall.Stall.{Stall}
 use Rattle.px_script.specs.declared.todo.Todo.{Todo}
+use Rattle.px_script.proofs.Remainders.{fit_from}
 
 -- one line more
 pub lines_more : (seed n : ℕ) (lines : List Line) → lines ≡ map (soak_line seed) (range_with_len 1 n)
@@ -49,13 +50,13 @@ each_fit seed from (suc count) within =
 lines_fit : (count seed : ℕ) → 1 ≤ count → count ≤ 100000 → are_fit_lines (soak_lines count seed) ≡ true
 lines_fit count seed some few =
     let long : length (soak_lines count seed) ≡ count = length-map-range_with_len (soak_line seed) 1 count in
-    and_from (nat_le 1 (length (soak_lines count seed)) && nat_le (length (soak_lines count seed)) 100000
-    && rise_above 0 (map (λ (line : Line). line.number) (soak_lines count seed))) (list_all is_fit_line (soak_lines count seed))
-    (and_from (nat_le 1 (length (soak_lines count seed)) && nat_le (length (soak_lines count seed)) 100000)
-    (rise_above 0 (map (λ (line : Line). line.number) (soak_lines count seed)))
-    (and_from (nat_le 1 (length (soak_lines count seed))) (nat_le (length (soak_lines count seed)) 100000)
-    (le-leb 1 (length (soak_lines count seed)) (omega (arith, long, some))) (le-leb (length (soak_lines count seed)) 100000 (omega (arith, long, few))))
-    (rises seed 0 1 count (omega arith))) (each_fit seed 1 count (omega (arith, few)))
+    fit_from (soak_lines count seed)
+    (record {
+      some = omega (arith, long, some);
+      few = omega (arith, long, few);
+      rising = rises seed 0 1 count (omega arith);
+      fit = each_fit seed 1 count (omega (arith, few));
+    })
 
 pub script_fit : (script : Script) (count seed : ℕ) → script.threads ≡ soak_threads count seed → script.names ≡ [] → 1 ≤ count → count ≤ 100000
     → IsFitScript script

@@ -10,14 +10,13 @@ use Rattle.px_value.proofs.General.{neither}
 use Rattle.px_lex.specs.declared.fault.LexFault.{LexFault}
 use Rattle.px_lex.specs.declared.fault.LexFault.TheVariants as faults
 use Rattle.px_lex.specs.declared.token.Token.{Token}
-use Rattle.px_lex.specs.declared.token.TokenKind.{TokenKind}
 use Rattle.px_lex.specs.declared.token.TokenKind.TheVariants as kinds
-use Rattle.px_lex.specs.Fault.{FaultKind, Bad, Real, TooLong, IsFaulty}
+use Rattle.px_lex.specs.Fault.{FaultKind, Bad, TooLong, IsFaulty}
 use Rattle.px_lex.specs.Gap.{begins}
-use Rattle.px_lex.specs.Lexer.{Piece, spelled, AllStand, token_at, tokens_from, Splits, IsFault, FirstFault}
+use Rattle.px_lex.specs.Lexer.{Piece, spelled, AllStand, token_at, tokens_from, Splits, FirstFault}
 use Rattle.px_lex.specs.String.{is_quote, string_from, read_string}
 use Rattle.px_lex.proofs.Fronts.{piece, faulty, front, stands_front, fault_front}
-use Rattle.px_lex.proofs.Unique.{kind_of, rest_of, not_at_end}
+use Rattle.px_lex.proofs.Unique.{kind_of, rest_of, clash, faulty_kind, not_at_end}
 use Rattle.px_event.specs.Values.{is_plain}
 use Rattle.px_script.specs.Value.{plain, all_of, text_of}
 
@@ -39,9 +38,6 @@ first_front : (text rest : List ℕ) (p : Piece) (ps : List Piece) → text ≡ 
     → front text ≡ piece p.kind (spelled ps ++ rest)
 first_front text rest p ps whole stand =
     ap front (whole ∙ append_assoc p.spelling (spelled ps) rest) ∙ stands_front p.kind p.spelling (spelled ps ++ rest) stand.0
-
-clash : (kind : FaultKind) (other : Option TokenKind) (rest : List ℕ) → faulty kind ≡ piece other rest → ⊥
-clash kind other rest h = cc
 
 -- nothing stands behind the string at the front of a text
 abbrev pub IsAll : List ℕ → Type 0
@@ -81,12 +77,6 @@ lexed (c ∷ cs) tokens found quote s all f =
     (λ all s. by_pieces cs tokens found s.pieces s.whole s.stand s.listed all f) all s
 
 -- ---- a text with a fault
-
-faulty_kind : (fault : LexFault) (place : ℕ) (rest : List ℕ) → fault ≢ faults.NoMemory → IsFault fault place rest → (kind : FaultKind) × IsFaulty kind rest
-faulty_kind (faults.Bad at) place rest told h = (Bad, h.1)
-faulty_kind (faults.Real at) place rest told h = (Real, h.1)
-faulty_kind (faults.TooLong at) place rest told h = (TooLong, h.1)
-faulty_kind faults.NoMemory place rest told h = absurd (told refl)
 
 too_long : (content : List ℕ) → nat_le (length content) 1024 ≡ false → None ≡ plain (values.Text content)
 too_long content long = by (is_utf8 content)

@@ -1,20 +1,20 @@
 -- The kinds of nodes that are told one after another.
-use Rattle.std.proofs.Common.{◌≡◌, ℕ, zero, suc, ◌<◌, ◌++◌, true, false, List, [], ◌∷◌, length, get_or, refl, ap, sym, ◌∙◌, arith, append-nil, append_assoc, inl, inr, Option, Some, None, is_some, if◌then◌else◌}
+use Rattle.std.proofs.Common.{◌≡◌, ℕ, ◌<◌, ◌++◌, true, false, List, [], ◌∷◌, length, get_or, refl, ap, sym, ◌∙◌, append-nil, append_assoc, Option, Some, None, is_some, if◌then◌else◌}
 use Rattle.std.specs.Cmp.Lexicographic.{same_text}
 use Rattle.std.specs.List.{list_all}
 use Rattle.std.specs.Map.{lookup}
 use Rattle.std.specs.Option.{option_or}
-use Rattle.std.proofs.lemmas.Bool.{and_parts, cases_Bool}
+use Rattle.std.proofs.lemmas.Bool.{false_from_ne_true}
 use Rattle.std.proofs.lemmas.List.{map-append, nil_from_length}
 use Rattle.std.proofs.lemmas.List.Folds.{list_all-map}
-use Rattle.px_value.proofs.General.{list_all_parts, lookup-append}
+use Rattle.px_value.proofs.General.{lookup-append}
 use Rattle.px_value.specs.Path.{below}
 use Rattle.px_core.proofs.Trees.{node_tree}
 use Rattle.px_core.specs.declared.node.CoreNode.{CoreNode}
 use Rattle.px_core.specs.declared.node.Kind.{Kind}
 use Rattle.px_core.specs.Fit.{has_short_path}
 use Rattle.px_core.specs.Plan.{Tree, NoNode, Branch, Site, sites_under, sites, tree_of_node, is_same, trees_of, below_it}
-use Rattle.px_flat.proofs.Trees.{node_head, sites_of_one}
+use Rattle.px_flat.proofs.Trees.{node_head, sites_of_one, next_is_short}
 use Rattle.px_script.specs.Telling.{TellKinds, all_kinds, kinds_under, has_short}
 
 abbrev Told : Type 0
@@ -55,31 +55,28 @@ kinds_of_sites parent above (Branch head children rest) =
     (map-append (λ site. (site.path, site.head.kind)) (sites_under (path ∷ parent ∷ above) children) (sites_under (parent ∷ above) rest)
     ∙ (λ i. kinds_of_sites path (parent ∷ above) children i ++ kinds_of_sites parent above rest i))
 
+-- the paths that are told are as short as those of the sites
+short_as : (parent : List ℕ) (above : List (List ℕ)) (tree : Tree)
+    → list_all has_short (kinds_under parent tree) ≡ list_all has_short_path (sites_under (parent ∷ above) tree)
+short_as parent above tree =
+    ap (list_all has_short) (sym (kinds_of_sites parent above tree))
+    ∙ list_all-map has_short (λ (site : Site). (site.path, site.head.kind)) (sites_under (parent ∷ above) tree)
+
 pub short_kinds : (parent : List ℕ) (above : List (List ℕ)) (tree : Tree)
     → list_all has_short_path (sites_under (parent ∷ above) tree) ≡ true → list_all has_short (kinds_under parent tree) ≡ true
-short_kinds parent above tree short =
-    ap (list_all has_short) (sym (kinds_of_sites parent above tree))
-    ∙ list_all-map has_short (λ (site : Site). (site.path, site.head.kind)) (sites_under (parent ∷ above) tree) ∙ short
+short_kinds parent above tree short = short_as parent above tree ∙ short
 
 -- the next child can be told, and what is below it
 pub record IsShortChild (parent : List ℕ) (node : CoreNode) : Type 0 where
   pub own : has_short (own parent node) ≡ true
   pub inner : list_all has_short (inner parent node) ≡ true
 
-short_parts : (parent : List ℕ) (node : CoreNode) (nodes : List CoreNode) → list_all has_short (kinds_under parent (trees_of (node ∷ nodes))) ≡ true
-    → IsShortChild parent node × (list_all has_short (kinds_under parent (trees_of nodes)) ≡ true)
-short_parts parent node nodes short =
-    let parts = and_parts (has_short (own parent node)) (list_all has_short (inner parent node ++ kinds_under parent (trees_of nodes)))
-    (sym (ap (λ tree. list_all has_short (kinds_under parent tree)) (node_tree node (trees_of nodes))) ∙ short) in
-    let rest = list_all_parts has_short (inner parent node) (kinds_under parent (trees_of nodes)) parts.1 in
-    (record { own = parts.0; inner = rest.0 }, rest.1)
-
 pub short_child : (parent : List ℕ) (nodes : List CoreNode) (i : ℕ) (d : CoreNode) → i < length nodes
     → list_all has_short (kinds_under parent (trees_of nodes)) ≡ true → IsShortChild parent (get_or nodes i d)
-short_child parent [] i d within short = absurd (omega arith)
-short_child parent (node ∷ nodes) zero d within short = (short_parts parent node nodes short).0
-short_child parent (node ∷ nodes) (suc i) d within short =
-    short_child parent nodes i d (omega arith) (short_parts parent node nodes short).1
+short_child parent nodes i d within short =
+    let child = get_or nodes i d in
+    let next = next_is_short (parent ∷ []) nodes i d within (sym (short_as parent [] (trees_of nodes)) ∙ short) in
+    record { own = next.own; inner = short_kinds (path_of parent child) (parent ∷ []) (below_it child) next.inner }
 
 -- ---- what entries tell
 
@@ -95,11 +92,8 @@ pub told_already : (entries : Told) (path : List ℕ) (kind : Kind) → is_some 
 told_already entries path kind there other = by (lookup (is_same other) entries) refl
   where
     none_else : (other : List ℕ) → lookup (is_same other) entries ≡ None → is_same other path ≡ false
-    none_else other none = elim (cases_Bool (is_same other path)) [
-      | inl is ↦ absurd (cc (sym there ∙ ap (λ p. is_some (lookup (is_same p) entries)) (sym (same_text other path (sym is)))
-          ∙ ap is_some none))
-      | inr isnt ↦ isnt
-    ]
+    none_else other none = false_from_ne_true (is_same other path) (λ is.
+        cc (sym there ∙ ap (λ p. is_some (lookup (is_same p) entries)) (sym (same_text other path (sym is))) ∙ ap is_some none))
 
     by : (told : Option Kind) → lookup (is_same other) entries ≡ told
         → lookup (is_same other) entries ≡ lookup (is_same other) (entries ++ (path, kind) ∷ [])

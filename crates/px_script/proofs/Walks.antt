@@ -1,8 +1,9 @@
 -- How a thread's walk through a log goes on as the log grows, and as it passes one line more.
 use Rattle.std.proofs.Common.{◌≡◌, ℕ, ◌≤◌, List, [], ◌∷◌, ◌++◌, length, Some, refl, sym, ap, ◌∙◌, subst, arith}
 use Rattle.std.specs.List.{slice_get}
-use Rattle.std.proofs.lemmas.List.{map-append, append-nil, append_assoc, length-append, length-map, length_push, take_all, take-append-le, get_or_append_left, get_or_push}
-use Rattle.std.proofs.lemmas.Option.{slice_get_within, slice_get-get_or, get_or_from_slice_get}
+use Rattle.std.proofs.iter.runs.Lists.{nth_left, nth_seam}
+use Rattle.std.proofs.lemmas.List.{map-append, append-nil, append_assoc, length-append, length-map, length_push, take_all, take-append-le}
+use Rattle.std.proofs.lemmas.Option.{slice_get_within}
 use Rattle.px_core.specs.Plan.{Site}
 use Rattle.px_event.specs.declared.entry.Entry.{Entry}
 use Rattle.px_event.specs.declared.cond.Cond.{Cond}
@@ -18,10 +19,7 @@ use Rattle.px_sem.specs.Log.{Log, logged_as, accepted, posted_in}
 
 -- an element stays with more behind the list
 pub slice_get-append : {X : Type 0} (xs ys : List X) (at : ℕ) (x : X) → slice_get xs at ≡ Some x → slice_get (xs ++ ys) at ≡ Some x
-slice_get-append xs ys at x is =
-    let within = slice_get_within xs at x is in
-    slice_get-get_or (xs ++ ys) at x (omega (arith, length-append xs ys))
-    ∙ ap Some (get_or_append_left xs ys x at within ∙ get_or_from_slice_get xs at x x is)
+slice_get-append xs ys at x is = nth_left xs ys at (slice_get_within xs at x is) ∙ is
 
 -- a line of this number
 abbrev pub line_at : ℕ → What → Line
@@ -85,11 +83,6 @@ module _ (plan : List Site) (first : List Entry) where
       subst (λ (lines : List Line). Walks plan first (log ++ more) thread from lines) (append-nil lines)
       (walks_joined log more thread from lines [] walk (omega (arith, length-append log more)))
 
--- what was pushed is the last
-slice_get-push : {X : Type 0} (xs : List X) (x : X) → slice_get (xs ++ x ∷ []) (length xs) ≡ Some x
-slice_get-push xs x =
-    slice_get-get_or (xs ++ x ∷ []) (length xs) x (omega (arith, length_push xs x)) ∙ ap Some (get_or_push xs x x (length xs) refl)
-
 module _ (plan : List Site) (first : List Entry) where
   -- a line that posts is passed where its post has come, the last of all
   pub walks_post : (log others : Log) (thread from : ℕ) (lines : List Line) (number : ℕ) (event : Event) (reply : Reply)
@@ -102,7 +95,7 @@ module _ (plan : List Site) (first : List Entry) where
       = ap (λ (entries : List Entry). slice_get entries (length (log ++ others)))
       (ap posted_in (sym (append_assoc log others (logged_as entry reply ∷ []))) ∙ map-append (λ logged. logged.entry) (log ++ others) (logged_as entry reply ∷ []))
       ∙ ap (λ (at : ℕ). slice_get (posted_in (log ++ others) ++ entry ∷ []) at) (sym (length-map (log ++ others) (λ logged. logged.entry)))
-      ∙ slice_get-push (posted_in (log ++ others)) entry in
+      ∙ nth_seam (posted_in (log ++ others)) entry in
       walks_then plan first log more thread from lines (line_at number (whats.Post event)) (length (log ++ others)) walk
       (omega (arith, length-append log others))
       (omega (arith, length-append log others, length-append log more, length_push others (logged_as entry reply)))

@@ -39,6 +39,13 @@ run_on_more plan (Some now) [] event world is =
 run_on_more plan (Some now) (first ∷ history) event world is =
     run_on_more plan (settled_world (posted plan now first)) history event world is
 
+-- a run over a history is one over each front of it
+pub run_on_front : (plan : List Site) (now : Option World) (front rest : List Event) → IsSome (run_on plan now (front ++ rest)) → IsSome (run_on plan now front)
+unfolding run_on
+run_on_front plan None front rest some = some
+run_on_front plan (Some world) [] rest some = refl
+run_on_front plan (Some world) (event ∷ front) rest some = run_on_front plan (settled_world (posted plan world event)) front rest some
+
 -- the start alone
 pub run_at_start : (plan : List Site) (world : World) (k : ℕ) → started plan ≡ Some (world, k) → run plan [] ≡ Some world
 run_at_start plan world k is = run_on_none plan (settled_world (started plan)) ∙ ap settled_world is
@@ -64,7 +71,7 @@ accepted-append front back =
 abbrev pub history_of : Log → List Event
 history_of log = events_of (accepted log)
 
-history-append : (front back : Log) → history_of (front ++ back) ≡ history_of front ++ history_of back
+pub history-append : (front back : Log) → history_of (front ++ back) ≡ history_of front ++ history_of back
 history-append front back = ap events_of (accepted-append front back) ∙ map-append (λ e. e.event) (accepted front) (accepted back)
 
 -- one post more, answered over the history of its moment

@@ -1,9 +1,13 @@
 -- When a world settles, from the worlds on its way.
-use Rattle.std.proofs.Common.{◌≡◌, ℕ, zero, suc, ◌+◌, ◌<◌, ◌≤◌, inl, inr, Bool, true, false, List, get_or, Option, Some, None, IsSome, cond, refl, arith, ap, sym, subst, ◌∙◌, add-one}
-use Rattle.std.specs.List.{find, range_with_len}
+use Rattle.std.proofs.Common.{◌≡◌, ℕ, suc, ◌+◌, ◌<◌, ◌≤◌, inl, inr, Bool, true, false, List, length, get_or, slice_get, Option, Some, None, IsSome, refl, arith, ap, sym, subst, ◌∙◌, add-one}
+use Rattle.std.specs.List.{find, position_or_len, range_with_len}
 use Rattle.std.specs.Option.{option_map, unwrap_or}
 use Rattle.std.proofs.lemmas.Bool.{cases_lt}
+use Rattle.std.proofs.lemmas.List.Folds.{find_at}
 use Rattle.std.proofs.lemmas.List.FromFn.{get_or-range_with_len, length-range_with_len}
+use Rattle.std.proofs.lemmas.List.Recursion.{found_at, found_nowhere}
+use Rattle.std.proofs.lemmas.List.Sums.{fails_before_first, passes_at_first}
+use Rattle.std.proofs.lemmas.Option.{get_or_from_slice_get, slice_get_within}
 use Rattle.px_value.proofs.General.{none_found, option_map_some}
 use Rattle.px_sem.specs.declared.moves.Move.{Move}
 use Rattle.px_core.specs.Plan.{Site}
@@ -20,89 +24,56 @@ pub record IsUnderway (from now : State) (count : ℕ) : Type 0 where
   pub reached : now.world ≡ after_steps from.nodes from.world count
   pub busy : (j : ℕ) → j < count → is_quiet from.nodes (after_steps from.nodes from.world j) ≡ false
 
--- ---- the first number that passes, among n numbers from a on
-
-found_none : (test : ℕ → Bool) (a n : ℕ) → ((j : ℕ) → a ≤ j → j < a + n → test j ≡ false)
-    → find test (range_with_len a n) ≡ None
-found_none test a zero fails = refl
-found_none test a (suc n) fails =
-    rw (fails a (omega arith) (omega arith)) (found_none test (a + 1) n (λ j low high. fails j (omega arith) (omega arith)))
-
-found_at : (test : ℕ → Bool) (a n k : ℕ) → a ≤ k → k < a + n → test k ≡ true
-    → ((j : ℕ) → a ≤ j → j < k → test j ≡ false) → find test (range_with_len a n) ≡ Some k
-found_at test a zero k low high passes fails = absurd (omega arith)
-found_at test a (suc n) k low high passes fails = elim (cases_lt a k) [
-  | inl after ↦
-      rw (fails a (omega arith) after)
-      (found_at test (a + 1) n k (omega arith) (omega arith) passes (λ j at before. fails j (omega arith) before))
-  | inr here ↦
-      let is : a ≡ k = omega arith in
-      let passes_here : test a ≡ true = rw is passes in
-      rw passes_here (ap Some is)
-]
-
--- so it is among the numbers, and none before it passes
-record IsFirst (test : ℕ → Bool) (a n k : ℕ) : Type 0 where
-  passes : test k ≡ true
-  none_before : (j : ℕ) → a ≤ j → j < k → test j ≡ false
-  low : a ≤ k
-  high : k < a + n
-
-found_is : (test : ℕ → Bool) (a n k : ℕ) → find test (range_with_len a n) ≡ Some k → IsFirst test a n k
-found_is test a zero k is = cc
-found_is test a (suc n) k is = by (found_is test (a + 1) n k) (test a) refl is
-  where
-    later : IsFirst test (a + 1) n k → test a ≡ false → IsFirst test a (suc n) k
-    later found fails = record {
-      passes = found.passes;
-      none_before = λ j low before. elim (cases_lt a j) [
-        | inl after ↦ found.none_before j (omega arith) before
-        | inr here ↦ let same : j ≡ a = omega arith in rw same fails
-      ];
-      low = let h = found.low in omega arith;
-      high = let h = found.high in omega arith;
-    }
-
-    by : (find test (range_with_len (a + 1) n) ≡ Some k → IsFirst test (a + 1) n k) → (passes : Bool) → test a ≡ passes
-        → cond passes (Some a) (find test (range_with_len (a + 1) n)) ≡ Some k → IsFirst test a (suc n) k
-    by rest true at e =
-        let same : k ≡ a = cc in
-        record {
-          passes = rw same at;
-          none_before = λ j low before. absurd (omega arith);
-          low = omega arith;
-          high = omega arith;
-        }
-    by rest false at e = later (rest e) at
-
 -- ---- the least number that passes
+
+-- the numbers up to a bound
+abbrev up_to : ℕ → List ℕ
+up_to bound = range_with_len 0 (bound + 1)
+
+length-up_to : (bound : ℕ) → length (up_to bound) ≡ bound + 1
+length-up_to bound = length-range_with_len 0 (bound + 1)
+
+at_itself : (bound j : ℕ) → j ≤ bound → get_or (up_to bound) j 0 ≡ j
+at_itself bound j within = omega (arith, get_or-range_with_len 0 (bound + 1) j 0 (omega arith))
 
 pub least_none : (test : ℕ → Bool) (bound : ℕ) → ((j : ℕ) → j ≤ bound → test j ≡ false) → least test bound ≡ None
 unfolding least
-least_none test bound fails = found_none test 0 (bound + 1) (λ j low high. fails j (omega arith))
+least_none test bound fails =
+    found_nowhere (find test) test Some None refl (λ x xs. refl) (up_to bound) 0 (λ j below.
+    let within : j ≤ bound = omega (arith, below, length-up_to bound) in
+    ap test (at_itself bound j within) ∙ fails j within)
 
 pub least_at : (test : ℕ → Bool) (bound k : ℕ) → k ≤ bound → test k ≡ true
     → ((j : ℕ) → j < k → test j ≡ false) → least test bound ≡ Some k
 unfolding least
 least_at test bound k within passes fails =
-    found_at test 0 (bound + 1) k (omega arith) (omega arith) passes (λ j low before. fails j before)
+    let at = at_itself bound k within in
+    found_at (find test) test Some None refl (λ x xs. refl) (up_to bound) k 0
+    (omega (arith, length-up_to bound))
+    (λ j before. ap test (at_itself bound j (omega arith)) ∙ fails j before) (ap test at ∙ passes)
+    ∙ ap Some at
 
 pub least_found : (test : ℕ → Bool) (bound k : ℕ) → least test bound ≡ Some k → IsLeast test bound k
 unfolding least
 least_found test bound k is =
-    let found = found_is test 0 (bound + 1) k is in
+    let at : slice_get (up_to bound) (position_or_len test (up_to bound)) ≡ Some k = sym (find_at test (up_to bound)) ∙ is in
+    let below = slice_get_within (up_to bound) (position_or_len test (up_to bound)) k at in
+    let within : position_or_len test (up_to bound) ≤ bound = omega (arith, below, length-up_to bound) in
+    let here = get_or_from_slice_get (up_to bound) (position_or_len test (up_to bound)) k 0 at in
+    let first : position_or_len test (up_to bound) ≡ k = sym (at_itself bound (position_or_len test (up_to bound)) within) ∙ here in
     record {
-      passes = found.passes;
-      none_below = λ j before. found.none_before j (omega arith) before;
-      within = let h = found.high in omega arith;
+      passes = ap test (sym here) ∙ passes_at_first test (up_to bound) 0 below;
+      none_below = λ j before.
+          ap test (sym (at_itself bound j (omega (arith, first, within))))
+          ∙ fails_before_first test (up_to bound) j 0 (omega (arith, first));
+      within = omega (arith, first, within);
     }
 
 pub none_least : (test : ℕ → Bool) (bound : ℕ) → least test bound ≡ None → (j : ℕ) → j ≤ bound → test j ≡ false
 unfolding least
 none_least test bound none j within =
-    let at : get_or (range_with_len 0 (bound + 1)) j 0 ≡ j = omega (arith, get_or-range_with_len 0 (bound + 1) j 0 (omega arith)) in
-    ap test (sym at)
-    ∙ none_found test (range_with_len 0 (bound + 1)) none j 0 (omega (arith, length-range_with_len 0 (bound + 1)))
+    ap test (sym (at_itself bound j within))
+    ∙ none_found test (up_to bound) none j 0 (omega (arith, length-up_to bound))
 
 -- ---- on the way
 

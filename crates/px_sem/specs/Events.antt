@@ -24,12 +24,13 @@ abbrev pub is_latched : ℕ → Value → Value → Bool
 is_latched tolerance (values.Integer old) (values.Integer given) = nat_le tolerance (unsigned_abs (old -ℤ given))
 is_latched tolerance old given = true
 
+-- what a tolerance keeps after one more report
+abbrev pub latched_then : Value → ℕ × Value → ℕ × Value
+latched_then given kept = (kept.0, if is_latched kept.0 kept.1 given then given else kept.1)
+
 -- the report of a state after one more, whose value is the last one, and is latched or not by each tolerance
 abbrev pub next_report : Report → Value → Report
-next_report report given = record { last = given; latched = map latch report.latched }
-  where
-    latch : ℕ × Value → ℕ × Value
-    latch kept = (kept.0, if is_latched kept.0 kept.1 given then given else kept.1)
+next_report report given = record { last = given; latched = map (latched_then given) report.latched }
 
 -- a value reported of a state, in the place of the state's report or after all others
 abbrev pub reported : List ℕ → LookState → Value → List (LookState × Report) → List (LookState × Report)

@@ -117,16 +117,17 @@ command_is_over (Commanded index handle AbortDone) = true
 command_is_over (Commanded index handle abort) = is_final_handle handle
 command_is_over _ = false
 
--- whether a failing node may leave FAILING
+-- whether a failing node may leave FAILING: by its kind, its action, and whether its children are at rest
+abbrev pub ready_in : Kind → Action → Bool → Bool
+ready_in kinds.List _ rest = rest
+ready_in kinds.Empty _ rest = false
+ready_in kinds.Assignment _ rest = true
+ready_in kinds.Command action rest = command_is_over action
+ready_in kinds.Update action rest = is_acknowledged action
+
 abbrev pub is_ready : List Site → World → Site → Bool
-is_ready plan world site = of_kind site.head.kind
-  where
-    of_kind : Kind → Bool
-    of_kind kinds.List = each_child is_at_rest plan world site.path
-    of_kind kinds.Empty = false
-    of_kind kinds.Assignment = true
-    of_kind kinds.Command = command_is_over (record_at world site.path).action
-    of_kind kinds.Update = is_acknowledged (record_at world site.path).action
+is_ready plan world site =
+    ready_in site.head.kind (record_at world site.path).action (each_child is_at_rest plan world site.path)
 
 -- what the transition table asks
 abbrev pub guards : List Site → World → Site → Guards

@@ -2,15 +2,15 @@
 use Rattle.std.proofs.Common.{◌≡◌, inl, inr, ⊎_elim, ℕ, List, [], ◌∷◌, ◌++◌, Option, Some, None, IsSome, is_some, length, refl, sym, ◌∙◌, ap, subst, arith, append-nil, IsTrue}
 use Rattle.std.specs.List.{list_all}
 use Rattle.std.specs.Option.{option_map, ForSome}
-use Rattle.px_value.proofs.General.{is_some_mapped}
+use Rattle.px_value.proofs.General.{is_some_mapped, IfSome-map}
 use Rattle.px_crew.specs.Crew.{failed_entry, Ends}
 use Rattle.px_crew.proofs.Gathering.{unfailed as failed_none}
 use Rattle.px_event.specs.Fit.{is_fit_entry}
 use Rattle.px_event.specs.declared.entry.Entry.{Entry}
 use Rattle.px_event.specs.declared.named.NamedEntry.{NamedEntry}
-use Rattle.px_exec.specs.Executive.{Opening, Executive, Keeps, KeepsDisk, IsClosed, IsTextOf, TellsBytes, StandsWithin, WasNamed, moments_now, moments_then, plan_of}
+use Rattle.px_exec.specs.Executive.{Opening, Executive, Keeps, IsTextOf, TellsBytes, StandsWithin, WasNamed, moments_now, moments_then, plan_of}
 use Rattle.px_exec.specs.declared.closing.Failed.{Failed}
-use Rattle.px_exec.proofs.Keeping.{open_of}
+use Rattle.px_exec.proofs.Keeping.{closed_of, open_of}
 use Rattle.px_exec.proofs.Tellings.{ready_now}
 use Rattle.px_journal.proofs.Going.{goes_told}
 use Rattle.px_journal.proofs.Ready.{ready_few, ready_fit, ready_stands, ready_synced}
@@ -60,9 +60,6 @@ module _ {S D : Type 0} (runs : Stepper.Ghosts S) (members : Disk.Ghosts D) (exe
 
   -- one whose append has failed
   module _ (failed : Failed) (closed : exec.failed ≡ Some failed) where
-    closed_now : IsClosed runs members exec failed
-    closed_now = subst (KeepsDisk runs members exec) closed keeps.disk
-
     longer : (text : List ℕ) → exec.history ++ failed.entry ∷ [] ≡ longest_of (session_of text exec)
     longer text = ap (λ h. h ++ failed.entry ∷ []) keeps.grown
         ∙ sym (ap (λ (f : Option Failed). (exec.opening.history ++ accepted exec.log) ++ unsure (option_map (λ (f : Failed). f.entry) f)) closed)
@@ -74,14 +71,14 @@ module _ {S D : Type 0} (runs : Stepper.Ghosts S) (members : Disk.Ghosts D) (exe
         λ image left. ⊎_elim
         (λ without. inl (subst (Stands image text) keeps.grown without))
         (λ with. inr (subst (Stands image text) (longer text) with))
-        (closed_now.now tells text is image left) in
+        ((closed_of runs members exec keeps failed closed).now tells text is image left) in
         record {
           now = record {
             read = λ told here. either told (law exec.journal.disk told here);
             left = λ told here image left. either image left;
           };
           since = subst (λ (h : List Entry). LeavesOnly members.images (StandsWithin text exec.opening.history h) (members.moments exec.opening.journal.disk) (members.moments exec.journal.disk))
-              (longer text) (closed_now.since tells text is);
+              (longer text) ((closed_of runs members exec keeps failed closed).since tells text is);
         }
 
   pub leaves_session : ReadsAreLeft members → TellsBytes members exec.opening.journal.disk → (text : List ℕ) → IsTextOf members exec text
@@ -114,12 +111,7 @@ module _ {S D : Type 0} (runs : Stepper.Ghosts S) (members : Disk.Ghosts D) (exe
 
   -- the entry of a failed append was to be accepted
   pub due_where : WasDue (plan_of runs exec) exec.opening.limit exec.history (failed_entry exec)
-  due_where = by exec.failed keeps.disk
-    where
-      by : (f : Option Failed) → KeepsDisk runs members exec f
-          → WasDue (plan_of runs exec) exec.opening.limit exec.history (option_map (λ (f : Failed). f.entry) f)
-      by None kept = tt
-      by (Some failed) closed = closed.due
+  due_where = IfSome-map _ (λ (f : Failed). f.entry) exec.failed (λ failed is. (closed_of runs members exec keeps failed is).due)
 
 -- WHAT POSTS HAVE COME TO, by what is left of the executive.
 pub closes : {S D : Type 0} (runs : Stepper.Ghosts S) (members : Disk.Ghosts D) (was after : Executive S D) → ReadsAreLeft members → Keeps runs members after

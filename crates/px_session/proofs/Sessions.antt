@@ -1,16 +1,28 @@
 -- From what the calls of a journal leave of a disk to what a session leaves.
-use Rattle.std.proofs.Common.{◌≡◌, inl, inr, ⊎_elim, ℕ, List, length, refl, sym, ◌∙◌, subst, append-nil}
+use Rattle.std.proofs.Common.{inl, inr, ⊎_elim, ℕ, List, [], ◌++◌, length, refl, sym, ◌∙◌, ap, subst, append_assoc, append-nil}
 use Rattle.std.specs.Option.{ForSome}
-use Rattle.px_value.proofs.General.{begins_further}
+use Rattle.px_value.proofs.General.{begins_further, told_of}
 use Rattle.px_event.specs.declared.entry.Entry.{Entry}
+use Rattle.px_exec.specs.Executive.{TellsBytes}
 use Rattle.px_journal.specs.Crash.{OldOrNew}
 use Rattle.px_journal.specs.Journal.{IsSynced, IsUnwritten, IsUntouched}
 use Rattle.px_journal.specs.Layout.{Stands}
 use Rattle.px_journal.proofs.Moments.{grows_length, told_since, leaves_more, leaves_on, elapses_none, elapses_on}
 use Rattle.px_ports.specs.Moment.{LeftSince, Stays}
 use Rattle.px_ports.specs.declared.disk.Disk
+use Rattle.px_sem.specs.Log.{accepted}
 use Rattle.px_session.specs.Creating.{LeavesNew}
-use Rattle.px_session.specs.Session.{Session, unposted, IsEnd, HasOneHistory, StandsFor}
+use Rattle.px_session.specs.Session.{Session, unposted, unsure, IsEnd, IsFront, HasOneHistory, StandsFor}
+
+-- bytes that stand for what a session has at first are a front of it
+pub first_front : (session : Session) (bytes : List ℕ) → Stands bytes session.text session.first → IsFront session bytes
+first_front session bytes stands = record {
+  more = [];
+  rest = accepted session.log ++ unsure session.failed;
+  front = append_assoc session.first (accepted session.log) (unsure session.failed)
+      ∙ ap (λ h. h ++ (accepted session.log ++ unsure session.failed)) (sym (append-nil session.first));
+  stands = subst (λ (h : List Entry). Stands bytes session.text h) (sym (append-nil session.first)) stands;
+}
 
 module _ {D : Type 0} (members : Disk.Ghosts D) where
   pub untouched_at_once : (disk : D) → IsUntouched members disk disk
@@ -32,10 +44,10 @@ module _ {D : Type 0} (members : Disk.Ghosts D) where
   }
 
   -- what a crash at a moment of a reading call may leave is an image from before
-  pub from_before : (old new : D) → IsUntouched members old new → (image : List ℕ) → LeftSince members.images (members.moments new) (length (members.moments old)) image
+  pub from_before : (old new : D) → IsUnwritten members old new → (image : List ℕ) → LeftSince members.images (members.moments new) (length (members.moments old)) image
       → members.images (members.moments old) image
-  from_before old new untouched image since =
-      let from = ((untouched.unwritten).elapses).each image since in
+  from_before old new unwritten image since =
+      let from = (unwritten.elapses).each image since in
       subst (members.images (members.moments old)) (sym (from.2)) (from.1)
 
   pub new_read : (text : List ℕ) (old new : D) → IsUntouched members old new → LeavesNew members text old new
@@ -43,7 +55,7 @@ module _ {D : Type 0} (members : Disk.Ghosts D) where
     grows = ((untouched.unwritten).elapses).grows;
     each = λ told is. record {
       grows = ((untouched.unwritten).elapses).grows;
-      each = λ image since. inl (from_before old new untouched image since);
+      each = λ image since. inl (from_before old new untouched.unwritten image since);
     };
   }
 
@@ -59,7 +71,7 @@ module _ {D : Type 0} (members : Disk.Ghosts D) where
     where
       older : (image : List ℕ) → OldOrNew (members.images (members.moments mid)) text image → OldOrNew (members.images (members.moments old)) text image
       older image = ⊎_elim
-          (λ was. inl (from_before old mid untouched image (told_since members.images (members.moments mid) image (length (members.moments old)) (grows_length (members.moments old) (members.moments mid) ((untouched.unwritten).elapses).grows) was)))
+          (λ was. inl (from_before old mid untouched.unwritten image (told_since members.images (members.moments mid) image (length (members.moments old)) (grows_length (members.moments old) (members.moments mid) ((untouched.unwritten).elapses).grows) was)))
           (λ new. inr new)
 
   -- a disk that is synced, and what a read gives is an end of the session
@@ -69,6 +81,13 @@ module _ {D : Type 0} (members : Disk.Ghosts D) where
     read = read;
     left = λ told is image left. subst (IsEnd session) (sym (synced told is image left)) (read told is);
   }
+
+  -- each image of a disk that is synced stands for what the disk stands for
+  pub images_stand : (disk : D) (text : List ℕ) (first : List Entry) → IsSynced members disk → TellsBytes members disk → StandsFor members disk text first
+      → (image : List ℕ) → members.images (members.moments disk) image → Stands image text first
+  images_stand disk text first synced tells stands image left =
+      let told = told_of (members.content disk) tells in
+      subst (λ (bytes : List ℕ). Stands bytes text first) (sym (synced told.0 told.1 image left)) (stands told.0 told.1)
 
   -- a disk that is synced, and stands for a text and a history
   pub one_history : (disk : D) (text : List ℕ) (history : List Entry) → IsSynced members disk

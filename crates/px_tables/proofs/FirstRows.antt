@@ -1,10 +1,12 @@
 -- First rows.
-use Rattle.std.proofs.Common.{◌≡◌, ℕ, zero, suc, ◌<◌, Bool, true, false, List, [], ◌∷◌, ◌++◌, length, Some, None, refl, ap, arith}
+use Rattle.std.proofs.Common.{◌≡◌, ℕ, zero, suc, ◌<◌, Bool, true, false, List, [], ◌∷◌, ◌++◌, Some, None, refl, ap, ◌∙◌, arith}
 use Rattle.std.specs.List.{list_any}
 use Rattle.std.specs.Option.{option_or}
+use Rattle.std.proofs.lemmas.List.Recursion.{found_at}
+use Rattle.px_value.specs.declared.enums.NodeState.TheVariants.{Inactive}
 use Rattle.px_value.proofs.General.{lookup-append}
 use Rattle.px_sem.specs.declared.guards.Arrival.{Arrival}
-use Rattle.px_sem.specs.Table.{Row, first_row}
+use Rattle.px_sem.specs.Table.{Row, first_row, to}
 use Rattle.px_tables.specs.Deciding.{row_at, Decides}
 
 -- the first row of a front, where there is one, and else that of what is behind it
@@ -31,16 +33,9 @@ deciding ((false, a) ∷ rows) arrival h =
 
 pub decided : (rows : List Row) (arrival : Arrival) (i : ℕ) → Decides rows i → (row_at rows i).1 ≡ arrival
     → first_row rows ≡ Some arrival
-decided [] arrival i d is = absurd (let within : i < 0 = d.within in omega arith)
-decided ((true, a) ∷ rows) arrival zero d is = ap Some is
-decided ((true, a) ∷ rows) arrival (suc i) d is = absurd (let first : true ≡ false = d.before 0 (omega arith) in cc)
-decided ((false, a) ∷ rows) arrival zero d is = absurd (let first : false ≡ true = d.holds in cc)
-decided ((false, a) ∷ rows) arrival (suc i) d is =
-    decided rows arrival i (record {
-      within = (let within : suc i < suc (length rows) = d.within in omega arith);
-      holds = d.holds;
-      before = λ j lt. d.before (suc j) (omega arith);
-    }) is
+decided rows arrival i d is =
+    found_at first_row (λ row. row.0) (λ row. Some row.1) None refl (λ row rows. refl) rows i (false, to Inactive)
+    d.within d.before d.holds ∙ ap Some is
 
 -- ---- none
 

@@ -1,13 +1,13 @@
 -- What a failure leaves of a text that was appended to.
 use Rattle.std.proofs.Common.{◌≡◌, ℕ, List, ◌++◌, Result, OnOk, OnErr}
-use Rattle.std.proofs.Math.Seq.{take-append_seam}
+use Rattle.std.proofs.Transfers.{starts_with_of_append}
 use Rattle.std.proofs.lemmas.Result.{IfOk-equal, on_err_weaker}
 use Rattle.px_value.proofs.General.{begins_further}
 use Rattle.px_trace.specs.Appending.{Keeps}
 
 -- what was there stays
 pub keeps_on : (old more new : List ℕ) → new ≡ old ++ more → Keeps old new
-keeps_on old more new e = rw e (take-append_seam old more)
+keeps_on old more new e = starts_with_of_append new old more e
 
 -- where a call has failed
 pub err_further : {T E : Type 0} (r : Result T E) (old mid new : List ℕ) → Keeps old mid → OnErr r (Keeps mid new)

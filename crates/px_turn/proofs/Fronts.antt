@@ -1,5 +1,6 @@
 -- Fronts of lists.
 use Rattle.std.proofs.Common.{◌≡◌, ◌≤◌, List, [], ◌∷◌, ◌++◌, length, refl, sym, ap, ◌∙◌, append_assoc, append-nil, arith, length-append}
+use Rattle.std.proofs.iter.runs.Sources.{no_more}
 use Rattle.px_turn.specs.Histories.{IsFront}
 
 module _ {A : Type 0} where
@@ -20,13 +21,9 @@ module _ {A : Type 0} where
   front_length xs ys front = omega (arith, ap (λ (l : List A). length l) front.1, length-append xs front.0)
 
   -- a front that is no shorter is the whole
-  no_rest : (xs rest : List A) → length (xs ++ rest) ≤ length xs → xs ++ rest ≡ xs
-  no_rest xs [] short = append-nil xs
-  no_rest xs (y ∷ rest) short = absurd (omega (arith, length-append xs (y ∷ rest)))
-
   pub front_whole : (xs ys : List A) → IsFront xs ys → length ys ≤ length xs → ys ≡ xs
   front_whole xs ys front short =
-      front.1 ∙ no_rest xs front.0 (omega (arith, ap (λ (l : List A). length l) front.1))
+      front.1 ∙ no_more xs front.0 (omega (arith, ap (λ (l : List A). length l) front.1, length-append xs front.0))
 
   -- of two fronts of a list the shorter is one of the longer
   of_both : (xs ys rest more : List A) → xs ++ rest ≡ ys ++ more → length xs ≤ length ys → IsFront xs ys

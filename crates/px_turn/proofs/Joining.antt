@@ -15,7 +15,7 @@ use Rattle.px_turn.specs.Views.{records, numbers, record_of, spent, joined}
 use Rattle.px_turn.specs.Rule.{total, waiting, AreTickets, AreNumbered, Fits, HaveNoTurn, IsRuled, words_of}
 use Rattle.px_turn.proofs.Totals.{total_set, times-append}
 use Rattle.px_turn.proofs.Fronts.{front_none, front_length, front_whole}
-use Rattle.px_turn.proofs.Seating.{at_within, one_only, each_set, own_first, joined_rest, numbers_are}
+use Rattle.px_turn.proofs.Seating.{at_within, one_only, each_set, own_first, joined_rest, numbers_are, no_turn_before}
 use mathlib.Core.List.{map-append}
 use Rattle.std.proofs.lemmas.Bool.{cases_lt, cond_both}
 use Rattle.std.proofs.lemmas.List.Elements.{All-nil, All-cons, All-append}
@@ -134,13 +134,9 @@ module _ {T I : Type 0} (views : List (View T I)) (id other : ℕ) (v w : View T
 
   pub no_turn_joined : v.turn ≡ false → w.turn ≡ false → HaveNoTurn (with_joined views id other v w)
       → HaveNoTurn views
-  no_turn_joined off off_too none_has j u seen = dite (ℕ_discrete j id)
-      (λ same. ap (λ (x : View T I). x.turn) (one_only views j id u v seen at same) ∙ off)
-      (λ not_here. dite (ℕ_discrete j other)
-      (λ same. ap (λ (x : View T I). x.turn) (one_only views j other u w seen other_at same) ∙ off_too)
-      (λ not_there. none_has j u
-      (set_else (set views id (joined v w)) other j spent not_there
-      ∙ (set_else views id j (joined v w) not_here ∙ seen))))
+  no_turn_joined off off_too none_has =
+      no_turn_before views id v (joined v w) at (λ _. off)
+      (no_turn_before (set views id (joined v w)) other w spent there (λ _. off_too) none_has)
 
 module _ {T I : Type 0} (list : T → List I) (goes_on : T → T → Type 0) (key : T) where
   pub joins : (id : ℕ) (v : View T I) (other : ℕ) (w : View T I) → v.live ≡ true → w.live ≡ true → w.ticket ≡ None

@@ -16,10 +16,6 @@ use Rattle.px_turn.proofs.Fronts.{front_self, front_of_front}
 use Rattle.px_turn.proofs.Seating.{one_if_same, one_only, each_set, own_first, waiting_same, tickets_same, numbered_same, longest_set, one_has_turn, unmoved, same_opening, holds_own}
 
 -- where a ticket is that somebody holds
-low_bound : (ticket served held : ℕ) → 1 ≤ held → (ticket < served → held ≡ 0) → served ≤ ticket
-low_bound ticket served held some_held below =
-    ⊎_elim (λ is_below. let none_held = below is_below in absurd (omega arith)) (λ low. low) (cases_lt ticket served)
-
 pub high_bound : (ticket next held : ℕ) → 1 ≤ held → (next ≤ ticket → held ≡ 0) → ticket < next
 high_bound ticket next held some_held above =
     ⊎_elim (λ high. high) (λ is_above. let none_held = above is_above in absurd (omega arith)) (cases_lt ticket next)
@@ -43,8 +39,9 @@ module _ {T I : Type 0} (list : T → List I) (goes_on : T → T → Type 0) (ke
       let few = ruled.numbered.few in
       let wait : waiting s.views ≤ length s.views =
       total-le-length (λ (u : View T I). one_if (is_some u.ticket)) (λ u. one_if-le (is_some u.ticket)) s.views in
-      let low : ruled.served ≤ ticket =
-      low_bound ticket ruled.served (holders ticket s.views) (omega arith) (ruled.tickets.below ticket) in
+      let low : ruled.served < ticket + 1 =
+      high_bound ruled.served (ticket + 1) (holders ticket s.views) (omega arith)
+      (λ above. ruled.tickets.below ticket (omega (arith, above))) in
       let high : ticket < ruled.served + waiting s.views =
       high_bound ticket (ruled.served + waiting s.views) (holders ticket s.views) (omega arith)
       (ruled.tickets.above ticket) in

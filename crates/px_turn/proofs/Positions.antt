@@ -61,8 +61,10 @@ module _ {I : Type 0} where
   pub positions_none : (number below : ℕ) (list : List I) (at : ℕ) (later : List (Stamped I)) → below ≤ number
       → AreMade below later
       → positions_from number at (opened list ++ later) ≡ []
-  positions_none number below [] at later high made = positions_made number below at later high made
-  positions_none number below (x ∷ list) at later high made = positions_none number below list (at + 1) later high made
+  positions_none number below list at later high made =
+      positions-append number at (opened list) later
+      ∙ ap (λ (places : List ℕ). places ++ positions_from number (at + length (opened list)) later) (positions_opened number at list)
+      ∙ positions_made number below (at + length (opened list)) later high made
 
   pub items_opened : (list : List I) → items (opened list) ≡ list
   items_opened list =

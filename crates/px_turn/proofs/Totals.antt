@@ -20,9 +20,12 @@ module _ {A : Type 0} (f : A → ℕ) where
       → total f (set xs i w) ≡ total f xs
   total_same xs i v w at same = let changed = total_set xs i v w at in omega arith
 
+  pub total-append : (xs ys : List A) → total f (xs ++ ys) ≡ total f xs + total f ys
+  total-append [] ys = omega arith
+  total-append (x ∷ xs) ys = let rest = total-append xs ys in omega arith
+
   pub total_more : (xs : List A) (x : A) → total f (xs ++ x ∷ []) ≡ total f xs + f x
-  total_more [] x = omega arith
-  total_more (y ∷ xs) x = let rest = total_more xs x in omega arith
+  total_more xs x = let both = total-append xs (x ∷ []) in omega arith
 
   pub one_of : (xs : List A) (i : ℕ) (v : A) → get_elem? xs i ≡ some v → f v ≤ total f xs
   one_of [] i v at = absurd (some-ne-none v (sym at))
@@ -64,12 +67,7 @@ module _ {A : Type 0} (f : A → ℕ) where
 
 -- how often a number is in a list
 pub times-append : (number : ℕ) (xs ys : List ℕ) → times number (xs ++ ys) ≡ times number xs + times number ys
-times-append number [] ys = omega arith
-times-append number (x ∷ xs) ys = let rest = times-append number xs ys in omega arith
+times-append number = total-append (λ other. one_if (nat_eq other number))
 
 pub times-le-length : (number : ℕ) (xs : List ℕ) → times number xs ≤ length xs
-times-le-length number [] = omega arith
-times-le-length number (x ∷ xs) =
-    let here = one_if-le (nat_eq x number) in
-    let rest = times-le-length number xs in
-    omega arith
+times-le-length number = total-le-length (λ other. one_if (nat_eq other number)) (λ other. one_if-le (nat_eq other number))

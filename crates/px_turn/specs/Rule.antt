@@ -13,20 +13,19 @@ use Rattle.px_turn.specs.Views.{records, numbers}
 abbrev pub one_if : Bool → ℕ
 one_if b = if b then 1 else 0
 
--- how often a number is in a list
-abbrev pub times : ℕ → List ℕ → ℕ
-times number [] = 0
-times number (other ∷ list) = one_if (nat_eq other number) + times number list
-
--- TICKET, SERVING and COUNT, while so many tickets are held from the one that is served on
-abbrev pub words_of : ℕ → ℕ → ℕ → List ℕ
-words_of served held count = ((served + held) % 2 ^ 64) ∷ (served % 2 ^ 64) ∷ count ∷ []
-
 module _ {A : Type 0} where
   -- f of each, added up
   abbrev pub total : (A → ℕ) → List A → ℕ
   total f [] = 0
   total f (x ∷ xs) = f x + total f xs
+
+-- how often a number is in a list
+abbrev pub times : ℕ → List ℕ → ℕ
+times number list = total (λ other. one_if (nat_eq other number)) list
+
+-- TICKET, SERVING and COUNT, while so many tickets are held from the one that is served on
+abbrev pub words_of : ℕ → ℕ → ℕ → List ℕ
+words_of served held count = ((served + held) % 2 ^ 64) ∷ (served % 2 ^ 64) ∷ count ∷ []
 
 module _ {T I : Type 0} where
   -- how many seats hold a ticket

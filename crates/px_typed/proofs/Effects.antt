@@ -1,12 +1,9 @@
 -- What a node writes, and what it keeps, is of the type of the variable that it is written to.
-use Rattle.std.proofs.Common.{◌≡◌, ◌<◌, ◌≤◌, ℕ, Bool, true, List, length, get_or, Option, Some, None, refl, sym, subst, ◌⊎◌, inl, inr}
-use Rattle.std.specs.List.{All}
-use Rattle.std.proofs.Math.ListN.{get_or-eq_default}
-use Rattle.std.proofs.lemmas.Bool.{cases_lt}
-use Rattle.std.proofs.lemmas.List.Elements.{All-get_or}
+use Rattle.std.proofs.Common.{◌≡◌, ℕ, Bool, true, List, Option, Some, None, refl, subst}
 use Rattle.std.specs.Option.{ForSome, option_map_or}
 use Rattle.px_value.specs.declared.value.Value.{Value}
 use Rattle.px_value.specs.declared.value.Value.TheVariants as values
+use Rattle.px_value.proofs.General.{read_anywhere}
 use Rattle.px_core.specs.declared.variable.VarKind.{VarKind}
 use Rattle.px_core.specs.declared.variable.VarKind.TheVariants as kinds
 use Rattle.px_core.specs.Expr.{Term}
@@ -93,14 +90,6 @@ pub unknown_suits : (kind : VarKind) → suits kind values.Unknown ≡ true
 unknown_suits kinds.Boolean = refl
 unknown_suits kinds.Integer = refl
 unknown_suits kinds.Text = refl
-
--- what holds of each element and of the default holds of what is read
-read_anywhere : {X : Type 0} (P : X → Type 0) (xs : List X) (i : ℕ) (d : X) → All P xs → P d → P (get_or xs i d)
-read_anywhere P xs i d all none = by (cases_lt i (length xs))
-  where
-    by : (i < length xs) ⊎ (length xs ≤ i) → P (get_or xs i d)
-    by (inl within) = All-get_or P xs i d within all
-    by (inr beyond) = subst P (sym (get_or-eq_default xs d beyond)) none
 
 assigned_kept : (plan : List Site) (world : World) (target : TargetData) (right : Term) (place : Option Place)
     → CellsSuit plan world target.owner target.name

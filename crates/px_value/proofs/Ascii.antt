@@ -3,34 +3,31 @@ use Rattle.std.proofs.Common.{◌≡◌, ℕ, ◌<◌, Bool, true, List, [], ◌
 use Rattle.std.specs.Prelude.{◌||◌, ◌&&◌, ◌==◌, nat_le, length}
 use Rattle.std.specs.Char.{is_ascii}
 use Rattle.std.specs.List.{list_all, onto_first}
-use Rattle.std.specs.Str.{IsAscii, IsUtf8}
+use Rattle.std.specs.Str.{IsUtf8}
 use Rattle.std.proofs.lemmas.Bool.{and_parts, and_from, cases_Bool, or_cases, or_left, or_right, false≢true, ltb-true}
 use Rattle.std.proofs.lemmas.Bool.Decides.{nat_tests}
+use Rattle.std.proofs.lemmas.List.Elements.{All-weaker}
+use Rattle.std.proofs.lemmas.List.Sums.{AllPass-from_list_all, list_all-from_AllPass}
 use Rattle.std.proofs.lemmas.Str.{IsUtf8-from_ascii}
-use Rattle.std.proofs.lemmas.Str.Ascii.{IsAscii-nil, IsAscii-cons}
+use Rattle.std.proofs.lemmas.Str.Ascii.{IsAscii-from_all}
 use Rattle.px_value.specs.Name.{is_digit, is_letter, is_letter_or_digit, begins_identifier, continues_identifier, is_identifier, is_generated, is_name}
 use Rattle.px_value.specs.Path.{pieces, is_path}
 
 -- items that all pass a test pass a weaker one
 pub list_all-weaker : {X : Type 0} (strong weak : X → Bool) → ((x : X) → strong x ≡ true → weak x ≡ true) → (xs : List X)
     → list_all strong xs ≡ true → list_all weak xs ≡ true
-list_all-weaker strong weak each [] h = refl
-list_all-weaker strong weak each (x ∷ xs) h =
-    let parts = and_parts (strong x) (list_all strong xs) h in
-    and_from (weak x) (list_all weak xs) (each x parts.0) (list_all-weaker strong weak each xs parts.1)
+list_all-weaker strong weak each xs h =
+    list_all-from_AllPass weak xs (All-weaker (λ x. strong x ≡ true) (λ x. weak x ≡ true) each xs (AllPass-from_list_all strong xs h))
 
 abbrev all_ascii : List ℕ → Bool
 all_ascii bytes = list_all is_ascii bytes
 
 -- ASCII is text
 pub ascii_text : (bytes : List ℕ) → all_ascii bytes ≡ true → IsUtf8 bytes
-ascii_text bytes h = IsUtf8-from_ascii bytes (each bytes h)
-  where
-    each : (bytes : List ℕ) → all_ascii bytes ≡ true → IsAscii bytes
-    each [] h = IsAscii-nil
-    each (c ∷ cs) h =
-        let parts = and_parts (is_ascii c) (all_ascii cs) h in
-        IsAscii-cons c cs (ltb-true c 128 parts.0) (each cs parts.1)
+ascii_text bytes h =
+    IsUtf8-from_ascii bytes
+    (IsAscii-from_all bytes
+    (All-weaker (λ c. is_ascii c ≡ true) (λ c. c < 128) (λ c. ltb-true c 128) bytes (AllPass-from_list_all is_ascii bytes h)))
 
 -- ---- bytes
 

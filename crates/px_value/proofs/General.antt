@@ -1,23 +1,30 @@
 -- What holds of options, Booleans, lists, results and texts in general, and several crates need.
+use mathlib.Core.List.{append-eq-nil_iff}
 use Rattle.std.proofs.Common.{◌≡◌, ℕ, zero, suc, ◌+◌, ◌-◌, ◌<◌, ◌≤◌, ◌==◌, Bool, true, false, cond, nat_lt, List, [], ◌∷◌, ◌++◌, All, AllPairs, find, filter, map, take, drop, length, replicate, get_or, Option, Some, None, is_none, is_some, IsSome, IfSome, option_map, Result, Ok, Err, IsErrAnd, IfErr, refl, sym, ap, ◌∙◌, subst, arith, append_assoc, inl, inr, ◌≢◌}
 use Rattle.std.specs.List.{cons_option, filter_map, list_all, list_any, position, position_or_len, prefix_len, range_with_len, AllByRecursion as Each}
 use Rattle.std.specs.Map.{lookup}
 use Rattle.std.specs.Option.{option_and_then, option_or}
 use Rattle.std.specs.Result.{OnErr, OnOk}
 use Rattle.std.specs.Str.{is_utf8, IsUtf8}
-use Rattle.std.proofs.lemmas.Bool.{and_from, and_parts, cases_Bool, cases_lt, cond-false, false_from_ne_true, ltb-false, or_cases, or_left, or_right, false≢true}
-use Rattle.std.proofs.lemmas.Bool.Decides.{nat_tests}
-use Rattle.std.proofs.lemmas.List.{drop_more, get_or-map, get_or-replicate, get_or_past, length-map, length-replicate, length-take, take-take, take_rest}
+use Rattle.std.proofs.lemmas.Bool.{and_parts, cases_lt, cond-false, false_from_ne_true, ltb-false, not-true, or_cases, or_left, or_right, false≢true}
+use Rattle.std.proofs.lemmas.Bool.Decides.{nat_tests, same_from_decides}
+use Rattle.std.proofs.lemmas.List.{drop_more, get_or-map, get_or_past, length-map, length-take, take-take}
 use Rattle.std.proofs.lemmas.Grind.{common_steps}
-use Rattle.std.proofs.lemmas.List.Elements.{All-append, All-cons, All-drop, All-head, All-nil, All-tail, All-take}
+use Rattle.std.proofs.lemmas.List.Elements.{All-append, All-cons, All-drop, All-filter, All-from_recursion, All-head, All-nil, All-replicate, All-tail, All-take, All-weaker, recursion_from_All}
 use Rattle.std.proofs.lemmas.List.Folds.{list_all-append, list_any_at, map_fixed}
 use Rattle.std.proofs.lemmas.List.FromFn.{map-range_with_len_more}
 use Rattle.std.proofs.lemmas.List.Kept.{AllPairs-cons}
 use Rattle.std.proofs.lemmas.List.Quantifiers.{all_pairs_push}
-use Rattle.std.proofs.lemmas.List.Sums.{fails_before_first}
-use Rattle.std.proofs.lemmas.Option.{none-some, same_Some}
+use Rattle.std.proofs.lemmas.List.Sums.{fails_before_first, AllPass-from_list_all, list_all-from_AllPass}
+use Rattle.std.proofs.lemmas.Option.{none-some}
 use Rattle.std.proofs.lemmas.Str.{IsUtf8-from_is_utf8}
+use Rattle.std.proofs.NetLemmas.Options.{map_some}
+use Rattle.std.proofs.iter.Lists.{front as cut_first}
+use Rattle.std.proofs.iter.Next.{is_mapped}
+use Rattle.std.proofs.option.Match.{None-if_not_some, not_some, Some-tests}
+use Rattle.std.proofs.result.Match.{if_ok_any}
 use Rattle.std.proofs.Math.Seq.{drop-append_seam, take-append_seam}
+use Rattle.std.proofs.Recursive.{every_back, every_front}
 
 -- there is none where each would be absurd
 pub none_from : {X : Type 0} (found : Option X) → ((x : X) → found ≡ Some x → ⊥) → found ≡ None
@@ -30,27 +37,19 @@ one_if b = cond b 1 0
 
 -- options that hold nothing
 pub is_none-None : {X : Type 0} (found : Option X) → is_none found ≡ true → found ≡ None
-is_none-None None is = refl
-is_none-None (Some x) is = cc
-
-pub is_some-None : {X : Type 0} (found : Option X) → is_some found ≡ false → found ≡ None
-is_some-None None is = refl
-is_some-None (Some x) is = cc
+is_none-None found none = None-if_not_some found (not-true (is_some found) none)
 
 -- what holds nothing does not hold something
 pub none_or_some : {X : Type 0} (found : Option X) → found ≡ None → IsSome found → ⊥
-none_or_some None is some = cc
-none_or_some (Some x) is some = cc
+none_or_some found none some = not_some found some none
 
 -- an image is there where what it is the image of is
 pub is_some_mapped : {X Y : Type 0} (f : X → Y) (found : Option X) → is_some found ≡ is_some (option_map f found)
-is_some_mapped f None = refl
-is_some_mapped f (Some x) = refl
+is_some_mapped f found = sym (is_mapped f found (option_map f found) refl)
 
 -- an image that is there is that of what is there
 pub option_map_some : {X Y : Type 0} (f : X → Y) (found : Option X) (y : Y) → option_map f found ≡ Some y → (x : X) × (found ≡ Some x) × (f x ≡ y)
-option_map_some f None y is = absurd (none-some y is)
-option_map_some f (Some x) y is = (x, refl, same_Some (f x) y is)
+option_map_some f found y is = map_some f found y is (λ x there same. (x, there, same))
 
 -- an image that is not there is that of nothing
 pub option_map_none : {X Y : Type 0} (f : X → Y) (found : Option X) → option_map f found ≡ None → found ≡ None
@@ -73,13 +72,11 @@ IfSome-and_then P f (Some x) holds = holds x refl
 
 -- an option that is told holds something
 pub is_some_at : {X : Type 0} (found : Option X) (x : X) → found ≡ Some x → IsSome found
-is_some_at found x is = subst IsSome (sym is) refl
+is_some_at found x is = sym (Some-tests found x is)
 
 -- tests that pass together are one
 pub same_bool : (a b : Bool) → (a ≡ true → b ≡ true) → (b ≡ true → a ≡ true) → a ≡ b
-same_bool true b to from = sym (to refl)
-same_bool false true to from = from refl
-same_bool false false to from = refl
+same_bool a b to from = same_from_decides a b (to, from) ((λ is. is), (λ is. is))
 
 -- what is left of a list at a place is the item there and what is left behind it
 pub cut_at : {X : Type 0} (xs : List X) (place : ℕ) (x : X) → place < length xs → x ≡ get_or xs place x
@@ -88,14 +85,18 @@ cut_at xs place x within is = drop_more xs place x within ∙ ap (λ first. firs
 
 -- a list is its first item and the rest
 pub first_and_rest : {X : Type 0} (xs : List X) (x : X) → 0 < length xs → x ≡ get_or xs 0 x → xs ≡ x ∷ take (length xs - 1) (drop 1 xs)
-first_and_rest xs x some is = cut_at xs 0 x some is ∙ ap (λ rest. x ∷ rest) (sym (take_rest xs 1))
+first_and_rest xs x some is = cut_first xs x (λ none. omega (arith, some, none)) is
+
+-- what holds of each element and of the default holds of what is read
+pub read_anywhere : {X : Type 0} (P : X → Type 0) (xs : List X) (k : ℕ) (d : X) → All P xs → P d → P (get_or xs k d)
+read_anywhere P xs k d all none = elim (cases_lt k (length xs)) [
+  | inl within ↦ all k d within
+  | inr past ↦ subst P (sym (get_or_past xs k d past)) none
+]
 
 -- a list of one item again and again has it at each place, and is read as it beyond its end
 pub replicate-same : {X : Type 0} (count at : ℕ) (x : X) → get_or (replicate count x) at x ≡ x
-replicate-same count at x = elim (cases_lt at count) [
-  | inl below ↦ get_or-replicate count at x x below
-  | inr past ↦ get_or_past (replicate count x) at x (omega (arith, past, length-replicate count x))
-]
+replicate-same count at x = read_anywhere (λ y. y ≡ x) (replicate count x) at x (All-replicate (λ y. y ≡ x) count x refl) refl
 
 -- what begins with another list is no shorter
 pub begins_shorter : {X : Type 0} (old new : List X) → take (length old) new ≡ old → length old ≤ length new
@@ -115,8 +116,7 @@ range_more from count =
 
 -- two lists that are nothing together
 pub neither : {X : Type 0} (xs ys : List X) → xs ++ ys ≡ [] → (xs ≡ []) × (ys ≡ [])
-neither [] ys none = (refl, none)
-neither (x ∷ xs) ys none = absurd (cc)
+neither xs ys none = (append-eq-nil_iff {p = xs} {q = ys}).0 none
 
 -- what holds of each of two lists together holds of each of the first
 pub All-front : {X : Type 0} (P : X → Type 0) (xs ys : List X) → All P (xs ++ ys) → All P xs
@@ -126,23 +126,16 @@ All-front P xs ys all = subst (All P) (take-append_seam xs ys) (All-take P (leng
 pub All-back : {X : Type 0} (P : X → Type 0) (xs ys : List X) → All P (xs ++ ys) → All P ys
 All-back P xs ys all = subst (All P) (drop-append_seam xs ys) (All-drop P (length xs) (xs ++ ys) all)
 
--- what holds of each, by recursion on the list, holds of each of two lists together and of each of one of them
-pub each-append : {X : Type 0} (P : X → Type 0) (xs ys : List X) → Each P xs → Each P ys → Each P (xs ++ ys)
-each-append P [] ys front back = back
-each-append P (x ∷ xs) ys front back = (front.0, each-append P xs ys front.1 back)
-
+-- what holds of each of two lists together, by recursion on the list, holds of each of one of them
 pub each_front : {X : Type 0} (P : X → Type 0) (xs ys : List X) → Each P (xs ++ ys) → Each P xs
-each_front P [] ys each = tt
-each_front P (x ∷ xs) ys each = (each.0, each_front P xs ys each.1)
+each_front P xs ys each = every_front P (xs ++ ys) xs ys each refl
 
 pub each_back : {X : Type 0} (P : X → Type 0) (xs ys : List X) → Each P (xs ++ ys) → Each P ys
-each_back P [] ys each = each
-each_back P (x ∷ xs) ys each = each_back P xs ys each.1
+each_back P xs ys each = every_back P (xs ++ ys) xs ys each refl
 
 -- and what follows from it does
 pub each_map : {X : Type 0} (P Q : X → Type 0) (xs : List X) → ((x : X) → P x → Q x) → Each P xs → Each Q xs
-each_map P Q [] f each = tt
-each_map P Q (x ∷ xs) f each = (f x each.0, each_map P Q xs f each.1)
+each_map P Q xs f each = recursion_from_All Q xs (All-weaker P Q f xs (All-from_recursion P xs each))
 
 -- what holds of each element's image holds of each element
 pub All-unmap : {X Y : Type 0} (P : Y → Type 0) (f : X → Y) (xs : List X) → All P (map f xs) → All (λ x. P (f x)) xs
@@ -165,14 +158,8 @@ list_all_parts p xs ys all = and_parts (list_all p xs) (list_all p ys) (sym (lis
 
 -- what each element passes each passes that a filter keeps
 pub list_all-filter : {X : Type 0} (q p : X → Bool) (xs : List X) → list_all q xs ≡ true → list_all q (filter p xs) ≡ true
-list_all-filter q p [] all = refl
-list_all-filter q p (x ∷ xs) all =
-    let parts = and_parts (q x) (list_all q xs) all in
-    let later = list_all-filter q p xs parts.1 in
-    elim (cases_Bool (p x)) [
-      | inl kept ↦ rw kept (and_from (q x) (list_all q (filter p xs)) parts.0 later)
-      | inr dropped ↦ rw dropped later
-    ]
+list_all-filter q p xs all =
+    list_all-from_AllPass q (filter p xs) (All-filter p (λ x. q x ≡ true) xs (AllPass-from_list_all q xs all))
 
 -- where one passes a test one passes a weaker one
 pub list_any-weaker : {X : Type 0} (strong weak : X → Bool) → ((x : X) → strong x ≡ true → weak x ≡ true) → (xs : List X)
@@ -288,8 +275,7 @@ once_push test itself xs y new once = all_pairs_push (λ a b. a ≢ b) xs y once
 
 -- what holds in any case holds where there is an answer, and where there is an error
 pub on_ok : {T E P : Type 0} (r : Result T E) → P → OnOk r P
-on_ok (Ok value) holds = holds
-on_ok (Err fault) holds = tt
+on_ok {P = P} r holds = if_ok_any r (λ _. P) (λ _. holds)
 
 pub on_err : {T E P : Type 0} (r : Result T E) → P → OnErr r P
 on_err (Ok value) holds = tt

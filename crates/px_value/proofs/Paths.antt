@@ -4,7 +4,10 @@ use Rattle.std.specs.Prelude.{nat_le, not}
 use Rattle.std.specs.List.{list_all}
 use Rattle.std.proofs.lemmas.Bool.{and_parts, cases_Bool, and_from, not-true, le-leb}
 use Rattle.std.proofs.lemmas.Bool.Decides.{nat_tests}
+use Rattle.std.proofs.lemmas.List.Elements.{All-weaker}
 use Rattle.std.proofs.lemmas.List.Folds.{list_all-append}
+use Rattle.std.proofs.lemmas.List.Splits.{slice_split_none}
+use Rattle.std.proofs.lemmas.List.Sums.{AllPass-from_list_all}
 use Rattle.px_value.specs.Name.{continues_identifier, is_identifier, is_generated, is_name}
 use Rattle.px_value.specs.Path.{below, pieces, is_path}
 use Rattle.px_value.proofs.Ascii.{name_all}
@@ -24,12 +27,10 @@ pub name_dotless : (bytes : List ℕ) → is_name bytes ≡ true → is_dotless 
 name_dotless = name_all (λ c. not (c == 46)) goes_on_dotless hash_dotless
 
 pub pieces_dotless : (bytes : List ℕ) → is_dotless bytes ≡ true → pieces bytes ≡ bytes ∷ []
-pieces_dotless [] h = refl
-pieces_dotless (c ∷ cs) h =
-    let parts : (not (c == 46) ≡ true) × (is_dotless cs ≡ true) = and_parts (not (c == 46)) (is_dotless cs) h in
-    let other : (c == 46) ≡ false = not-true (c == 46) parts.0 in
-    let rest : pieces cs ≡ cs ∷ [] = pieces_dotless cs parts.1 in
-    rw (other, rest)
+pieces_dotless bytes h =
+    slice_split_none (λ c. c == 46) bytes
+    (All-weaker (λ c. not (c == 46) ≡ true) (λ c. (c == 46) ≡ false) (λ c. not-true (c == 46)) bytes
+    (AllPass-from_list_all (λ c. not (c == 46)) bytes h))
 
 -- there is a first piece
 some_piece : (bytes : List ℕ) → (first : List ℕ) × (more : List (List ℕ)) × (pieces bytes ≡ first ∷ more)

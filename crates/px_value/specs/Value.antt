@@ -8,8 +8,11 @@ abbrev pub is_known : Value → Bool
 is_known values.Unknown = false
 is_known value = true
 
--- the place that a value names in a list: an Integer from 0 to below the list's length
+-- the place that a value names among so many: an Integer from 0 to below their number
+abbrev pub place_in : ℕ → Value → Option ℕ
+place_in size (values.Integer (pos place)) = if nat_lt place size then Some place else None
+place_in size at = None
+
+-- the place that it names in a list
 abbrev pub value_index : List Value → Value → Option ℕ
-value_index cells (values.Integer (pos place)) =
-    if nat_lt place (length cells) then Some place else None
-value_index cells at = None
+value_index cells at = place_in (length cells) at

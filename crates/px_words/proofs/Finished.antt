@@ -2,6 +2,8 @@
 use Rattle.std.proofs.Common.{◌≡◌, ◌∙◌, Bool, true, false, List, [], ◌∷◌, Option, Some, None, refl, ap, ap₂, map, String}
 use Rattle.std.specs.Prelude.{◌||◌, if◌then◌else◌, option_and_then, option_map}
 use Rattle.std.specs.String.{string_bytes}
+use Rattle.std.proofs.lemmas.Bool.{cond-true, or_right}
+use Rattle.std.proofs.Padding.{cond_same}
 use Rattle.clap.specs.Words.{App, Row, Text}
 use Rattle.clap.specs.Kinds.{Kinds, or_else}
 use Rattle.clap.specs.Faults.{walk_fault, settle_fault, defaults_fault, check_fault, fault_of, level_fault}
@@ -12,19 +14,17 @@ use Rattle.px_words.specs.Limited.{Limited, event_limit, with_limit, with_front,
 use Rattle.px_words.specs.Line.{line_in, plain_app, limited_app, rows_read}
 use Rattle.px_words.specs.Operands.{operands}
 use Rattle.px_words.proofs.Walking.{Settles, at, ending, read_on, rules, shape}
-use Rattle.px_words.proofs.Reading.{put, limits_on, unlimited, texts_are}
+use Rattle.px_words.proofs.Reading.{a_limit, limits_on, unlimited, texts_are}
 
 abbrev app : Bool → App
 app true = limited_app
 app false = plain_app
 
 same_both : {A : Type 0} (test : Bool) (x : A) → (if test then x else x) ≡ x
-same_both true x = refl
-same_both false x = refl
+same_both test x = cond_same test x x x refl refl
 
 any_or : {A : Type 0} (test : Bool) (x y : A) → (if test || true then x else y) ≡ x
-any_or true x y = refl
-any_or false x y = refl
+any_or test x y = cond-true (test || true) x y (or_right test true refl)
 
 no_default : (limits : Bool) (rows : List Row) → defaults_fault rows (rules limits) ≡ []
 unfolding defaults_fault
@@ -66,10 +66,6 @@ no_front : (o : Option Limited) → option_map (with_front []) o ≡ o
 no_front None = refl
 no_front (Some found) = refl
 
-all_behind : (o : Option (List Text)) → option_and_then (put [] (Some event_limit)) o ≡ option_map (with_limit event_limit) o
-all_behind None = refl
-all_behind (Some words) = refl
-
 nothing_settles : (limits : Bool) → Settles limits nothing_held []
 nothing_settles limits = record { fault = refl; found = refl; skip = refl }
 
@@ -82,4 +78,4 @@ pub plain_read : {Z : Type 0} (words : List (String Z))
     → option_and_then line_in (rows_read plain_app (map string_bytes words)) ≡ option_map (with_limit event_limit) (operands (map string_bytes words))
 plain_read words =
     ap (option_and_then line_in) (reads false (map string_bytes words))
-    ∙ unlimited false nothing_held [] false (map string_bytes words) (nothing_settles false) tt (texts_are words) ∙ all_behind (operands (map string_bytes words))
+    ∙ unlimited false nothing_held [] false (map string_bytes words) (nothing_settles false) tt (texts_are words) ∙ a_limit [] event_limit _ ∙ no_front _

@@ -1,5 +1,5 @@
 -- The limit that words give is one that a history may have.
-use Rattle.std.proofs.Common.{◌≡◌, ℕ, Bool, true, false, List, [], ◌∷◌, Option, Some, None, refl, sym, ap, ◌∙◌, arith, codes}
+use Rattle.std.proofs.Common.{◌≡◌, ℕ, true, List, [], ◌∷◌, Option, Some, None, sym, ap, ◌∙◌, arith, codes}
 use Rattle.std.specs.Prelude.{⊤, ◌&&◌, nat_le, if◌then◌else◌}
 use Rattle.std.specs.Option.{option_map, option_and_then, ForSome, IfSome}
 use Rattle.std.specs.Str.Parse.{digits_value}
@@ -21,11 +21,8 @@ limit_of : (count : ℕ) → is_limit count ≡ true → IsLimit count
 limit_of count is = let parts = and_parts (nat_le 1 count) (nat_le count event_limit) is in (leb-true 1 count parts.0, leb-true count event_limit parts.1)
 
 counted : (word : List ℕ) → IfSome (count_of word) IsLimit
-counted word = by (is_digits 6 word && is_limit (digits_value 10 word)) refl
-  where
-    by : (b : Bool) → is_digits 6 word && is_limit (digits_value 10 word) ≡ b → IfSome (if b then Some (digits_value 10 word) else None) IsLimit
-    by true is = limit_of (digits_value 10 word) (and_parts (is_digits 6 word) (is_limit (digits_value 10 word)) is).1
-    by false is = tt
+counted word = cond_both (is_digits 6 word && is_limit (digits_value 10 word)) (Some (digits_value 10 word)) None (λ count. IfSome count IsLimit)
+    (λ is. limit_of (digits_value 10 word) (and_parts (is_digits 6 word) (is_limit (digits_value 10 word)) is).1) (λ _. tt)
 
 abbrev Fits : Limited → Type 0
 Fits read = IsLimit read.limit

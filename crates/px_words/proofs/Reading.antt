@@ -1,13 +1,15 @@
 -- What the reader of command lines finds in words is what they ask for.
-use Rattle.std.proofs.Common.{◌≡◌, ◌⊎◌, ℕ, Bool, true, false, List, [], ◌∷◌, ◌++◌, Option, Some, None, refl, sym, ap, ◌∙◌, inl, inr, is_some, codes, IsUtf8, String, append_assoc, append-nil, map}
+use Rattle.std.proofs.Common.{◌≡◌, ◌⊎◌, ℕ, Bool, true, false, List, [], ◌∷◌, ◌++◌, Option, Some, None, refl, sym, ap, ◌∙◌, inl, inr, is_some, codes, get_or, IsUtf8, String, append_assoc, append-nil, map}
 use Rattle.std.specs.Prelude.{option_and_then, option_map, slice_get, unwrap_or}
 use Rattle.std.specs.List.{AllByRecursion}
 use Rattle.std.specs.String.{string_bytes}
 use Rattle.std.specs.Str.{bytes_eq}
 use Rattle.std.proofs.lemmas.Bool.{cases_Bool}
+use Rattle.std.proofs.lemmas.List.Elements.{All-map, recursion_from_All}
+use Rattle.std.proofs.lemmas.Option.{option_and_then_some}
 use Rattle.std.proofs.lemmas.Slice.Eq.{bytes_eq-Decides}
 use Rattle.std.proofs.lemmas.Str.{IsUtf8-string_bytes}
-use Rattle.px_value.proofs.General.{is_some-None}
+use Rattle.std.proofs.option.Match.{None-if_not_some}
 use Rattle.px_core.specs.Plan.{is_same}
 use Rattle.clap.specs.Walk.{Held, Row, Text, Waiting, is_empty, first_of, has_row, idle, option, positional, with_values, without}
 use Rattle.clap.specs.declared.builder.value_parser.Reading.TheVariants.{AsWritten}
@@ -59,6 +61,11 @@ awaits held number words skip (long l) = inl (long_stops true (behind_name held)
 -- operands, with more of them behind
 abbrev pub put : List Text → Option ℕ → List Text → Option Limited
 put front limit words = option_map (λ l. with_limit l (front ++ words)) limit
+
+pub a_limit : (front : List Text) (limit : ℕ) (o : Option (List Text))
+    → option_and_then (put front (Some limit)) o ≡ option_map (with_front front) (option_map (with_limit limit) o)
+a_limit front limit None = refl
+a_limit front limit (Some behind) = refl
 
 abbrev pub read : Bool → Held → Waiting → Bool → List Text → Option Limited
 read limits held waiting is_trailing words = option_and_then line_in (read_on limits (at held waiting is_trailing) words)
@@ -155,8 +162,8 @@ numbered held rows number words s none texts =
         (other_row (codes "events") (codes "operands") AsWritten CommandLine (number ∷ []) rows refl)
 
     has_number : (found : Option Row) → option_and_then (λ (r : Row). slice_get r.values 0) found ≡ Some number → is_some found ≡ true
-    has_number None e = absurd (cc)
-    has_number (Some r) e = refl
+    has_number found e =
+        option_and_then_some (λ (r : Row). slice_get r.values 0) found number e (λ r there given. ap is_some there)
 
     stands : has_row (codes "events") (number_row number rows) ≡ true
     stands = has_row_is (codes "events") (number_row number rows)
@@ -166,20 +173,15 @@ numbered held rows number words s none texts =
     no_limit None = refl
     no_limit (Some behind) = refl
 
-    a_limit : (limit : ℕ) (o : Option (List Text))
-        → option_and_then (put (operands_in rows) (Some limit)) o ≡ option_map (with_front (operands_in rows)) (option_map (with_limit limit) o)
-    a_limit limit None = refl
-    a_limit limit (Some behind) = refl
-
     shown : (limit : Option ℕ) → option_and_then (put (operands_in rows) limit) (operands words) ≡ option_map (with_front (operands_in rows)) (limited_by limit words)
     shown None = no_limit (operands words)
-    shown (Some limit) = a_limit limit (operands words)
+    shown (Some limit) = a_limit (operands_in rows) limit (operands words)
 
 -- where the option has not stood, it sets no limit
 no_number : (rows : List Row) → has_row (codes "events") rows ≡ false → first_of (codes "events") rows ≡ None
 no_number rows none =
     ap (option_and_then (λ (r : Row). slice_get r.values 0))
-    (is_some-None (row_at (codes "events") rows) (sym (has_row_is (codes "events") rows) ∙ none))
+    (None-if_not_some (row_at (codes "events") rows) (sym (has_row_is (codes "events") rows) ∙ none))
 
 replaced : (rows : List Row) (number : Text) (settled : List Row) → settled ≡ rows → has_row (codes "events") rows ≡ false
     → with_values (codes "events") AsWritten CommandLine (number ∷ []) (without (codes "events") settled) ≡ number_row number rows
@@ -234,5 +236,5 @@ limits_on held rows is_behind (word ∷ words) s none texts = by
 -- ---- from the front of the words on
 
 pub texts_are : {Z : Type 0} (words : List (String Z)) → AreTexts (map string_bytes words)
-texts_are [] = tt
-texts_are (word ∷ words) = (IsUtf8-string_bytes word, texts_are words)
+texts_are words = recursion_from_All IsUtf8 (map string_bytes words)
+    (All-map IsUtf8 string_bytes words (λ k d within. IsUtf8-string_bytes (get_or words k d)))

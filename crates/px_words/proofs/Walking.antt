@@ -2,7 +2,7 @@
 use Rattle.std.proofs.Common.{◌≡◌, ℕ, ◌&&◌, Bool, true, false, List, [], ◌∷◌, Option, Some, None, refl, ap, ap₂, ◌∙◌, inl, inr, codes}
 use Rattle.std.specs.Prelude.{fold, if◌then◌else◌}
 use Rattle.std.specs.Str.{bytes_eq}
-use Rattle.std.proofs.lemmas.Bool.{cases_Bool}
+use Rattle.std.proofs.lemmas.Bool.{and_right, cases_Bool, cond-false}
 use Rattle.px_core.specs.Plan.{is_same}
 use Rattle.clap.specs.Kinds.{Kinds, or_else}
 use Rattle.clap.specs.Simple.{Shape, built, filled, with_index}
@@ -94,8 +94,7 @@ doomed_end limits w doomed = none_by limits [] w.held doomed
 -- ---- a word that is an operand
 
 not_both : {A : Type 0} (test : Bool) (x y : A) → (if test && false then x else y) ≡ y
-not_both true x y = refl
-not_both false x y = refl
+not_both test x y = cond-false (test && false) x y (and_right test false refl)
 
 abbrev pub behind_operand : Bool → Held → Text → Held
 behind_operand limits held word = pushed (codes "operands") word (settled (rules limits) held)

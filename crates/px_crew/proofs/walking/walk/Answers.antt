@@ -1,7 +1,10 @@
-use Rattle.std.proofs.Common.{◌≡◌, List, length, get_or, arith, refl, subst, ap}
-use Rattle.std.proofs.lemmas.Option.{slice_get_read}
+use Rattle.std.proofs.Common.{◌≡◌, List, length, get_or, arith, sym, subst, ap, IsTrue}
+use Rattle.std.proofs.lemmas.List.Sums.{AllPass-from_list_all}
+use Rattle.px_event.specs.Fit.{is_fit_entry}
+use Rattle.px_script.specs.Order.{entry_of, thread_entries}
 use Rattle.px_script.specs.declared.line.Line.{Line}
-use Rattle.px_crew.proofs.Fits.{fit_line}
+use Rattle.px_script.proofs.Thins.{each_given}
+use Rattle.px_crew.specs.Walk.{IsFitLine}
 use Rattle.px_crew.proofs.Passing.{walking_none, walking_on, walked_to}
 use Rattle.px_crew.proofs.Seats.{gone_none, gone_then}
 use Rattle.px_crew.proofs.walking.walk.Goals as goal
@@ -17,9 +20,10 @@ pub pass-requires-clause-fit : goal.pass-requires-clause-fit
 pass-requires-clause-fit g c κs within =
     let todo = c.args.todo.now in
     let line = c.index-lines-at.result in
-    fit_line todo.thread todo.lines c.loop-at.at line c.requires.fit
-    (slice_get_read todo.lines (length todo.lines) c.loop-at.at line refl (omega (arith, c.loop-at-test.true, ap length c.as_slice-lines.ensures))
-    (subst (λ (lines : List Line). line ≡ get_or lines c.loop-at.at line) c.as_slice-lines.ensures c.index-lines-at.is))
+    subst (IsFitLine todo.thread) (sym (subst (λ (lines : List Line). line ≡ get_or lines c.loop-at.at line) c.as_slice-lines.ensures c.index-lines-at.is))
+    (each_given (λ entry. IsTrue (is_fit_entry entry)) (entry_of todo.thread) todo.lines
+    (AllPass-from_list_all is_fit_entry (thread_entries todo) c.requires.fit)
+    c.loop-at.at line (omega (arith, c.loop-at-test.true, ap length c.as_slice-lines.ensures)))
 
 pub returns-in-Err-clause-walked : goal.returns-in-Err-clause-walked
 returns-in-Err-clause-walked g c =

@@ -2,7 +2,7 @@ use Rattle.std.proofs.Common.{◌+◌, arith, ap, sym, ◌∙◌}
 use Rattle.std.specs.Cow.{cow_value}
 use Rattle.std.proofs.lemmas.Option.{get_or_from_slice_get}
 use Rattle.px_value.specs.declared.value.Value.TheVariants.{Unknown}
-use Rattle.px_eval.specs.Arrays.{place_in}
+use Rattle.px_value.specs.Value.{place_in}
 use Rattle.px_eval.proofs.Elements.{element_at}
 use Rattle.px_eval.proofs.arrays.element.Goals as goal
 

@@ -1,9 +1,10 @@
 use Rattle.std.proofs.Common.{◌≡◌, ◌≢◌, ℕ, ◌<◌, [], ◌∷◌, length, AllPairs, Option, Some, IfSome, refl, ap, sym, ◌∙◌, subst, arith}
 use Rattle.px_value.proofs.General.{is_some_at, none_from}
 use Rattle.px_links.specs.Links.{LinksData, holder_of, rest_of}
+use Rattle.px_links.proofs.Walking.{not_again}
 use Rattle.px_parts.specs.Parts.{plan_in}
 use Rattle.px_machine.specs.Queue.{IsWoken}
-use Rattle.px_machine.proofs.Looks.{HaveLookedBut, looked_at_all, looked_at_none, looked_at_one, not_again, now_with_mark, others_once, right_with_mark, simulation, woken_once}
+use Rattle.px_machine.proofs.Looks.{HaveLookedBut, looked_at_all, looked_at_none, looked_at_one, now_with_mark, others_once, right_with_mark, simulation, woken_once}
 use Rattle.px_machine.proofs.looking.look.Goals as goal
 
 pub woken-init : goal.woken-init

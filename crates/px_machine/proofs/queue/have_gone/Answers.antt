@@ -1,4 +1,5 @@
-use Rattle.std.proofs.Common.{◌≡◌, ℕ, Bool, true, false, refl, sym, ◌∙◌, subst, arith, inl, inr}
+use Rattle.std.proofs.Common.{sym, ◌∙◌, subst, arith, inl, inr}
+use Rattle.std.proofs.lemmas.Bool.{false≢true, true_from_ne_false}
 use Rattle.std.proofs.lemmas.List.{take_more}
 use Rattle.px_links.specs.Links.{is_absent}
 use Rattle.px_machine.specs.Queue.{HaveGone}
@@ -9,19 +10,16 @@ use Rattle.px_machine.proofs.queue.have_gone.Goals as goal
 pub loop-one-init : goal.loop-one-init
 loop-one-init c = record {
   gone = λ node goes. absurd (omega (arith, goes.1));
-  others = λ node apart. by node (is_absent c.rest.new.queue node) refl;
+  others = λ node apart. true_from_ne_false (is_absent c.rest.new.queue node) (λ waits.
+      elim (in_one_of_two c.rest.new.queue node (c.rest.ensures.counts.1 ∙ c.requires.lists) waits) [
+        | inr woken ↦ c.rest.ensures.nobody node woken
+        | inl behind ↦ elim (c.rest.ensures.each node) [
+          | inl same ↦ c.requires.nobody node (sym same ∙ behind)
+          | inr was ↦ false≢true (sym waits ∙ was.1)
+        ]
+      ]);
   counts = c.rest.ensures.counts;
 }
-  where
-    by : (node : ℕ) (absent : Bool) → is_absent c.rest.new.queue node ≡ absent → is_absent c.rest.new.queue node ≡ true
-    by node true is = is
-    by node false is = elim (in_one_of_two c.rest.new.queue node (c.rest.ensures.counts.1 ∙ c.requires.lists) is) [
-      | inr woken ↦ absurd (c.rest.ensures.nobody node woken)
-      | inl behind ↦ elim (c.rest.ensures.each node) [
-        | inl same ↦ absurd (c.requires.nobody node (sym same ∙ behind))
-        | inr was ↦ was.1
-      ]
-    ]
 
 pub loop-one-preserved : goal.loop-one-preserved
 loop-one-preserved c =

@@ -1,5 +1,5 @@
+use Rattle.px_parts.proofs.Stepped.{same_stand}
 use Rattle.px_machine.proofs.Gone.{others_still}
-use Rattle.px_machine.proofs.Readying.{same_stand}
 use Rattle.px_machine.proofs.stepping.goers.Goals as goal
 
 pub returns-clause-chosen : goal.returns-clause-chosen

@@ -3,7 +3,7 @@ use Rattle.px_value.specs.declared.enums.NodeState.TheVariants as states
 use Rattle.px_tables.specs.Reading.{unread, read_by}
 use Rattle.px_flat.specs.Row.{site_in}
 use Rattle.px_parts.specs.Parts.{plan_in, record_of}
-use Rattle.px_micro.specs.Guarded.{ready_in}
+use Rattle.px_sem.specs.Guards.{ready_in}
 use Rattle.px_micro.proofs.Guarding.{guards_are}
 use Rattle.px_micro.proofs.guarded.failing.Goals as goal
 

@@ -5,7 +5,7 @@ use Rattle.px_script.proofs.value.ends_with_its_quote.Goals as goal
 pub loop-rest-init : goal.loop-rest-init
 loop-rest-init c = record {
   within = λ h. cc;
-  left = λ content behind h. opened_by c.args.bytes.now content behind c.in-34.len_at_least (search rules) h;
+  left = λ content behind h. opened_by c.args.bytes.now content behind h;
 }
 
 pub loop-rest-preserved : goal.loop-rest-preserved

@@ -1,5 +1,5 @@
 use Rattle.std.proofs.Common.{◌≡◌, length, not, Some, None, is_none, is_some, nat_eq, subst, ap, sym, ◌∙◌, if◌then◌else◌}
-use Rattle.px_value.proofs.General.{is_some-None}
+use Rattle.std.proofs.option.Match.{None-if_not_some}
 use Rattle.px_links.specs.Links.{LinksData, pushed, holder_of}
 use Rattle.px_links.specs.Lists.{with_last}
 use Rattle.px_links.specs.Keeping.{lists_in}
@@ -11,7 +11,7 @@ use Rattle.px_links.proofs.links.Links.push_back_absent.Goals as goal
 pub link_last-requires-clause-absent : goal.link_last-requires-clause-absent
 link_last-requires-clause-absent c = rw (c.deref_mut.ensures.value) (
     holder_now c.self.inside c.args.self.now c.self.view_is c.self.invariant c.args.cell ∙ sym c.holds.ensures.answer
-    ∙ is_some-None c.holds.result (sym c.is_some.ensures ∙ c.if-is_some.false))
+    ∙ None-if_not_some c.holds.result (sym c.is_some.ensures ∙ c.if-is_some.false))
 
 pub invariant_of-self : goal.invariant_of-self
 invariant_of-self c = kept c.self.inside c.link_last.new.cells c.link_last.new.ends _ c.link_last.ensures
@@ -27,13 +27,13 @@ returns-clause-links c =
     })
     ∙ ap (λ (links : LinksData). pushed links c.args.list c.args.cell) c.self.view_is
     ∙ ap (λ found. if not (is_some found) then pushed c.args.self.now c.args.list c.args.cell else c.args.self.now)
-    (sym (is_some-None c.holds.result (sym c.is_some.ensures ∙ c.if-is_some.false)) ∙ c.holds.ensures.answer)
+    (sym (None-if_not_some c.holds.result (sym c.is_some.ensures ∙ c.if-is_some.false)) ∙ c.holds.ensures.answer)
 
 pub returns-clause-holders : goal.returns-clause-holders
 returns-clause-holders c = λ other.
     let now = c.args.self.now in
     let absent : holder_of now c.args.cell ≡ None =
-    sym c.holds.ensures.answer ∙ is_some-None c.holds.result (sym c.is_some.ensures ∙ c.if-is_some.false) in
+    sym c.holds.ensures.answer ∙ None-if_not_some c.holds.result (sym c.is_some.ensures ∙ c.if-is_some.false) in
     ap (λ (links : LinksData). holder_of links other) (returns-clause-links c)
     ∙ subst (λ found. holder_of (if is_none found then pushed now c.args.list c.args.cell else now) other
     ≡ (if nat_eq c.args.cell other then (if is_none found then Some c.args.list else found) else holder_of now other))
